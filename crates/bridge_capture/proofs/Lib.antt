@@ -9,3 +9,6 @@ pub mod Taken
 pub mod Turns
 pub mod Words
 pub mod Written
+pub mod Looks
+pub mod Records
+pub mod Spelling

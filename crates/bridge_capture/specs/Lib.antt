@@ -9,3 +9,9 @@ pub mod Sinks
 pub mod Standing
 pub mod Taken
 pub mod Written
+pub mod Devices
+pub mod Lanes
+pub mod RunNumbers
+pub mod HexExamples
+pub mod Hex
+pub mod Lines

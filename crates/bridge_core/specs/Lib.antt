@@ -1,1 +1,4 @@
+pub mod Lines
+pub mod Taking
+pub mod Simulated
 pub mod Bridges

@@ -16,16 +16,15 @@ ghost use Rattle.bridge_semantics.specs.Offers.{Carried};
 ghost use Rattle.bridge_semantics.specs.Next.{AreNext, IsNextAfter, ReachesStart, SendsHead};
 ghost use Rattle.bridge_semantics.specs.Outputs.{Ends, HasRun, Reaches};
 ghost use Rattle.bridge_semantics.specs.Runs.{IsOutcome, IsSoloView, TellTheSame};
-ghost use Rattle.bridge_state.specs.Ports.{NotBefore, IsAfter};
+ghost use Rattle.bridge_relay.specs.Ports.{NotBefore, IsAfter};
 ghost use Rattle.bridge_relay.specs.Relays.{captured, one_more};
 ghost use Rattle.bridge_core.specs.Bridges.{arrived_in, earliest_in, IsReady, next_start, plan_in, queued_in, StandsAfter};
 
-use bridge_capture::Packet;
+use bridge_capture::{Packet, Spares};
 use bridge_check::Accepted;
 use bridge_config::Command;
 use bridge_events::Agenda;
 use bridge_filter::FilterPlan;
-use bridge_inputs::Spares;
 use bridge_limits::{END_OF_TIME, LONGEST_FRAME, MOST_ARRIVALS, MOST_CAPTURED};
 use bridge_relay::{NoMemory, Relay, Sent};
 use bridge_semantics::{Outcome, PortCount, View};

@@ -8,7 +8,8 @@ ghost use Rattle.bridge_forward.specs.Forward.{is_reserved, goes_to, forward};
 use crate::index::{
     Entries, entries_of, hint_of, hints_of, key_of, members_of, ports_at, ports_by_hash,
 };
-use crate::{NoMemory, PortSet, StaticEntry, Vlan};
+use crate::{PortSet, StaticEntry, Vlan};
+use bridge_limits::NoMemory;
 use std::alloc::Allocator;
 use std::marker::Model;
 

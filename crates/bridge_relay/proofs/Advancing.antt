@@ -13,13 +13,13 @@ use Rattle.bridge_port.specs.declared.item.Item.{Item}
 use Rattle.bridge_port.specs.Standing.{count_queued, IsNext}
 use Rattle.bridge_relay.specs.declared.relay.Sent.{Sent}
 use Rattle.bridge_semantics.specs.declared.load.Load.{Load}
-use Rattle.bridge_state.specs.declared.slot.Slot.{Slot}
-use Rattle.bridge_state.specs.declared.slot.Begun.{Begun}
-use Rattle.bridge_state.specs.Slots.{started_slot}
-use Rattle.bridge_state.specs.Tables.{Owes}
-use Rattle.bridge_state.specs.Ports.{PortsState, HasStarted}
+use Rattle.bridge_relay.specs.declared.slot.Slot.{Slot}
+use Rattle.bridge_relay.specs.declared.slot.Begun.{Begun}
+use Rattle.bridge_relay.specs.Slots.{started_slot}
+use Rattle.bridge_relay.specs.Tables.{Owes}
+use Rattle.bridge_relay.specs.Ports.{PortsState, HasStarted}
 use Rattle.bridge_relay.specs.Relays.{RelayState, count_in, count_all, is_of, is_flow, is_wrong, is_flow_stray, IsSound, IsSent}
-use Rattle.bridge_state.proofs.Porting.{below}
+use Rattle.bridge_relay.proofs.Porting.{below}
 
 -- one queued item less
 pub count_started : {G A : Type 0} (old new : PortsState G A) (q : ℕ) (s : Slot A) (k : ℕ) (b : Begun A) → HasStarted old new q s k b → (f : Item (Load A) → Bool) → count_all f old ≡ (if f b.item then 1 else 0) + count_all f new

@@ -28,13 +28,13 @@ use Rattle.bridge_semantics.specs.Events.{Event, calls, police_of}
 use Rattle.bridge_semantics.specs.Offers.{Carried}
 use Rattle.bridge_semantics.specs.Outputs.{Ends}
 use Rattle.bridge_semantics.specs.Runs.{IsTold, IsView, IsCount, AtPort}
-use Rattle.bridge_state.specs.declared.slot.Slot.{Slot}
-use Rattle.bridge_state.specs.Counting.{count_one, counts_to}
-use Rattle.bridge_state.specs.Ports.{slot_in, AreKept}
-use Rattle.bridge_state.specs.Tables.{TableState}
+use Rattle.bridge_relay.specs.declared.slot.Slot.{Slot}
+use Rattle.bridge_relay.specs.Counting.{count_one, counts_to}
+use Rattle.bridge_relay.specs.Ports.{slot_in, AreKept}
+use Rattle.bridge_relay.specs.Tables.{TableState}
 use Rattle.bridge_relay.specs.Ending.{IsShown, AreShown}
 use Rattle.bridge_relay.specs.Relays.{RelayState, Stands, IsSound, seen}
-use Rattle.bridge_state.specs.Ports.{AreAlike}
+use Rattle.bridge_relay.specs.Ports.{AreAlike}
 use Rattle.bridge_relay.proofs.Ending.{stood, run_of, output_of, whole_of, not_before_none}
 use Rattle.bridge_relay.proofs.Relayed.{port_is}
 use Rattle.bridge_relay.proofs.Standing.{out_of}

@@ -21,11 +21,11 @@ use Rattle.bridge_semantics.specs.Events.{Event}
 use Rattle.bridge_semantics.specs.Offers.{Carried, carried, egress}
 use Rattle.bridge_semantics.specs.Outputs.{IsOutput, Reaches, HasRun}
 use Rattle.bridge_semantics.specs.Runs.{IsRun, AreWhole}
-use Rattle.bridge_state.specs.declared.slot.Slot.{Slot}
-use Rattle.bridge_state.specs.Ports.{slot_at, AreKept, NotBefore}
-use Rattle.bridge_state.proofs.Porting.{not_late}
+use Rattle.bridge_relay.specs.declared.slot.Slot.{Slot}
+use Rattle.bridge_relay.specs.Ports.{slot_at, AreKept, NotBefore}
+use Rattle.bridge_relay.proofs.Porting.{not_late}
 use Rattle.bridge_relay.specs.Relays.{RelayState, Stands, IsSound, seen}
-use Rattle.bridge_state.specs.Ports.{AreAlike, IsMade}
+use Rattle.bridge_relay.specs.Ports.{AreAlike, IsMade}
 use Rattle.bridge_relay.proofs.Relayed.{port_is}
 
 same_rooms : {X : Type 0} (room other : ℕ → ℕ) → ((c : ℕ) → room c ≡ other c) → (xs : List (Copy X)) → SameRooms room other xs

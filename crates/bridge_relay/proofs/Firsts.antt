@@ -17,10 +17,10 @@ use Rattle.bridge_semantics.specs.declared.load.Load.{Load}
 use Rattle.bridge_semantics.specs.declared.outcome.PortCount.{PortCount}
 use Rattle.bridge_semantics.specs.Events.{police_of}
 use Rattle.bridge_semantics.specs.Runs.{IsTold, IsCount, AtPort}
-use Rattle.bridge_state.specs.declared.slot.Slot.{Slot}
-use Rattle.bridge_state.specs.Ports.{slot_at, AreAlike, IsFirst, IsNew}
-use Rattle.bridge_state.specs.Tables.{TableState}
-use Rattle.bridge_state.specs.Told.{fresh, fresh_tables}
+use Rattle.bridge_relay.specs.declared.slot.Slot.{Slot}
+use Rattle.bridge_relay.specs.Ports.{slot_at, AreAlike, IsFirst, IsNew}
+use Rattle.bridge_relay.specs.Tables.{TableState}
+use Rattle.bridge_relay.specs.Told.{fresh, fresh_tables}
 use Rattle.bridge_relay.specs.Relays.{RelayState, IsKept, IsSound, Stands, written, count_in, count_all, is_wrong, is_of}
 
 -- what a bridge is made of

@@ -10,7 +10,7 @@ use Rattle.bridge_port.specs.Schedule.{Started, Copy, Begun}
 use Rattle.bridge_port.proofs.Members.{begun_to, begun_from, begun_there, same_start}
 use Rattle.bridge_semantics.specs.Offers.{Carried}
 use Rattle.bridge_semantics.specs.Outputs.{LeavesBefore, IsOutput, departure}
-use Rattle.bridge_state.specs.declared.slot.Slot.{Slot}
+use Rattle.bridge_relay.specs.declared.slot.Slot.{Slot}
 use Rattle.bridge_relay.specs.Relays.{HasLeft}
 
 -- the same copies of a port that goes on so

@@ -1,3 +1,13 @@
+pub mod Starting
+pub mod Porting
+pub mod Changing
+pub mod Making
+pub mod Fresh
+pub mod Outs
+pub mod Rooms
+pub mod OfferedSlots
+pub mod Newly
+pub mod Tabling
 pub mod Advancing
 pub mod Sound
 pub mod Leaving

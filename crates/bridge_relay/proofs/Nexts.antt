@@ -28,11 +28,11 @@ use Rattle.bridge_semantics.specs.Events.{Event}
 use Rattle.bridge_semantics.specs.Next.{AreNext, HasNext, IsNextAfter, IsNextOf, ReachesStart, SendsHead, StartsNext, up_to_start}
 use Rattle.bridge_semantics.specs.Offers.{Carried, carried, egress}
 use Rattle.bridge_semantics.specs.Runs.{IsRun}
-use Rattle.bridge_state.specs.declared.slot.Begun as slot
-use Rattle.bridge_state.specs.declared.slot.Slot.{Slot}
-use Rattle.bridge_state.specs.Ports.{PortsState, AreAlike, AreKept, HasStarted, IsAfter, IsMade, slot_at}
-use Rattle.bridge_state.specs.Tables.{TableState}
-use Rattle.bridge_state.proofs.Porting.{not_late}
+use Rattle.bridge_relay.specs.declared.slot.Begun as slot
+use Rattle.bridge_relay.specs.declared.slot.Slot.{Slot}
+use Rattle.bridge_relay.specs.Ports.{PortsState, AreAlike, AreKept, HasStarted, IsAfter, IsMade, slot_at}
+use Rattle.bridge_relay.specs.Tables.{TableState}
+use Rattle.bridge_relay.proofs.Porting.{not_late}
 use Rattle.bridge_relay.specs.Relays.{RelayState, IsSound, Stands, seen}
 use Rattle.bridge_relay.proofs.Ending.{lawful_out, moment_of, not_before_none, output_of, run_of, run_so_far, stood, whole_of}
 use Rattle.bridge_relay.proofs.Sound.{early_started}

@@ -18,9 +18,9 @@ use Rattle.bridge_config.specs.Rules.{IsPort}
 use Rattle.bridge_semantics.specs.declared.outcome.Origin.{Origin}
 use Rattle.bridge_semantics.specs.Events.{Arrival, Event, Arrived, count, police_of, steps}
 use Rattle.bridge_semantics.specs.Offers.{Carried, Offer, offers, offer_of_step, leaving, step_of}
-use Rattle.bridge_state.specs.declared.slot.Slot.{Slot}
-use Rattle.bridge_state.specs.Tables.{TableState}
-use Rattle.bridge_state.specs.Ports.{slot_at, outs, NotBefore}
+use Rattle.bridge_relay.specs.declared.slot.Slot.{Slot}
+use Rattle.bridge_relay.specs.Tables.{TableState}
+use Rattle.bridge_relay.specs.Ports.{slot_at, outs, NotBefore}
 use Rattle.bridge_relay.specs.Relays.{RelayState, IsSound, HasSpare, Stands, is_flow_stray}
 use Rattle.bridge_relay.specs.Relaying.{Carries, HasRuled, IsFresh, IsNumbered, IsOffering, IsPending, MayRelay, offer_to, offers_to, one_less, releasing}
 use Rattle.bridge_relay.proofs.Relayed.{offering_start, offering_done, passed_offers, kept_offers, own_count, port_is}

@@ -30,15 +30,15 @@ use Rattle.bridge_limits.proofs.Cases.{by_bool, left_false}
 use Rattle.bridge_limits.proofs.Lists.{one_longer}
 use Rattle.bridge_limits.proofs.Options.{none_some}
 use Rattle.bridge_semantics.specs.Runs.{DroppedBefore, Drops, Delayed, IsGreatest, IsTold, AtPort, fate_by}
-use Rattle.bridge_state.specs.declared.slot.Slot.{Slot}
-use Rattle.bridge_state.specs.Slots.{offered_slot, counted_copy, refusal_by}
-use Rattle.bridge_state.specs.Tables.{TableState, change, refused, after_answer}
-use Rattle.bridge_state.specs.Ports.{slot_in, slot_at, goes_out, outs, is_there, NotBefore}
+use Rattle.bridge_relay.specs.declared.slot.Slot.{Slot}
+use Rattle.bridge_relay.specs.Slots.{offered_slot, counted_copy, refusal_by}
+use Rattle.bridge_relay.specs.Tables.{TableState, change, refused, after_answer}
+use Rattle.bridge_relay.specs.Ports.{slot_in, slot_at, goes_out, outs, is_there, NotBefore}
 use Rattle.bridge_relay.specs.Relays.{RelayState, HasLeft, IsSound, IsAwaited, written, is_flow, is_of, count_all, seen}
-use Rattle.bridge_state.specs.Ports.{AreAlike}
+use Rattle.bridge_relay.specs.Ports.{AreAlike}
 use Rattle.bridge_relay.specs.Relaying.{CountTheSame, HasOfferedTo, Carries, offer_to, offers_below, IsPending, IsOffering, HasCopies, leaves}
-use Rattle.bridge_state.proofs.Porting.{below, set_here, set_there}
-use Rattle.bridge_state.proofs.Outs.{outs_next}
+use Rattle.bridge_relay.proofs.Porting.{below, set_here, set_there}
+use Rattle.bridge_relay.proofs.Outs.{outs_next}
 use Rattle.bridge_relay.proofs.Sound.{changed}
 use Rattle.bridge_relay.proofs.Standing.{put, put_same, put_other, out_of}
 use Rattle.bridge_relay.proofs.Leaving.{left_pushed}

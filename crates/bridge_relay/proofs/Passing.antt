@@ -27,16 +27,16 @@ use Rattle.bridge_port.specs.Schedule.{Copy}
 use Rattle.bridge_port.specs.Standing.{StandsFor}
 use Rattle.bridge_filter.specs.Counts.{verdicts_of}
 use Rattle.bridge_semantics.specs.Runs.{count_frames, is_malformed, is_nowhere, is_relayed, is_unfiltered, IsCount}
-use Rattle.bridge_state.specs.declared.slot.Slot.{Slot}
-use Rattle.bridge_state.specs.declared.slot.Came.{Came}
-use Rattle.bridge_state.specs.declared.slot.Came.TheVariants as came
-use Rattle.bridge_state.specs.Slots.{counted_frame}
-use Rattle.bridge_state.specs.Tables.{TableState}
-use Rattle.bridge_state.specs.Ports.{slot_in, slot_at}
+use Rattle.bridge_relay.specs.declared.slot.Slot.{Slot}
+use Rattle.bridge_relay.specs.declared.slot.Came.{Came}
+use Rattle.bridge_relay.specs.declared.slot.Came.TheVariants as came
+use Rattle.bridge_relay.specs.Slots.{counted_frame}
+use Rattle.bridge_relay.specs.Tables.{TableState}
+use Rattle.bridge_relay.specs.Ports.{slot_in, slot_at}
 use Rattle.bridge_relay.specs.Relays.{RelayState, HasLeft, Stands, IsSound, IsKept, written_of, count_in, count_all, is_of, is_wrong, seen}
-use Rattle.bridge_state.specs.Ports.{AreAlike}
+use Rattle.bridge_relay.specs.Ports.{AreAlike}
 use Rattle.bridge_relay.specs.Relaying.{HasPassed, IsOver}
-use Rattle.bridge_state.proofs.Porting.{below, set_here, set_there}
+use Rattle.bridge_relay.proofs.Porting.{below, set_here, set_there}
 use Rattle.bridge_relay.proofs.Leaving.{left_same}
 
 abbrev pub counting : {A : Type 0} → Slot A → Came → Slot A

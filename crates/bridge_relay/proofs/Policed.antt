@@ -26,12 +26,12 @@ use Rattle.bridge_semantics.specs.Events.{Arrival, Event, Arrived, arrivals, and
 use Rattle.bridge_semantics.specs.Offers.{Carried, Offer, offers}
 use Rattle.bridge_semantics.proofs.Offering.{going}
 use Rattle.bridge_semantics.specs.Runs.{IsTold, AtPort, IsCount, is_malformed, is_nowhere, is_relayed, is_unfiltered}
-use Rattle.bridge_state.specs.declared.slot.Slot.{Slot}
-use Rattle.bridge_state.specs.declared.slot.Came.{Came}
-use Rattle.bridge_state.specs.declared.slot.Came.TheVariants as came
-use Rattle.bridge_state.specs.Slots.{counted_frame}
-use Rattle.bridge_state.specs.Tables.{TableState, judged}
-use Rattle.bridge_state.specs.Ports.{slot_at}
+use Rattle.bridge_relay.specs.declared.slot.Slot.{Slot}
+use Rattle.bridge_relay.specs.declared.slot.Came.{Came}
+use Rattle.bridge_relay.specs.declared.slot.Came.TheVariants as came
+use Rattle.bridge_relay.specs.Slots.{counted_frame}
+use Rattle.bridge_relay.specs.Tables.{TableState, judged}
+use Rattle.bridge_relay.specs.Ports.{slot_at}
 use Rattle.bridge_relay.specs.Relays.{RelayState, HasLeft, Stands, written, seen}
 use Rattle.bridge_relay.specs.Relaying.{Carries, CountTheSame, HasRuled, came_as, came_on, judged_by, one_less}
 use Rattle.bridge_relay.proofs.Sound.{changed}

@@ -21,9 +21,9 @@ use Rattle.bridge_semantics.specs.declared.way.Way.TheVariants.{Goes}
 use Rattle.bridge_semantics.specs.Events.{Arrival, Event, Arrived, Cleared, arrivals, and_call, call_of, calls, count, flow_by, flow_of, police_of, steps, way_of}
 use Rattle.bridge_semantics.specs.Offers.{Carried, Offer, offers, offer_of, offer_on, offer_of_step, step_of}
 use Rattle.bridge_semantics.specs.Runs.{count_frames, is_malformed, is_nowhere, is_unfiltered}
-use Rattle.bridge_state.specs.declared.slot.Slot.{Slot}
-use Rattle.bridge_state.specs.Tables.{TableState}
-use Rattle.bridge_state.specs.Ports.{slot_at, outs, NotBefore}
+use Rattle.bridge_relay.specs.declared.slot.Slot.{Slot}
+use Rattle.bridge_relay.specs.Tables.{TableState}
+use Rattle.bridge_relay.specs.Ports.{slot_at, outs, NotBefore}
 use Rattle.bridge_relay.specs.Relays.{RelayState, Stands, IsSound, written, written_of}
 use Rattle.bridge_relay.specs.Relaying.{Carries, offer_to, offers_to, offers_below, IsPending, IsOffering}
 use Rattle.bridge_relay.proofs.Offering.{carries_same}

@@ -19,13 +19,13 @@ use Rattle.bridge_config.specs.Model.{Plan}
 use Rattle.bridge_config.specs.Rules.{port_at}
 use Rattle.bridge_semantics.specs.declared.outcome.Departure.{Departure}
 use Rattle.bridge_semantics.specs.declared.outcome.Dropped.{Dropped}
-use Rattle.bridge_state.specs.declared.slot.Slot.{Slot}
-use Rattle.bridge_state.specs.Tables.{TableState, judged}
-use Rattle.bridge_state.specs.Ports.{PortsState, slot_in, slot_at}
+use Rattle.bridge_relay.specs.declared.slot.Slot.{Slot}
+use Rattle.bridge_relay.specs.Tables.{TableState, judged}
+use Rattle.bridge_relay.specs.Ports.{PortsState, slot_in, slot_at}
 use Rattle.bridge_relay.specs.Relays.{RelayState, IsSound, IsKept, count_all, is_of, is_wrong}
-use Rattle.bridge_state.specs.Ports.{AreAlike}
+use Rattle.bridge_relay.specs.Ports.{AreAlike}
 use Rattle.bridge_relay.specs.Relaying.{HasRuled, IsFresh, came_as, came_on, judged_by}
-use Rattle.bridge_state.proofs.Porting.{below, set_here}
+use Rattle.bridge_relay.proofs.Porting.{below, set_here}
 use Rattle.bridge_relay.proofs.Sound.{changed, changed_there}
 use Rattle.bridge_relay.proofs.Passing.{counting, passed_here, passed_there, count_passed, frames_of, alike_passed}
 

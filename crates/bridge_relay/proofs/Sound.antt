@@ -13,22 +13,22 @@ use Rattle.bridge_limits.proofs.Members.{in_push, rising_push}
 use Rattle.bridge_limits.proofs.Cases.{by_bool}
 use Rattle.bridge_limits.proofs.Options.{some_of}
 use Rattle.bridge_semantics.specs.Runs.{DepartsBefore, DroppedBefore}
-use Rattle.bridge_state.specs.declared.slot.Slot.{Slot}
-use Rattle.bridge_state.specs.declared.slot.Begun.{Begun}
+use Rattle.bridge_relay.specs.declared.slot.Slot.{Slot}
+use Rattle.bridge_relay.specs.declared.slot.Begun.{Begun}
 use Rattle.bridge_port.specs.declared.item.Item.{Item}
 use Rattle.bridge_port.specs.declared.item.Refusal.{Refusal}
 use Rattle.bridge_port.specs.Standing.{count_queued, refusal_of}
 use Rattle.std.proofs.lemmas.List.Sums.{sum_by-set}
 use Rattle.std.proofs.lemmas.Option.{same_Some}
 use Rattle.bridge_semantics.specs.declared.outcome.Dropped.{Dropped}
-use Rattle.bridge_state.specs.Slots.{started_slot, offered_slot, counted_copy, refusal_by}
-use Rattle.bridge_state.specs.Tables.{TableState, change, change_if, departed, promised, refused, after_answer, Owes, MayPromise}
-use Rattle.bridge_state.specs.Ports.{PortsState, slot_in, slot_at, outs, HasStarted, HasOffered, IsAfter, NotBefore}
+use Rattle.bridge_relay.specs.Slots.{started_slot, offered_slot, counted_copy, refusal_by}
+use Rattle.bridge_relay.specs.Tables.{TableState, change, change_if, departed, promised, refused, after_answer, Owes, MayPromise}
+use Rattle.bridge_relay.specs.Ports.{PortsState, slot_in, slot_at, outs, HasStarted, HasOffered, IsAfter, NotBefore}
 use Rattle.bridge_relay.specs.Relays.{RelayState, IsKept, IsSound, IsAwaited, is_flow_stray, count_in, count_all, is_of, is_flow, is_wrong}
-use Rattle.bridge_state.specs.Ports.{AreAlike}
+use Rattle.bridge_relay.specs.Ports.{AreAlike}
 use Rattle.bridge_relay.specs.Relaying.{HasOfferedTo}
 use Rattle.bridge_filter.specs.declared.FilterPlan.{FilterPlan}
-use Rattle.bridge_state.proofs.Porting.{below, set_here, set_there}
+use Rattle.bridge_relay.proofs.Porting.{below, set_here, set_there}
 use Rattle.bridge_relay.proofs.Advancing.{count_started}
 
 -- what a list by number has after the value of one number has changed

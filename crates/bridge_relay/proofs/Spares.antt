@@ -18,14 +18,14 @@ use Rattle.bridge_config.specs.Model.{Plan}
 use Rattle.bridge_semantics.specs.Events.{Event}
 use Rattle.bridge_semantics.specs.Offers.{Carried, Offer}
 use Rattle.bridge_semantics.specs.Runs.{IsTold, AtPort}
-use Rattle.bridge_state.specs.declared.slot.Slot.{Slot}
-use Rattle.bridge_state.specs.Tables.{TableState, change_if, judged, promised, released, IsOpen, OwesSo}
-use Rattle.bridge_state.specs.Ports.{slot_in, slot_at, goes_out, outs, is_there as is_port}
+use Rattle.bridge_relay.specs.declared.slot.Slot.{Slot}
+use Rattle.bridge_relay.specs.Tables.{TableState, change_if, judged, promised, released, IsOpen, OwesSo}
+use Rattle.bridge_relay.specs.Ports.{slot_in, slot_at, goes_out, outs, is_there as is_port}
 use Rattle.bridge_relay.specs.Relays.{RelayState, IsSound, IsKept, HasSpare, Stands, written, count_all, is_flow, is_flow_stray, is_of, seen}
 use Rattle.bridge_relay.specs.Relaying.{Carries, HasCopies, HasRuled, IsFresh, IsPending, IsOffering, MayRelay, came_as, came_on, one_less, releasing}
 use Rattle.bridge_relay.proofs.Sound.{changed, changed_there}
 use Rattle.bridge_relay.proofs.Passing.{counting, passed_here, passed_there, count_passed}
-use Rattle.bridge_state.proofs.Porting.{below, set_here}
+use Rattle.bridge_relay.proofs.Porting.{below, set_here}
 use Rattle.bridge_relay.proofs.Offering.{change_finds}
 use Rattle.bridge_relay.proofs.Policed.{IsAfter}
 

@@ -27,14 +27,14 @@ use Rattle.bridge_limits.specs.Members.{Rising}
 use Rattle.bridge_limits.proofs.Cases.{by_bool}
 use Rattle.bridge_limits.proofs.Options.{none_some}
 use Rattle.bridge_semantics.specs.Runs.{DepartsBefore, IsTold, AtPort, IsCount}
-use Rattle.bridge_state.specs.declared.slot.Slot.{Slot}
-use Rattle.bridge_state.specs.declared.slot.Begun as slot
-use Rattle.bridge_state.specs.Slots.{started_slot}
-use Rattle.bridge_state.specs.Tables.{TableState, change_if, departed}
-use Rattle.bridge_state.specs.Ports.{PortsState, slot_in, slot_at, HasStarted}
+use Rattle.bridge_relay.specs.declared.slot.Slot.{Slot}
+use Rattle.bridge_relay.specs.declared.slot.Begun as slot
+use Rattle.bridge_relay.specs.Slots.{started_slot}
+use Rattle.bridge_relay.specs.Tables.{TableState, change_if, departed}
+use Rattle.bridge_relay.specs.Ports.{PortsState, slot_in, slot_at, HasStarted}
 use Rattle.bridge_relay.specs.Relays.{RelayState, HasLeft, Stands, IsSound, written, is_flow, seen}
-use Rattle.bridge_state.specs.Ports.{AreAlike, IsMade}
-use Rattle.bridge_state.proofs.Porting.{below, set_here, set_there}
+use Rattle.bridge_relay.specs.Ports.{AreAlike, IsMade}
+use Rattle.bridge_relay.proofs.Porting.{below, set_here, set_there}
 use Rattle.bridge_relay.proofs.Sound.{changed}
 use Rattle.bridge_relay.proofs.Leaving.{left_begun}
 use Rattle.bridge_relay.proofs.Telling.{IsBegunAt, IsDone, dated, told_other, told_more, offered_same, counted_same, start_after, in_seen}

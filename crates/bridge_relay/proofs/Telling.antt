@@ -26,7 +26,7 @@ use Rattle.bridge_limits.specs.Members.{Rising}
 use Rattle.bridge_limits.proofs.Members.{in_left, in_push, in_end, in_either}
 use Rattle.bridge_limits.proofs.Cases.{by_bool}
 use Rattle.bridge_semantics.specs.Runs.{DepartsBefore, Departs, Drops, Delayed, IsGreatest, IsTold, AtPort, fate_by}
-use Rattle.bridge_state.specs.Tables.{longer}
+use Rattle.bridge_relay.specs.Tables.{longer}
 
 -- Members.
 

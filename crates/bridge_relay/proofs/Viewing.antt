@@ -15,8 +15,8 @@ use Rattle.bridge_filter.specs.declared.FilterPlan.{FilterPlan}
 use Rattle.bridge_filter.specs.Plans.{is_there}
 use Rattle.bridge_filter.specs.Standing as filter
 use Rattle.bridge_semantics.specs.declared.outcome.View.{View}
-use Rattle.bridge_state.specs.Tables.{TableState, change}
-use Rattle.bridge_state.specs.Told.{fresh}
+use Rattle.bridge_relay.specs.Tables.{TableState, change}
+use Rattle.bridge_relay.specs.Told.{fresh}
 use Rattle.bridge_relay.specs.Ending.{IsShown, AreShown}
 
 abbrev pub IsBefore : {X : Type 0} → ℕ × X → ℕ × X → Type 0

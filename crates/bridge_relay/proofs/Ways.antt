@@ -14,9 +14,9 @@ use Rattle.bridge_config.specs.Rules.{port_at, IsPort}
 use Rattle.bridge_check.specs.Sending.{vid_of, priority_of, is_eligible, call_of}
 use Rattle.bridge_semantics.specs.declared.way.Way.TheVariants.{Malformed, Nowhere, Goes}
 use Rattle.bridge_semantics.specs.Events.{Arrival, metered, way_of, way_if, way_to}
-use Rattle.bridge_state.specs.declared.slot.Slot.{Slot}
-use Rattle.bridge_state.specs.Ports.{defaults_of}
-use Rattle.bridge_state.specs.Ports.{AreAlike}
+use Rattle.bridge_relay.specs.declared.slot.Slot.{Slot}
+use Rattle.bridge_relay.specs.Ports.{defaults_of}
+use Rattle.bridge_relay.specs.Ports.{AreAlike}
 use Rattle.bridge_relay.specs.Relaying.{classified}
 
 -- no port, no defaults

@@ -6,7 +6,7 @@ use Rattle.bridge_filter.specs.Counts.{verdicts_of, counters_of, flags_of, bucke
 use Rattle.bridge_filter.specs.Standing as filter
 use Rattle.bridge_filter.specs.Verdicts as verdicts
 use Rattle.bridge_semantics.specs.declared.outcome.View.{View}
-use Rattle.bridge_state.specs.Tables.{TableState}
+use Rattle.bridge_relay.specs.Tables.{TableState}
 
 -- what a table tells is shown
 pub record ShowsTable {A : Type 0} (t : TableState) (v : View A) : Type 0 where

@@ -30,12 +30,12 @@ use Rattle.bridge_semantics.specs.declared.outcome.Origin.{Origin}
 use Rattle.bridge_semantics.specs.declared.outcome.PortCount.{PortCount}
 use Rattle.bridge_semantics.specs.declared.way.Way.{Way}
 use Rattle.bridge_semantics.specs.declared.way.Way.TheVariants.{Malformed, Nowhere, Goes}
-use Rattle.bridge_state.specs.declared.slot.Came.{Came}
-use Rattle.bridge_state.specs.declared.slot.Came.TheVariants as came
-use Rattle.bridge_state.specs.declared.slot.Slot.{Slot}
-use Rattle.bridge_state.specs.Slots.{offered_slot, refusal_to, counted_frame}
-use Rattle.bridge_state.specs.Tables.{IsOpen, TableState, after_answer, change, judged, released}
-use Rattle.bridge_state.specs.Ports.{slot_at, outs, is_there, NotBefore}
+use Rattle.bridge_relay.specs.declared.slot.Came.{Came}
+use Rattle.bridge_relay.specs.declared.slot.Came.TheVariants as came
+use Rattle.bridge_relay.specs.declared.slot.Slot.{Slot}
+use Rattle.bridge_relay.specs.Slots.{offered_slot, refusal_to, counted_frame}
+use Rattle.bridge_relay.specs.Tables.{IsOpen, TableState, after_answer, change, judged, released}
+use Rattle.bridge_relay.specs.Ports.{slot_at, outs, is_there, NotBefore}
 use Rattle.bridge_relay.specs.Relays.{RelayState, HasLeft, HasSpare, IsSound, written, count_all, is_of, is_flow_stray, seen}
 
 -- a frame that goes somewhere has a priority, 0 to 7

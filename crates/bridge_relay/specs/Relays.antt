@@ -28,10 +28,10 @@ use Rattle.bridge_semantics.specs.Offers.{Carried, carried, offers, offered}
 use Rattle.bridge_semantics.specs.Outputs.{IsOutput}
 use Rattle.bridge_limits.specs.Members.{Rising}
 use Rattle.bridge_semantics.specs.Runs.{DepartsBefore, DroppedBefore, IsTold, AtPort, IsCount}
-use Rattle.bridge_state.specs.declared.slot.Slot.{Slot}
+use Rattle.bridge_relay.specs.declared.slot.Slot.{Slot}
 use Rattle.bridge_relay.specs.declared.relay.Sent.{Sent}
-use Rattle.bridge_state.specs.Tables.{TableState}
-use Rattle.bridge_state.specs.Ports.{PortsState, AreAlike, slot_at}
+use Rattle.bridge_relay.specs.Tables.{TableState}
+use Rattle.bridge_relay.specs.Ports.{PortsState, AreAlike, slot_at}
 
 -- the plan, its streams, the filters, the ports, what is told of each filter, how many frames came, and the least moment of the next one
 pub record RelayState (G A : Type 0) : Type 0 where

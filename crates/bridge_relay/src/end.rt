@@ -13,18 +13,18 @@ ghost use Rattle.bridge_semantics.specs.Offers.{Carried};
 ghost use Rattle.bridge_semantics.specs.Next.{AreNext, IsNextAfter};
 ghost use Rattle.bridge_semantics.specs.Outputs.{Reaches, HasRun, Ends};
 ghost use Rattle.bridge_semantics.specs.Runs.{IsOutcome, IsSoloView, TellTheSame};
-ghost use Rattle.bridge_state.specs.Ports.{NotBefore};
-ghost use Rattle.bridge_state.specs.Tables.{change};
-ghost use Rattle.bridge_state.specs.Told.{fresh};
+ghost use Rattle.bridge_relay.specs.Ports.{NotBefore};
+ghost use Rattle.bridge_relay.specs.Tables.{change};
+ghost use Rattle.bridge_relay.specs.Told.{fresh};
 ghost use Rattle.bridge_relay.specs.Ending.{IsShown, AreShown};
 ghost use Rattle.bridge_relay.specs.Relays.{Stands};
 
 use crate::relay::Relay;
+use crate::table::Told;
+use crate::tables::{Tables, take_told};
 use bridge_events::Agenda;
 use bridge_filter::{FilterPlan, Police};
 use bridge_semantics::{Outcome, PortCount, View};
-use bridge_state::tables::take_told;
-use bridge_state::{Tables, Told};
 use std::alloc::Allocator;
 
 /// What a run tells of a filter, moved out of its table.

@@ -5,7 +5,9 @@ ghost use Rattle.bridge_filter.specs.Standing as standing;
 ghost use Rattle.bridge_semantics.specs.Events as events;
 ghost use Rattle.bridge_relay.specs.Relays.{Stands};
 
+use crate::ports::Ports;
 use crate::relay::Relay;
+use crate::tables::tables_of;
 use bridge_check::Accepted;
 use bridge_config::Plan;
 use bridge_cycle::NoMemory;
@@ -13,8 +15,6 @@ use bridge_events::Agenda;
 use bridge_filter::Police;
 use bridge_gate::GatePlan;
 use bridge_ident::{Ident, StreamEntry};
-use bridge_state::Ports;
-use bridge_state::tables::tables_of;
 use std::alloc::Allocator;
 
 /// Equal gates, each with its number.

@@ -1,3 +1,5 @@
+pub mod Summary
+pub mod SummaryExamples
 pub mod Growth
 pub mod Words
 pub mod Section

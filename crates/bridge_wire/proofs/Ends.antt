@@ -21,11 +21,11 @@ use Rattle.bridge_port.specs.Standing.{State, StandsFor, IsDue, IsIdle}
 use Rattle.bridge_port.proofs.Ports.{idle_whole}
 use Rattle.bridge_port.proofs.Watched.{whole_seen}
 use Rattle.bridge_wire.specs.declared.count.WireCount.{WireCount}
-use Rattle.bridge_inputs.specs.declared.lane.CaptureReader.{CaptureReader}
-use Rattle.bridge_inputs.specs.Lanes.{FailsFirst, Finds, fault_at}
-use Rattle.bridge_inputs.specs.Lanes.{room as room_ahead}
+use Rattle.bridge_capture.specs.declared.lane.CaptureReader.{CaptureReader}
+use Rattle.bridge_capture.specs.Lanes.{FailsFirst, Finds, fault_at}
+use Rattle.bridge_capture.specs.Lanes.{room as room_ahead}
 use Rattle.bridge_wire.specs.Wire.{offers_of, IsOutput, IsUpTo, IsWireRun, LooksFrom, Stops, StopsWriting, WantsMemory, Wires}
-use Rattle.bridge_inputs.specs.declared.fault.RunFault.{RunFault}
+use Rattle.bridge_capture.specs.declared.run_fault.RunFault.{RunFault}
 use Rattle.bridge_wire.specs.Sending.{EndsSo, frame_of, no_count, NotBefore, IsRunning, IsUnderWay, Sends, StopsAfter}
 use Rattle.bridge_wire.proofs.Running.{goes_until, is_up_to, stops_after, HasGone}
 

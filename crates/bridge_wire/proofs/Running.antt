@@ -27,7 +27,7 @@ use Rattle.bridge_port.proofs.Watched.{lawful_seen}
 use Rattle.bridge_port.proofs.Keeping.{count_cons, count_push}
 use Rattle.bridge_port.proofs.Members.{not_started}
 use Rattle.bridge_wire.specs.declared.count.WireCount.{WireCount}
-use Rattle.bridge_inputs.specs.declared.fault.RunFault.{RunFault}
+use Rattle.bridge_capture.specs.declared.run_fault.RunFault.{RunFault}
 use Rattle.bridge_wire.specs.Wire.{Frame, Offer, one_queue, offer_of, offers_of, is_well_formed, IsOutput, GoesThrough, IsUpTo}
 use Rattle.bridge_wire.proofs.Sends.{calm_early}
 use Rattle.bridge_wire.specs.Sending.{frame_of, is_overlong, AreOfClass, Sends, NotBefore, IsRunning, StopsAfter, Continues}

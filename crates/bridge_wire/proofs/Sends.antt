@@ -24,7 +24,7 @@ use Rattle.bridge_port.specs.Standing.{State, StandsFor, IsNext, IsBegun, NoStar
 use Rattle.bridge_port.proofs.Watched.{begun_seen}
 use Rattle.bridge_port.proofs.Members.{begun_to, begun_from, begun_there, same_start}
 use Rattle.bridge_port.proofs.Keeping.{count_cons}
-use Rattle.bridge_inputs.specs.declared.fault.RunFault.{RunFault}
+use Rattle.bridge_capture.specs.declared.run_fault.RunFault.{RunFault}
 use Rattle.bridge_wire.specs.Wire.{IsShort, Frame, Offer, offered, departure, IsOutput}
 use Rattle.bridge_wire.specs.Sending.{frame_of, AreOfClass, Sends, Goes}
 use Rattle.bridge_wire.proofs.Lists.{rising_push}

@@ -14,10 +14,10 @@ use Rattle.bridge_port.specs.Schedule.{Copy, is_accepted}
 use Rattle.bridge_port.specs.Seen.{all_seen}
 use Rattle.bridge_port.specs.Standing.{State, StandsFor, NoStartBefore, count_queued}
 use Rattle.bridge_wire.specs.declared.count.WireCount.{WireCount}
-use Rattle.bridge_inputs.specs.declared.fault.RunFault.{RunFault}
+use Rattle.bridge_capture.specs.declared.run_fault.RunFault.{RunFault}
 use Rattle.bridge_capture.specs.Standing.{last_time}
-use Rattle.bridge_inputs.specs.declared.lane.CaptureReader.{CaptureReader}
-use Rattle.bridge_inputs.specs.Lanes.{IsAhead}
+use Rattle.bridge_capture.specs.declared.lane.CaptureReader.{CaptureReader}
+use Rattle.bridge_capture.specs.Lanes.{IsAhead}
 use Rattle.bridge_wire.specs.Wire.{Frame, Offer, offered, offers_of, is_well_formed, IsShort, IsOutput, GoesThrough, Stops, Wires}
 
 -- a queued frame as a frame

@@ -14,10 +14,10 @@ use Rattle.bridge_limits.specs.Members.{In}
 use Rattle.bridge_limits.specs.declared.TheConstants.{LONGEST_FRAME}
 use Rattle.bridge_port.specs.Schedule.{Started, Copy, Rules, IsLawful, is_accepted}
 use Rattle.bridge_port.specs.Solo.{IsWhole}
-use Rattle.bridge_inputs.specs.Lanes.{BeginsWell, FailsFirst}
+use Rattle.bridge_capture.specs.Lanes.{BeginsWell, FailsFirst}
 use Rattle.bridge_wire.specs.declared.count.WireCount.{WireCount}
-use Rattle.bridge_inputs.specs.declared.fault.RunFault.{RunFault}
-use Rattle.bridge_inputs.specs.declared.fault.RunFault.TheVariants as run
+use Rattle.bridge_capture.specs.declared.run_fault.RunFault.{RunFault}
+use Rattle.bridge_capture.specs.declared.run_fault.RunFault.TheVariants as run
 
 -- a frame in a queue: its length in octets, and those that were captured
 pub record Frame : Type 0 where

@@ -5,6 +5,6 @@ mod count;
 mod queue;
 mod sending;
 
-pub use bridge_inputs::RunFault;
+pub use bridge_capture::RunFault;
 pub use count::WireCount;
 pub use queue::wire;

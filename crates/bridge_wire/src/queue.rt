@@ -4,15 +4,17 @@ ghost use Rattle.bridge_capture.specs.Grammar.{Captured};
 ghost use Rattle.bridge_capture.specs.Reading.{view};
 ghost use Rattle.bridge_capture.specs.Standing.{Gave, IsReading, records_left, StandsFor};
 ghost use Rattle.bridge_port.specs.Standing.{count_queued};
-ghost use Rattle.bridge_inputs.specs.Lanes.{IsLane, room as room_ahead};
+ghost use Rattle.bridge_capture.specs.Lanes.{IsLane, room as room_ahead};
 ghost use Rattle.bridge_wire.specs.Wire.{IsOfPortOne, Stops, Wires};
 ghost use Rattle.bridge_wire.specs.Sending.{Continues, EndsSo, GoesOn, is_overlong, IsRunning, IsUnderWay, no_count};
 
 use crate::count::WireCount;
 use crate::sending::depart_before;
-use bridge_capture::{ByteSink, ByteSource, CaptureFault, MAX_RECORDS, Packet, Writer};
+use bridge_capture::{
+    ByteSink, ByteSource, CaptureFault, CaptureReader, MAX_RECORDS, Packet, RunFault, Spares,
+    Writer, fault_of,
+};
 use bridge_frame::{Speed, parse};
-use bridge_inputs::{CaptureReader, RunFault, Spares, fault_of};
 use bridge_limits::{END_OF_TIME, MOST_CAPTURED};
 use bridge_port::{Item, LARGEST_ROOM, Port};
 use std::alloc::Allocator;

@@ -8,8 +8,7 @@ ghost use Rattle.bridge_port.specs.Standing.{count_queued, IsDue, NoStartBefore}
 ghost use Rattle.bridge_wire.specs.Wire.{Offer};
 ghost use Rattle.bridge_wire.specs.Sending.{Goes, is_overlong, NotBefore, Sends};
 
-use bridge_capture::{ByteSink, SNAP_LENGTH, Writer};
-use bridge_inputs::{RunFault, Spares};
+use bridge_capture::{ByteSink, RunFault, SNAP_LENGTH, Spares, Writer};
 use bridge_port::{Item, Port};
 use std::alloc::Allocator;
 

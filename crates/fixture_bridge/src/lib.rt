@@ -1,9 +1,12 @@
 #![tactic(auto)]
 //! A bridge for tests, to which frames and a command come one by one, each call with what it tells afterwards tested.
+
+pub mod base;
+
 ghost use Rattle.std.specs.Prelude.{◌≡◌, true, Option};
 ghost use Rattle.bridge_filter.specs.Plans.{is_there};
 ghost use Rattle.bridge_config.specs.Commands.{has_instance};
-ghost use Rattle.bridge_state.specs.Ports.{NotBefore};
+ghost use Rattle.bridge_relay.specs.Ports.{NotBefore};
 ghost use Rattle.bridge_core.specs.Bridges.{next_start, plan_in};
 
 use bridge_capture::{Capture, Packet, SliceSource};

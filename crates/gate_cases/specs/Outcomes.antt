@@ -6,15 +6,15 @@ use Rattle.bridge_schema.specs.Readers.{Gives, GivesAs}
 use Rattle.bridge_config.specs.Model.{Plan}
 use Rattle.bridge_config.specs.declared.command.Command.{Command}
 use Rattle.bridge_config.specs.Document.{plan_of_text, commands_of_text}
-use Rattle.bridge_netfile.specs.declared.fault.NetFault.{NetFault}
-use Rattle.bridge_netfile.specs.Document.{network_of_text}
-use Rattle.bridge_netfile.specs.Lines.{line_for, line_of}
-use Rattle.bridge_netfile.specs.Model.{Network}
-use Rattle.bridge_netfile.specs.Reading as reading
-use Rattle.bridge_traffic.specs.declared.rows.TrafficRow.{TrafficRow}
-use Rattle.bridge_traffic.specs.Document.{rows_of_text}
-use Rattle.bridge_jobs.specs.PlanLines.{line_of_plan}
-use Rattle.bridge_jobs.specs.RefusedCommands.{line_of_commands}
+use Rattle.net_file.specs.declared.fault.NetFault.{NetFault}
+use Rattle.net_file.specs.Document.{network_of_text}
+use Rattle.net_file.specs.Lines.{line_for, line_of}
+use Rattle.net_file.specs.Model.{Network}
+use Rattle.net_file.specs.Reading as reading
+use Rattle.net_file.specs.declared.traffic_row.TrafficRow.{TrafficRow}
+use Rattle.net_file.specs.TrafficDocument.{rows_of_text}
+use Rattle.app_failure.specs.PlanLines.{line_of_plan}
+use Rattle.app_failure.specs.RefusedCommands.{line_of_commands}
 
 -- a plan is accepted, or refused by its line
 abbrev pub plan_line : {A : Type 0} → Result (Plan A) PlanFault → List ℕ

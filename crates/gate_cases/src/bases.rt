@@ -3,9 +3,9 @@ ghost use Rattle.std.specs.Prelude.{◌++◌, codes};
 ghost use Rattle.bridge_text.specs.Growth.{HasGrown};
 
 use crate::case::halves;
+use app_failure::Fault;
+use bridge_capture::RunFault;
 use bridge_config::{Plan, plan_of};
-use bridge_inputs::RunFault;
-use bridge_jobs::Fault;
 use bridge_text::Text;
 use std::alloc::Global;
 

@@ -3,12 +3,12 @@
 use crate::adding::add_debug;
 use crate::fault_lines::put_status;
 use crate::short::{is_refused, put_refused};
-use bridge_cli::{
+use app_cli::{
     Job, TableRequest, job_of, picture_request_of, table_request_of, wants_explanation,
     wants_strictness,
 };
-use bridge_inputs::RunFault;
-use bridge_jobs::Fault;
+use app_failure::Fault;
+use bridge_capture::RunFault;
 use bridge_text::Text;
 use fixture_alloc::Ending;
 use std::alloc::{AllocError, Global};

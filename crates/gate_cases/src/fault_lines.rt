@@ -1,15 +1,14 @@
 //! The line and the status of faults of each kind.
 
 use crate::growths::{growths_of_count, growths_of_line, put_growths};
-use bridge_capture::CaptureFault;
+use app_commands::wire_line;
+use app_failure::{Fault, TextFault, fault_line};
+use bridge_capture::{CaptureFault, RunFault};
 use bridge_check::CheckFault;
 use bridge_cycle::ListFault;
-use bridge_inputs::RunFault;
-use bridge_jobs::{Fault, TextFault, fault_line};
 use bridge_schema::{Field, Place, PlanFault, Section};
 use bridge_text::Text;
 use bridge_wire::WireCount;
-use bridge_wiring::wire_line;
 use std::alloc::Global;
 
 /// Faults of captures, by the ports of these.

@@ -1,9 +1,9 @@
 //! Calls of which each growth is refused in turn: each has to answer want of memory then, and in full where none is.
 
-use bridge_jobs::{Fault, NoMemory, fault_line};
+use app_commands::wire_line;
+use app_failure::{Fault, NoMemory, fault_line};
 use bridge_text::Text;
 use bridge_wire::WireCount;
-use bridge_wiring::wire_line;
 use fixture_alloc::{Ending, RefusesOne};
 use std::alloc::{Allocator, Global};
 

@@ -1,7 +1,7 @@
 //! The octets that a text spells, and the text of these.
 
 use crate::adding::add_debug;
-use bridge_hex::{lines_of, octets_of};
+use bridge_capture::{lines_of, octets_of};
 use bridge_text::Text;
 use std::alloc::{Allocator, Global};
 

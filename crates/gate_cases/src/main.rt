@@ -27,7 +27,7 @@ mod told_cases;
 mod told_faults;
 mod told_jobs;
 
-use bridge_jobs::{Fault, end, words_of};
+use app_failure::{Fault, end, words_of};
 use judging::judged;
 use std::process::ExitCode;
 use std::rt::{Env, Files};

@@ -3,9 +3,8 @@ ghost use Rattle.std.specs.Prelude.{◌≡◌, IfOk, string_bytes};
 ghost use Rattle.gate_cases.specs.Outcomes.{IsNetworkLine, IsTrafficLine, counts_words};
 
 use crate::adding::add;
-use bridge_netfile::{fault_line, network_of, refusal_line};
 use bridge_text::Text;
-use bridge_traffic::traffic_of;
+use net_file::{fault_line, network_of, refusal_line, traffic_of};
 use std::alloc::{AllocError, Global};
 
 /// Two bridges that share a plan.

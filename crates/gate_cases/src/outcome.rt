@@ -1,14 +1,14 @@
 //! What becomes of the text of a case.
 ghost use Rattle.std.specs.Prelude.{◌≡◌, IfOk, string_bytes};
-ghost use Rattle.bridge_jobs.specs.Lines.{line_of};
+ghost use Rattle.app_failure.specs.Lines.{line_of};
 ghost use Rattle.gate_cases.specs.Outcomes.{IsCommandsLine, IsPlanLine};
 
 use crate::adding::add;
 use crate::bases::Bases;
 use crate::case::{halves, written_out};
 use crate::networks::put_line_at;
+use app_failure::{Fault, fault_line};
 use bridge_config::{Plan, commands_of, plan_of};
-use bridge_jobs::{Fault, fault_line};
 use bridge_text::Text;
 use std::alloc::{AllocError, Allocator, Global};
 

@@ -2,9 +2,9 @@
 
 use crate::adding::{add, add_debug};
 use crate::captures::parted;
+use bridge_capture::octets_of;
 use bridge_config::{Plan, commands_of, plan_of};
 use bridge_gate::{GatePlan, Schedule};
-use bridge_hex::octets_of;
 use bridge_text::Text;
 use std::alloc::Global;
 use std::fmt::Debug;

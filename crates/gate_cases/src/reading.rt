@@ -1,5 +1,5 @@
 //! Files as texts.
-use bridge_jobs::{Fault, read_at_most};
+use app_failure::{Fault, read_at_most};
 use std::fs;
 use std::rt::Files;
 

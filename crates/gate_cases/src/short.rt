@@ -1,7 +1,7 @@
 //! Calls that find less memory than they take, whatever library asks for it: the process takes all that the system grants, and
 //! lets go of it piece by piece, until the call finds enough.
 
-use bridge_jobs::NoMemory;
+use app_failure::NoMemory;
 use bridge_text::Text;
 use fixture_alloc::Ending;
 use std::alloc::Global;

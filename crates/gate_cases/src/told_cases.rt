@@ -5,15 +5,15 @@ use crate::captures::put_of_captures;
 use crate::command_lines::words_in;
 use crate::parts::put_of_parts;
 use crate::told_jobs::put_of_job;
-use bridge_advice::{explain_check, idle_change, warn_of_plan};
+use app_cli::job_of;
+use app_commands::wire_text;
+use app_failure::{Fault, NoMemory, TextFault, fault_line};
+use bridge_capture::octets_of;
 use bridge_check::check;
-use bridge_cli::job_of;
 use bridge_config::{Plan, commands_of, plan_of};
-use bridge_explain::{explain_commands, explain_plan, explain_run, explain_text, explain_words};
-use bridge_hex::octets_of;
-use bridge_jobs::{Fault, NoMemory, TextFault, fault_line};
 use bridge_text::Text;
-use bridge_wiring::wire_text;
+use show_explain::{explain_commands, explain_plan, explain_run, explain_text, explain_words};
+use show_lint::{explain_check, idle_change, warn_of_plan};
 use std::alloc::Global;
 
 /// Puts the heading of each case of a file, and what is told of the case.

@@ -2,15 +2,14 @@
 
 use crate::adding::add;
 use crate::told_cases::put_line;
-use bridge_advice::explain_check;
-use bridge_capture::CaptureFault;
+use app_failure::{Cause, Fault, TextFault};
+use bridge_capture::{CaptureFault, RunFault};
 use bridge_check::CheckFault;
 use bridge_config::plan_of;
-use bridge_explain::{explain_commands, explain_file, explain_plan, explain_run, explain_text};
-use bridge_inputs::RunFault;
-use bridge_jobs::{Cause, Fault, TextFault};
 use bridge_schema::PlanFault;
 use bridge_text::Text;
+use show_explain::{explain_commands, explain_file, explain_plan, explain_run, explain_text};
+use show_lint::explain_check;
 use std::alloc::Global;
 
 /// Faults of runs.

@@ -4,11 +4,11 @@ use crate::case::written_out;
 use crate::fault_lines::put_status;
 use crate::growths::{growths_of, put_growths};
 use crate::short::{is_refused, put_refused};
+use app_commands::wire_text;
+use app_failure::{Fault, NoMemory, check_job, commanded, plan_from};
 use bridge_check::Accepted;
 use bridge_config::Command;
-use bridge_jobs::{Fault, NoMemory, check_job, commanded, plan_from};
 use bridge_text::Text;
-use bridge_wiring::wire_text;
 use fixture_alloc::Ending;
 use std::alloc::{Allocator, Global};
 

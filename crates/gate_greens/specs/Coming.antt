@@ -1,8 +1,8 @@
 -- What comes to the bridges of a network from outside.
 use Rattle.std.specs.Prelude.{List, [], ◌∷◌}
 use Rattle.bridge_config.specs.Model.{Plan}
-use Rattle.bridge_rounds.specs.declared.station.Incoming.{Incoming}
-use Rattle.bridge_rounds.specs.Stations.{IsIncoming}
+use Rattle.net_run.specs.declared.station.Incoming.{Incoming}
+use Rattle.net_run.specs.Stations.{IsIncoming}
 
 -- to each bridge of these plans can come what comes to it
 abbrev pub AllIncoming : {A : Type 0} → List (Plan A) → List (Incoming A) → Type 0

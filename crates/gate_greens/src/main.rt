@@ -8,8 +8,8 @@ mod numbers;
 mod plans;
 mod runs;
 
-use bridge_inputs::RunFault;
-use bridge_jobs::{Fault, end, print};
+use app_failure::{Fault, end, print};
+use bridge_capture::RunFault;
 use bridge_text::Text;
 use std::alloc::Global;
 use std::process::ExitCode;

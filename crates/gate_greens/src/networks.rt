@@ -7,7 +7,7 @@ mod line;
 mod shape;
 mod trying;
 
-use bridge_inputs::RunFault;
+use bridge_capture::RunFault;
 use bridge_text::Text;
 use std::alloc::Global;
 use trying::{Tally, Tried, try_network};

@@ -6,7 +6,7 @@ mod judging;
 mod shape;
 mod trying;
 
-use bridge_inputs::RunFault;
+use bridge_capture::RunFault;
 use bridge_text::Text;
 pub use judging::{add_if, is_pass};
 use std::alloc::Global;

@@ -1,8 +1,7 @@
 //! Runs of one bridge over captures.
-use bridge_capture::{SliceSource, VecSink};
+use bridge_capture::{RunFault, SliceSource, VecSink};
 use bridge_check::Accepted;
 use bridge_core::{Outcome, View, simulate};
-use bridge_inputs::RunFault;
 use bridge_limits::NoMemory;
 use std::alloc::Global;
 

@@ -1,14 +1,13 @@
 #![tactic(auto)]
 //! Checks a plan and runs a bridge in memory over one frame. docs/LIBRARY.md shows this file.
 
-use bridge_capture::{SliceSource, VecSink};
+use app_failure::{Fault, accepted_of, end, print};
+use bridge_capture::{SliceSource, VecSink, octets_of};
 use bridge_check::Accepted;
 use bridge_config::commands_of;
 use bridge_core::{Outcome, RunFault, simulate};
-use bridge_hex::octets_of;
-use bridge_jobs::{Fault, accepted_of, end, print};
 use bridge_report::report;
-use fixture_text::base::BASE;
+use fixture_bridge::base::BASE;
 use std::alloc::Global;
 use std::process::ExitCode;
 

@@ -3,9 +3,9 @@ use Rattle.std.proofs.Common.{◌≡◌, ℕ, zero, suc, List, [], ◌∷◌, �
 use Rattle.std.specs.Prelude.{slice_get}
 use Rattle.std.proofs.lemmas.Option.{same_Some}
 use Rattle.bridge_config.specs.Model.{Plan}
-use Rattle.bridge_rounds.specs.declared.station.Incoming.{Incoming}
-use Rattle.bridge_rounds.specs.Rounds.{AreIncoming}
-use Rattle.bridge_rounds.specs.Stations.{IsIncoming}
+use Rattle.net_run.specs.declared.station.Incoming.{Incoming}
+use Rattle.net_run.specs.Rounds.{AreIncoming}
+use Rattle.net_run.specs.Stations.{IsIncoming}
 use Rattle.gate_networks.specs.Coming.{AllIncoming}
 
 -- one bridge more

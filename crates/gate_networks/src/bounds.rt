@@ -7,12 +7,12 @@ mod periods;
 mod running;
 
 use crate::of_run;
+use app_failure::{Fault, planned};
+use bridge_capture::RunFault;
 use bridge_check::Accepted;
-use bridge_inputs::RunFault;
-use bridge_jobs::{Fault, planned};
-use bridge_planning::{QueueBound, bounds_of};
 use bridge_text::Text;
 use captures::Near;
+use net_latency::{QueueBound, bounds_of};
 use periods::tell_talkers;
 use running::{drawn_delay, made_delay};
 use std::alloc::Global;

@@ -6,7 +6,7 @@ mod frames;
 mod running;
 mod trying;
 
-use bridge_inputs::RunFault;
+use bridge_capture::RunFault;
 use bridge_text::Text;
 use std::alloc::Global;
 use trying::{Said, Seen, seen_of, sorts_of};

@@ -11,7 +11,7 @@ mod shape;
 mod traffic;
 mod trying;
 
-use bridge_inputs::RunFault;
+use bridge_capture::RunFault;
 use bridge_text::Text;
 use refusals::growths_refused;
 use std::alloc::Global;

@@ -1,13 +1,12 @@
 //! Runs of a bridge over captures.
 ghost use Rattle.bridge_config.specs.Commands.{AreCommands};
 
-use bridge_capture::{SliceSource, VecSink};
+use bridge_capture::{RunFault, SliceSource, VecSink};
 use bridge_check::Accepted;
 use bridge_config::Command;
 use bridge_core::{View, simulate};
-use bridge_inputs::RunFault;
 use bridge_limits::NoMemory;
-use bridge_rounds::Settled;
+use net_run::Settled;
 use std::alloc::Global;
 
 /// The sources of captures, none of which may be without octets.

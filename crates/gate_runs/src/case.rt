@@ -4,7 +4,7 @@ use crate::captures::{capture_of, header};
 use crate::drawing::{Numbers, drawn};
 use crate::reading::{first_of, named, number, spelled};
 use crate::said::Said;
-use fixture_text::base::BASE;
+use fixture_bridge::base::BASE;
 
 /// The texts of a plan and of commands, and the captures of the ports 1, 2 and 3.
 #[derive(Drop)]

@@ -1,7 +1,7 @@
 //! Parts of a line of a script.
 
 use crate::said::Said;
-use bridge_hex::octets_of;
+use bridge_capture::octets_of;
 
 /// The first word of a text, and what is behind the space that ends it.
 pub fn first_of(text: &str) -> (&str, &str) {

@@ -1,8 +1,8 @@
 //! All that a run tells, as a text.
 
 use crate::said::{Said, add};
+use bridge_capture::lines_of;
 use bridge_core::{Outcome, RunFault, View};
-use bridge_hex::lines_of;
 use bridge_report::{has_section, report, section, summary, write_report};
 use bridge_text::Text;
 use std::alloc::Global;

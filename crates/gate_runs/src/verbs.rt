@@ -8,10 +8,10 @@ use crate::reading::{first_of, number};
 use crate::reports::reports;
 use crate::said::{Said, add};
 use crate::seeing::seen;
+use app_failure::accepted_of;
 use bridge_check::{Accepted, check};
 use bridge_config::plan_of;
 use bridge_core::{Agenda, RowAgenda, TreeAgenda};
-use bridge_jobs::accepted_of;
 use std::alloc::Global;
 use std::test::Fail;
 

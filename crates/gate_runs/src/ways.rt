@@ -4,11 +4,11 @@ ghost use Rattle.bridge_config.specs.Commands.{AreCommands};
 
 use crate::case::Case;
 use crate::said::Said;
+use app_commands::{Halted, run_over};
 use bridge_capture::{ByteSink, ByteSource, SliceSource, VecSink};
 use bridge_check::Accepted;
 use bridge_config::{Command, commands_of};
 use bridge_core::{Outcome, RowAgenda, RunFault, TreeAgenda, simulate, simulate_over};
-use bridge_running::{Halted, run_over};
 use std::alloc::{AllocError, Allocator, Global};
 use std::io::{Read, Write};
 

@@ -1,6 +1,6 @@
 //! Lines of a script that look at files, or make them.
 
-use bridge_hex::lines_of;
+use bridge_capture::lines_of;
 use bridge_text::Text;
 use std::alloc::Global;
 use std::fs;

@@ -9,8 +9,8 @@ mod files;
 mod pipes;
 mod sections;
 
-use bridge_jobs::words_of;
-use bridge_program::{Output, perform};
+use app_failure::words_of;
+use app_networks::{Output, perform};
 use bridge_text::Text;
 use files::{change, count, double, first, holding, octets, octets_of, pad, pair_of, same, show};
 use pipes::put_pipe;

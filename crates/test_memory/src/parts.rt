@@ -12,7 +12,7 @@ use bridge_gate::{GateEntry, GatePlan, Schedule};
 use bridge_ident::{Ident, Kind, StreamEntry, TagKind};
 use bridge_meter::MeterPlan;
 use bridge_port::Port;
-use fixture_text::base::text_with;
+use fixture_bridge::base::text_with;
 use std::alloc::{AllocError, Allocator, Global};
 
 pub(crate) const TALKER: [u8; 6] = [2, 0, 0, 0, 0, 1];

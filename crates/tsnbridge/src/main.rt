@@ -1,12 +1,11 @@
 #![tactic(auto)]
 //! The program tsnbridge: it does what its words ask for, prints the output, and ends with the exit status.
 ghost use Rattle.std.specs.Prelude.{IfOk, map, string_bytes};
-ghost use Rattle.bridge_program.specs.Program.{IsPrinted};
+ghost use Rattle.app_networks.specs.Program.{IsPrinted};
 
-use bridge_check_app::tell;
-use bridge_jobs::{NoMemory, end, words_of};
-use bridge_program::{Output, perform};
-use bridge_single::put_stdout;
+use app_commands::{put_stdout, tell};
+use app_failure::{NoMemory, end, words_of};
+use app_networks::{Output, perform};
 use std::io::IsTerminal;
 use std::process::ExitCode;
 use std::rt::Files;

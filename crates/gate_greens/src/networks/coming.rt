@@ -1,7 +1,7 @@
 //! Frames that arrive at the open ports of a network.
 ghost use Rattle.std.specs.Prelude.{IfOk};
-ghost use Rattle.bridge_rounds.specs.Stations.{IsIncoming};
-ghost use Rattle.bridge_rounds.specs.Rounds.{AreIncoming};
+ghost use Rattle.net_run.specs.Stations.{IsIncoming};
+ghost use Rattle.net_run.specs.Rounds.{AreIncoming};
 ghost use Rattle.gate_greens.specs.Coming.{AllIncoming};
 
 use crate::frames::{Addresses, Frame, capture_of, tagged, untagged};
@@ -10,7 +10,7 @@ use crate::networks::shape::{Net, Route, Twist};
 use crate::numbers::Numbers;
 use bridge_check::Accepted;
 use bridge_limits::NoMemory;
-use bridge_rounds::Incoming;
+use net_run::Incoming;
 use std::alloc::Global;
 
 /// Destination of the frames for which no plan has a `static` entry.

@@ -4,8 +4,8 @@ use crate::networks::shape::{Hop, Net, Route, Twist};
 use crate::plans::{add_if, is_pass};
 use crate::runs::view_of;
 use bridge_core::View;
-use bridge_rounds::Settled;
 use bridge_semantics::{Departure, Origin};
+use net_run::Settled;
 use std::alloc::Global;
 
 /// What a run shows of a stream.

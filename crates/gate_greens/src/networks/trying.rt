@@ -6,14 +6,15 @@ use crate::networks::line::{Line, line_of};
 use crate::networks::shape::{Net, next_net};
 use crate::numbers::Numbers;
 use crate::plans::add_if;
+use app_failure::accepted_of;
+use bridge_capture::RunFault;
 use bridge_check::Accepted;
-use bridge_inputs::RunFault;
-use bridge_jobs::accepted_of;
 use bridge_limits::NoMemory;
-use bridge_netfile::{NetworkFile, network_of};
-use bridge_network::Network;
-use bridge_planning::{StreamLines, bounds_of_all, stream_lines, tested};
-use bridge_rounds::{Nobody, RoundsFault, Settled, settle};
+use net_check::tested;
+use net_file::{NetworkFile, network_of};
+use net_latency::{StreamLines, bounds_of_all, stream_lines};
+use net_model::Network;
+use net_run::{Nobody, RoundsFault, Settled, settle};
 use std::alloc::Global;
 
 /// Rounds that a network may take.

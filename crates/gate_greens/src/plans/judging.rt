@@ -2,9 +2,9 @@
 use crate::runs::view_of;
 use bridge_core::{Outcome, View};
 use bridge_filter::Verdict;
-use bridge_planning::{QueueBound, QueueTiming, TrafficFigures};
 use bridge_semantics::{Departure, Origin};
-use bridge_traffic::TrafficRow;
+use net_file::TrafficRow;
+use net_latency::{QueueBound, QueueTiming, TrafficFigures};
 use std::alloc::Global;
 
 /// A plan with a traffic file: its bounds, rows and figures.

@@ -1,6 +1,6 @@
 //! One random plan with its traffic file, figures and runs.
 ghost use Rattle.std.specs.Prelude.{◌≤◌, All, IfOk, length};
-ghost use Rattle.bridge_traffic.specs.Rows.{IsRow};
+ghost use Rattle.net_file.specs.TrafficRows.{IsRow};
 
 use crate::numbers::Numbers;
 use crate::plans::drawing::{plan_text, traffic_text};
@@ -8,15 +8,15 @@ use crate::plans::frames::captures_of;
 use crate::plans::judging::{Case, Shown, add_if, delays_at, is_met, is_missed, judge};
 use crate::plans::shape::{Shape, next_shape};
 use crate::runs::run_bridge;
+use app_failure::accepted_of;
+use bridge_capture::RunFault;
 use bridge_check::Accepted;
 use bridge_core::Outcome;
-use bridge_inputs::RunFault;
-use bridge_jobs::accepted_of;
 use bridge_limits::NoMemory;
-use bridge_planning::{
+use net_file::{TrafficRow, traffic_of};
+use net_latency::{
     QueueTiming, TrafficFigures, are_kept, tight_bounds_of, timings_of, traffic_fault,
 };
-use bridge_traffic::{TrafficRow, traffic_of};
 use std::alloc::Global;
 
 /// Runs of each accepted plan.

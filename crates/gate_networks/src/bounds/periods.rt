@@ -1,19 +1,19 @@
 //! The first and the last phase at which the frames of a talker that keeps a period are done, and runs that reach both: its
 //! shortest frame comes at the first phase of a period, its longest at the last one of the next.
 ghost use Rattle.std.specs.Prelude.{◌≤◌, All, IfOk, length};
-ghost use Rattle.bridge_traffic.specs.Rows.{IsRow};
+ghost use Rattle.net_file.specs.TrafficRows.{IsRow};
 
 use crate::bounds::captures::{Ends, ends_capture};
 use crate::bounds::plan_at;
 use crate::bounds::running::{done_in, ran_at};
 use crate::of_run;
+use app_failure::{Fault, read_at_most};
+use bridge_capture::RunFault;
 use bridge_check::Accepted;
-use bridge_inputs::RunFault;
-use bridge_jobs::{Fault, read_at_most};
-use bridge_periods::Phases;
-use bridge_planning::{QueueTiming, TrafficFigures, timings_of};
 use bridge_text::Text;
-use bridge_traffic::{TrafficRow, traffic_of};
+use net_file::{TrafficRow, traffic_of};
+use net_latency::{QueueTiming, TrafficFigures, timings_of};
+use net_periods::Phases;
 use std::alloc::Global;
 use std::fs;
 use std::rt::Files;

@@ -3,12 +3,12 @@ use crate::bounds::captures::{Near, drawn, near_capture};
 use crate::captures::Recording;
 use crate::numbers::Numbers;
 use crate::runs::{ran_without, view_of};
+use bridge_capture::RunFault;
 use bridge_check::Accepted;
 use bridge_core::Departure;
-use bridge_inputs::RunFault;
 use bridge_limits::NoMemory;
-use bridge_rounds::Settled;
 use bridge_semantics::Origin;
+use net_run::Settled;
 use std::alloc::Global;
 
 /// How many runs there are of captures that are drawn.

@@ -1,7 +1,7 @@
 //! Plans of three ports that are drawn.
 use crate::numbers::Numbers;
+use app_failure::accepted_of;
 use bridge_check::Accepted;
-use bridge_jobs::accepted_of;
 use bridge_text::{NoMemory, Text};
 use std::alloc::Global;
 

@@ -2,7 +2,7 @@
 ghost use Rattle.std.specs.Prelude.{◌<◌, ◌≤◌};
 
 use crate::captures::Recording;
-use bridge_inputs::RunFault;
+use bridge_capture::RunFault;
 use std::alloc::Global;
 
 /// The frames of a port: 33 tags (none, and each priority with no VLAN and with each that plans have), three destinations and

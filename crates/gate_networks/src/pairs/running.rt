@@ -1,8 +1,8 @@
 //! What a bridge sends over its link of all sorts of frames, and what a hop takes of it.
 use crate::pairs::frames::{FRAMES, Left, number_at};
 use crate::runs::view_of;
-use bridge_network::StreamHop;
-use bridge_rounds::Settled;
+use net_model::StreamHop;
+use net_run::Settled;
 use std::alloc::Global;
 
 /// Of each frame by its number whether it was of hops of the stream.

@@ -5,10 +5,10 @@ use crate::pairs::drawing::{Side, drawn};
 use crate::pairs::frames::{Left, capture_of, frames_in};
 use crate::pairs::running::{Own, is_foreign, own_in, taken};
 use crate::runs::{ran_without, tap_of};
+use bridge_capture::RunFault;
 use bridge_check::Accepted;
-use bridge_inputs::RunFault;
-use bridge_network::{End, Link, NetworkFault, StreamHop, check_network, stray_at};
-use bridge_rounds::Settled;
+use net_model::{End, Link, NetworkFault, StreamHop, check_network, stray_at};
+use net_run::Settled;
 use std::alloc::Global;
 
 /// The captures of all sorts of frames on each port, and that of none.

@@ -1,8 +1,8 @@
 //! What comes to the bridges of a network from outside.
 ghost use Rattle.std.specs.Prelude.{IfOk};
 ghost use Rattle.bridge_config.specs.Commands.{AreCommands};
-ghost use Rattle.bridge_rounds.specs.Stations.{IsIncoming};
-ghost use Rattle.bridge_rounds.specs.Rounds.{AreIncoming};
+ghost use Rattle.net_run.specs.Stations.{IsIncoming};
+ghost use Rattle.net_run.specs.Rounds.{AreIncoming};
 ghost use Rattle.gate_networks.specs.Coming.{AllIncoming};
 
 use crate::numbers::Numbers;
@@ -11,8 +11,8 @@ use crate::rounds::traffic::{Comer, Spoilt, capture_of, spoil};
 use bridge_check::Accepted;
 use bridge_config::{Command, commands_of};
 use bridge_limits::NoMemory;
-use bridge_network::Link;
-use bridge_rounds::{Incoming, is_linked};
+use net_model::Link;
+use net_run::{Incoming, is_linked};
 use std::alloc::Global;
 
 /// What comes to a network.

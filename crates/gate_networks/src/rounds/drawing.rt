@@ -1,8 +1,8 @@
 //! Plans of bridges, and commands to them, that are drawn.
 use crate::numbers::Numbers;
 use crate::rounds::shape::{Shape, Way};
+use app_failure::accepted_of;
 use bridge_check::Accepted;
-use bridge_jobs::accepted_of;
 use bridge_text::{NoMemory, Text};
 use std::alloc::Global;
 

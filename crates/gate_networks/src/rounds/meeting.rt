@@ -1,9 +1,9 @@
 //! Frames that come over links at the moments of something else at their bridge.
 use bridge_config::Command;
 use bridge_core::{Outcome, View};
-use bridge_network::Link;
-use bridge_rounds::is_linked;
 use bridge_semantics::Origin;
+use net_model::Link;
+use net_run::is_linked;
 use std::alloc::Global;
 
 /// Whether frames came over links at such moments.

@@ -1,19 +1,19 @@
 //! A run of a network of two bridges, of which each growth is refused in turn.
 ghost use Rattle.std.specs.Prelude.{IfOk};
 ghost use Rattle.bridge_config.specs.Commands.{AreCommands};
-ghost use Rattle.bridge_rounds.specs.Stations.{IsIncoming};
-ghost use Rattle.bridge_rounds.specs.Rounds.{AreIncoming};
+ghost use Rattle.net_run.specs.Stations.{IsIncoming};
+ghost use Rattle.net_run.specs.Rounds.{AreIncoming};
 ghost use Rattle.gate_networks.specs.Coming.{AllIncoming};
 
 use crate::captures::Recording;
+use app_failure::accepted_of;
 use bridge_check::Accepted;
 use bridge_config::{Command, commands_of};
-use bridge_jobs::accepted_of;
 use bridge_limits::NoMemory;
-use bridge_network::{End, Link, Network, StreamHop, check_network};
-use bridge_rounds::{Incoming, Nobody, RoundsFault, Settled, settle};
 use bridge_text::Text;
 use fixture_alloc::{Ending, RefusesOne};
+use net_model::{End, Link, Network, StreamHop, check_network};
+use net_run::{Incoming, Nobody, RoundsFault, Settled, settle};
 use std::alloc::{Allocator, Global};
 
 /// The plan of each bridge: the stream comes to port 1 and leaves by port 2.

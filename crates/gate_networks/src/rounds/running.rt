@@ -2,13 +2,13 @@
 use crate::rounds::coming::{Case, commands_in, port_capture};
 use crate::rounds::meeting::{Meetings, meetings_at};
 use crate::runs::{ran_over, tap_of, view_of};
+use bridge_capture::RunFault;
 use bridge_check::Accepted;
 use bridge_core::{Outcome, View};
-use bridge_inputs::RunFault;
 use bridge_limits::NoMemory;
-use bridge_network::{End, Link, Network};
 use bridge_report::report;
-use bridge_rounds::{Settled, later_text};
+use net_model::{End, Link, Network};
+use net_run::{Settled, later_text};
 use std::alloc::Global;
 
 /// The port at the other end of the link of a port, and the delay of the link.

@@ -1,6 +1,6 @@
 //! Networks of two to five bridges that are drawn: how they are joined, and the way of their stream.
 use crate::numbers::Numbers;
-use bridge_network::{End, Link, StreamHop};
+use net_model::{End, Link, StreamHop};
 
 /// The most bridges of a network.
 pub const MOST: usize = 5;

@@ -6,13 +6,12 @@ use crate::rounds::meeting::Meetings;
 use crate::rounds::running::{differing, frames_in, meetings_in};
 use crate::rounds::shape::{Shape, Way, add_hops, add_links, next_shape, ways_of};
 use crate::rounds::traffic::Spoilt;
-use bridge_capture::CaptureFault;
+use bridge_capture::{CaptureFault, RunFault};
 use bridge_check::Accepted;
-use bridge_inputs::RunFault;
 use bridge_limits::NoMemory;
-use bridge_network::{Network, StreamHop, check_network};
 use bridge_report::{has_section, section};
-use bridge_rounds::{Nobody, RoundsFault, Settled, settle};
+use net_model::{Network, StreamHop, check_network};
+use net_run::{Nobody, RoundsFault, Settled, settle};
 use std::alloc::Global;
 
 /// How many rounds a network may take.

@@ -1,8 +1,8 @@
 use Rattle.std.proofs.Common.{◌≡◌, ◌⊎◌, ℕ, Err, IfOk, List, Ok, Result, inl, inr, map, string_bytes, subst, sym}
-use Rattle.bridge_cli.specs.Helping.{explains}
-use Rattle.bridge_check_app.specs.declared.output.Output.{Output}
-use Rattle.bridge_single.specs.Outputs.{IsStandardFailure}
-use Rattle.bridge_program.specs.Program.{IsOutput, IsPrinted}
+use Rattle.app_cli.specs.Helping.{explains}
+use Rattle.app_commands.specs.declared.output.Output.{Output}
+use Rattle.app_commands.specs.CommandOutputs.{IsStandardFailure}
+use Rattle.app_networks.specs.Program.{IsOutput, IsPrinted}
 use Rattle.tsnbridge.proofs.run.Goals as goal
 
 -- the output is that of the words, or the report that standard output failed

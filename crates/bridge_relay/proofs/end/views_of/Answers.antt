@@ -1,5 +1,5 @@
 use Rattle.std.proofs.Common.{◌∙◌, ℕ, false, None, ap, length, refl, slice_index_or}
-use Rattle.bridge_state.proofs.Rooms.{few_more, none_few, room_kept, room_left}
+use Rattle.bridge_relay.proofs.Rooms.{few_more, none_few, room_kept, room_left}
 use Rattle.bridge_filter.specs.declared.FilterPlan.{FilterPlan}
 use Rattle.bridge_relay.proofs.Viewing.{there_at, table_next, viewing_start, viewing_next, viewing_end}
 use Rattle.bridge_relay.proofs.end.views_of.Goals as goal

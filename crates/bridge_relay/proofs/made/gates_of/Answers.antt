@@ -1,6 +1,6 @@
 use Rattle.std.proofs.Common.{rules, ◌∙◌}
 use Rattle.std.proofs.lemmas.List.{take_more, take_all}
-use Rattle.bridge_state.proofs.Rooms.{few_more, none_few, room_kept, room_left}
+use Rattle.bridge_relay.proofs.Rooms.{few_more, none_few, room_kept, room_left}
 use Rattle.bridge_relay.proofs.made.gates_of.Goals as goal
 
 pub loop-gate-init : goal.loop-gate-init

@@ -1,7 +1,7 @@
 use Rattle.std.proofs.Common.{◌≡◌, ◌++◌, Some, None, sym, ◌∙◌, subst, arith}
 use Rattle.bridge_capture.specs.Standing.{last_time, StandsFor}
-use Rattle.bridge_inputs.specs.Lanes.{one_ahead, Finds}
-use Rattle.bridge_inputs.specs.declared.fault.RunFault.TheVariants as run
+use Rattle.bridge_capture.specs.Lanes.{one_ahead, Finds}
+use Rattle.bridge_capture.specs.declared.run_fault.RunFault.TheVariants as run
 use Rattle.bridge_wire.specs.Wire.{offers_of, Stops}
 use Rattle.bridge_wire.proofs.Running.{HasGone}
 use Rattle.bridge_wire.proofs.Ends.{idle_late, room_some, stops_at_end, wires_all}

@@ -2,8 +2,8 @@ use Rattle.std.proofs.Common.{◌≡◌, ◌+◌, ◌≤◌, ℕ, List, Option, 
 use Rattle.bridge_capture.specs.declared.packet.Packet.{Packet}
 use Rattle.bridge_capture.specs.declared.record.TheConstants.{MAX_RECORDS}
 use Rattle.bridge_port.specs.Standing.{count_queued}
-use Rattle.bridge_inputs.specs.Lanes.{IsLane}
-use Rattle.bridge_inputs.specs.Lanes.{room as room_ahead}
+use Rattle.bridge_capture.specs.Lanes.{IsLane}
+use Rattle.bridge_capture.specs.Lanes.{room as room_ahead}
 use Rattle.bridge_wire.specs.Sending.{is_overlong, IsUnderWay, no_count}
 use Rattle.bridge_wire.proofs.queue.run_through.Given as goal
 

@@ -1,6 +1,6 @@
 use Rattle.std.proofs.Common.{◌≡◌, ◌++◌, ◌∷◌, [], Err, inr, ap, sym, ◌∙◌, subst}
 use Rattle.bridge_capture.specs.Reading.{view}
-use Rattle.bridge_inputs.specs.declared.fault.RunFault.TheVariants as run
+use Rattle.bridge_capture.specs.declared.run_fault.RunFault.TheVariants as run
 use Rattle.bridge_wire.specs.Wire.{Stops}
 use Rattle.bridge_wire.proofs.Ends.{stops_behind, stops_writing}
 use Rattle.bridge_wire.proofs.queue.take_next.Goals as goal

@@ -11,9 +11,9 @@ use Rattle.bridge_filter.specs.Finding.{IsFound}
 use Rattle.bridge_filter.specs.Verdicts.{flow}
 use Rattle.bridge_config.specs.Rules.{port_at}
 use Rattle.bridge_semantics.specs.Events.{Arrived, arrival, way_of}
-use Rattle.bridge_state.specs.declared.slot.Slot.{Slot}
-use Rattle.bridge_state.specs.Tables.{IsOpen}
-use Rattle.bridge_state.specs.Ports.{slot_at, outs, NotBefore}
+use Rattle.bridge_relay.specs.declared.slot.Slot.{Slot}
+use Rattle.bridge_relay.specs.Tables.{IsOpen}
+use Rattle.bridge_relay.specs.Ports.{slot_at, outs, NotBefore}
 use Rattle.bridge_relay.specs.Relays.{RelayState, IsSound, HasSpare, Stands, is_flow_stray}
 use Rattle.bridge_relay.specs.Relaying.{HasCopies, IsFresh, filter_number, one_less}
 use Rattle.bridge_semantics.proofs.Offering.{going}

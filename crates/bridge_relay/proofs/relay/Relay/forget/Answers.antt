@@ -1,6 +1,6 @@
 use Rattle.std.proofs.Common.{◌≡◌, ℕ, List, sym, subst, ap, ◌∙◌}
-use Rattle.bridge_state.specs.Tables.{TableState, change, released}
-use Rattle.bridge_state.specs.Ports.{outs}
+use Rattle.bridge_relay.specs.Tables.{TableState, change, released}
+use Rattle.bridge_relay.specs.Ports.{outs}
 use Rattle.bridge_relay.specs.Relays.{RelayState, IsSound}
 use Rattle.bridge_relay.specs.Relaying.{IsPending, releasing}
 use Rattle.bridge_relay.proofs.Spares.{sound_released}

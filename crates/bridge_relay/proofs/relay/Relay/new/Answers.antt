@@ -1,6 +1,6 @@
 use Rattle.std.proofs.Common.{◌∙◌, [], ap, refl, subst}
 use Rattle.bridge_config.specs.Model.{Plan}
-use Rattle.bridge_state.specs.Told.{fresh_tables}
+use Rattle.bridge_relay.specs.Told.{fresh_tables}
 use Rattle.bridge_relay.specs.Relays.{RelayState, Stands}
 use Rattle.bridge_relay.proofs.Firsts.{made_of, first_sound, first_stands}
 use Rattle.bridge_relay.proofs.relay.Relay.new.Goals as goal

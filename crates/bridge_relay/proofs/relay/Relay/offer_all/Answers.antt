@@ -1,5 +1,5 @@
 use Rattle.std.proofs.Common.{◌≡◌, ℕ, ◌≤◌, ◌+◌, arith, subst, ◌∙◌}
-use Rattle.bridge_state.specs.Ports.{IsLastOut}
+use Rattle.bridge_relay.specs.Ports.{IsLastOut}
 use Rattle.bridge_relay.specs.Relays.{RelayState}
 use Rattle.bridge_relay.specs.Relaying.{leaves, IsOffering}
 use Rattle.bridge_relay.proofs.Offering.{more_out, offering_end, offering_from, goes_first}

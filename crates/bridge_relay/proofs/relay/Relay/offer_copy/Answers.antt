@@ -4,7 +4,7 @@ use Rattle.bridge_port.specs.declared.item.Item.{Item}
 use Rattle.bridge_semantics.specs.declared.load.Load.{Load}
 use Rattle.bridge_semantics.specs.Offers.{carried}
 use Rattle.bridge_config.specs.Model as config
-use Rattle.bridge_state.specs.Ports.{slot_at, is_there}
+use Rattle.bridge_relay.specs.Ports.{slot_at, is_there}
 use Rattle.bridge_relay.specs.Relays.{is_flow_stray}
 use Rattle.bridge_relay.specs.Relaying.{leaves}
 use Rattle.bridge_relay.proofs.Offering.{offering_more, left_some, goes_first, awaited_by, and_right, some_there}

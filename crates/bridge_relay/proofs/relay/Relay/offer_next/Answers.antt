@@ -1,6 +1,6 @@
 use Rattle.std.proofs.Common.{◌≡◌, ◌+◌, length, arith, sym, subst, ◌∙◌, false, true}
 use Rattle.bridge_semantics.specs.Offers.{Carried}
-use Rattle.bridge_state.specs.Ports.{slot_at, is_there, goes_out}
+use Rattle.bridge_relay.specs.Ports.{slot_at, is_there, goes_out}
 use Rattle.bridge_relay.specs.Relays.{RelayState}
 use Rattle.bridge_relay.specs.Relaying.{leaves, MayRelay, IsOffering}
 use Rattle.bridge_relay.proofs.Offering.{skipped, not_out, out_not, out_yes, same_leaves, copies_pop, copies_left, goes_first}

@@ -2,8 +2,8 @@ use Rattle.std.proofs.Common.{◌≡◌, ◌≤◌, ◌<◌, arith, sym, subst, 
 use Rattle.std.specs.Prelude.{IfSome, slice_index}
 use Rattle.bridge_port.specs.declared.item.Item.{Item}
 use Rattle.bridge_semantics.specs.declared.load.Load.{Load}
-use Rattle.bridge_state.specs.declared.slot.Slot.{Slot}
-use Rattle.bridge_state.specs.Ports.{slot_at, NotBefore}
+use Rattle.bridge_relay.specs.declared.slot.Slot.{Slot}
+use Rattle.bridge_relay.specs.Ports.{slot_at, NotBefore}
 use Rattle.bridge_relay.specs.Relaying.{HasOfferedTo}
 use Rattle.bridge_relay.specs.Relays.{RelayState, IsAwaited, is_flow_stray}
 use Rattle.bridge_relay.proofs.Sound.{owes_awaited, right_of, sound_offered, has_offered_to}

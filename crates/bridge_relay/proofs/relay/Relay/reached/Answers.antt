@@ -1,5 +1,5 @@
 use Rattle.std.proofs.Common.{◌≤◌, sym, subst}
-use Rattle.bridge_state.specs.Ports.{NotBefore}
+use Rattle.bridge_relay.specs.Ports.{NotBefore}
 use Rattle.bridge_relay.specs.Relays.{RelayState, Stands}
 use Rattle.bridge_relay.proofs.Ending.{ran_of, reaches_of}
 use Rattle.bridge_relay.proofs.Nexts.{are_next, next_after}

@@ -6,7 +6,7 @@ use Rattle.bridge_filter.specs.declared.Verdict.{Verdict}
 use Rattle.bridge_filter.specs.declared.Verdict.TheVariants as verdict
 use Rattle.bridge_semantics.specs.Events.{Arrived, arrival, calls, police_of}
 use Rattle.bridge_semantics.specs.Offers.{leaving}
-use Rattle.bridge_state.specs.Ports.{outs, NotBefore}
+use Rattle.bridge_relay.specs.Ports.{outs, NotBefore}
 use Rattle.bridge_relay.specs.Relays.{RelayState, HasSpare, Stands, is_flow_stray}
 use Rattle.bridge_relay.specs.Relaying.{HasRuled, IsPending, leaves, offer_to, releasing}
 use Rattle.bridge_relay.proofs.Offered.{leaving_length, refused_by, may_offer, numbered_none, numbered_some, offers_passed, offers_refused, offers_unfiltered, own_is, stands_let_go, stands_offered}

@@ -2,8 +2,8 @@ use Rattle.std.proofs.Common.{◌≡◌, ◌≤◌, sym, subst, ap, ◌∙◌, r
 use Rattle.std.specs.Option.{option_map}
 use Rattle.bridge_filter.specs.declared.Ruling.{Ruling}
 use Rattle.bridge_filter.specs.Finding.{IsFound}
-use Rattle.bridge_state.specs.declared.slot.Slot.{Slot}
-use Rattle.bridge_state.specs.Ports.{slot_at}
+use Rattle.bridge_relay.specs.declared.slot.Slot.{Slot}
+use Rattle.bridge_relay.specs.Ports.{slot_at}
 use Rattle.bridge_relay.specs.Relays.{RelayState}
 use Rattle.bridge_relay.specs.Relaying.{HasRuled, IsFresh, IsNumbered}
 use Rattle.bridge_relay.proofs.Ruling.{has_ruled, sound_ruled}

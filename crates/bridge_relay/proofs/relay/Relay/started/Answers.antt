@@ -1,7 +1,7 @@
 use Rattle.std.proofs.Common.{◌≡◌, ◌≤◌, ◌∙◌, Some, ap, arith, subst, sym}
-use Rattle.bridge_state.specs.declared.slot.Slot.{Slot}
+use Rattle.bridge_relay.specs.declared.slot.Slot.{Slot}
 use Rattle.bridge_config.specs.Rules.{port_at}
-use Rattle.bridge_state.specs.Ports.{slot_at}
+use Rattle.bridge_relay.specs.Ports.{slot_at}
 use Rattle.bridge_relay.specs.Relays.{IsSound}
 use Rattle.bridge_relay.proofs.Relayed.{port_is}
 use Rattle.bridge_relay.proofs.Ways.{slot_of}

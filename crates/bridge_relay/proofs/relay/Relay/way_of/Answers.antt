@@ -8,7 +8,7 @@ use Rattle.bridge_config.specs.Rules.{port_at}
 use Rattle.bridge_check.specs.Sending.{vid_of, priority_of, is_eligible}
 use Rattle.bridge_semantics.specs.declared.way.Way.TheVariants.{Nowhere, Goes}
 use Rattle.bridge_semantics.specs.Events.{arrival, metered, way_of, way_to}
-use Rattle.bridge_state.specs.Ports.{slot_at}
+use Rattle.bridge_relay.specs.Ports.{slot_at}
 use Rattle.bridge_relay.specs.Relays.{RelayState}
 use Rattle.bridge_relay.proofs.Relayed.{port_is}
 use Rattle.bridge_relay.proofs.Ways.{classified_is, defaults_are, goes_nowhere, goes_somewhere, priority_few, same_call, way_good}

@@ -1,7 +1,7 @@
 use Rattle.std.proofs.Common.{◌≤◌, All, List, length, subst, sym}
 use Rattle.std.specs.Option.{ForSome}
-use Rattle.bridge_netfile.specs.Model.{Stream}
-use Rattle.bridge_netfile.specs.Rules.{IsTalker}
+use Rattle.net_file.specs.Model.{Stream}
+use Rattle.net_file.specs.Rules.{IsTalker}
 use Rattle.gate_greens.proofs.networks.trying.lines_of.Goals as goal
 
 pub stream_lines-requires-clause-talkers : goal.stream_lines-requires-clause-talkers

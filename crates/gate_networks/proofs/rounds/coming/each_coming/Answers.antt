@@ -1,6 +1,6 @@
 use Rattle.std.proofs.Common.{◌+◌, ◌++◌, ◌∷◌, [], subst, sym, take}
 use Rattle.std.proofs.lemmas.List.{take_more}
-use Rattle.bridge_rounds.specs.Stations.{IsIncoming}
+use Rattle.net_run.specs.Stations.{IsIncoming}
 use Rattle.gate_networks.specs.Coming.{AllIncoming}
 use Rattle.gate_networks.proofs.Came.{more_incoming}
 use Rattle.gate_networks.proofs.rounds.coming.each_coming.Goals as goal

@@ -1,0 +1,9 @@
+pub mod Runs
+pub mod Looks
+pub mod CheckEnded
+pub mod RunEnded
+pub mod Kept
+pub mod Devices
+pub mod Ran
+pub mod ShownEnded
+pub mod CommandRan

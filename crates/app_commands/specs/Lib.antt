@@ -1,0 +1,12 @@
+pub mod Text
+pub mod Counts
+pub mod Jobs
+pub mod WireFiles
+pub mod Checked
+pub mod Outputs
+pub mod Flushed
+pub mod RunFiles
+pub mod ShownFiles
+pub mod Losing
+pub mod Notes
+pub mod CommandOutputs

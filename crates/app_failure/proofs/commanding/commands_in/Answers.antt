@@ -1,0 +1,10 @@
+use Rattle.std.proofs.Common.{Some, string_bytes}
+use Rattle.app_failure.proofs.WithCommands.{commands_end, where_err, where_ok}
+use Rattle.app_failure.proofs.commanding.commands_in.Goals as goal
+
+pub returns-in-Some-clause-some : goal.returns-in-Some-clause-some
+returns-in-Some-clause-some g c = where_ok c.commands_from.result (λ v h. (Some h.0, h.1)) c.commands_from.ensures.some
+
+pub returns-in-Some-clause-only : goal.returns-in-Some-clause-only
+returns-in-Some-clause-only g c =
+    rw (c.in-Some.is) (where_err c.commands_from.result (λ f h. (Some h.0, commands_end c.args.plan.now (string_bytes c.in-Some.path) h.0 f h.1)) c.commands_from.ensures.only)

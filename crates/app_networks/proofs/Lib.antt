@@ -1,0 +1,16 @@
+pub mod Came
+pub mod Origins
+pub mod Sums
+pub mod Accepted
+pub mod Measured
+pub mod Within
+pub mod Told
+pub mod Views
+pub mod Lengths
+pub mod Ended
+pub mod Rows
+pub mod Unchanged
+pub mod Losses
+pub mod Warned
+pub mod Ran
+pub mod Asked

@@ -1,0 +1,60 @@
+-- The run of an accepted network told of each hop of its streams.
+use Rattle.std.proofs.Common.{◌≡◌, ◌<◌, ℕ, true, List, [], ◌∷◌, length, Option, Some, None, Vec, nat_eq, refl, sym, ap, subst, ◌∙◌, inl, inr, arith}
+use Rattle.std.specs.Prelude.{slice_get}
+use Rattle.std.specs.Map.{lookup}
+use Rattle.std.proofs.lemmas.Option.{same_Some, slice_get_within}
+use Rattle.bridge_limits.specs.Members.{In}
+use Rattle.std.proofs.lemmas.Bool.{eq-eqb, false≢true}
+use Rattle.bridge_limits.proofs.Cases.{by_bool}
+use Rattle.bridge_limits.proofs.Lists.{there_is}
+use Rattle.bridge_filter.specs.declared.FilterPlan.{FilterPlan}
+use Rattle.bridge_config.specs.Model.{Plan}
+use Rattle.bridge_semantics.specs.declared.outcome.Outcome.{Outcome}
+use Rattle.bridge_semantics.specs.declared.outcome.View.{View}
+use Rattle.net_file.specs.Model.{Stream}
+use Rattle.net_file.specs.Model as file
+use Rattle.net_model.specs.Refusing as spec
+use Rattle.net_model.specs.Wiring.{Parts}
+use Rattle.net_model.proofs.Closed.{numbered}
+use Rattle.net_run.specs.declared.settling.Settled.{Settled}
+use Rattle.net_run.specs.declared.station.Incoming.{Incoming}
+use Rattle.net_run.specs.Rounds.{AreOutcomes, RunsNetwork}
+use Rattle.net_check.specs.Networks.{IsMadeOf}
+use Rattle.app_networks.specs.InTime.{HasView, HaveViews}
+use Rattle.app_networks.proofs.Accepted.{hop_protected, placed}
+
+-- a number of a list is looked up
+looked_up : {X : Type 0} (xs : List (ℕ × X)) (m : ℕ) (x : X) → In (m, x) xs → (y : X) × (lookup (nat_eq m) xs ≡ Some y)
+looked_up [] m x i = absurd i
+looked_up (y ∷ ys) m x i = by_bool (nat_eq m y.0)
+    (λ k. (y.1, rw k refl))
+    (λ k. elim i [
+      | inl e ↦ absurd (false≢true (sym k ∙ eq-eqb m y.0 (ap (λ z. z.0) e)))
+      | inr j ↦ let (z, is) = looked_up ys m x j in (z, rw k is)
+    ])
+
+-- the outcome of the bridge at a place, or another one
+abbrev outcome_or : {A : Type 0} → Option (Settled A) → Outcome A → Outcome A
+outcome_or None o = o
+outcome_or (Some s) o = s.outcome
+
+are_outcomes : {A : Type 0} (settled : List (Settled A)) (o : Outcome A) → AreOutcomes settled (λ b. outcome_or (slice_get settled b) o)
+are_outcomes settled o b s is = ap (λ x. outcome_or x o) is
+
+pub have_views : {A : Type 0} (f : file.Network) (plans : List (Plan A)) (n : Parts A) (came : List (Incoming A)) (settled : List (Settled A)) → IsMadeOf f plans n → spec.first_fault n ≡ None → RunsNetwork n came settled → HaveViews settled f.streams
+have_views {A} f plans n came settled made none ran s is x i =
+    let (k, below, at) = placed s.hops x i in
+    let h = hop_protected f plans n s k x made none is at in
+    let within = slice_get_within n.plans x.0 h.plan h.there in
+    let many = ran.many in
+    let told = there_is settled x.0 (omega (arith, within, many)) in
+    let run = ran.run (λ b. outcome_or (slice_get settled b) told.0.outcome) (are_outcomes settled told.0.outcome) in
+    let out = run.outcome x.0 h.plan h.there in
+    let found = looked_up h.plan.filters x.1 h.filter h.listed in
+    let view = (out.filters_are x.1).0 found in
+    record {
+      told = told.0;
+      there = told.1;
+      view = view.0;
+      view_is = subst (λ (z : Outcome A). lookup (nat_eq x.1) z.filters.items ≡ Some view.0) (ap (λ y. outcome_or y told.0.outcome) told.1) view.1;
+    }

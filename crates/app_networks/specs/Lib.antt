@@ -1,0 +1,8 @@
+pub mod InTime
+pub mod Counted
+pub mod Folders
+pub mod Losing
+pub mod Tables
+pub mod Bounds
+pub mod Networks
+pub mod Program

@@ -1,0 +1,498 @@
+//! The job of a run of a network over folders.
+ghost use Rattle.std.specs.Prelude.{◌≡◌, ◌≤◌, IfOk, IfErr, IfSome, None, Some, false, true, length, string_bytes};
+ghost use Rattle.app_files.specs.Folders.{HavePaths};
+ghost use Rattle.app_networks.specs.Losing.{AreToldLines, AreWarningsIf, PrintsRunLosses, PrintsWarnings, TellsRunLosses, TellsWarnings, has_lines};
+ghost use Rattle.app_networks.specs.InTime.{HaveViews};
+ghost use Rattle.app_networks.specs.Folders.{EndsFiles, EndsRounds, EndsRun, IsAccepted, IsLine, IsMostRounds, PrintsRounds, PrintsRoundsIn, TellsRun, TellsRunIn, network_words, rounds_line};
+
+use crate::drawing::paths_of;
+use crate::incoming::read_all;
+use crate::losing::fault_lines;
+use crate::outputs::{Outputs, open_outputs};
+use crate::picture::{open_picture, put_picture};
+use crate::refusing::said_of_run;
+use crate::tables::put_tables;
+use crate::watching::{Teller, is_long};
+use crate::writing::put_bridges;
+use app_failure::{Cause, Fault};
+use app_files::{FileId, Output, files_at, take_standard, test_folders};
+use bridge_limits::NoMemory;
+use net_check::{memory_fault, read_network, read_plans, tested, warnings_of};
+use net_file::NetworkFile;
+use net_latency::{QueueBound, bounds_of_all, bounds_of_streams};
+use net_loops::circulations_in;
+use net_model::Network;
+use net_run::{Settled, settle};
+use std::alloc::{AllocError, Global};
+use std::rt::Files;
+
+/// After how many rounds a network in which frames may go round isn't run further, if it still changes.
+const MOST_ROUNDS: u32 = 64;
+
+/// After how many rounds a network that still changes isn't run further. If no frames can go round, each round settles what
+/// happens up to a later time, so the run ends by itself.
+fn most_rounds(alloc: Global, network: &Network<Global>) -> Result<u32, NoMemory>
+    requires few { length network.now.plans ≤ 64 }
+    ensures { IfOk result (IsMostRounds network.now) }
+{
+    let loops = circulations_in(alloc, network.plans(), network.links())?;
+    Ok(if loops.is_empty() {
+        u32::MAX
+    } else {
+        MOST_ROUNDS
+    })
+}
+
+/// How many bridges, links and streams a network has.
+#[tactic(auto, unfolding(crate::specs::Folders::network_words))]
+fn network_words(alloc: Global, file: &NetworkFile<Global>) -> Result<String, AllocError>
+    ensures { IfOk result (λ words. string_bytes words ≡ network_words file.now) }
+{
+    let bridges = file.bridges().len();
+    let links = file.links().len();
+    let streams = file.streams().len();
+    let mut text = String::new(alloc);
+    write!(text, "bridges {bridges} links {links} streams {streams} ")?;
+    Ok(text)
+}
+
+/// The line of a run: how many bridges, links and streams there are, how many frames came to the first hops of streams, and
+/// how many of these were delivered and lost.
+#[tactic(auto, unfolding(crate::specs::Folders::rounds_line))]
+fn line_of(
+    alloc: Global,
+    file: &NetworkFile<Global>,
+    frames: u64,
+    delivered: u64,
+) -> Result<String, AllocError>
+    ensures { IfOk result (λ line. string_bytes line ≡ rounds_line file.now frames delivered) }
+{
+    let start = network_words(alloc, file)?;
+    let lost = frames.saturating_sub(delivered);
+    let mut text = String::new(alloc);
+    write!(
+        text,
+        "{start}frames {frames} delivered {delivered} lost {lost}\n"
+    )?;
+    Ok(text)
+}
+
+/// Lines of a run of a network that is done.
+#[derive(Drop)]
+struct RunLines {
+    /// The line that sums the run up.
+    line: String,
+    /// The lines of the streams that lost frames or missed their deadlines, if such a stream is a fault.
+    lost: String,
+}
+
+/// Returns the lines of the streams that lost frames or missed their deadlines, if such a stream is a fault. The text is empty
+/// otherwise.
+fn lost_if(
+    alloc: Global,
+    file: &NetworkFile<Global>,
+    network: &Network<Global>,
+    settled: &[Settled<Global>],
+    is_strict: bool,
+) -> Result<String, NoMemory>
+    requires { HaveViews settled.now file.now.streams }
+    ensures { IfOk result (λ lines. AreToldLines network.now.links settled.now file.now is_strict (string_bytes lines)) }
+{
+    if is_strict {
+        fault_lines(alloc, file, network.links(), settled)
+    } else {
+        Ok(String::new(alloc))
+    }
+}
+
+/// Writes what a run of a network told.
+fn put_all<H: AllocGlobal + Files>(
+    rt: &H,
+    file: &NetworkFile<Global>,
+    network: &Network<Global>,
+    queues: &[Vec<QueueBound>],
+    output: &str,
+    settled: &[Settled<Global>],
+    outputs: Outputs<H::File>,
+    is_strict: bool,
+) -> Result<RunLines, Fault>
+    requires views { HaveViews settled.now file.now.streams }
+    ensures ok { IfOk result (λ lines. IsLine network.now.links settled.now file.now (string_bytes lines.line)) }
+    ensures lost { IfOk result (λ lines. AreToldLines network.now.links settled.now file.now is_strict (string_bytes lines.lost)) }
+    ensures err { IfErr result EndsFiles }
+{
+    let alloc = rt.alloc();
+    let Outputs {
+        bridges,
+        streams,
+        frames,
+    } = outputs;
+    let Ok(bounds) = bounds_of_streams(alloc, queues, file.links(), file.streams()) else {
+        drop(bridges);
+        drop(streams);
+        drop(frames);
+        return Err(memory_fault());
+    };
+    if let Err(fault) = put_bridges(alloc, network, file.bridges(), output, settled, bridges) {
+        drop(streams);
+        drop(frames);
+        return Err(fault);
+    }
+    let totals = put_tables(
+        alloc,
+        file,
+        network.links(),
+        settled,
+        &bounds,
+        output,
+        streams,
+        frames,
+    )?;
+    let Ok(lost) = lost_if(alloc, file, network, settled, is_strict) else {
+        return Err(memory_fault());
+    };
+    match line_of(alloc, file, totals.frames, totals.delivered) {
+        Ok(line) => Ok(RunLines { line, lost }),
+        Err(_) => Err(memory_fault()),
+    }
+}
+
+/// Writes what a run of a network told, and its picture, where one is asked for.
+fn put_drawn<H: AllocGlobal + Files>(
+    rt: &H,
+    file: &NetworkFile<Global>,
+    network: &Network<Global>,
+    output: &str,
+    settled: &[Settled<Global>],
+    outputs: Outputs<H::File>,
+    picture: Option<String>,
+    drawing: Option<Output<H::File>>,
+    is_strict: bool,
+) -> Result<RunLines, Fault>
+    requires views { HaveViews settled.now file.now.streams }
+    ensures ok { IfOk result (λ lines. IsLine network.now.links settled.now file.now (string_bytes lines.line)) }
+    ensures lost { IfOk result (λ lines. AreToldLines network.now.links settled.now file.now is_strict (string_bytes lines.lost)) }
+    ensures err { IfErr result EndsFiles }
+{
+    let Ok(queues) = bounds_of_all(rt.alloc(), network.plans()) else {
+        drop(outputs);
+        drop(drawing);
+        return Err(memory_fault());
+    };
+    let lines = match put_all(
+        rt, file, network, &queues, output, settled, outputs, is_strict,
+    ) {
+        Ok(lines) => lines,
+        Err(fault) => {
+            drop(drawing);
+            return Err(fault);
+        }
+    };
+    match put_picture(
+        rt.alloc(),
+        file,
+        network,
+        &queues,
+        settled,
+        picture,
+        drawing,
+    ) {
+        Ok(()) => Ok(lines),
+        Err(fault) => Err(fault),
+    }
+}
+
+/// What is wanted of a run of a network beside its line.
+#[derive(Clone, Copy)]
+struct Wishes {
+    /// Whether a stream that lost frames or missed its deadline is a fault.
+    is_strict: bool,
+    /// Whether a long run says on standard error how far it is.
+    is_watched: bool,
+}
+
+/// Runs a network from one folder into another, if both have a path. Returns the lines of the run, and in how many rounds it was
+/// found.
+fn run_network<H: AllocGlobal + Eprint + Files>(
+    rt: &H,
+    file: &NetworkFile<Global>,
+    network: &Network<Global>,
+    input: &str,
+    output: &str,
+    picture: Option<String>,
+    wishes: Wishes,
+    teller: &mut Teller<'_, H>,
+    taken: Vec<FileId>,
+    cause: &mut Option<Cause>,
+) -> Result<(RunLines, u32), Fault>
+    requires few { length network.now.plans ≤ 64 }
+    requires accepted { IsAccepted network.now file.now }
+    ensures ok { IfOk result (λ ran. TellsRun network.now file.now (string_bytes ran.0.line)) }
+    ensures rounds { IfOk result (λ ran. TellsRunIn network.now file.now (string_bytes ran.0.line) ran.1) }
+    ensures lost { IfOk result (λ ran. TellsRunLosses network.now file.now wishes.is_strict (string_bytes ran.0.line) ran.1 (string_bytes ran.0.lost)) }
+    ensures named { IfOk result (λ _. HavePaths input.now output.now) }
+    ensures err { IfErr result (EndsRun network.now file.now.bridges) }
+{
+    let (mut taken, plans, bridges) = (taken, network.plans(), file.bridges());
+    test_folders(rt.alloc(), input, output, cause)?;
+    let incoming = read_all(rt, network, bridges, input, &mut taken, cause)?;
+    let outputs = match open_outputs(rt, plans, bridges, input, output, &mut taken, cause) {
+        Ok(outputs) => outputs,
+        Err(fault) => {
+            drop(incoming);
+            return Err(fault);
+        }
+    };
+    let drawing = match open_picture(rt, &picture, &mut taken, cause) {
+        Ok(drawing) => drawing,
+        Err(fault) => {
+            drop(incoming);
+            drop(outputs);
+            return Err(fault);
+        }
+    };
+    teller.is_wanted = wishes.is_watched && is_long(&incoming);
+    let Ok(rounds) = most_rounds(rt.alloc(), network) else {
+        drop(incoming);
+        drop(outputs);
+        drop(drawing);
+        return Err(memory_fault());
+    };
+    match settle(rt.alloc(), network, incoming, rounds, teller) {
+        Ok(settled) => {
+            *cause = Some(Cause::NotWritable);
+            let (is_strict, rounds) = (wishes.is_strict, settled.rounds);
+            let told = put_drawn(
+                rt,
+                file,
+                network,
+                output,
+                &settled.bridges,
+                outputs,
+                picture,
+                drawing,
+                is_strict,
+            );
+            drop(settled);
+            match told {
+                Ok(lines) => Ok((lines, rounds)),
+                Err(fault) => Err(fault),
+            }
+        }
+        Err(fault) => {
+            drop(outputs);
+            drop(drawing);
+            Err(said_of_run(rt.alloc(), bridges, fault))
+        }
+    }
+}
+
+/// What is said of a run of a network.
+#[derive(Drop)]
+pub struct RoundsSaid {
+    /// The line that is printed, if the network ran.
+    pub line: Option<String>,
+    /// The lines on standard error: the warnings of `net check`, or the lines of the streams that lost frames or missed their
+    /// deadlines. The text is empty unless they are faults.
+    pub told: String,
+    /// Whether a warning is a fault and the network has one.
+    pub is_warned: bool,
+    /// Whether a loss is a fault and a stream lost frames or missed its deadline.
+    pub is_lossy: bool,
+    /// In how many rounds it was found: in the last of them nothing else was sent over any link than before.
+    pub rounds: u32,
+}
+
+impl RoundsSaid {
+    ghost use Rattle.std.specs.Prelude.{◌≡◌};
+    ghost use Rattle.app_networks.specs.Losing.{status_of};
+
+    /// Returns the exit status: 1 if a warning or a loss is a fault, else 0.
+    pub fn status(&self) -> u8
+        ensures { result ≡ status_of self.now.is_warned self.now.is_lossy }
+    {
+        if self.is_warned || self.is_lossy {
+            1
+        } else {
+            0
+        }
+    }
+}
+
+/// Returns the warnings of `net check` on a network, if a warning is a fault. The text is empty otherwise.
+fn warnings_if(
+    alloc: Global,
+    file: &NetworkFile<Global>,
+    network: &Network<Global>,
+    is_strict: bool,
+) -> Result<String, NoMemory>
+    requires few { length network.now.plans ≤ 64 }
+    ensures { IfOk result (λ text. AreWarningsIf is_strict file.now network.now (string_bytes text)) }
+{
+    if !is_strict {
+        return Ok(String::new(alloc));
+    }
+    let bounds = bounds_of_all(alloc, network.plans())?;
+    warnings_of(alloc, alloc, file, network, &bounds)
+}
+
+/// Runs an accepted network. If a warning is a fault and the network has one, the function runs nothing and opens no file.
+fn run_accepted<H: AllocGlobal + Eprint + Files>(
+    rt: &H,
+    file: &NetworkFile<Global>,
+    network: &Network<Global>,
+    job: RoundsJob,
+    taken: Vec<FileId>,
+    cause: &mut Option<Cause>,
+) -> Result<RoundsSaid, Fault>
+    requires few { length network.now.plans ≤ 64 }
+    requires accepted { IsAccepted network.now file.now }
+    ensures ok { IfOk result (λ said. IfSome said.line (λ line. TellsRun network.now file.now (string_bytes line))) }
+    ensures rounds { IfOk result (λ said. IfSome said.line (λ line. TellsRunIn network.now file.now (string_bytes line) said.rounds)) }
+    ensures told { IfOk result (λ said. IfSome said.line (λ line. TellsRunLosses network.now file.now job.is_strict (string_bytes line) said.rounds (string_bytes said.told))) }
+    ensures lossy { IfOk result (λ said. IfSome said.line (λ _. said.is_lossy ≡ has_lines (string_bytes said.told))) }
+    ensures named { IfOk result (λ said. IfSome said.line (λ _. HavePaths (string_bytes job.input) (string_bytes job.output))) }
+    ensures warned { IfOk result (λ said. said.is_warned ≡ true → said.line ≡ None) }
+    ensures idle { IfOk result (λ said. said.line ≡ None → (said.is_warned ≡ true) × ((job.is_strict ≡ true) × TellsWarnings network.now file.now (string_bytes said.told))) }
+    ensures err { IfErr result (EndsRun network.now file.now.bridges) }
+{
+    let RoundsJob {
+        network: _,
+        input,
+        output,
+        picture,
+        is_strict,
+        is_watched,
+    } = job;
+    let Ok(warnings) = warnings_if(rt.alloc(), file, network, is_strict) else {
+        return Err(memory_fault());
+    };
+    if !warnings.as_str().is_empty() {
+        return Ok(RoundsSaid {
+            line: None,
+            told: warnings,
+            is_warned: true,
+            is_lossy: false,
+            rounds: 0,
+        });
+    }
+    let wishes = Wishes {
+        is_strict,
+        is_watched,
+    };
+    let mut teller = Teller {
+        rt,
+        bridges: file.bridges(),
+        is_wanted: false,
+    };
+    match run_network(
+        rt,
+        file,
+        network,
+        input.as_str(),
+        output.as_str(),
+        picture,
+        wishes,
+        &mut teller,
+        taken,
+        cause,
+    ) {
+        Ok((lines, rounds)) => Ok(ran(lines, rounds)),
+        Err(fault) => Err(fault),
+    }
+}
+
+/// Returns what is said of a run that is done.
+fn ran(lines: RunLines, rounds: u32) -> RoundsSaid
+    ensures line { result.line ≡ Some lines.line }
+    ensures told { result.told ≡ lines.lost }
+    ensures warned { result.is_warned ≡ false }
+    ensures lossy { result.is_lossy ≡ has_lines (string_bytes lines.lost) }
+    ensures rounds { result.rounds ≡ rounds }
+{
+    let RunLines { line, lost } = lines;
+    let is_lossy = !lost.as_str().is_empty();
+    RoundsSaid {
+        line: Some(line),
+        told: lost,
+        is_warned: false,
+        is_lossy,
+        rounds,
+    }
+}
+
+/// A run of a network that is asked for.
+#[derive(Drop)]
+pub struct RoundsJob {
+    /// The path of the network.
+    pub network: String,
+    /// The path of the folder that is read.
+    pub input: String,
+    /// The path of the folder that is written.
+    pub output: String,
+    /// The path of a picture of the run, if one is made.
+    pub picture: Option<String>,
+    /// Whether a warning of `net check`, a lost frame and a missed deadline are faults.
+    pub is_strict: bool,
+    /// Whether a long run says on standard error how far it is: in which round which bridge runs.
+    pub is_watched: bool,
+}
+
+/// Returns the files of some paths, and the file into which standard output goes, if it is a regular one: no output may be one of
+/// them.
+fn taken_at<H: AllocGlobal + Files>(rt: &H, paths: &[String]) -> Result<Vec<FileId>, NoMemory> {
+    let mut taken = files_at(rt, paths)?;
+    take_standard(rt, &mut taken)?;
+    Ok(taken)
+}
+
+/// What is printed for a run of the network of a file whose plans lie beside it, where it is accepted: the captures of the open
+/// ports go through the whole network, with the commands of each bridge; what left each port of each bridge is written, a
+/// report of each bridge, the tables of the streams, and a picture, where one is asked for.
+///
+/// From the folder IN are read `BRIDGE/PORT.pcap` of each open port and `BRIDGE/commands.toml` where it is there; into the folder
+/// OUT are written `BRIDGE/PORT.pcap` of each port, `BRIDGE/report.txt`, `streams.csv` and `frames.csv`. Folders of OUT are
+/// made where they aren't there. An output that is a file that is read, another output, or the file into which standard output
+/// goes, is `File` of its path.
+///
+/// If a warning is a fault and the network has one, nothing runs, and no file is opened except the network's and its plans'.
+///
+/// Faults in this order: those of `network_job`; `File` of the empty path if IN or OUT is empty; what comes to each bridge; the
+/// folders and files that are written; the run, `Rounds` of a capture, or where frames may go round and something still changes after
+/// 64 rounds; then the writing. What the outputs hold stays until the run is done. The cause of a file that fails is noted, except for
+/// the network's and its plans'.
+pub fn rounds_noted<H: AllocGlobal + Eprint + Files>(
+    rt: &H,
+    job: RoundsJob,
+    cause: &mut Option<Cause>,
+) -> Result<RoundsSaid, Fault>
+    ensures ok { IfOk result (λ said. IfSome said.line (λ line. PrintsRounds Global (string_bytes line))) }
+    ensures rounds { IfOk result (λ said. IfSome said.line (λ line. PrintsRoundsIn Global (string_bytes line) said.rounds)) }
+    ensures told { IfOk result (λ said. IfSome said.line (λ line. PrintsRunLosses Global job.is_strict (string_bytes line) said.rounds (string_bytes said.told))) }
+    ensures lossy { IfOk result (λ said. IfSome said.line (λ _. said.is_lossy ≡ has_lines (string_bytes said.told))) }
+    ensures named { IfOk result (λ said. IfSome said.line (λ _. HavePaths (string_bytes job.input) (string_bytes job.output))) }
+    ensures warned { IfOk result (λ said. said.is_warned ≡ true → said.line ≡ None) }
+    ensures idle { IfOk result (λ said. said.line ≡ None → (said.is_warned ≡ true) × ((job.is_strict ≡ true) × PrintsWarnings Global (string_bytes said.told))) }
+    ensures err { IfErr result (EndsRounds Global (string_bytes job.network)) }
+{
+    let alloc = rt.alloc();
+    let copy = String::from_str(alloc, job.network.as_str())?;
+    let file = read_network(rt, copy)?;
+    let plans = read_plans(rt, job.network.as_str(), file.bridges())?;
+    let Ok(paths) = paths_of(alloc, job.network.as_str(), &file) else {
+        drop(plans);
+        return Err(memory_fault());
+    };
+    let Ok(taken) = taken_at(rt, &paths) else {
+        drop(plans);
+        return Err(memory_fault());
+    };
+    match tested(alloc, alloc, &file, plans) {
+        Ok(network) => {
+            let told = run_accepted(rt, &file, &network, job, taken, cause);
+            drop(network);
+            told
+        }
+        Err(fault) => Err(fault),
+    }
+}

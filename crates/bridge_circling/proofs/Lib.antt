@@ -1,5 +1,0 @@
-pub mod AllGroups
-pub mod Named
-pub mod Others
-pub mod Stepping
-pub mod Told

@@ -1,5 +1,0 @@
-pub mod Counted
-pub mod Gathered
-pub mod Ways
-pub mod Tabled
-pub mod Same

@@ -1,9 +1,0 @@
-use Rattle.std.proofs.Common.{◌-◌, ◌^◌, get_or, min, ap, sym, ◌∙◌}
-use Rattle.std.proofs.lemmas.List.Sums.{fold_more}
-use Rattle.bridge_delays.proofs.figures.least_of.Goals as goal
-
-pub loop-delay-preserved : goal.loop-delay-preserved
-loop-delay-preserved c =
-    let delays = c.args.delays.now in
-    let i = c.loop-delay.delay-index in
-    c.min-least.ensures ∙ (ap (λ n. min n (get_or delays i 0)) c.loop-delay.invariant ∙ sym (fold_more min (2 ^ 64 - 1) delays i 0 c.loop-delay-test.true))

@@ -1,7 +1,0 @@
-use Rattle.bridge_delays.specs.Losing.{fault_lines}
-use Rattle.bridge_text.proofs.Puts.{put_piece}
-use Rattle.bridge_delays.proofs.losing.put_faults.Goals as goal
-
-pub returns : goal.returns
-unfolding fault_lines
-returns g c = put_piece _ _ _ _ _ c.put_lost_if.ensures c.put_late_if.ensures

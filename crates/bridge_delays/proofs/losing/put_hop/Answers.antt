@@ -1,6 +1,0 @@
-use Rattle.std.proofs.Common.{refl}
-use Rattle.bridge_text.proofs.Puts.{put_as}
-use Rattle.bridge_delays.proofs.losing.put_hop.Goals as goal
-
-pub returns : goal.returns
-returns g c = put_as _ _ _ _ c.put_losses.ensures (rw (c.as_str.ensures.value, c.losses_at.ensures) refl)

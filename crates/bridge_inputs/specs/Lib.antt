@@ -1,3 +1,0 @@
-pub mod Devices
-pub mod Lanes
-pub mod Numbers

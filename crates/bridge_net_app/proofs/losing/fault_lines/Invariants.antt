@@ -1,6 +1,0 @@
-use Rattle.std.proofs.Common.{take}
-use Rattle.bridge_net_app.proofs.Losses.{HasLines}
-use Rattle.bridge_net_app.proofs.losing.fault_lines.Given as goal
-
-abbrev pub invariant-loop-stream : goal.invariant-loop-stream
-invariant-loop-stream l = HasLines l.links l.settled l.fn.file.bridges (take l.stream-index l.fn.file.streams) l.initial.text l.text

@@ -1,6 +1,0 @@
-use Rattle.std.proofs.Common.{◌≡◌, map, string_bytes, take}
-use Rattle.bridge_net_app.specs.Tables.{hop_text}
-use Rattle.bridge_net_app.proofs.tables.hop_names.Given as goal
-
-abbrev pub invariant-loop-hop : goal.invariant-loop-hop
-invariant-loop-hop l = map string_bytes l.names.items ≡ map (hop_text l.bridges) (take l.hop-index l.hops)

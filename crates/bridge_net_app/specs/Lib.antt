@@ -1,5 +1,0 @@
-pub mod InTime
-pub mod Counted
-pub mod Folders
-pub mod Losing
-pub mod Tables

@@ -1,5 +1,0 @@
-mod Passing
-pub mod Counts
-pub mod Named
-pub mod Numerals
-pub mod Own

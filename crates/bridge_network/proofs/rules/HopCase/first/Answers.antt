@@ -1,4 +1,0 @@
-use Rattle.bridge_network.proofs.rules.HopCase.first.Goals as goal
-
-pub or_at-first-requires : goal.or_at-first-requires
-or_at-first-requires g c = c.requires

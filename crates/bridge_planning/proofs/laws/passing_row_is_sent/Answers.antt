@@ -1,8 +1,0 @@
-use Rattle.bridge_planning.proofs.Passing.{each_passes, each_sent}
-use Rattle.bridge_planning.proofs.laws.passing_row_is_sent.Goals as goal
-
-pub returns-clause-filter : goal.returns-clause-filter
-returns-clause-filter g c = each_passes
-
-pub returns-clause-queue : goal.returns-clause-queue
-returns-clause-queue g c = each_sent

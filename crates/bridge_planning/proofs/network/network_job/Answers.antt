@@ -1,5 +1,0 @@
-use Rattle.std.proofs.Common.{inl, inr}
-use Rattle.bridge_planning.proofs.network.network_job.Goals as goal
-
-pub returns-clause-err : goal.returns-clause-err
-returns-clause-err g c = inr (inr (_, inr (_, c.in-Err.ensures.refused)))

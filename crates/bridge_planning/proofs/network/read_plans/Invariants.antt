@@ -1,5 +1,0 @@
-use Rattle.std.proofs.Common.{◌≡◌, length}
-use Rattle.bridge_planning.proofs.network.read_plans.Given as goal
-
-abbrev pub invariant-loop-bridge : goal.invariant-loop-bridge
-invariant-loop-bridge g l = length l.plans.items ≡ l.bridge-index

@@ -1,6 +1,0 @@
-use Rattle.std.proofs.Common.{◌≡◌, take, string_bytes}
-use Rattle.bridge_planning.specs.Printing.{bounds_text}
-use Rattle.bridge_planning.proofs.printing.bounds_text.Given as goal
-
-abbrev pub invariant-loop-row : goal.invariant-loop-row
-invariant-loop-row g l = string_bytes l.text ≡ bounds_text (take l.row-index l.rows)

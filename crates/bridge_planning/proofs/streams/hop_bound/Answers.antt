@@ -1,6 +1,0 @@
-use Rattle.std.proofs.Common.{ap, ◌∙◌}
-use Rattle.bridge_planning.specs.Streams.{filter_bound}
-use Rattle.bridge_planning.proofs.streams.hop_bound.Goals as goal
-
-pub returns : goal.returns
-returns g c = c.filter_bound.ensures ∙ ap (filter_bound c.args.hop.1) c.rows_at.ensures

@@ -1,6 +1,0 @@
-use Rattle.std.proofs.Common.{◌≡◌, take}
-use Rattle.bridge_planning.specs.Streams.{link_delay}
-use Rattle.bridge_planning.proofs.streams.link_delay.Given as goal
-
-abbrev pub invariant-loop-link : goal.invariant-loop-link
-invariant-loop-link l = l.greatest ≡ link_delay (take l.link-index l.links) l.hops l.bridge

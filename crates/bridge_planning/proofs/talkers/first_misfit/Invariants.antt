@@ -1,9 +1,0 @@
-use Rattle.std.proofs.Common.{◌≡◌, ◌+◌, drop}
-use Rattle.bridge_planning.specs.Talkers.{first_misfit}
-use Rattle.bridge_planning.proofs.talkers.first_misfit.Given as goal
-
-abbrev pub invariant-loop-stream : goal.invariant-loop-stream
-invariant-loop-stream g l = record {
-  index : l.index ≡ l.stream-index + 1;
-  same : first_misfit l.plans l.index (drop l.stream-index l.streams) ≡ first_misfit l.plans 1 l.streams;
-}

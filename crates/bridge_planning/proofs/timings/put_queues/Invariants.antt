@@ -1,7 +1,0 @@
-use Rattle.std.proofs.Common.{◌≡◌, ◌++◌, take}
-use Rattle.std.specs.Prelude.{map}
-use Rattle.bridge_planning.specs.declared.timings.TrafficFigures.TheVariants as figures
-use Rattle.bridge_planning.proofs.timings.put_queues.Given as goal
-
-abbrev pub invariant-loop-queue : goal.invariant-loop-queue
-invariant-loop-queue g l = l.made.items ≡ l.initial.made.items ++ map figures.Queue (take l.queue-index l.queues)

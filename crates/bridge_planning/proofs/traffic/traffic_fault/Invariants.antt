@@ -1,9 +1,0 @@
-use Rattle.std.proofs.Common.{◌≡◌, ◌+◌, drop}
-use Rattle.bridge_planning.specs.Traffic.{first_fault_from}
-use Rattle.bridge_planning.proofs.traffic.traffic_fault.Given as goal
-
-abbrev pub invariant-loop-row : goal.invariant-loop-row
-invariant-loop-row g l = record {
-  index : l.index ≡ l.row-index + 1;
-  same : first_fault_from l.plan l.index (drop l.row-index l.rows) ≡ first_fault_from l.plan 1 l.rows;
-}

@@ -1,0 +1,32 @@
+use Rattle.std.proofs.Common.{ℕ, ◌<◌, ◌∙◌, ap, sym, subst, Option}
+use Rattle.std.specs.Prelude.{IfSome}
+use Rattle.std.proofs.lemmas.Option.{same_Some}
+use Rattle.bridge_relay.specs.Tables.{Owes, TableState, after_answer, change_if, refused}
+use Rattle.bridge_relay.proofs.Changing.{change_at, own_at, place_within, there_by}
+use Rattle.bridge_relay.proofs.tables.note.Goals as goal
+
+pub drop_copy-requires : goal.drop_copy-requires
+drop_copy-requires g c =
+    let at = c.pair_mut-table in
+    let m = c.args.tables.now in
+    let owes = subst (λ (o : Option ℕ). IfSome o (Owes m.entries)) c.in-Some.is c.requires in
+    let found = own_at m c.place_of-place.result at.result.0.now c.in-Some.number at.result.1.now at.ensures.unique at.ensures.value c.place_of-place.ensures in
+    subst (λ (t : TableState). 0 < t.owed) (same_Some owes.0 at.result.1.now (sym owes.1 ∙ found)) owes.2
+
+pub returns-in-Some : goal.returns-in-Some
+returns-in-Some g c =
+    let at = c.pair_mut-table in
+    let m = c.args.tables.now in
+    let f : TableState → TableState = λ t. refused t (record { own = c.args.own; port = c.args.port; refusal = c.in-Err.refusal }) in
+    change_at m c.place_of-place.result at.result.0.now c.in-Some.number f at.result.1.now c.drop_copy.new.self at.ensures.unique at.ensures.value c.place_of-place.ensures c.drop_copy.ensures
+    ∙ (sym (ap (λ (o : Option ℕ). change_if o f m.entries) c.in-Some.is)
+    ∙ sym (ap (after_answer m.entries c.args.flow c.args.own c.args.port) c.in-Err.is))
+
+pub place_of-place-requires : goal.place_of-place-requires
+place_of-place-requires g c =
+    let m = c.args.tables.now in
+    let there = subst (λ (o : Option ℕ). IfSome o (Owes m.entries)) c.in-Some.is c.requires in
+    there_by _ there.0 there.1
+
+pub pair_mut-table-requires : goal.pair_mut-table-requires
+pair_mut-table-requires g c = place_within c.args.tables.now.entries c.place_of-place.result c.in-Some.number c.place_of-place.ensures

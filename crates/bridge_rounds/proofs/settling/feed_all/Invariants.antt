@@ -1,5 +1,0 @@
-use Rattle.bridge_rounds.proofs.Handing.{HandedTo}
-use Rattle.bridge_rounds.proofs.settling.feed_all.Given as goal
-
-abbrev pub invariant-loop-bridge : goal.invariant-loop-bridge
-invariant-loop-bridge g l = HandedTo l.initial.stations l.stations l.bridge l.first

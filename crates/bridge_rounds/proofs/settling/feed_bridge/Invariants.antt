@@ -1,5 +1,0 @@
-use Rattle.bridge_rounds.proofs.Handing.{HandedBefore}
-use Rattle.bridge_rounds.proofs.settling.feed_bridge.Given as goal
-
-abbrev pub invariant-loop-place : goal.invariant-loop-place
-invariant-loop-place g l = HandedBefore l.initial.stations l.stations l.bridge l.place l.first

@@ -1,4 +1,0 @@
-pub mod Ended
-pub mod Kept
-pub mod Devices
-pub mod Ran

@@ -1,5 +1,0 @@
-use Rattle.bridge_running.proofs.Ended.{capture_told}
-use Rattle.bridge_running.proofs.job.outputs_of.Goals as goal
-
-pub returns-in-Err-clause-only : goal.returns-in-Err-clause-only
-returns-in-Err-clause-only g c = capture_told c.args.folder.now c.args.ports.now c.in-Err.fault c.in-Err.ensures.only

@@ -1,5 +1,0 @@
-pub mod Tables
-pub mod Slots
-pub mod Ports
-pub mod Told
-pub mod Counting

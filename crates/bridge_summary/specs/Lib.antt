@@ -1,2 +1,0 @@
-pub mod Summary
-pub mod Examples

@@ -1,0 +1,36 @@
+//! Sections that a file may not have.
+
+use crate::document::Document;
+use crate::nearest::{SECTIONS, put_nearest};
+use crate::position::{put_position, top_position};
+use crate::value::{Said, put_key};
+use std::alloc::Global;
+
+/// Whether a name is one of some names.
+fn is_among(names: &[&str], name: &str) -> bool {
+    for other in names {
+        if *other == name {
+            return true;
+        }
+    }
+    false
+}
+
+/// Adds which key of the top is none of the sections that a file may have, and the nearest section.
+pub fn put_stray_section(
+    alloc: Global,
+    said: &mut Said,
+    document: Document<'_>,
+    sections: &[&str],
+) {
+    for (key, _) in document.table.iter() {
+        let key = key.as_str();
+        if !is_among(sections, key) {
+            put_position(said, top_position(document.text, key));
+            put_key(said, key);
+            said.put(" isn't a section.\n");
+            return put_nearest(alloc, said, key, sections, SECTIONS);
+        }
+    }
+    said.put(": all top-level keys are known.\n");
+}

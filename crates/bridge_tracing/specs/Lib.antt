@@ -1,3 +1,0 @@
-pub mod Tracing
-pub mod Passes
-pub mod Tallies

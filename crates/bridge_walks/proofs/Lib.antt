@@ -1,3 +1,0 @@
-pub mod Filtered
-pub mod Laid
-pub mod Searched

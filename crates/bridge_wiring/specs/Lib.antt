@@ -1,4 +1,0 @@
-pub mod Text
-pub mod Counts
-pub mod Jobs
-pub mod Files

@@ -1,4 +1,0 @@
-#![tactic(auto)]
-//! Texts for tests: the base plan.
-
-pub mod base;

@@ -1,0 +1,4 @@
+pub mod Folders
+pub mod Named
+pub mod Refused
+pub mod Told

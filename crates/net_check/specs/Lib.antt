@@ -1,0 +1,4 @@
+pub mod Naming
+pub mod Networks
+pub mod Telling
+pub mod Warnings

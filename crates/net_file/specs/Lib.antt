@@ -1,0 +1,12 @@
+pub mod Arrays
+pub mod Document
+pub mod Faults
+pub mod Lines
+pub mod Model
+pub mod Names
+pub mod Reading
+pub mod Rules
+pub mod Sections
+pub mod TrafficRows
+pub mod TrafficDocument
+pub mod TrafficFaults

@@ -1,0 +1,12 @@
+pub mod Gathering
+pub mod Within
+pub mod Bounded
+pub mod Gathered
+pub mod Lined
+pub mod Passing
+pub mod Phased
+pub mod Placed
+pub mod Queued
+pub mod Tightened
+pub mod Timed
+pub mod WaysOf

@@ -1,0 +1,13 @@
+pub mod Leading
+pub mod Trees
+pub mod Courses
+pub mod Entering
+pub mod Examples
+pub mod Bounds
+pub mod Phased
+pub mod Printing
+pub mod Streams
+pub mod Talkers
+pub mod Traffic
+pub mod TrafficText
+pub mod Ways

@@ -1,0 +1,22 @@
+-- What is printed of bounds.
+use Rattle.std.specs.Prelude.{◌≡◌, ℕ, List, ◌++◌, flat_map, codes, decimal}
+use Rattle.bridge_config.specs.Model.{Plan}
+use Rattle.app_failure.specs.Jobs.{Accepts}
+use Rattle.net_latency.specs.declared.bounds.QueueBound.{QueueBound}
+use Rattle.net_latency.specs.Bounds.{AreTightBounds}
+
+-- the line of the bound of a queue
+unfoldable pub bound_line : QueueBound → List ℕ
+bound_line r = codes "filter " ++ (decimal r.filter ++ (codes " port " ++ (decimal r.port ++ (codes " class " ++ (decimal r.class ++ (codes " bound " ++ (decimal r.bound ++ codes "\n")))))))
+
+-- a line for each
+abbrev pub bounds_text : List QueueBound → List ℕ
+bounds_text rows = flat_map bound_line rows
+
+-- the lines are those of all tight bounds of a plan
+abbrev pub AreLinesOf : {A : Type 0} → Plan A → List ℕ → Type 0
+AreLinesOf p lines = (rows : List QueueBound) × AreTightBounds p rows × (lines ≡ bounds_text rows)
+
+-- the text is that of a plan that is accepted, and the lines are those of its tight bounds
+abbrev pub PrintsBounds : (A : Type 0) → List ℕ → List ℕ → Type 0
+PrintsBounds A input lines = (plan : Plan A) × Accepts input plan × AreLinesOf plan lines

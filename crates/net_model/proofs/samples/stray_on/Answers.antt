@@ -1,0 +1,15 @@
+use Rattle.std.proofs.Common.{sym, refl}
+use Rattle.net_model.proofs.Sampled.{if_some}
+use Rattle.net_model.proofs.samples.stray_on.Goals as goal
+
+pub returns-in-Some-clause-stray : goal.returns-in-Some-clause-stray
+returns-in-Some-clause-stray g c = if_some c.stray_over.result (λ s h. rw (sym c.in-Some.ensures) h) c.stray_over.ensures.stray
+
+pub stray_over-requires : goal.stray_over-requires
+stray_over-requires g c = c.requires
+
+pub returns-in-Some-clause-found : goal.returns-in-Some-clause-found
+returns-in-Some-clause-found g c = rw (sym c.in-Some.ensures) c.stray_over.ensures.found
+
+pub returns-in-None-clause-found : goal.returns-in-None-clause-found
+returns-in-None-clause-found g c = rw (sym c.in-None.ensures) refl

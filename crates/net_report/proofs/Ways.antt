@@ -1,0 +1,20 @@
+-- Where the ports of a bridge lead, one port more.
+use Rattle.std.proofs.Common.{◌≡◌, inl, inr, ℕ, ◌+◌, Bool, List, [], ◌∷◌, ◌++◌, length, sym, ap, ◌∙◌, arith}
+use Rattle.std.specs.Prelude.{IfOk, Result, Ok, Err}
+use Rattle.bridge_limits.proofs.Lists.{pushed}
+use Rattle.net_model.specs.declared.links.Link.{Link}
+use Rattle.net_report.specs.declared.hop_run.HopRun.{HopRun}
+use Rattle.net_report.specs.Hops.{AreAnswers, leads_on}
+
+pub answers_more : {A : Type 0} (links : List Link) (hops : List (HopRun A)) (b : ℕ) (ways : List Bool) (on : Bool) (q : ℕ) → length ways + 1 ≡ q → on ≡ leads_on links hops b q → AreAnswers links hops b ways
+    → AreAnswers links hops b (ways ++ on ∷ [])
+answers_more links hops b ways on q at is are i x there = elim (pushed ways on x i there) [
+  | inl before ↦ are i x before
+  | inr here ↦ sym here.1 ∙ (is ∙ ap (leads_on links hops b) (let last = here.0 in omega (arith, at, last)))
+]
+
+-- lines by where the ports lead
+pub lines_if : {T E : Type 0} (octets_of : T → List ℕ) (r : Result T E) (Are : List Bool → Type 0) (lines_of : List Bool → List ℕ) (ways : List Bool)
+    → Are ways → IfOk r (λ t. octets_of t ≡ lines_of ways) → IfOk r (λ t. (w : List Bool) × Are w × (octets_of t ≡ lines_of w))
+lines_if octets_of (Ok t) Are lines_of ways are is = (ways, are, is)
+lines_if octets_of (Err e) Are lines_of ways are is = tt

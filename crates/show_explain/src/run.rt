@@ -1,0 +1,40 @@
+//! Why a run stopped, or a text was not run.
+ghost use Rattle.std.specs.Prelude.{IfOk, codes, string_bytes};
+ghost use Rattle.bridge_text.specs.Named.{BeginsWith};
+
+use crate::capture::explain_capture;
+use app_failure::TextFault;
+use bridge_capture::{CaptureFault, RunFault};
+use bridge_limits::NoMemory;
+use bridge_text::of_file;
+use std::alloc::Global;
+
+/// Why a run stopped, by the path of the capture and its first octets. It begins with the path.
+pub fn explain_run(
+    alloc: Global,
+    path: &str,
+    octets: &[u8],
+    fault: &RunFault,
+) -> Result<String, NoMemory>
+    ensures { IfOk result (λ said. BeginsWith path.now (string_bytes said)) }
+{
+    match fault {
+        RunFault::Capture { fault, .. } => explain_capture(alloc, path, octets, fault),
+        RunFault::Write { .. } => explain_capture(alloc, path, octets, &CaptureFault::Write),
+        RunFault::NoMemory => of_file(alloc, path, ": there is not enough memory for the run.\n"),
+    }
+}
+
+/// Why a text of standard input was not run. It begins with `-`, which stands for standard input.
+pub fn explain_text(alloc: Global, fault: &TextFault) -> Result<String, NoMemory>
+    ensures { IfOk result (λ said. BeginsWith (codes "-") (string_bytes said)) }
+{
+    let body = match fault {
+        TextFault::NotHex =>
+            ": standard input must contain pairs of hexadecimal digits, with blanks only between pairs. The commands check, run and wire read files.\n",
+        TextFault::TooLong =>
+            ": standard input can have at most 4194304 characters and 1048576 pairs of digits. Use a capture file: tsnbridge wire MBPS ROOM IN OUT\n",
+        TextFault::Run(fault) => return explain_run(alloc, "-", &[], fault),
+    };
+    of_file(alloc, "-", body)
+}

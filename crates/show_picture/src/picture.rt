@@ -1,0 +1,61 @@
+//! A picture of a part of a plan, or of a run under it, on a page. All lengths are tenths of a pixel.
+ghost use Rattle.std.specs.Prelude.{◌≤◌, IfOk, length, string_bytes};
+
+use crate::lanes::Window;
+use bridge_limits::NoMemory;
+use show_svg::{Page, Span};
+use std::alloc::Global;
+
+/// The styles of all shapes.
+const STYLES: &str = ":root{color-scheme:light dark}\
+text{font:110px system-ui,sans-serif;fill:#222}.h{font-weight:700;font-size:150px}.b{font-weight:700}.s{font-size:90px;fill:#666}.r{text-anchor:end}.m{text-anchor:middle}\
+.page{fill:#fff}.lane{fill:#f3f4f6}.open{fill:#c3cbd6}.own{fill:#7fb069}.gate{fill:#9db8d9}.hatch{fill:url(#h)}.h0{stroke:#111;stroke-width:22;opacity:.6}\
+.grid{stroke:#8a94a3;stroke-width:6;opacity:.35}.change{stroke:#c0392b;stroke-width:14;stroke-dasharray:60 40}.grey{fill:#8a8f98}.e{stroke:#111;stroke-width:10}\
+.c0{fill:#2a7de1}.c1{fill:#e4572e}.c2{fill:#29a37a}.c3{fill:#a14fc4}.c4{fill:#d9a400}.c5{fill:#16a3b8}.c6{fill:#c2447a}.c7{fill:#7a7f3c}\
+@media(prefers-color-scheme:dark){text{fill:#e6e6e6}.s{fill:#a0a0a0}.page{fill:#16181c}.lane{fill:#22262c}.open{fill:#4a525e}.own{fill:#5c8a49}.gate{fill:#4b6a91}.h0{stroke:#fff}.e{stroke:#fff}}";
+
+/// A picture of a part of a plan in a stretch of time: when schedules change, its page, the stream gates that it draws, each with
+/// its port, how many windows each lane may have, how many lanes have more, and the port and the class that are at fault, of
+/// port 0 where none is: only beside another class, or always; of the lane that is drawn the filters that it names and its
+/// windows; and whether memory was refused to it.
+#[derive(Drop)]
+pub(crate) struct Picture {
+    pub change: Option<u64>,
+    pub span: Span,
+    pub page: Page,
+    pub gates: Vec<(u8, u32)>,
+    pub most: usize,
+    pub bands: u64,
+    pub fault: (u8, u8, bool),
+    pub named: Vec<u32>,
+    pub windows: Vec<Window>,
+    pub is_refused: bool,
+}
+
+impl Picture {
+    /// A picture with nothing in it.
+    pub(crate) fn new(alloc: Global, change: Option<u64>, span: Span) -> Picture {
+        Picture {
+            change,
+            span,
+            page: Page::new(alloc),
+            gates: Vec::new(alloc),
+            most: 0,
+            bands: 0,
+            fault: (0, 0, false),
+            named: Vec::new(alloc),
+            windows: Vec::new(alloc),
+            is_refused: false,
+        }
+    }
+
+    /// The picture as an SVG text of at most 2,000,000 octets.
+    pub(crate) fn done(self, alloc: Global) -> Result<String, NoMemory>
+        ensures { IfOk result (λ text. length (string_bytes text) ≤ 2000000) }
+    {
+        if self.is_refused {
+            return Err(NoMemory);
+        }
+        self.page.done(alloc, STYLES)
+    }
+}
