@@ -8,9 +8,8 @@ use Rattle.clap.proofs.OnLiterals.{clap_on_literals}
 use Rattle.app_cli.specs.declared.job.Job.{Job}
 use Rattle.app_cli.specs.declared.job.Job.TheVariants as job
 use Rattle.app_cli.specs.CommandLine.{AsksFor, AsksForBounds, AsksForCheck, AsksForNetwork, AsksForNetworkRun, AsksForPicture, AsksForRun, AsksForWire, IsBoundsJob, IsCheckJob, IsNetworkJob, IsPictureJob, IsRunJob, IsWireJob, commands, fault_of_kind}
-use Rattle.bridge_capture.specs.declared.run_fault.RunFault.TheVariants as run
-use Rattle.app_failure.specs.declared.fault.Fault.{Fault}
-use Rattle.app_failure.specs.declared.fault.Fault.TheVariants as fault
+use Rattle.app_cli.specs.declared.words_fault.WordsFault.{WordsFault}
+use Rattle.app_cli.specs.declared.words_fault.WordsFault.TheVariants as fault
 use Rattle.app_cli.specs.Helping.{IsHelp}
 
 -- what was found has one name, and one list of values
@@ -140,7 +139,7 @@ no_net words name values some named is own nets = asks_for_none words name value
     (λ e speed room input output asks. wire_net (sym e ∙ is)) (λ e plan asks. check_net (sym e ∙ is)) (λ e plan input output commands asks. run_net (sym e ∙ is)) (λ e plan file asks. picture_net (sym e ∙ is)) (λ e plan traffic asks. bounds_net (sym e ∙ is)) (λ e. own) (λ e. nets)
 
 -- a job of `wire` is what the words that name it ask for
-pub of_wire : (words : List Text) (name : Text) (values : List Row) (r : Result Job Fault) → fault_of commands words ≡ [] → subcommand_of commands words ≡ Some (name, values) → name ≡ codes "wire"
+pub of_wire : (words : List Text) (name : Text) (values : List Row) (r : Result Job WordsFault) → fault_of commands words ≡ [] → subcommand_of commands words ≡ Some (name, values) → name ≡ codes "wire"
     → IfOk r (IsWireJob values) → IfOk r (AsksFor words)
 of_wire words name values (Err fault) taken named is ok = tt
 of_wire words name values (Ok job.Text) taken named is ok = absurd ok
@@ -153,7 +152,7 @@ of_wire words name values (Ok (job.Network network)) taken named is ok = absurd 
 of_wire words name values (Ok (job.RunNetwork network input output picture)) taken named is ok = absurd ok
 
 -- a job of `check` is what the words that name it ask for
-pub of_check : (words : List Text) (name : Text) (values : List Row) (r : Result Job Fault) → fault_of commands words ≡ [] → subcommand_of commands words ≡ Some (name, values) → name ≡ codes "check"
+pub of_check : (words : List Text) (name : Text) (values : List Row) (r : Result Job WordsFault) → fault_of commands words ≡ [] → subcommand_of commands words ≡ Some (name, values) → name ≡ codes "check"
     → IfOk r (IsCheckJob values) → IfOk r (AsksFor words)
 of_check words name values (Err fault) taken named is ok = tt
 of_check words name values (Ok job.Text) taken named is ok = absurd ok
@@ -166,7 +165,7 @@ of_check words name values (Ok (job.Network network)) taken named is ok = absurd
 of_check words name values (Ok (job.RunNetwork network input output picture)) taken named is ok = absurd ok
 
 -- a job of `run` is what the words that name it ask for
-pub of_run : (words : List Text) (name : Text) (values : List Row) (r : Result Job Fault) → fault_of commands words ≡ [] → subcommand_of commands words ≡ Some (name, values) → name ≡ codes "run"
+pub of_run : (words : List Text) (name : Text) (values : List Row) (r : Result Job WordsFault) → fault_of commands words ≡ [] → subcommand_of commands words ≡ Some (name, values) → name ≡ codes "run"
     → IfOk r (IsRunJob values) → IfOk r (AsksFor words)
 of_run words name values (Err fault) taken named is ok = tt
 of_run words name values (Ok job.Text) taken named is ok = absurd ok
@@ -179,7 +178,7 @@ of_run words name values (Ok (job.Network network)) taken named is ok = absurd o
 of_run words name values (Ok (job.RunNetwork network input output picture)) taken named is ok = absurd ok
 
 -- a job of `picture` is what the words that name it ask for
-pub of_picture : (words : List Text) (name : Text) (values : List Row) (r : Result Job Fault) → fault_of commands words ≡ [] → subcommand_of commands words ≡ Some (name, values) → name ≡ codes "picture"
+pub of_picture : (words : List Text) (name : Text) (values : List Row) (r : Result Job WordsFault) → fault_of commands words ≡ [] → subcommand_of commands words ≡ Some (name, values) → name ≡ codes "picture"
     → IfOk r (IsPictureJob values) → IfOk r (AsksFor words)
 of_picture words name values (Err fault) taken named is ok = tt
 of_picture words name values (Ok job.Text) taken named is ok = absurd ok
@@ -192,7 +191,7 @@ of_picture words name values (Ok (job.Network network)) taken named is ok = absu
 of_picture words name values (Ok (job.RunNetwork network input output picture)) taken named is ok = absurd ok
 
 -- a job of `bounds` is what the words that name it ask for
-pub of_bounds : (words : List Text) (name : Text) (values : List Row) (r : Result Job Fault) → fault_of commands words ≡ [] → subcommand_of commands words ≡ Some (name, values) → name ≡ codes "bounds"
+pub of_bounds : (words : List Text) (name : Text) (values : List Row) (r : Result Job WordsFault) → fault_of commands words ≡ [] → subcommand_of commands words ≡ Some (name, values) → name ≡ codes "bounds"
     → IfOk r (IsBoundsJob values) → IfOk r (AsksFor words)
 of_bounds words name values (Err fault) taken named is ok = tt
 of_bounds words name values (Ok job.Text) taken named is ok = absurd ok
@@ -205,7 +204,7 @@ of_bounds words name values (Ok (job.Network network)) taken named is ok = absur
 of_bounds words name values (Ok (job.RunNetwork network input output picture)) taken named is ok = absurd ok
 
 -- a job of `net` is what the words that name it ask for
-pub of_net : (words : List Text) (name : Text) (values : List Row) (r : Result Job Fault) → fault_of commands words ≡ [] → subcommand_of commands words ≡ Some (name, values) → name ≡ codes "net"
+pub of_net : (words : List Text) (name : Text) (values : List Row) (r : Result Job WordsFault) → fault_of commands words ≡ [] → subcommand_of commands words ≡ Some (name, values) → name ≡ codes "net"
     → IfOk r (IsNetworkJob values) → IfOk r (AsksFor words)
 of_net words name values (Err fault) taken named is ok = tt
 of_net words name values (Ok job.Text) taken named is ok = absurd ok
@@ -248,9 +247,9 @@ faultless words (job.RunNetwork network input output file) (own, names, asks) = 
 faultless words (job.Network network) (own, names, asks) = names.faultless
 faultless words (job.Picture plan file) (own, names, asks) = names.faultless
 
-no_memory : {X : Type 0} (f : Fault) (r : Result X Fault) → r ≡ Err f → f ≡ fault.Run run.NoMemory → r ≡ Err fault.Words → ⊥
+no_memory : {X : Type 0} (f : WordsFault) (r : Result X WordsFault) → r ≡ Err f → f ≡ fault.NoMemory → r ≡ Err fault.Words → ⊥
 no_memory f r fails is same = absurd (cc)
 
 -- so words that `clap` refuses, unless for want of memory, ask for none
-pub refused_by_clap : {X : Type 0} (words : List Text) (k : ErrorKind) (f : Fault) (r : Result X Fault) → r ≡ Err f → f ≡ fault_of_kind k → (k ≢ kind.OutOfMemory → fault_of commands words ≢ []) → r ≡ Err fault.Words → (asked : Job) → ¬ AsksFor words asked
+pub refused_by_clap : {X : Type 0} (words : List Text) (k : ErrorKind) (f : WordsFault) (r : Result X WordsFault) → r ≡ Err f → f ≡ fault_of_kind k → (k ≢ kind.OutOfMemory → fault_of commands words ≢ []) → r ≡ Err fault.Words → (asked : Job) → ¬ AsksFor words asked
 refused_by_clap words k f r fails is refused same asked asks = refused (λ memory. no_memory f r fails (is ∙ ap fault_of_kind memory) same) (faultless words asked asks)

@@ -3,7 +3,6 @@ use Rattle.std.specs.Prelude.{◌≡◌, ◌≤◌, ℕ, List, [], Option, None,
 use Rattle.std.specs.Str.Parse.{digits_value}
 use Rattle.bridge_frame.specs.declared.Speed.{Speed}
 use Rattle.bridge_port.specs.declared.queues.TheConstants.{LARGEST_ROOM}
-use Rattle.bridge_capture.specs.declared.run_fault.RunFault.TheVariants as run
 use Rattle.clap.specs.Words.{App, Row, Rule, Text, fault_of, first_of, new_app, new_rule, subcommand_of, with_rule, with_subcommand}
 use Rattle.clap.specs.Simple.{on_top}
 use Rattle.clap.specs.declared.builder.action.ArgAction.TheVariants as action
@@ -13,8 +12,8 @@ use Rattle.app_cli.specs.declared.command.Description.{Description}
 use Rattle.app_cli.specs.declared.command.Form.{Form}
 use Rattle.app_cli.specs.declared.command.Form.TheVariants as form
 use Rattle.app_cli.specs.declared.command.Word.{Word}
-use Rattle.app_failure.specs.declared.fault.Fault.{Fault}
-use Rattle.app_failure.specs.declared.fault.Fault.TheVariants as fault
+use Rattle.app_cli.specs.declared.words_fault.WordsFault.{WordsFault}
+use Rattle.app_cli.specs.declared.words_fault.WordsFault.TheVariants as fault
 use Rattle.app_cli.specs.declared.job.Job.{Job}
 use Rattle.app_cli.specs.declared.job.Job.TheVariants as job
 use Rattle.app_cli.specs.Numbers.{IsRoom, IsSpeed}
@@ -114,8 +113,8 @@ abbrev pub described : Description → App
 described d = fold with_word (new_app d.name.now) d.words.now
 
 -- the fault of words that `clap` refuses
-abbrev pub fault_of_kind : ErrorKind → Fault
-fault_of_kind kind.OutOfMemory = fault.Run run.NoMemory
+abbrev pub fault_of_kind : ErrorKind → WordsFault
+fault_of_kind kind.OutOfMemory = fault.NoMemory
 fault_of_kind _ = fault.Words
 
 -- nothing is wrong with the words, and they name this command with these values

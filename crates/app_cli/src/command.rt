@@ -364,8 +364,8 @@ Examples:
   tsnbridge net check examples/line/network.toml
   tsnbridge net examples/network/network.toml examples/network out
 
-Paths of plans are relative to the network's file. IN has a folder for each bridge: 1.pcap .. for its
-open ports, and commands.toml if it receives commands.
+Paths of plans are absolute, or relative to the network's file. IN has a folder for each bridge:
+1.pcap .. for its open ports, and commands.toml if it receives commands.
 
 Statuses:
   0  the network is accepted, or its run is complete

@@ -1,15 +1,13 @@
 //! What is printed where the words ask for help or for the version.
 ghost use Rattle.std.specs.Prelude.{◌≡◌, Ok, Err, None, IfOk, IfErr, IfSome, map, string_bytes, false, true};
 ghost use Rattle.std.specs.List.{list_any};
-ghost use Rattle.bridge_capture.specs.declared.run_fault.RunFault.{RunFault};
 ghost use Rattle.clap.specs.Words.{fault_of, kind_of};
 ghost use Rattle.app_cli.specs.declared.job.Job.{Job};
 ghost use Rattle.app_cli.specs.CommandLine.{AsksFor, commands};
 ghost use Rattle.app_cli.specs.Helping.{AsksForHelp, IsHelp, is_help_kind, is_help_word};
 
 use crate::command::matches_of;
-use app_failure::Fault;
-use bridge_capture::RunFault;
+use crate::words_fault::WordsFault;
 use clap::Error;
 use clap::error::ErrorKind;
 use std::alloc::Global;
@@ -20,13 +18,13 @@ use std::alloc::Global;
 /// Words that have none of these five ask for no text, whatever else they are. Words that ask for one ask for no job.
 /// `Run` with `NoMemory` where a growth was refused.
 #[tactic(auto, using(crate::proofs::Asked::no_job))]
-pub fn help_of(alloc: Global, words: &[String]) -> Result<Option<String>, Fault>
+pub fn help_of(alloc: Global, words: &[String]) -> Result<Option<String>, WordsFault>
     ensures asked { IfOk result (λ text. IfSome text (λ _. IsHelp (fault_of commands (map string_bytes words.now)))) }
     ensures missed { result ≡ Ok None → list_any is_help_word (map string_bytes words.now) ≡ true
         → ¬ AsksForHelp (fault_of commands (map string_bytes words.now)) }
     ensures job { IfOk result (λ text. IfSome text (λ _. (job : Job) → ¬ AsksFor (map string_bytes words.now) job)) }
     ensures plain { list_any is_help_word (map string_bytes words.now) ≡ false → result ≡ Ok None }
-    ensures only { IfErr result (λ fault. fault ≡ Fault.Run RunFault.NoMemory) }
+    ensures only { IfErr result (λ fault. fault ≡ WordsFault.NoMemory) }
 {
     if !has_help_word(words) {
         return Ok(None);
@@ -57,18 +55,18 @@ fn is_help_word(word: &str) -> bool
 }
 
 /// The text of an answer of `clap`, if it is its help or its version.
-fn text_of(alloc: Global, error: &Error) -> Result<Option<String>, Fault>
+fn text_of(alloc: Global, error: &Error) -> Result<Option<String>, WordsFault>
     ensures asked { IfOk result (λ text. IfSome text (λ _. is_help_kind (kind_of error.now) ≡ true)) }
     ensures missed { result ≡ Ok None → is_help_kind (kind_of error.now) ≡ false }
     ensures memory { result ≡ Ok None → ¬ (kind_of error.now ≡ ErrorKind.OutOfMemory) }
-    ensures only { IfErr result (λ fault. fault ≡ Fault.Run RunFault.NoMemory) }
+    ensures only { IfErr result (λ fault. fault ≡ WordsFault.NoMemory) }
 {
     match error.kind() {
         ErrorKind::DisplayHelp | ErrorKind::DisplayVersion => {
             let text = format!(in alloc; "{error}")?;
             Ok(Some(text))
         }
-        ErrorKind::OutOfMemory => Err(Fault::Run(RunFault::NoMemory)),
+        ErrorKind::OutOfMemory => Err(WordsFault::NoMemory),
         _ => Ok(None),
     }
 }

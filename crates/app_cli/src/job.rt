@@ -2,15 +2,12 @@
 ghost use Rattle.std.specs.Prelude.{◌≡◌, ◌≢◌, [], Err, IfOk, IfErr, None, Option, Some, ℕ, codes, map, option_map, string_bytes};
 ghost use Rattle.bridge_frame.specs.declared.Speed.{Speed};
 ghost use Rattle.clap.specs.Words.{Text, fault_of, first_of, found_of, kind_of, rows_of, subcommand_of, subcommand_rows_of};
-ghost use Rattle.bridge_capture.specs.declared.run_fault.RunFault.{RunFault};
-ghost use Rattle.app_failure.specs.Reading.{IsOfWords};
 ghost use Rattle.app_cli.specs.declared.job.Job.{Job};
 ghost use Rattle.app_cli.specs.CommandLine.{AsksFor, AsksForBounds, AsksForCheck, AsksForNetwork, AsksForNetworkRun, AsksForPicture, AsksForRun, AsksForWire, HasRoom, IsBoundsJob, IsCheckJob, IsNetworkJob, IsPictureJob, IsRunJob, IsWireJob, commands, fault_of_kind};
 
 use crate::command::matches_of;
 use crate::number::{room_of, speed_of};
-use app_failure::Fault;
-use bridge_capture::RunFault;
+use crate::words_fault::WordsFault;
 use bridge_frame::Speed;
 use clap::error::ErrorKind;
 use clap::{ArgMatches, Error};
@@ -87,11 +84,10 @@ pub enum Job {
 ///
 /// MBPS is 10, 100, 1000, 2500 or 10000 and ROOM is 1 to 4096, both as decimal digits alone. `Words` for all other words,
 /// also for a request for help or for a version, and `Run` with `NoMemory` where a growth was refused.
-pub fn job_of(alloc: Global, words: &[String]) -> Result<Job, Fault>
+pub fn job_of(alloc: Global, words: &[String]) -> Result<Job, WordsFault>
     ensures ok { IfOk result (AsksFor (map string_bytes words.now)) }
     ensures room { IfOk result HasRoom }
-    ensures words { result ≡ Err Fault.Words → (job : Job) → ¬ AsksFor (map string_bytes words.now) job }
-    ensures only { IfErr result IsOfWords }
+    ensures words { result ≡ Err WordsFault.Words → (job : Job) → ¬ AsksFor (map string_bytes words.now) job }
 {
     if words.is_empty() {
         return Ok(Job::Text);
@@ -103,30 +99,37 @@ pub fn job_of(alloc: Global, words: &[String]) -> Result<Job, Fault>
 }
 
 /// The job that words ask for, some at least, by what they are to `clap`.
-pub(crate) fn job_in(alloc: Global, words: &[String], matches: &ArgMatches) -> Result<Job, Fault>
+pub(crate) fn job_in(
+    alloc: Global,
+    words: &[String],
+    matches: &ArgMatches,
+) -> Result<Job, WordsFault>
     requires some { words.now ≢ [] }
     requires taken { fault_of commands (map string_bytes words.now) ≡ [] }
     requires values { subcommand_rows_of matches.now ≡ subcommand_of commands (map string_bytes words.now) }
     ensures ok { IfOk result (AsksFor (map string_bytes words.now)) }
     ensures room { IfOk result HasRoom }
-    ensures words { result ≡ Err Fault.Words → (job : Job) → ¬ AsksFor (map string_bytes words.now) job }
-    ensures only { IfErr result IsOfWords }
+    ensures words { result ≡ Err WordsFault.Words → (job : Job) → ¬ AsksFor (map string_bytes words.now) job }
 {
     match matches.subcommand() {
         Some((name, values)) => job_named(alloc, words, name, values),
-        None => Err(Fault::Words),
+        None => Err(WordsFault::Words),
     }
 }
 
 /// The job that words ask for, some at least, by the name of their command and its values.
-fn job_named(alloc: Global, words: &[String], name: &str, values: &ArgMatches) -> Result<Job, Fault>
+fn job_named(
+    alloc: Global,
+    words: &[String],
+    name: &str,
+    values: &ArgMatches,
+) -> Result<Job, WordsFault>
     requires some { map string_bytes words.now ≢ [] }
     requires taken { fault_of commands (map string_bytes words.now) ≡ [] }
     requires named { subcommand_of commands (map string_bytes words.now) ≡ Some (name.now, rows_of (found_of values.now)) }
     ensures ok { IfOk result (AsksFor (map string_bytes words.now)) }
     ensures room { IfOk result HasRoom }
-    ensures words { result ≡ Err Fault.Words → (job : Job) → ¬ AsksFor (map string_bytes words.now) job }
-    ensures only { IfErr result IsOfWords }
+    ensures words { result ≡ Err WordsFault.Words → (job : Job) → ¬ AsksFor (map string_bytes words.now) job }
 {
     match name {
         "wire" => wire_job(alloc, values),
@@ -135,29 +138,28 @@ fn job_named(alloc: Global, words: &[String], name: &str, values: &ArgMatches) -
         "picture" => picture_job(alloc, values),
         "bounds" => bounds_job(alloc, values),
         "net" => network_job(alloc, values),
-        _ => Err(Fault::Words),
+        _ => Err(WordsFault::Words),
     }
 }
 
 /// The job of a `wire` command with these values.
-fn wire_job(alloc: Global, values: &ArgMatches) -> Result<Job, Fault>
+fn wire_job(alloc: Global, values: &ArgMatches) -> Result<Job, WordsFault>
     ensures ok { IfOk result (IsWireJob (rows_of (found_of values.now))) }
     ensures room { IfOk result HasRoom }
-    ensures words { result ≡ Err Fault.Words → (speed : Speed) (room : ℕ) (input output : Text)
+    ensures words { result ≡ Err WordsFault.Words → (speed : Speed) (room : ℕ) (input output : Text)
         → ¬ AsksForWire (rows_of (found_of values.now)) speed room input output }
-    ensures only { IfErr result IsOfWords }
 {
     let Some(mbps) = value_of(values, "mbps") else {
-        return Err(Fault::Words);
+        return Err(WordsFault::Words);
     };
     let Some(speed) = speed_of(mbps) else {
-        return Err(Fault::Words);
+        return Err(WordsFault::Words);
     };
     let Some(places) = value_of(values, "room") else {
-        return Err(Fault::Words);
+        return Err(WordsFault::Words);
     };
     let Some(room) = room_of(places) else {
-        return Err(Fault::Words);
+        return Err(WordsFault::Words);
     };
     let input = match text_of(alloc, values, "input") {
         Ok(input) => input,
@@ -176,11 +178,10 @@ fn wire_job(alloc: Global, values: &ArgMatches) -> Result<Job, Fault>
 }
 
 /// The job of a `check` command with these values.
-fn check_job(alloc: Global, values: &ArgMatches) -> Result<Job, Fault>
+fn check_job(alloc: Global, values: &ArgMatches) -> Result<Job, WordsFault>
     ensures ok { IfOk result (IsCheckJob (rows_of (found_of values.now))) }
     ensures room { IfOk result HasRoom }
-    ensures words { result ≡ Err Fault.Words → (plan : Text) → ¬ AsksForCheck (rows_of (found_of values.now)) plan }
-    ensures only { IfErr result IsOfWords }
+    ensures words { result ≡ Err WordsFault.Words → (plan : Text) → ¬ AsksForCheck (rows_of (found_of values.now)) plan }
 {
     match text_of(alloc, values, "plan") {
         Ok(plan) => Ok(Job::Check { plan }),
@@ -189,12 +190,11 @@ fn check_job(alloc: Global, values: &ArgMatches) -> Result<Job, Fault>
 }
 
 /// The job of a `run` command with these values.
-fn run_job(alloc: Global, values: &ArgMatches) -> Result<Job, Fault>
+fn run_job(alloc: Global, values: &ArgMatches) -> Result<Job, WordsFault>
     ensures ok { IfOk result (IsRunJob (rows_of (found_of values.now))) }
     ensures room { IfOk result HasRoom }
-    ensures words { result ≡ Err Fault.Words → (plan input output : Text) (commands : Option Text)
+    ensures words { result ≡ Err WordsFault.Words → (plan input output : Text) (commands : Option Text)
         → ¬ AsksForRun (rows_of (found_of values.now)) plan input output commands }
-    ensures only { IfErr result IsOfWords }
 {
     let plan = match text_of(alloc, values, "plan") {
         Ok(plan) => plan,
@@ -221,12 +221,11 @@ fn run_job(alloc: Global, values: &ArgMatches) -> Result<Job, Fault>
 }
 
 /// The job of a `picture` command with these values.
-fn picture_job(alloc: Global, values: &ArgMatches) -> Result<Job, Fault>
+fn picture_job(alloc: Global, values: &ArgMatches) -> Result<Job, WordsFault>
     ensures ok { IfOk result (IsPictureJob (rows_of (found_of values.now))) }
     ensures room { IfOk result HasRoom }
-    ensures words { result ≡ Err Fault.Words → (plan file : Text)
+    ensures words { result ≡ Err WordsFault.Words → (plan file : Text)
         → ¬ AsksForPicture (rows_of (found_of values.now)) plan file }
-    ensures only { IfErr result IsOfWords }
 {
     let plan = match text_of(alloc, values, "plan") {
         Ok(plan) => plan,
@@ -240,12 +239,11 @@ fn picture_job(alloc: Global, values: &ArgMatches) -> Result<Job, Fault>
 }
 
 /// The job of a `bounds` command with these values.
-fn bounds_job(alloc: Global, values: &ArgMatches) -> Result<Job, Fault>
+fn bounds_job(alloc: Global, values: &ArgMatches) -> Result<Job, WordsFault>
     ensures ok { IfOk result (IsBoundsJob (rows_of (found_of values.now))) }
     ensures room { IfOk result HasRoom }
-    ensures words { result ≡ Err Fault.Words → (plan : Text) (traffic : Option Text)
+    ensures words { result ≡ Err WordsFault.Words → (plan : Text) (traffic : Option Text)
         → ¬ AsksForBounds (rows_of (found_of values.now)) plan traffic }
-    ensures only { IfErr result IsOfWords }
 {
     let plan = match text_of(alloc, values, "plan") {
         Ok(plan) => plan,
@@ -259,14 +257,13 @@ fn bounds_job(alloc: Global, values: &ArgMatches) -> Result<Job, Fault>
 }
 
 /// The job of a `net` command with these values: the check of a network, or with a third word its run.
-fn network_job(alloc: Global, values: &ArgMatches) -> Result<Job, Fault>
+fn network_job(alloc: Global, values: &ArgMatches) -> Result<Job, WordsFault>
     ensures ok { IfOk result (IsNetworkJob (rows_of (found_of values.now))) }
     ensures room { IfOk result HasRoom }
-    ensures checks { result ≡ Err Fault.Words → (network : Text)
+    ensures checks { result ≡ Err WordsFault.Words → (network : Text)
         → ¬ AsksForNetwork (rows_of (found_of values.now)) network }
-    ensures runs { result ≡ Err Fault.Words → (network input output : Text) (picture : Option Text)
+    ensures runs { result ≡ Err WordsFault.Words → (network input output : Text) (picture : Option Text)
         → ¬ AsksForNetworkRun (rows_of (found_of values.now)) network input output picture }
-    ensures only { IfErr result IsOfWords }
 {
     match value_of(values, "output") {
         Some(to_folder) => network_run_job(alloc, values, to_folder),
@@ -275,22 +272,21 @@ fn network_job(alloc: Global, values: &ArgMatches) -> Result<Job, Fault>
 }
 
 /// The job of a `net` command with these values, which have no third word.
-fn network_check_job(alloc: Global, values: &ArgMatches) -> Result<Job, Fault>
+fn network_check_job(alloc: Global, values: &ArgMatches) -> Result<Job, WordsFault>
     requires { first_of (codes "output") (rows_of (found_of values.now)) ≡ None }
     ensures ok { IfOk result (IsNetworkJob (rows_of (found_of values.now))) }
     ensures room { IfOk result HasRoom }
-    ensures words { result ≡ Err Fault.Words → (network : Text)
+    ensures words { result ≡ Err WordsFault.Words → (network : Text)
         → ¬ AsksForNetwork (rows_of (found_of values.now)) network }
-    ensures only { IfErr result IsOfWords }
 {
     let Some(task) = value_of(values, "first") else {
-        return Err(Fault::Words);
+        return Err(WordsFault::Words);
     };
     if task != "check" {
-        return Err(Fault::Words);
+        return Err(WordsFault::Words);
     }
     if value_of(values, "picture").is_some() {
-        return Err(Fault::Words);
+        return Err(WordsFault::Words);
     }
     match text_of(alloc, values, "second") {
         Ok(network) => Ok(Job::Network { network }),
@@ -299,13 +295,12 @@ fn network_check_job(alloc: Global, values: &ArgMatches) -> Result<Job, Fault>
 }
 
 /// The job of a `net` command with these values, the third of which is the folder that is written.
-fn network_run_job(alloc: Global, values: &ArgMatches, to_folder: &str) -> Result<Job, Fault>
+fn network_run_job(alloc: Global, values: &ArgMatches, to_folder: &str) -> Result<Job, WordsFault>
     requires { first_of (codes "output") (rows_of (found_of values.now)) ≡ Some to_folder.now }
     ensures ok { IfOk result (IsNetworkJob (rows_of (found_of values.now))) }
     ensures room { IfOk result HasRoom }
-    ensures words { result ≡ Err Fault.Words → (network input output : Text) (picture : Option Text)
+    ensures words { result ≡ Err WordsFault.Words → (network input output : Text) (picture : Option Text)
         → ¬ AsksForNetworkRun (rows_of (found_of values.now)) network input output picture }
-    ensures only { IfErr result IsOfWords }
 {
     let network = match text_of(alloc, values, "first") {
         Ok(network) => network,
@@ -320,7 +315,7 @@ fn network_run_job(alloc: Global, values: &ArgMatches, to_folder: &str) -> Resul
         Err(fault) => return Err(fault),
     };
     let Ok(output) = String::from_str(alloc, to_folder) else {
-        return Err(Fault::Run(RunFault::NoMemory));
+        return Err(WordsFault::NoMemory);
     };
     Ok(Job::RunNetwork {
         network,
@@ -338,17 +333,16 @@ pub(crate) fn value_of<'a>(values: &ArgMatches<'a>, name: &str) -> Option<&'a st
 }
 
 /// The value of a command by its name, with memory of its own; `Words` where there is none.
-fn text_of(alloc: Global, values: &ArgMatches, name: &str) -> Result<String, Fault>
+fn text_of(alloc: Global, values: &ArgMatches, name: &str) -> Result<String, WordsFault>
     ensures value { IfOk result (λ t. first_of name.now (rows_of (found_of values.now)) ≡ Some (string_bytes t)) }
-    ensures none { result ≡ Err Fault.Words → first_of name.now (rows_of (found_of values.now)) ≡ None }
-    ensures only { IfErr result IsOfWords }
+    ensures none { result ≡ Err WordsFault.Words → first_of name.now (rows_of (found_of values.now)) ≡ None }
 {
     let Some(word) = value_of(values, name) else {
-        return Err(Fault::Words);
+        return Err(WordsFault::Words);
     };
     match String::from_str(alloc, word) {
         Ok(text) => Ok(text),
-        Err(_) => Err(Fault::Run(RunFault::NoMemory)),
+        Err(_) => Err(WordsFault::NoMemory),
     }
 }
 
@@ -357,25 +351,25 @@ pub(crate) fn option_of(
     alloc: Global,
     values: &ArgMatches,
     name: &str,
-) -> Result<Option<String>, Fault>
+) -> Result<Option<String>, WordsFault>
     ensures value { IfOk result (λ t. first_of name.now (rows_of (found_of values.now)) ≡ option_map string_bytes t) }
-    ensures memory { IfErr result (λ fault. fault ≡ Fault.Run (RunFault.NoMemory)) }
+    ensures memory { IfErr result (λ fault. fault ≡ WordsFault.NoMemory) }
 {
     let Some(word) = value_of(values, name) else {
         return Ok(None);
     };
     match String::from_str(alloc, word) {
         Ok(text) => Ok(Some(text)),
-        Err(_) => Err(Fault::Run(RunFault::NoMemory)),
+        Err(_) => Err(WordsFault::NoMemory),
     }
 }
 
 /// The fault of words that `clap` refuses.
-pub(crate) fn fault_of(error: &Error) -> Fault
+pub(crate) fn fault_of(error: &Error) -> WordsFault
     ensures { result ≡ fault_of_kind (kind_of error.now) }
 {
     match error.kind() {
-        ErrorKind::OutOfMemory => Fault::Run(RunFault::NoMemory),
-        _ => Fault::Words,
+        ErrorKind::OutOfMemory => WordsFault::NoMemory,
+        _ => WordsFault::Words,
     }
 }

@@ -1,15 +1,14 @@
 //! The help of the program and of all its commands as one text.
 ghost use Rattle.std.specs.Prelude.{◌≡◌, IfErr, IfOk, map, string_bytes};
-ghost use Rattle.bridge_capture.specs.declared.run_fault.RunFault.{RunFault};
 
 use crate::command::{COMMANDS, description_at};
 use crate::helping::help_of;
-use app_failure::Fault;
+use crate::words_fault::WordsFault;
 use std::alloc::{AllocError, Global};
 
 /// The help of the program, and of each of its commands, behind the line that asks for it.
-pub fn manual_of(alloc: Global) -> Result<String, Fault>
-    ensures { IfErr result (λ fault. fault ≡ Fault.Run RunFault.NoMemory) }
+pub fn manual_of(alloc: Global) -> Result<String, WordsFault>
+    ensures { IfErr result (λ fault. fault ≡ WordsFault.NoMemory) }
 {
     let mut manual = String::new(alloc);
     push_help(alloc, &mut manual, &["--help"])?;
@@ -18,8 +17,8 @@ pub fn manual_of(alloc: Global) -> Result<String, Fault>
 }
 
 /// Adds the help of each command, behind an empty line.
-fn push_each(alloc: Global, manual: &mut String) -> Result<(), Fault>
-    ensures { IfErr result (λ fault. fault ≡ Fault.Run RunFault.NoMemory) }
+fn push_each(alloc: Global, manual: &mut String) -> Result<(), WordsFault>
+    ensures { IfErr result (λ fault. fault ≡ WordsFault.NoMemory) }
 {
     for place in 0..COMMANDS {
         if let Some(command) = description_at(place) {
@@ -31,8 +30,8 @@ fn push_each(alloc: Global, manual: &mut String) -> Result<(), Fault>
 }
 
 /// Adds the line of these words, and the text that they ask for.
-fn push_help(alloc: Global, manual: &mut String, line: &[&str]) -> Result<(), Fault>
-    ensures { IfErr result (λ fault. fault ≡ Fault.Run RunFault.NoMemory) }
+fn push_help(alloc: Global, manual: &mut String, line: &[&str]) -> Result<(), WordsFault>
+    ensures { IfErr result (λ fault. fault ≡ WordsFault.NoMemory) }
 {
     let words = owned_of(alloc, line)?;
     push_line(manual, &words)?;

@@ -1,7 +1,6 @@
 //! The picture of a run, or the part of a plan, that the words of the command line ask for.
 ghost use Rattle.std.specs.Prelude.{◌≡◌, ◌≢◌, ◌↔◌, Err, None, Some, IfOk, IfErr, IsTrue, List, codes, false, map, option_map, string_bytes};
 ghost use Rattle.clap.specs.Words.{Row, first_of, found_of, rows_of, subcommand_of, subcommand_rows_of};
-ghost use Rattle.app_failure.specs.Reading.{IsOfWords};
 ghost use Rattle.app_cli.specs.declared.job.Job.{Job};
 ghost use Rattle.app_cli.specs.CommandLine.{AsksFor, commands};
 ghost use Rattle.app_cli.specs.Sketching.{AreInOrder, AsksForPart, AsksForSketch, HasNoPart, IsBound, IsSketch, NamesPart};
@@ -9,8 +8,7 @@ ghost use Rattle.app_cli.specs.Sketching.{AreInOrder, AsksForPart, AsksForSketch
 use crate::command::matches_of;
 use crate::job::{fault_of, option_of, value_of};
 use crate::number::{is_list, moment_of};
-use app_failure::Fault;
-use bridge_capture::RunFault;
+use crate::words_fault::WordsFault;
 use clap::ArgMatches;
 use std::alloc::Global;
 
@@ -35,15 +33,17 @@ pub struct PictureRequest {
 ///
 /// `Words` for a moment or a list that isn't one, for moments that aren't in order, and for either without a picture; `Run` with
 /// `NoMemory` where a growth was refused.
-pub fn picture_request_of(alloc: Global, words: &[String]) -> Result<Option<PictureRequest>, Fault>
+pub fn picture_request_of(
+    alloc: Global,
+    words: &[String],
+) -> Result<Option<PictureRequest>, WordsFault>
     ensures ok { IfOk result (λ sketch. (values : List Row)
         → subcommand_of commands (map string_bytes words.now) ≡ Some (codes "run", values)
         → AsksForSketch values sketch) }
     ensures part { IfOk result (λ sketch. (values : List Row)
         → subcommand_of commands (map string_bytes words.now) ≡ Some (codes "picture", values)
         → AsksForPart values sketch) }
-    ensures words { result ≡ Err Fault.Words → (job : Job) → AsksFor (map string_bytes words.now) job → NamesPart (map string_bytes words.now) }
-    ensures only { IfErr result IsOfWords }
+    ensures words { result ≡ Err WordsFault.Words → (job : Job) → AsksFor (map string_bytes words.now) job → NamesPart (map string_bytes words.now) }
 {
     match matches_of(alloc, words) {
         Ok(matches) => picture_in(alloc, words, &matches),
@@ -56,7 +56,7 @@ pub(crate) fn picture_in(
     alloc: Global,
     words: &[String],
     matches: &ArgMatches,
-) -> Result<Option<PictureRequest>, Fault>
+) -> Result<Option<PictureRequest>, WordsFault>
     requires values { subcommand_rows_of matches.now ≡ subcommand_of commands (map string_bytes words.now) }
     ensures ok { IfOk result (λ sketch. (values : List Row)
         → subcommand_of commands (map string_bytes words.now) ≡ Some (codes "run", values)
@@ -64,8 +64,7 @@ pub(crate) fn picture_in(
     ensures part { IfOk result (λ sketch. (values : List Row)
         → subcommand_of commands (map string_bytes words.now) ≡ Some (codes "picture", values)
         → AsksForPart values sketch) }
-    ensures words { result ≡ Err Fault.Words → NamesPart (map string_bytes words.now) }
-    ensures only { IfErr result IsOfWords }
+    ensures words { result ≡ Err WordsFault.Words → NamesPart (map string_bytes words.now) }
 {
     if let Some(values) = matches.subcommand_matches("run") {
         return sketch_in(alloc, values);
@@ -91,16 +90,15 @@ fn has_no_part(values: &ArgMatches) -> bool
 }
 
 /// The picture of a run that these values ask for.
-fn sketch_in(alloc: Global, values: &ArgMatches) -> Result<Option<PictureRequest>, Fault>
+fn sketch_in(alloc: Global, values: &ArgMatches) -> Result<Option<PictureRequest>, WordsFault>
     ensures ok { IfOk result (AsksForSketch (rows_of (found_of values.now))) }
-    ensures words { result ≡ Err Fault.Words → ¬ HasNoPart (rows_of (found_of values.now)) }
-    ensures only { IfErr result IsOfWords }
+    ensures words { result ≡ Err WordsFault.Words → ¬ HasNoPart (rows_of (found_of values.now)) }
 {
     let Some(path) = value_of(values, "picture") else {
         if has_no_part(values) {
             return Ok(None);
         }
-        return Err(Fault::Words);
+        return Err(WordsFault::Words);
     };
     match sketch_into(alloc, values, "picture", path) {
         Ok(sketch) => Ok(Some(sketch)),
@@ -109,16 +107,15 @@ fn sketch_in(alloc: Global, values: &ArgMatches) -> Result<Option<PictureRequest
 }
 
 /// The picture of a part of a plan that these values ask for, where they ask for a part.
-fn part_in(alloc: Global, values: &ArgMatches) -> Result<Option<PictureRequest>, Fault>
+fn part_in(alloc: Global, values: &ArgMatches) -> Result<Option<PictureRequest>, WordsFault>
     ensures ok { IfOk result (AsksForPart (rows_of (found_of values.now))) }
-    ensures words { result ≡ Err Fault.Words → ¬ HasNoPart (rows_of (found_of values.now)) }
-    ensures only { IfErr result IsOfWords }
+    ensures words { result ≡ Err WordsFault.Words → ¬ HasNoPart (rows_of (found_of values.now)) }
 {
     if has_no_part(values) {
         return Ok(None);
     }
     let Some(path) = value_of(values, "file") else {
-        return Err(Fault::Words);
+        return Err(WordsFault::Words);
     };
     match sketch_into(alloc, values, "file", path) {
         Ok(sketch) => Ok(Some(sketch)),
@@ -132,23 +129,22 @@ fn sketch_into(
     values: &ArgMatches,
     name: &str,
     path: &str,
-) -> Result<PictureRequest, Fault>
+) -> Result<PictureRequest, WordsFault>
     requires { first_of name.now (rows_of (found_of values.now)) ≡ Some path.now }
     ensures ok { IfOk result (IsSketch name.now (rows_of (found_of values.now))) }
-    ensures words { result ≡ Err Fault.Words → ¬ HasNoPart (rows_of (found_of values.now)) }
-    ensures only { IfErr result IsOfWords }
+    ensures words { result ≡ Err WordsFault.Words → ¬ HasNoPart (rows_of (found_of values.now)) }
 {
     let Some(from) = bound_of(values, "from") else {
-        return Err(Fault::Words);
+        return Err(WordsFault::Words);
     };
     let Some(to) = bound_of(values, "to") else {
-        return Err(Fault::Words);
+        return Err(WordsFault::Words);
     };
     if !are_in_order(from, to) {
-        return Err(Fault::Words);
+        return Err(WordsFault::Words);
     }
     if !has_list(values, "ports") || !has_list(values, "filters") {
-        return Err(Fault::Words);
+        return Err(WordsFault::Words);
     }
     let ports = match option_of(alloc, values, "ports") {
         Ok(ports) => ports,
@@ -159,7 +155,7 @@ fn sketch_into(
         Err(fault) => return Err(fault),
     };
     let Ok(file) = String::from_str(alloc, path) else {
-        return Err(Fault::Run(RunFault::NoMemory));
+        return Err(WordsFault::NoMemory);
     };
     Ok(PictureRequest {
         file,

@@ -1,7 +1,6 @@
 //! All that the words of the command line ask for, by one parse.
 ghost use Rattle.std.specs.Prelude.{◌≡◌, ◌≢◌, [], Err, IfOk, IfErr, List, Some, codes, map, string_bytes};
 ghost use Rattle.clap.specs.Words.{Row, fault_of, subcommand_of, subcommand_rows_of};
-ghost use Rattle.app_failure.specs.Reading.{IsOfWords};
 ghost use Rattle.app_cli.specs.declared.job.Job.{Job};
 ghost use Rattle.app_cli.specs.CommandLine.{AsksFor, HasRoom, commands};
 ghost use Rattle.app_cli.specs.Helping.{explains, is_strict};
@@ -13,7 +12,7 @@ use crate::explaining::{wants_explanation, wants_strictness};
 use crate::job::{Job, fault_of, job_in};
 use crate::picture_request::{PictureRequest, picture_in};
 use crate::table_request::{TableRequest, tables_in};
-use app_failure::Fault;
+use crate::words_fault::WordsFault;
 use clap::ArgMatches;
 use std::alloc::Global;
 
@@ -37,7 +36,7 @@ pub struct Request {
 ///
 /// `Words` where one of these answers it; `Run` with `NoMemory` where a growth was refused.
 #[tactic(auto, using(crate::proofs::Parsed::none_named))]
-pub fn request_of(alloc: Global, words: &[String]) -> Result<Request, Fault>
+pub fn request_of(alloc: Global, words: &[String]) -> Result<Request, WordsFault>
     ensures job { IfOk result (λ r. AsksFor (map string_bytes words.now) r.job) }
     ensures room { IfOk result (λ r. HasRoom r.job) }
     ensures sketch { IfOk result (λ r. (values : List Row)
@@ -51,8 +50,7 @@ pub fn request_of(alloc: Global, words: &[String]) -> Result<Request, Fault>
         → AsksForTables values r.tables) }
     ensures explained { IfOk result (λ r. r.is_explained ≡ explains (map string_bytes words.now)) }
     ensures strict { IfOk result (λ r. r.is_strict ≡ is_strict (map string_bytes words.now)) }
-    ensures words { result ≡ Err Fault.Words → (job : Job) → AsksFor (map string_bytes words.now) job → NamesPart (map string_bytes words.now) }
-    ensures only { IfErr result IsOfWords }
+    ensures words { result ≡ Err WordsFault.Words → (job : Job) → AsksFor (map string_bytes words.now) job → NamesPart (map string_bytes words.now) }
 {
     if words.is_empty() {
         return Ok(Request {
@@ -73,7 +71,7 @@ pub fn request_of(alloc: Global, words: &[String]) -> Result<Request, Fault>
 }
 
 /// The same of words, some at least, by what they are to `clap`.
-fn request_in(alloc: Global, words: &[String], matches: &ArgMatches) -> Result<Request, Fault>
+fn request_in(alloc: Global, words: &[String], matches: &ArgMatches) -> Result<Request, WordsFault>
     requires some { words.now ≢ [] }
     requires taken { fault_of commands (map string_bytes words.now) ≡ [] }
     requires values { subcommand_rows_of matches.now ≡ subcommand_of commands (map string_bytes words.now) }
@@ -90,8 +88,7 @@ fn request_in(alloc: Global, words: &[String], matches: &ArgMatches) -> Result<R
         → AsksForTables values r.tables) }
     ensures explained { IfOk result (λ r. r.is_explained ≡ explains (map string_bytes words.now)) }
     ensures strict { IfOk result (λ r. r.is_strict ≡ is_strict (map string_bytes words.now)) }
-    ensures words { result ≡ Err Fault.Words → (job : Job) → AsksFor (map string_bytes words.now) job → NamesPart (map string_bytes words.now) }
-    ensures only { IfErr result IsOfWords }
+    ensures words { result ≡ Err WordsFault.Words → (job : Job) → AsksFor (map string_bytes words.now) job → NamesPart (map string_bytes words.now) }
 {
     let job = match job_in(alloc, words, matches) {
         Ok(job) => job,

@@ -1,15 +1,13 @@
 //! The tables of a run that the words of the command line ask for.
 ghost use Rattle.std.specs.Prelude.{◌≡◌, Err, Some, IfOk, IfErr, List, codes, map, option_map, string_bytes};
 ghost use Rattle.clap.specs.Words.{Row, first_of, found_of, rows_of, subcommand_of, subcommand_rows_of};
-ghost use Rattle.app_failure.specs.Reading.{IsOfWords};
 ghost use Rattle.app_cli.specs.declared.job.Job.{Job};
 ghost use Rattle.app_cli.specs.CommandLine.{AsksFor, commands};
 ghost use Rattle.app_cli.specs.Tabling.{AsksForTables};
 
 use crate::command::matches_of;
 use crate::job::{fault_of, option_of};
-use app_failure::Fault;
-use bridge_capture::RunFault;
+use crate::words_fault::WordsFault;
 use clap::ArgMatches;
 use std::alloc::Global;
 
@@ -26,12 +24,11 @@ pub struct TableRequest {
 /// every other job.
 ///
 /// `Words` for words that `clap` refuses; `Run` with `NoMemory` where a growth was refused.
-pub fn table_request_of(alloc: Global, words: &[String]) -> Result<TableRequest, Fault>
+pub fn table_request_of(alloc: Global, words: &[String]) -> Result<TableRequest, WordsFault>
     ensures ok { IfOk result (λ tables. (values : List Row)
         → subcommand_of commands (map string_bytes words.now) ≡ Some (codes "run", values)
         → AsksForTables values tables) }
-    ensures words { result ≡ Err Fault.Words → (job : Job) → ¬ AsksFor (map string_bytes words.now) job }
-    ensures only { IfErr result IsOfWords }
+    ensures words { result ≡ Err WordsFault.Words → (job : Job) → ¬ AsksFor (map string_bytes words.now) job }
 {
     match matches_of(alloc, words) {
         Ok(matches) => tables_in(alloc, words, &matches),
@@ -44,12 +41,12 @@ pub(crate) fn tables_in(
     alloc: Global,
     words: &[String],
     matches: &ArgMatches,
-) -> Result<TableRequest, Fault>
+) -> Result<TableRequest, WordsFault>
     requires values { subcommand_rows_of matches.now ≡ subcommand_of commands (map string_bytes words.now) }
     ensures ok { IfOk result (λ tables. (values : List Row)
         → subcommand_of commands (map string_bytes words.now) ≡ Some (codes "run", values)
         → AsksForTables values tables) }
-    ensures memory { IfErr result (λ fault. fault ≡ Fault.Run (RunFault.NoMemory)) }
+    ensures memory { IfErr result (λ fault. fault ≡ WordsFault.NoMemory) }
 {
     match matches.subcommand_matches("run") {
         Some(values) => tables_of(alloc, values),
@@ -61,9 +58,9 @@ pub(crate) fn tables_in(
 }
 
 /// The tables that these values ask for.
-fn tables_of(alloc: Global, values: &ArgMatches) -> Result<TableRequest, Fault>
+fn tables_of(alloc: Global, values: &ArgMatches) -> Result<TableRequest, WordsFault>
     ensures ok { IfOk result (AsksForTables (rows_of (found_of values.now))) }
-    ensures memory { IfErr result (λ fault. fault ≡ Fault.Run (RunFault.NoMemory)) }
+    ensures memory { IfErr result (λ fault. fault ≡ WordsFault.NoMemory) }
 {
     let delays = match option_of(alloc, values, "delays") {
         Ok(delays) => delays,

@@ -11,8 +11,8 @@ use Rattle.app_commands.specs.Outputs.{Reports, ReportsFault}
 use Rattle.app_commands.specs.declared.output.Output.{Output}
 
 of_file : (A : Type 0) (plan : List ℕ) (f : Fault) → IsOfFile plan f → EndsCheck A plan [] f
-of_file A plan (fault.File path) h = h
-of_file A plan (fault.Run f) h = h
+of_file A plan (fault.File e) h = h
+of_file A plan fault.NoMemory h = h
 of_file A plan f h = absurd h
 
 -- a plan that can't be read

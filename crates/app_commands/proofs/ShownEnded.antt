@@ -2,7 +2,6 @@
 use Rattle.std.proofs.Common.{◌≡◌, ◌⊎◌, ℕ, List, [], Option, Some, None, Result, Ok, Err, IfErr, inl, inr, codes, sym, subst, refl}
 use Rattle.bridge_config.specs.Model.{Plan}
 use Rattle.app_failure.specs.declared.fault.Fault.{Fault}
-use Rattle.bridge_capture.specs.declared.run_fault.RunFault.TheVariants as run
 use Rattle.app_failure.specs.declared.fault.Fault.TheVariants as fault
 use Rattle.app_commands.specs.RunFiles.{EndsReading, EndsSending, IsAcceptedPlan}
 use Rattle.app_commands.specs.ShownFiles.{EndsDrawn, EndsShown, EndsTabled, EndsTold, IsOfShowing, IsOfTable, IsOfTables}
@@ -17,8 +16,8 @@ pub sent_tabled : {A : Type 0} (p : Plan A) (input output : List ℕ) (delays fr
 sent_tabled p input output delays frames file f h = inl (sent_shown p input output file f h)
 
 -- want of memory may end a run under a plan
-pub memory_ends : {A : Type 0} (p : Plan A) (input output : List ℕ) (delays frames file : Option (List ℕ)) → EndsTabled p input output delays frames file (fault.Run run.NoMemory)
-memory_ends p input output delays frames file = sent_tabled p input output delays frames file (fault.Run run.NoMemory) tt
+pub memory_ends : {A : Type 0} (p : Plan A) (input output : List ℕ) (delays frames file : Option (List ℕ)) → EndsTabled p input output delays frames file (fault.NoMemory)
+memory_ends p input output delays frames file = sent_tabled p input output delays frames file (fault.NoMemory) tt
 
 shown_ends : {A : Type 0} (p : Plan A) (input output : List ℕ) (file : Option (List ℕ)) (f : Fault) → IsOfShowing file f → EndsShown p input output file f
 shown_ends p input output None f h = subst (λ g. EndsSending p input output g) (sym h) tt

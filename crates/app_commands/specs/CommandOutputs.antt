@@ -11,11 +11,9 @@ use Rattle.app_commands.specs.Jobs.{EndsText, IsCountsLine, PrintsText}
 use Rattle.app_commands.specs.RunFiles.{PrintsRun}
 use Rattle.app_commands.specs.declared.output.Output.{Output}
 use Rattle.app_commands.specs.Outputs.{Prints, Reports, status_if}
-use Rattle.app_commands.specs.ShownFiles.{EndsTold}
 use Rattle.app_commands.specs.Losing.{TellsLost, status_of}
 use Rattle.app_commands.specs.Notes.{AreNotes}
 use Rattle.app_commands.specs.declared.strict.StrictRun.{StrictRun}
-use Rattle.app_commands.specs.declared.run.RunJob.{RunJob}
 
 -- NO WORDS
 
@@ -69,12 +67,6 @@ line_if (Some line) = string_bytes line
 -- Holds if the program prints the lines of a run.
 abbrev pub IsOutputOf : StrictRun → Output → Type 0
 IsOutputOf r output = Prints (line_if r.line) (string_bytes r.told ++ string_bytes r.lost) (status_of r.is_warned r.is_lossy) output
-
--- Holds if the fault `f` can end a run: of a file, of the plan, of the commands, of a capture, or want of memory.
-abbrev pub FailsRun : RunJob → Fault → Type 0
-FailsRun r f =
-    EndsTold Global (string_bytes r.plan) (option_map string_bytes r.commands) (string_bytes r.input) (string_bytes r.output)
-    (option_map string_bytes r.tables.delays) (option_map string_bytes r.tables.frames) (option_map (λ p. string_bytes p.file) r.picture) f
 
 -- PICTURE
 

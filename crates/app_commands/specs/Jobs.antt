@@ -45,9 +45,11 @@ IsCountsLine line = (count : WireCount) × (count.malformed + count.sent + count
 abbrev pub EndsWire : List ℕ → Fault → Type 0
 EndsWire input (fault.Run (run.Write port)) = port ≡ 1
 EndsWire input (fault.Run f) = StopsText input f
+EndsWire input fault.NoMemory = Unit {0}
 EndsWire input f = ⊥
 
 -- a fault of the one capture that is read, or of the one that is written
 abbrev pub IsOfRun : Fault → Type 0
 IsOfRun (fault.Run f) = IsOfPortOne f
+IsOfRun fault.NoMemory = Unit {0}
 IsOfRun f = ⊥

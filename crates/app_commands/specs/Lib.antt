@@ -10,3 +10,4 @@ pub mod ShownFiles
 pub mod Losing
 pub mod Notes
 pub mod CommandOutputs
+pub mod RunJobs

@@ -1,8 +1,10 @@
 -- The files of a run that fail, and what a run over them prints.
-use Rattle.std.specs.Prelude.{◌≡◌, ◌⊎◌, ℕ, List, Option, Ok, string_bytes}
+use Rattle.std.specs.Prelude.{◌≡◌, ◌⊎◌, ℕ, List, None, Option, Ok, string_bytes}
+use Rattle.std.specs.Io.KnownBytes.{Appends}
+use Rattle.bridge_check.specs.Faults.{first_fault}
+use Rattle.bridge_report.specs.Section.{report_of}
 use Rattle.bridge_config.specs.Document.{plan_of_text}
 use Rattle.bridge_config.specs.Model.{Plan}
-use Rattle.bridge_capture.specs.declared.run_fault.RunFault.TheVariants as run
 use Rattle.app_failure.specs.declared.fault.Fault.{Fault}
 use Rattle.app_failure.specs.declared.fault.Fault.TheVariants as fault
 use Rattle.app_failure.specs.Commanding.{EndsCommanded}
@@ -10,21 +12,22 @@ use Rattle.app_failure.specs.Jobs.{Accepts, EndsPlan}
 use Rattle.bridge_report.specs.Summary.{summary_of}
 use Rattle.bridge_semantics.specs.declared.outcome.Outcome.{Outcome}
 use Rattle.bridge_core.specs.Simulated.{AreNumbers}
-use Rattle.app_files.specs.Files.{IsCapture}
-use Rattle.app_files.specs.Folders.{HavePaths, LackPath}
+use Rattle.app_failure.specs.Reading.{FailsCaptures, IsOfFile, LacksPath}
+use Rattle.app_files.specs.FailedFiles.{IsCapture}
+use Rattle.app_files.specs.Folders.{HavePaths}
 use Rattle.app_files.specs.Paths.{report_path}
 
--- the report of a folder failed, or memory was refused
+-- the report of a folder failed, or memory ran out
 abbrev pub IsOfReport : List ℕ → Fault → Type 0
-IsOfReport folder (fault.File path) = string_bytes path ≡ report_path folder
-IsOfReport folder (fault.Run f) = f ≡ run.NoMemory
-IsOfReport folder f = ⊥
+IsOfReport folder f = IsOfFile (report_path folder) f
 
--- an output of a folder failed, a capture of one of these ports or the report, or memory was refused
+-- an output of a folder failed, a capture of one of these ports or the report, or memory ran out
 abbrev pub IsOfOutputs : List ℕ → List ℕ → Fault → Type 0
-IsOfOutputs folder ports (fault.File path) = IsCapture folder ports (string_bytes path) ⊎ (string_bytes path ≡ report_path folder)
-IsOfOutputs folder ports (fault.Run f) = f ≡ run.NoMemory
-IsOfOutputs folder ports f = ⊥
+IsOfOutputs folder ports f = FailsCaptures folder ports f ⊎ IsOfReport folder f
+
+-- A file has the report of a run: the report was appended to a file, and this file is the result.
+abbrev pub HasReport : {A W : Type 0} → (W → Option (List ℕ)) → Outcome A → W → Type 0
+HasReport {A} {W} contents outcome report = (before : W) × Appends (contents before) (contents report) (report_of outcome.filters.items)
 
 -- the plan of some text
 abbrev pub IsPlanOfText : {A : Type 0} → Plan A → Type 0
@@ -34,11 +37,18 @@ IsPlanOfText plan = (text : List ℕ) × (plan_of_text text ≡ Ok plan)
 abbrev pub IsAcceptedPlan : {A : Type 0} → Plan A → Type 0
 IsAcceptedPlan plan = (text : List ℕ) × Accepts text plan
 
+-- the plan of an accepted plan, which isolates each of its protected filters
+abbrev pub IsCheckedPlan : {A : Type 0} → Plan A → Plan A → Type 0
+IsCheckedPlan plan accepted = (accepted ≡ plan) × (first_fault plan ≡ None)
+
+-- which fault a plan has with the commands of some text, by the path of their file, if there is one
+abbrev pub EndsWithCommands : {A : Type 0} → Plan A → Option (List ℕ) → Fault → Type 0
+EndsWithCommands p commands f = (text : Option (List ℕ)) × EndsCommanded p commands text f
+
 -- which fault ends the reading of a plan and of the commands to it, by the paths of their files: that of the plan for some text, or
 -- that of the plan of a text with its commands
 abbrev pub EndsReading : (A : Type 0) → List ℕ → Option (List ℕ) → Fault → Type 0
-EndsReading A plan commands f =
-    ((text : List ℕ) × EndsPlan A plan text f) ⊎ ((p : Plan A) × IsPlanOfText p × ((text : Option (List ℕ)) × EndsCommanded p commands text f))
+EndsReading A plan commands f = ((text : List ℕ) × EndsPlan A plan text f) ⊎ ((p : Plan A) × IsPlanOfText p × EndsWithCommands p commands f)
 
 -- the path of a capture of one of the ports of a plan, in either of two folders
 abbrev pub IsCaptureOfRun : {A : Type 0} → Plan A → List ℕ → List ℕ → List ℕ → Type 0
@@ -52,8 +62,9 @@ IsFileOfRun p input output path = IsCaptureOfRun p input output path ⊎ ((path 
 -- which fault ends a run under a plan from one folder into another: if a folder has an empty path, that of the file of the empty
 -- path; else that of a file of the run, or of the run itself
 abbrev pub EndsSending : {A : Type 0} → Plan A → List ℕ → List ℕ → Fault → Type 0
-EndsSending p input output (fault.File path) =
-    LackPath input output (fault.File path) ⊎ (HavePaths input output × IsFileOfRun p input output (string_bytes path))
+EndsSending p input output (fault.File e) =
+    LacksPath input output (fault.File e) ⊎ (HavePaths input output × IsFileOfRun p input output (string_bytes e.path))
+EndsSending p input output fault.NoMemory = Unit {0}
 EndsSending p input output (fault.Run f) = Unit {0}
 EndsSending p input output f = ⊥
 

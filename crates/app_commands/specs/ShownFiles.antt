@@ -1,17 +1,16 @@
 -- The tables and the pictures of a run, and of a plan, that fail.
-use Rattle.std.specs.Prelude.{◌≡◌, ◌⊎◌, ℕ, List, Option, None, Some, string_bytes}
+use Rattle.std.specs.Prelude.{◌≡◌, ◌⊎◌, ℕ, List, Option, None, Some}
+use Rattle.std.specs.Io.KnownBytes.{Appends}
 use Rattle.bridge_config.specs.Model.{Plan}
-use Rattle.bridge_capture.specs.declared.run_fault.RunFault.TheVariants as run
 use Rattle.app_failure.specs.declared.fault.Fault.{Fault}
 use Rattle.app_failure.specs.declared.fault.Fault.TheVariants as fault
 use Rattle.app_failure.specs.Jobs.{EndsPlan}
+use Rattle.app_failure.specs.Reading.{IsOfFile}
 use Rattle.app_commands.specs.RunFiles.{EndsRun, EndsSending}
 
 -- the picture of this path failed, or memory was refused
 abbrev pub IsOfPicture : List ℕ → Fault → Type 0
-IsOfPicture file (fault.File path) = string_bytes path ≡ file
-IsOfPicture file (fault.Run f) = f ≡ run.NoMemory
-IsOfPicture file f = ⊥
+IsOfPicture file f = IsOfFile file f
 
 -- which fault ends the picture of a plan, by the paths of both: that of the plan for some text, or that of the picture
 abbrev pub EndsPicture : (A : Type 0) → List ℕ → List ℕ → Fault → Type 0
@@ -19,7 +18,7 @@ EndsPicture A plan file f = ((text : List ℕ) × EndsPlan A plan text f) ⊎ Is
 
 -- the picture that is asked for failed, or memory was refused
 abbrev pub IsOfShowing : Option (List ℕ) → Fault → Type 0
-IsOfShowing None f = f ≡ fault.Run run.NoMemory
+IsOfShowing None f = f ≡ fault.NoMemory
 IsOfShowing (Some file) f = IsOfPicture file f
 
 -- which fault ends a run under a plan, by the path of its picture, where one is asked for
@@ -35,9 +34,7 @@ EndsDrawn A plan commands input output (Some file) f = EndsRun A plan commands i
 -- a table of this path, where one is asked for, failed, or memory was refused
 abbrev pub IsOfTable : Option (List ℕ) → Fault → Type 0
 IsOfTable None f = ⊥
-IsOfTable (Some file) (fault.File path) = string_bytes path ≡ file
-IsOfTable (Some file) (fault.Run f) = f ≡ run.NoMemory
-IsOfTable (Some file) f = ⊥
+IsOfTable (Some file) f = IsOfFile file f
 
 -- the table of delays or the one of frames failed, by their paths where they are asked for, or memory was refused
 abbrev pub IsOfTables : Option (List ℕ) → Option (List ℕ) → Fault → Type 0
@@ -51,3 +48,7 @@ EndsTabled p input output delays frames picture f = EndsShown p input output pic
 -- which fault ends a run over files, by the paths of its tables too
 abbrev pub EndsTold : (A : Type 0) → List ℕ → Option (List ℕ) → List ℕ → List ℕ → Option (List ℕ) → Option (List ℕ) → Option (List ℕ) → Fault → Type 0
 EndsTold A plan commands input output delays frames picture f = EndsDrawn A plan commands input output picture f ⊎ IsOfTables delays frames f
+
+-- A file has a text: the text was appended to a file, and this file is the result.
+abbrev pub IsWritten : {W : Type 0} → (W → Option (List ℕ)) → List ℕ → W → Type 0
+IsWritten {W} contents text done = (before : W) × Appends (contents before) (contents done) text

@@ -18,19 +18,21 @@ SaysCounts output (said.Noted line) = IsStandard output × IsCountsLine (string_
 -- which fault ends a run over the text of a capture into the writer of a path: the text's own, or the writer failed, which is the
 -- file of the path where that is standard output
 abbrev pub EndsOver : List ℕ → List ℕ → Fault → Type 0
-EndsOver output input (fault.File path) = IsStandard output × (string_bytes path ≡ output)
+EndsOver output input (fault.File e) = IsStandard output × (string_bytes e.path ≡ output)
+EndsOver output input fault.NoMemory = Unit {0}
 EndsOver output input (fault.Run (run.Write port)) = (¬ IsStandard output) × (port ≡ 1)
 EndsOver output input (fault.Run f) = StopsText input f
 EndsOver output input f = ⊥
 
 -- which fault ends a run into the file of a path, whatever is read: that of the file, or one of the one capture
 abbrev pub EndsInto : List ℕ → Fault → Type 0
-EndsInto output (fault.File path) = string_bytes path ≡ output
+EndsInto output (fault.File e) = string_bytes e.path ≡ output
+EndsInto output fault.NoMemory = Unit {0}
 EndsInto output (fault.Run (run.Write port)) = (¬ IsStandard output) × (port ≡ 1)
 EndsInto output (fault.Run f) = IsOfPortOne f
 EndsInto output f = ⊥
 
 -- which fault ends a run from the file of one path into that of another
 abbrev pub EndsWiring : List ℕ → List ℕ → Fault → Type 0
-EndsWiring input output (fault.File path) = (string_bytes path ≡ input) ⊎ (string_bytes path ≡ output)
+EndsWiring input output (fault.File e) = (string_bytes e.path ≡ input) ⊎ (string_bytes e.path ≡ output)
 EndsWiring input output f = EndsInto output f

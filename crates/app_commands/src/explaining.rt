@@ -1,18 +1,16 @@
-//! What is told on standard error beside the line of a fault, by what was noted where it arose, or behind what an accepted plan
-//! prints.
+//! The explanations of failures, and the warnings of a run that is done.
 //!
-//! Nothing here can fail: what there is no memory for is left out.
-ghost use Rattle.std.specs.Prelude.{◌≡◌, None, false};
+//! Nothing here can fail: if memory runs out, the explanation is left out.
 
 use crate::late::{Last, put_late};
-use crate::noting::Noted;
-use crate::refusal::Refusal;
-use app_failure::{Cause, Fault, read_at_most};
-use app_files::{capture_path, cause_of_read, is_standard, is_there};
+use crate::run_job::RunJob;
+use crate::texts::Texts;
+use app_failure::Fault;
+use app_files::{Cause, FileError, capture_path, is_standard, is_there, read_at_most};
 use bridge_capture::{Capture, CaptureFault, MAX_RECORDS, ReadAhead, RunFault};
 use bridge_check::{Accepted, CheckFault};
 use bridge_config::{Command, plan_of};
-use bridge_text::Text;
+use bridge_text::{Text, escape_text};
 use show_explain::{
     explain_commands, explain_file, explain_plan, explain_run, explain_text, explain_words,
     put_unread,
@@ -25,58 +23,45 @@ use std::rt::Files;
 /// The octets of a capture that are looked at.
 const FRONT: u64 = 64;
 
-/// What is told of a fault of words, or of a text of standard input.
-pub fn said_of_words(alloc: Global, words: &[String], fault: &Fault) -> Option<String> {
+/// Explains a fault of arguments, of a text of standard input, or of standard input and output.
+pub fn explain_words_fault(alloc: Global, words: &[String], fault: &Fault) -> Option<String> {
     match fault {
         Fault::Words => explain_words(alloc, words).ok(),
         Fault::Text(fault) => explain_text(alloc, fault).ok(),
-        _ => said_of_file(alloc, fault, Some(Cause::Standard)),
+        fault => explain_file_fault(alloc, fault),
     }
 }
 
-/// What is told of a file that failed, by its cause.
-pub fn said_of_file(alloc: Global, fault: &Fault, cause: Option<Cause>) -> Option<String> {
-    match (fault, cause) {
-        (Fault::File(path), Some(cause)) => explain_file(alloc, path.as_str(), cause).ok(),
+/// Explains a file that failed, by its cause. None for a fault of another kind.
+pub fn explain_file_fault(alloc: Global, fault: &Fault) -> Option<String> {
+    match fault {
+        Fault::File(FileError { path, cause }) => explain_file_at(alloc, path.as_str(), *cause),
         _ => None,
     }
 }
 
-/// What is told of a file that could not be read by a job that notes no cause: it is looked at anew.
-pub fn said_of_unread(rt: &(impl AllocGlobal + Files), fault: &Fault) -> Option<String> {
-    let Fault::File(path) = fault else {
-        return None;
-    };
-    let cause = match fs::metadata(rt, path.as_str()) {
-        Ok(data) => {
-            if data.is_dir() {
-                Cause::Folder
-            } else {
-                Cause::NotReadable
-            }
-        }
-        Err(error) => cause_of_read(rt, path.as_str(), &error),
-    };
-    explain_file(rt.alloc(), path.as_str(), cause).ok()
+/// Explains why the file at a path failed. Control characters of the path are escaped, so that it stays on one line.
+pub fn explain_file_at(alloc: Global, path: &str, cause: Cause) -> Option<String> {
+    let shown = escape_text(alloc, path).ok()?;
+    explain_file(alloc, shown.as_str(), cause).ok()
 }
 
-/// What is told of a plan that is refused, by the path of its file and its text, or of a file that failed, by its cause.
-pub fn said_of_plan(
-    alloc: Global,
-    path: &str,
-    text: &[u8],
-    cause: Option<Cause>,
-    fault: &Fault,
-) -> Option<String> {
+/// Explains a fault of a plan, by the path of its file and its text, or of a file.
+pub fn explain_plan_fault(alloc: Global, path: &str, text: &[u8], fault: &Fault) -> Option<String> {
     match fault {
         Fault::Plan(fault) => explain_plan(alloc, path, text, fault).ok(),
-        Fault::Check(fault) => said_of_check(alloc, path, text, fault),
-        fault => said_of_file(alloc, fault, cause),
+        Fault::Check(fault) => explain_check_fault(alloc, path, text, fault),
+        fault => explain_file_fault(alloc, fault),
     }
 }
 
-/// What is told of a plan that doesn't isolate a protected filter.
-fn said_of_check(alloc: Global, path: &str, text: &[u8], fault: &CheckFault) -> Option<String> {
+/// Explains a plan that doesn't isolate a protected filter.
+fn explain_check_fault(
+    alloc: Global,
+    path: &str,
+    text: &[u8],
+    fault: &CheckFault,
+) -> Option<String> {
     let Ok(plan) = plan_of(alloc, alloc, text) else {
         return None;
     };
@@ -85,165 +70,77 @@ fn said_of_check(alloc: Global, path: &str, text: &[u8], fault: &CheckFault) -> 
     said.ok()
 }
 
-/// A fault of a job over a plan, with what is told of it by what was noted, where there is the path of the plan.
-pub(crate) fn refusal_of(
-    alloc: Global,
-    path: &Option<String>,
-    noted: &Noted,
-    fault: Fault,
-) -> Refusal
-    ensures fault { result.fault ≡ fault }
-    ensures plain { path.now ≡ None → result.said ≡ None }
-{
-    let said = match path {
-        Some(path) => said_of_plan(alloc, path.as_str(), &noted.plan, noted.cause, &fault),
-        None => None,
-    };
-    Refusal { fault, said }
-}
-
-/// A path, where more is to be told of a fault.
-pub(crate) fn kept_path(alloc: Global, path: &str, is_explained: bool) -> Option<String>
-    ensures { is_explained ≡ false → result ≡ None }
-{
-    if is_explained {
-        String::from_str(alloc, path).ok()
-    } else {
-        None
-    }
-}
-
-/// The paths of a run.
-#[derive(Drop)]
-pub(crate) struct RunPaths {
-    plan: String,
-    input: String,
-    output: String,
-    commands: String,
-}
-
-/// The paths of a run, where more is to be told of a fault; none for commands that there aren't.
-pub(crate) fn kept_paths(
-    alloc: Global,
-    plan: &str,
-    input: &str,
-    output: &str,
-    commands: &Option<String>,
-    is_explained: bool,
-) -> Option<RunPaths>
-    ensures { is_explained ≡ false → result ≡ None }
-{
-    let commands = match commands {
-        Some(path) => path.as_str(),
-        None => "",
-    };
-    Some(RunPaths {
-        plan: kept_path(alloc, plan, is_explained)?,
-        input: kept_path(alloc, input, is_explained)?,
-        output: kept_path(alloc, output, is_explained)?,
-        commands: kept_path(alloc, commands, is_explained)?,
-    })
-}
-
-/// A fault of a run, with what is told of it by what was noted, where there are its paths.
-pub(crate) fn refusal_of_run(
+/// Explains a fault of the command `run`, by the texts that it has read.
+pub fn explain_run_fault(
     rt: &(impl AllocGlobal + Files),
-    paths: &Option<RunPaths>,
-    noted: &Noted,
-    fault: Fault,
-) -> Refusal
-    ensures fault { result.fault ≡ fault }
-    ensures plain { paths.now ≡ None → result.said ≡ None }
-{
-    let said = match paths {
-        Some(paths) => said_of_run(rt, paths, noted, &fault),
-        None => None,
-    };
-    Refusal { fault, said }
-}
-
-/// What is told of a fault of a run.
-fn said_of_run(
-    rt: &(impl AllocGlobal + Files),
-    paths: &RunPaths,
-    noted: &Noted,
+    job: &RunJob<'_>,
+    texts: &Texts,
     fault: &Fault,
 ) -> Option<String> {
-    let alloc = rt.alloc();
-    let plan = paths.plan.as_str();
     match fault {
-        Fault::Run(fault) => said_of_stop(rt, paths, fault),
+        Fault::NoMemory => explain_stopped_run(rt, job, &RunFault::NoMemory),
+        Fault::Run(fault) => explain_stopped_run(rt, job, fault),
         Fault::Commands(fault) => {
-            explain_commands(
-                alloc,
-                paths.commands.as_str(),
-                &noted.commands,
-                &noted.plan,
-                fault,
-            )
-            .ok()
+            let path = match job.commands {
+                Some(path) => path.as_str(),
+                None => "",
+            };
+            explain_commands(rt.alloc(), path, &texts.commands, &texts.plan, fault).ok()
         }
-        fault => said_of_plan(alloc, plan, &noted.plan, noted.cause, fault),
+        fault => explain_plan_fault(rt.alloc(), job.plan, &texts.plan, fault),
     }
 }
 
-/// What is told of a run that stopped.
-fn said_of_stop(
+/// Explains a run that stopped, by the captures that it reads and writes.
+fn explain_stopped_run(
     rt: &(impl AllocGlobal + Files),
-    paths: &RunPaths,
+    job: &RunJob<'_>,
     fault: &RunFault,
 ) -> Option<String> {
     let port = match fault {
         RunFault::Capture { port, .. } | RunFault::Write { port } => *port,
         RunFault::NoMemory => 1,
     };
-    let read = capture_path(rt.alloc(), paths.input.as_str(), port).ok()?;
-    let written = capture_path(rt.alloc(), paths.output.as_str(), port).ok()?;
-    said_of_captures(rt, read.as_str(), written.as_str(), fault)
+    let read = capture_path(rt.alloc(), job.input, port).ok()?;
+    let written = capture_path(rt.alloc(), job.output, port).ok()?;
+    explain_captures(rt, read.as_str(), written.as_str(), fault)
 }
 
-/// What is told of a run that stopped, by the paths of the captures that are read and written.
-fn said_of_captures(
+/// Explains a fault of the command `wire`, by the paths of its captures.
+pub fn explain_wire_fault(
+    rt: &(impl AllocGlobal + Files),
+    read: &str,
+    written: &str,
+    fault: &Fault,
+) -> Option<String> {
+    match fault {
+        Fault::NoMemory => explain_captures(rt, read, written, &RunFault::NoMemory),
+        Fault::Run(fault) => explain_captures(rt, read, written, fault),
+        fault => explain_file_fault(rt.alloc(), fault),
+    }
+}
+
+/// Explains a run that stopped, by the paths of a capture that it reads and of one that it writes.
+fn explain_captures(
     rt: &(impl AllocGlobal + Files),
     read: &str,
     written: &str,
     fault: &RunFault,
 ) -> Option<String> {
     match fault {
-        RunFault::Capture { .. } => said_of_capture(rt, read, fault),
+        RunFault::Capture { .. } => explain_capture(rt, read, fault),
         RunFault::Write { .. } => explain_run(rt.alloc(), written, &[], fault).ok(),
         RunFault::NoMemory => explain_run(rt.alloc(), read, &[], fault).ok(),
     }
 }
 
-/// A fault of one capture through a queue, with what is told of it, where there are the paths of both captures.
-pub(crate) fn refusal_of_wire(
-    rt: &(impl AllocGlobal + Files),
-    read: &Option<String>,
-    written: &Option<String>,
-    cause: Option<Cause>,
-    fault: Fault,
-) -> Refusal
-    ensures fault { result.fault ≡ fault }
-    ensures plain { read.now ≡ None → result.said ≡ None }
-{
-    let said = match (read, written, &fault) {
-        (Some(read), Some(written), Fault::Run(fault)) => {
-            said_of_captures(rt, read.as_str(), written.as_str(), fault)
-        }
-        (Some(_), Some(_), fault) => said_of_file(rt.alloc(), fault, cause),
-        _ => None,
-    };
-    Refusal { fault, said }
-}
-
 /// Returns why the capture of a file is refused, found by reading the file again. None if it isn't refused then, or is no regular file.
-pub fn said_of_capture_at(rt: &(impl AllocGlobal + Files), path: &str) -> Option<String> {
+pub fn explain_capture_at(rt: &(impl AllocGlobal + Files), path: &str) -> Option<String> {
     let fault = capture_fault(rt, path)?;
-    said_of_capture(rt, path, &RunFault::Capture { port: 1, fault })
+    explain_capture(rt, path, &RunFault::Capture { port: 1, fault })
 }
 
-/// The fault of the capture of a file.
+/// Returns the fault of the capture of a file.
 fn capture_fault<H: AllocGlobal + Files>(rt: &H, path: &str) -> Option<CaptureFault> {
     if !fs::metadata(rt, path).ok()?.is_file() {
         return None;
@@ -265,8 +162,8 @@ fn capture_fault<H: AllocGlobal + Files>(rt: &H, path: &str) -> Option<CaptureFa
     None
 }
 
-/// What is told of a capture that is refused, or not read, by its first octets, where they can be read again.
-fn said_of_capture(
+/// Explains a capture that is refused or can't be read, by its first octets. None if they can't be read again.
+fn explain_capture(
     rt: &(impl AllocGlobal + Files),
     path: &str,
     fault: &RunFault,
@@ -286,8 +183,9 @@ fn said_of_capture(
     explain_run(rt.alloc(), path, &front, fault).ok()
 }
 
-/// What is told of an accepted plan, of a folder of captures, and of the change and the commands that come after the last frame. `idle` is the line of a change of schedules that changes nothing.
-pub(crate) fn warned_of<H: AllocGlobal + Files>(
+/// Returns the warnings of an accepted plan, of the folder of its captures, and of a schedule change and commands that come after the
+/// last frame. `idle` is the line of a schedule change that changes nothing. None if memory runs out.
+pub(crate) fn warnings_of_run<H: AllocGlobal + Files>(
     rt: &H,
     accepted: &Accepted<Global>,
     orders: &[Command],

@@ -1,20 +1,21 @@
-//! The job of a run over a folder of captures, with the tables and the picture that are asked for beside it.
+//! A run over a folder of captures, with the tables and the picture that are asked for beside it.
 ghost use Rattle.std.specs.Prelude.{◌≡◌, ◌⊎◌, IfOk, IfErr, option_map, string_bytes};
 ghost use Rattle.bridge_config.specs.Commands.{AreCommands};
 ghost use Rattle.app_files.specs.Folders.{HavePaths};
 ghost use Rattle.app_commands.specs.RunFiles.{PrintsRun};
-ghost use Rattle.app_commands.specs.ShownFiles.{EndsTabled, IsOfShowing, IsOfTables};
+ghost use Rattle.app_commands.specs.RunJobs.{FailsRunUnder};
+ghost use Rattle.app_commands.specs.ShownFiles.{IsOfShowing, IsOfTables};
 ghost use Rattle.app_commands.specs.Losing.{TellsLost, lost_if};
 
+use crate::flags::Flags;
 use crate::late::{Last, last_of};
-use crate::picturing::put_sketch;
+use crate::picturing::put_run_picture;
 use crate::run_files::send;
+use crate::run_job::RunJob;
 use crate::sparing::spare_files;
 use crate::tables::put_tables;
-use app_cli::{PictureRequest, TableRequest};
-use app_failure::{Cause, Fault};
-use app_files::{FileId, take_standard};
-use bridge_capture::RunFault;
+use app_failure::Fault;
+use app_files::CommandFiles;
 use bridge_check::Accepted;
 use bridge_config::Command;
 use bridge_limits::NoMemory;
@@ -32,125 +33,97 @@ pub(crate) struct RunLines {
     pub(crate) lost: String,
     /// Whether a loss is a fault and a protected filter lost a frame or a copy.
     pub(crate) is_lossy: bool,
+    /// When the last frame arrived and had left. It is looked for only if an explanation is asked for.
+    pub(crate) last: Option<Last>,
 }
 
-/// What is printed for a run under an accepted plan from one folder into another, with the tables and the picture that are
-/// asked for, and the lines of lost frames if a loss is a fault. No output is one of the files that are taken. The cause of a
-/// file that fails is noted, and when the last frame came and had left.
+/// Runs captures under an accepted plan from one folder into another, and makes the report, the tables and the picture that are asked
+/// for. No output is a file in use. Returns the lines of the run, with those of lost frames if a loss is a fault.
 #[tactic(auto, using(crate::proofs::ShownEnded::memory_ends))]
 pub(crate) fn send_told<H: AllocGlobal + Files>(
-    rt: &H,
+    files: &mut CommandFiles<'_, H>,
     accepted: &Accepted<Global>,
     orders: &[Command],
-    input: String,
-    output: String,
-    taken: Vec<FileId>,
-    tables: TableRequest,
-    sketch: Option<PictureRequest>,
-    is_strict: bool,
-    cause: &mut Option<Cause>,
-    last: &mut Option<Last>,
+    job: &RunJob<'_>,
+    flags: Flags,
 ) -> Result<RunLines, Fault>
     requires commands { AreCommands accepted.now orders.now }
-    ensures named { IfOk result (λ _. HavePaths (string_bytes input) (string_bytes output)) }
+    ensures named { IfOk result (λ _. HavePaths job.now.input.now job.now.output.now) }
     ensures ok { IfOk result (λ lines. PrintsRun Global (string_bytes lines.line)) }
-    ensures lost { IfOk result (λ lines. TellsLost Global is_strict (string_bytes lines.line) (string_bytes lines.lost)
+    ensures lost { IfOk result (λ lines. TellsLost Global flags.is_strict (string_bytes lines.line) (string_bytes lines.lost)
         lines.is_lossy) }
-    ensures err { IfErr result (EndsTabled accepted.now (string_bytes input) (string_bytes output)
-        (option_map string_bytes tables.delays) (option_map string_bytes tables.frames)
-        (option_map (λ s. string_bytes s.file) sketch)) }
+    ensures err { IfErr result (FailsRunUnder accepted.now job.now) }
 {
-    let mut taken = taken;
-    if take_standard(rt, &mut taken).is_err() {
-        return Err(Fault::Run(RunFault::NoMemory));
+    if files.note_standard_output().is_err() {
+        return Err(Fault::NoMemory);
     }
-    if let Err(fault) = spare_files(
-        rt,
-        accepted,
-        input.as_str(),
-        output.as_str(),
-        &tables,
-        &sketch,
-        &taken,
-        cause,
-    ) {
+    if let Err(fault) = spare_files(files, accepted, job) {
         return Err(fault);
     }
-    let outcome = match send(
-        rt,
-        accepted,
-        orders,
-        input.as_str(),
-        output,
-        &mut taken,
-        cause,
-    ) {
-        Ok(outcome) => outcome,
+    let sent = match send(files, accepted, orders, job.input, job.output) {
+        Ok(sent) => sent,
         Err(fault) => return Err(fault),
     };
-    *last = last_of(&outcome);
-    let told = tell(
-        rt, accepted, &outcome, tables, sketch, taken, is_strict, cause,
-    );
-    drop(outcome);
+    let told = tell(files, accepted, &sent.outcome, job, flags);
+    drop(sent);
     told
 }
 
-/// What is printed of what a run told, once its tables and its picture are made where they are asked for.
+/// Makes the tables and the picture of a run that are asked for, and returns the lines of the run.
 fn tell<H: AllocGlobal + Files>(
-    rt: &H,
+    files: &mut CommandFiles<'_, H>,
     accepted: &Accepted<Global>,
     outcome: &Outcome<Global>,
-    tables: TableRequest,
-    sketch: Option<PictureRequest>,
-    taken: Vec<FileId>,
-    is_strict: bool,
-    cause: &mut Option<Cause>,
+    job: &RunJob<'_>,
+    flags: Flags,
 ) -> Result<RunLines, Fault>
     ensures ok { IfOk result (λ lines. PrintsRun Global (string_bytes lines.line)) }
-    ensures lost { IfOk result (λ lines. TellsLost Global is_strict (string_bytes lines.line) (string_bytes lines.lost)
+    ensures lost { IfOk result (λ lines. TellsLost Global flags.is_strict (string_bytes lines.line) (string_bytes lines.lost)
         lines.is_lossy) }
-    ensures err { IfErr result (λ f. IsOfShowing (option_map (λ s. string_bytes s.file) sketch) f
-        ⊎ IsOfTables (option_map string_bytes tables.delays) (option_map string_bytes tables.frames) f) }
+    ensures err { IfErr result (λ f. IsOfShowing (option_map (λ s. string_bytes s.file) job.now.picture.now) f
+        ⊎ IsOfTables (option_map string_bytes job.now.tables.now.delays) (option_map string_bytes job.now.tables.now.frames) f) }
 {
-    let mut taken = taken;
-    if let Err(fault) = put_tables(rt, accepted, outcome, tables, &mut taken, cause) {
+    if let Err(fault) = put_tables(files, accepted, outcome, job.tables) {
         return Err(fault);
     }
-    show(rt, accepted, outcome, sketch, &taken, is_strict, cause)
+    show(files, accepted, outcome, job, flags)
 }
 
-/// What is printed of what a run told, once its picture is made where one is asked for.
+/// Makes the picture of a run that is asked for, and returns the lines of the run.
 fn show<H: AllocGlobal + Files>(
-    rt: &H,
+    files: &mut CommandFiles<'_, H>,
     accepted: &Accepted<Global>,
     outcome: &Outcome<Global>,
-    sketch: Option<PictureRequest>,
-    taken: &[FileId],
-    is_strict: bool,
-    cause: &mut Option<Cause>,
+    job: &RunJob<'_>,
+    flags: Flags,
 ) -> Result<RunLines, Fault>
     ensures ok { IfOk result (λ lines. PrintsRun Global (string_bytes lines.line)) }
-    ensures lost { IfOk result (λ lines. TellsLost Global is_strict (string_bytes lines.line) (string_bytes lines.lost)
+    ensures lost { IfOk result (λ lines. TellsLost Global flags.is_strict (string_bytes lines.line) (string_bytes lines.lost)
         lines.is_lossy) }
-    ensures err { IfErr result (IsOfShowing (option_map (λ s. string_bytes s.file) sketch)) }
+    ensures err { IfErr result (IsOfShowing (option_map (λ s. string_bytes s.file) job.now.picture.now)) }
 {
-    if let Some(sketch) = sketch {
-        if let Err(fault) = put_sketch(rt, accepted, outcome, sketch, taken, cause) {
+    if let Some(request) = job.picture {
+        if let Err(fault) = put_run_picture(files, accepted, outcome, request) {
             return Err(fault);
         }
     }
-    let Ok(line) = summary(rt.alloc(), outcome) else {
-        return Err(Fault::Run(RunFault::NoMemory));
+    let Ok(line) = summary(files.alloc(), outcome) else {
+        return Err(Fault::NoMemory);
     };
-    let Ok(lost) = lost_if(rt.alloc(), outcome, is_strict) else {
-        return Err(Fault::Run(RunFault::NoMemory));
+    let Ok(lost) = lost_if(files.alloc(), outcome, flags.is_strict) else {
+        return Err(Fault::NoMemory);
     };
     let is_lossy = !lost.as_str().is_empty();
+    let last = if flags.is_explained {
+        last_of(outcome)
+    } else {
+        None
+    };
     Ok(RunLines {
         line,
         lost,
         is_lossy,
+        last,
     })
 }
 

@@ -1,15 +1,15 @@
 //! The jobs over one queue, from what is read to what is printed.
 ghost use Rattle.std.specs.Prelude.{◌≡◌, ◌≤◌, ℕ, List, Some, IfOk, IfErr, string_bytes};
-ghost use Rattle.app_failure.specs.Reading.{IsOfStandardFile};
 ghost use Rattle.app_commands.specs.Jobs.{EndsText, EndsWire, IsCountsLine, IsOfRun, PrintsCounts, PrintsText};
 
 use crate::captures::through;
 use crate::counts::wire_line;
 use crate::hexadecimal::wire_text;
-use app_failure::{Fault, ReadFault, read_at_most, standard_file};
+use crate::plan::fault_of_input;
+use app_failure::Fault;
+use app_files::read_at_most;
 use bridge_frame::Speed;
 use bridge_port::LARGEST_ROOM;
-use bridge_wire::RunFault;
 use std::alloc::Global;
 use std::io::{Read, Write};
 
@@ -54,18 +54,8 @@ pub fn wire_job<R: Read + Drop, W: Write + Drop>(
     match through(alloc, speed, room, reader, writer) {
         Ok((count, writer)) => match wire_line(alloc, &count) {
             Ok(line) => Ok((line, writer)),
-            Err(_) => Err(Fault::Run(RunFault::NoMemory)),
+            Err(_) => Err(Fault::NoMemory),
         },
         Err(halted) => Err(Fault::Run(halted.fault)),
-    }
-}
-
-/// The fault of standard input that can't be read.
-fn fault_of_input(alloc: Global, fault: ReadFault) -> Fault
-    ensures { IsOfStandardFile result }
-{
-    match fault {
-        ReadFault::Broken => standard_file(alloc),
-        ReadFault::NoMemory => Fault::Run(RunFault::NoMemory),
     }
 }

@@ -1,6 +1,6 @@
 //! Whether a file describes a network.
-use app_failure::read_text;
-use app_files::is_there;
+
+use app_files::{is_there, read_text};
 use bridge_text::is_network_text;
 use std::fs;
 use std::rt::Files;

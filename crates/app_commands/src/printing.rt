@@ -5,7 +5,7 @@ ghost use Rattle.std.specs.Io.KnownBytes.{Appends};
 ghost use Rattle.app_commands.specs.CommandOutputs.{IsPut, IsStandardFailure};
 
 use crate::output::Output;
-use crate::refusing::report_words;
+use crate::reporting::report_words;
 use app_failure::{NoMemory, standard_file};
 use std::alloc::Global;
 use std::io;

@@ -1,70 +1,35 @@
 //! The command `run`: captures through the bridge of a plan.
-ghost use Rattle.std.specs.Prelude.{◌≡◌, IfErr, IfOk, None, false, string_bytes};
-ghost use Rattle.app_commands.specs.CommandOutputs.{FailsRun, IsOutputOf, IsRunOutput, line_if};
+ghost use Rattle.std.specs.Prelude.{◌≡◌, IfErr, IfOk, string_bytes};
+ghost use Rattle.app_commands.specs.CommandOutputs.{IsOutputOf, IsRunOutput, line_if};
+ghost use Rattle.app_commands.specs.RunJobs.{FailsRun};
 
+use crate::flags::Flags;
 use crate::output::Output;
-use crate::refusal::Refusal;
-use crate::refusing::unexplained;
-use crate::strict::{StrictRun, judge_run_job};
-use crate::wishes::Wishes;
-use app_cli::{PictureRequest, TableRequest};
+use crate::run_job::RunJob;
+use crate::strict::{StrictRun, run_job};
+use crate::texts::Texts;
 use app_failure::{Fault, NoMemory};
-use bridge_capture::RunFault;
+use app_files::CommandFiles;
 use std::alloc::Global;
 use std::rt::Files;
-
-/// A run that the words ask for.
-#[derive(Drop)]
-pub struct RunJob {
-    /// The path of the plan.
-    pub plan: String,
-    /// The folder of the captures that are read.
-    pub input: String,
-    /// The folder of the captures and of the report that are written.
-    pub output: String,
-    /// The path of the commands, if there are any.
-    pub commands: Option<String>,
-    /// The tables that are written beside the report.
-    pub tables: TableRequest,
-    /// The picture that is written beside the report.
-    pub picture: Option<PictureRequest>,
-}
 
 /// Runs captures through the bridge of a plan. The status is 1 if a warning is a fault and the plan has one, and nothing ran then; it
 /// is also 1 if a loss is a fault and a protected filter lost a frame.
 pub fn run_bridge<H: AllocGlobal + Files>(
-    rt: &H,
-    job: RunJob,
-    wishes: Wishes,
-) -> Result<Output, Refusal>
-    ensures ok { IfOk result (IsRunOutput (string_bytes job.input) (string_bytes job.output) wishes.is_strict wishes.is_explained) }
-    ensures fails { IfErr result (λ refusal. FailsRun job refusal.fault) }
-    ensures plain { IfErr result (λ refusal. wishes.is_explained ≡ false → refusal.said ≡ None) }
+    files: &mut CommandFiles<'_, H>,
+    job: &RunJob<'_>,
+    flags: Flags,
+    texts: &mut Texts,
+) -> Result<Output, Fault>
+    ensures ok { IfOk result (IsRunOutput job.now.input.now job.now.output.now flags.is_strict flags.is_explained) }
+    ensures fails { IfErr result (FailsRun job.now) }
 {
-    let RunJob {
-        plan,
-        input,
-        output,
-        commands,
-        tables,
-        picture,
-    } = job;
-    match judge_run_job(
-        rt,
-        plan,
-        input,
-        output,
-        commands,
-        tables,
-        picture,
-        wishes.is_strict,
-        wishes.is_explained,
-    ) {
-        Ok(run) => match output_of(rt.alloc(), run) {
+    match run_job(files, job, flags, texts) {
+        Ok(run) => match output_of(files.alloc(), run) {
             Ok(output) => Ok(output),
-            Err(NoMemory) => Err(unexplained(Fault::Run(RunFault::NoMemory))),
+            Err(NoMemory) => Err(Fault::NoMemory),
         },
-        Err(refusal) => Err(refusal),
+        Err(fault) => Err(fault),
     }
 }
 

@@ -1,19 +1,20 @@
-//! The job of a run over a folder of captures.
+//! A run over a folder of captures.
 ghost use Rattle.std.specs.Prelude.{◌≡◌, IfOk, IfErr, length, option_map, string_bytes};
 ghost use Rattle.bridge_config.specs.Commands.{AreCommands};
 ghost use Rattle.app_files.specs.Folders.{HavePaths};
-ghost use Rattle.app_commands.specs.RunFiles.{EndsReading, EndsSending, IsAcceptedPlan, IsOfOutputs, IsOfReport};
+ghost use Rattle.app_commands.specs.RunFiles.{EndsReading, EndsSending, EndsWithCommands, HasReport, IsAcceptedPlan, IsCheckedPlan, IsOfOutputs, IsOfReport};
 
-use crate::noting::Noted;
+use crate::run_job::RunJob;
 use crate::running::run_over;
-use app_failure::{Cause, Fault, commanded, fault_of_file, plan_from};
+use crate::texts::Texts;
+use app_failure::{Fault, commanded, file_failure, plan_from};
 use app_files::{
-    FileId, Output, add_file, add_files, create_all, file_at, is_one_of, is_same_folder, open_all,
-    output_apart, report_path, take_outputs, take_text, test_folders,
+    Cause, CommandFiles, Output, failed_at, finish_file, is_same_folder, open_captures,
+    report_path, test_folders,
 };
 use bridge_capture::RunFault;
 use bridge_check::Accepted;
-use bridge_config::Command;
+use bridge_config::{Command, Plan};
 use bridge_report::{ReportFault, write_report};
 use bridge_semantics::Outcome;
 use std::alloc::Global;
@@ -21,189 +22,203 @@ use std::fs::OpenFile;
 use std::io::Write;
 use std::rt::Files;
 
-/// What a run under an accepted plan from one folder into another tells, once its report is written. No output is one of the
-/// files that are taken, and each is one of them then. The cause of a file that fails is noted. A folder with an empty path ends
-/// the run before a file of a folder is opened.
+/// A run that is done, and its report.
+#[derive(Drop)]
+pub struct Sent<F: Write + OpenFile + Drop> {
+    /// What the run came to.
+    pub outcome: Outcome<Global>,
+    /// The file of the report, which has been written and ended.
+    pub report: Output<F>,
+}
+
+/// Runs captures under an accepted plan from one folder into another, and writes the report. No output is a file in use, and each is in
+/// use then. A folder with an empty path ends the run before a file of a folder is opened.
 pub fn send<H: AllocGlobal + Files>(
-    rt: &H,
+    files: &mut CommandFiles<'_, H>,
     accepted: &Accepted<Global>,
     orders: &[Command],
     input: &str,
-    output: String,
-    taken: &mut Vec<FileId>,
-    cause: &mut Option<Cause>,
-) -> Result<Outcome<Global>, Fault>
+    output: &str,
+) -> Result<Sent<H::File>, Fault>
     requires commands { AreCommands accepted.now orders.now }
-    ensures named { IfOk result (λ _. HavePaths input.now (string_bytes output)) }
-    ensures err { IfErr result (EndsSending accepted.now input.now (string_bytes output)) }
+    ensures named { IfOk result (λ _. HavePaths input.now output.now) }
+    ensures reported { IfOk result (λ sent. HasReport ⟦<Output<H::File> as Write>⟧.contents sent.outcome sent.report) }
+    ensures err { IfErr result (EndsSending accepted.now input.now output.now) }
 {
-    match test_folders(rt.alloc(), input, output.as_str(), cause) {
-        Ok(()) => send_named(rt, accepted, orders, input, output, taken, cause),
-        Err(fault) => Err(fault),
+    match test_folders(files.alloc(), input, output) {
+        Ok(()) => send_named(files, accepted, orders, input, output),
+        Err(fault) => Err(file_failure(fault)),
     }
 }
 
-/// What a run under an accepted plan between two folders tells that have a path.
+/// Runs captures under an accepted plan between two folders that have a path.
 fn send_named<H: AllocGlobal + Files>(
-    rt: &H,
+    files: &mut CommandFiles<'_, H>,
     accepted: &Accepted<Global>,
     orders: &[Command],
     input: &str,
-    output: String,
-    taken: &mut Vec<FileId>,
-    cause: &mut Option<Cause>,
-) -> Result<Outcome<Global>, Fault>
+    output: &str,
+) -> Result<Sent<H::File>, Fault>
     requires commands { AreCommands accepted.now orders.now }
-    requires named { HavePaths input.now (string_bytes output) }
-    ensures { IfErr result (EndsSending accepted.now input.now (string_bytes output)) }
+    requires named { HavePaths input.now output.now }
+    ensures reported { IfOk result (λ sent. HasReport ⟦<Output<H::File> as Write>⟧.contents sent.outcome sent.report) }
+    ensures err { IfErr result (EndsSending accepted.now input.now output.now) }
 {
-    let Ok(ports) = accepted.plan().port_numbers(rt.alloc()) else {
-        return Err(Fault::Run(RunFault::NoMemory));
+    let Ok(ports) = accepted.plan().port_numbers(files.alloc()) else {
+        return Err(Fault::NoMemory);
     };
-    let readers = match open_all(rt, input, &ports, cause) {
+    let readers = match open_captures(files.rt, input, &ports) {
         Ok(readers) => readers,
-        Err(fault) => return Err(fault),
+        Err(fault) => return Err(file_failure(fault)),
     };
-    if is_same_folder(rt, input, output.as_str()) {
-        *cause = Some(Cause::SameFolder);
-        return Err(Fault::File(output));
+    if is_same_folder(files.rt, input, output) {
+        drop(readers);
+        return Err(file_failure(failed_at(files.alloc(), output, Cause::SameFolder)));
     }
-    let writers = match outputs_of(rt, output.as_str(), &ports, &readers, taken, cause) {
+    let writers = match outputs_of(files, output, &ports, &readers) {
         Ok(writers) => writers,
-        Err(fault) => return Err(fault),
+        Err(fault) => {
+            drop(readers);
+            return Err(fault);
+        }
     };
-    let outcome = match run_over(rt.alloc(), accepted, orders, readers, writers) {
+    let outcome = match run_over(files.alloc(), accepted, orders, readers, writers) {
         Ok((outcome, _)) => outcome,
         Err(halted) => return Err(Fault::Run(halted.fault)),
     };
-    if let Err(fault) = put_report(rt, &outcome, output.as_str(), taken, cause) {
-        drop(outcome);
-        return Err(fault);
+    match put_report(files, &outcome, output) {
+        Ok(report) => Ok(Sent { outcome, report }),
+        Err(fault) => {
+            drop(outcome);
+            Err(fault)
+        }
     }
-    Ok(outcome)
 }
 
-/// Opens the captures of ports in a folder to be written anew. None of them, nor the report of the folder, is one of the
-/// files that are read or taken, and no two of them are one file; they and those that are read are taken then.
+/// Opens the captures of ports in a folder for writing. None of them, nor the report of the folder, is a file that is read or in use,
+/// and no two of them are one file. They and the files that are read are in use then.
 fn outputs_of<H: AllocGlobal + Files>(
-    rt: &H,
+    files: &mut CommandFiles<'_, H>,
     folder: &str,
     ports: &[u8],
     readers: &[H::File],
-    taken: &mut Vec<FileId>,
-    cause: &mut Option<Cause>,
 ) -> Result<Vec<Output<H::File>>, Fault>
     ensures all { IfOk result (λ outputs. length outputs.items ≡ length ports.now) }
     ensures only { IfErr result (IsOfOutputs folder.now ports.now) }
 {
-    if add_files(taken, readers).is_err() {
-        return Err(Fault::Run(RunFault::NoMemory));
+    if files.note_files(readers).is_err() {
+        return Err(Fault::NoMemory);
     }
-    let outputs = match create_all(rt, folder, ports, taken, cause) {
+    let outputs = match files.create_captures(folder, ports) {
         Ok(outputs) => outputs,
-        Err(fault) => return Err(fault),
+        Err(fault) => return Err(file_failure(fault)),
     };
-    if let Err(fault) = take_outputs(rt, folder, ports, taken, cause) {
-        return Err(fault);
+    if let Err(fault) = files.note_captures(folder, ports) {
+        drop(outputs);
+        return Err(file_failure(fault));
     }
-    if let Err(fault) = spare_report(rt, folder, taken, cause) {
+    if let Err(fault) = spare_report(files, folder) {
+        drop(outputs);
         return Err(fault);
     }
     Ok(outputs)
 }
 
-/// `File` of the report of a folder where it is one of the files that are taken.
+/// Refuses a folder whose report is a file in use.
 fn spare_report<H: AllocGlobal + Files>(
-    rt: &H,
+    files: &CommandFiles<'_, H>,
     folder: &str,
-    taken: &[FileId],
-    cause: &mut Option<Cause>,
 ) -> Result<(), Fault>
     ensures { IfErr result (IsOfReport folder.now) }
 {
-    let Ok(path) = report_path(rt.alloc(), folder) else {
-        return Err(Fault::Run(RunFault::NoMemory));
+    let Ok(path) = report_path(files.alloc(), folder) else {
+        return Err(Fault::NoMemory);
     };
-    if is_one_of(taken, file_at(rt, path.as_str())) {
-        *cause = Some(Cause::Taken);
-        return Err(Fault::File(path));
+    if files.is_in_use(path.as_str()) {
+        return Err(file_failure(failed_at(files.alloc(), path.as_str(), Cause::InUse)));
     }
     Ok(())
 }
 
-/// The plan of a file, where it is accepted, with the commands of another file, if there is one. Both files are added to
-/// those that are taken, their texts are noted, and the cause of one that can't be read.
+/// Reads the plan of a run and its commands, if the plan is accepted. Both files are in use then, and their texts are kept.
 pub fn read_job<H: AllocGlobal + Files>(
-    rt: &H,
-    plan: String,
-    commands: Option<String>,
-    taken: &mut Vec<FileId>,
-    noted: &mut Noted,
+    files: &mut CommandFiles<'_, H>,
+    job: &RunJob<'_>,
+    texts: &mut Texts,
 ) -> Result<(Accepted<Global>, Vec<Command>), Fault>
     ensures accepted { IfOk result (λ read. IsAcceptedPlan read.0) }
     ensures commands { IfOk result (λ read. AreCommands read.0 read.1.items) }
-    ensures err { IfErr result (EndsReading Global (string_bytes plan) (option_map string_bytes commands)) }
+    ensures err { IfErr result (EndsReading Global job.now.plan.now (option_map string_bytes job.now.commands.now)) }
 {
-    let alloc = rt.alloc();
-    let text = match take_text(rt, plan.as_str(), taken, &mut noted.cause) {
+    let alloc = files.alloc();
+    let text = match files.read_text(job.plan) {
         Ok(text) => text,
-        Err(fault) => return Err(fault_of_file(plan, fault)),
+        Err(fault) => return Err(file_failure(fault)),
     };
-    noted.plan = text;
-    let read = match plan_from(alloc, alloc, plan, noted.plan.as_slice()) {
+    texts.plan = text;
+    let read = match plan_from(alloc, alloc, job.plan, texts.plan.as_slice()) {
         Ok(read) => read,
         Err(fault) => return Err(fault),
     };
-    let path = match commands {
-        None => None,
-        Some(path) => match take_text(rt, path.as_str(), taken, &mut noted.cause) {
-            Ok(text) => {
-                noted.commands = text;
-                Some(path)
-            }
-            Err(fault) => return Err(fault_of_file(path, fault)),
-        },
-    };
-    let file = with_text(path, noted.commands.as_slice());
-    commanded(alloc, alloc, read, file)
+    read_commands(files, read, job.commands, texts)
 }
 
-/// The path of a file, if there is one, with its text.
-fn with_text<'t>(path: Option<String>, text: &'t [u8]) -> Option<(String, &'t [u8])>
-    ensures { option_map (λ f. string_bytes f.0) result ≡ option_map string_bytes path }
+/// Reads the commands to a plan from the file at a path, if there is one, and checks the plan.
+fn read_commands<H: AllocGlobal + Files>(
+    files: &mut CommandFiles<'_, H>,
+    plan: Plan<Global>,
+    path: &Option<String>,
+    texts: &mut Texts,
+) -> Result<(Accepted<Global>, Vec<Command>), Fault>
+    ensures accepted { IfOk result (λ read. IsCheckedPlan plan read.0) }
+    ensures commands { IfOk result (λ read. AreCommands read.0 read.1.items) }
+    ensures err { IfErr result (EndsWithCommands plan (option_map string_bytes path.now)) }
 {
-    match path {
-        None => None,
-        Some(path) => Some((path, text)),
-    }
+    let alloc = files.alloc();
+    let Some(path) = path else {
+        return commanded(alloc, alloc, plan, None::<(String, &[u8])>);
+    };
+    let text = match files.read_text(path.as_str()) {
+        Ok(text) => text,
+        Err(fault) => {
+            drop(plan);
+            return Err(file_failure(fault));
+        }
+    };
+    texts.commands = text;
+    let Ok(copy) = String::from_str(alloc, path.as_str()) else {
+        drop(plan);
+        return Err(Fault::NoMemory);
+    };
+    commanded(alloc, alloc, plan, Some((copy, texts.commands.as_slice())))
 }
 
-/// Makes the report in a folder, and adds its file to those that are taken.
+/// Writes the report of a run into a folder, and returns its file, which is in use then.
 fn put_report<H: AllocGlobal + Files>(
-    rt: &H,
+    files: &mut CommandFiles<'_, H>,
     outcome: &Outcome<Global>,
     folder: &str,
-    taken: &mut Vec<FileId>,
-    cause: &mut Option<Cause>,
-) -> Result<(), Fault>
-    ensures { IfErr result (IsOfReport folder.now) }
+) -> Result<Output<H::File>, Fault>
+    ensures reported { IfOk result (HasReport ⟦<Output<H::File> as Write>⟧.contents outcome.now) }
+    ensures fails { IfErr result (IsOfReport folder.now) }
 {
-    let Ok(path) = report_path(rt.alloc(), folder) else {
-        return Err(Fault::Run(RunFault::NoMemory));
+    let alloc = files.alloc();
+    let Ok(path) = report_path(alloc, folder) else {
+        return Err(Fault::NoMemory);
     };
-    let Some(output) = output_apart(rt, path.as_str(), &[], cause) else {
-        return Err(Fault::File(path));
+    let output = match files.create_new(path.as_str()) {
+        Ok(output) => output,
+        Err(fault) => return Err(file_failure(fault)),
     };
-    if add_file(taken, output.id()).is_err() {
-        return Err(Fault::Run(RunFault::NoMemory));
-    }
-    *cause = Some(Cause::NotWritable);
-    match write_report(rt.alloc(), outcome, output) {
-        Ok(output) => match output.finish() {
-            Ok(()) => Ok(()),
-            Err(_) => Err(Fault::File(path)),
-        },
-        Err(ReportFault::Broken) => Err(Fault::File(path)),
-        Err(ReportFault::NoMemory) => Err(Fault::Run(RunFault::NoMemory)),
+    let output = match write_report(alloc, outcome, output) {
+        Ok(output) => output,
+        Err(ReportFault::Broken) => {
+            return Err(file_failure(failed_at(alloc, path.as_str(), Cause::NotWritable)));
+        }
+        Err(ReportFault::NoMemory) => return Err(Fault::NoMemory),
+    };
+    match finish_file(alloc, path.as_str(), output) {
+        Ok(output) => Ok(output),
+        Err(fault) => Err(file_failure(fault)),
     }
 }

@@ -2,133 +2,109 @@
 ghost use Rattle.std.specs.Prelude.{◌⊎◌, IfErr, Some, option_map, string_bytes};
 ghost use Rattle.app_commands.specs.ShownFiles.{IsOfShowing, IsOfTable, IsOfTables};
 
-use app_cli::{PictureRequest, TableRequest};
-use app_failure::{Cause, Fault, NoMemory};
-use app_files::{FileId, add_file, capture_path, is_one_of, regular_at, report_path};
-use bridge_capture::RunFault;
+use crate::run_job::RunJob;
+use app_cli::PictureRequest;
+use app_failure::{Fault, NoMemory, file_failure};
+use app_files::{CommandFiles, capture_path, report_path};
 use bridge_check::Accepted;
 use std::alloc::Global;
 use std::rt::Files;
 
-/// Adds the captures of a folder at ports of a plan to some files, where they are there.
-fn add_captures<H: AllocGlobal + Files>(
-    rt: &H,
+/// Notes that the captures of a folder at the ports of a plan are in use, if they exist.
+fn note_captures<H: AllocGlobal + Files>(
+    files: &mut CommandFiles<'_, H>,
     accepted: &Accepted<Global>,
     folder: &str,
-    files: &mut Vec<FileId>,
 ) -> Result<(), NoMemory> {
     for port in accepted.plan().ports() {
-        let path = capture_path(rt.alloc(), folder, port.number)?;
-        add_file(files, regular_at(rt, path.as_str()))?;
+        let path = capture_path(files.alloc(), folder, port.number)?;
+        files.note_regular(path.as_str())?;
     }
     Ok(())
 }
 
-/// The files that are taken, and the captures that a run reads and writes and its report, where they are there already.
-fn files_of_run<H: AllocGlobal + Files>(
-    rt: &H,
+/// Returns the files in use, together with the captures that a run reads and writes and its report, if they exist.
+fn files_of_run<'a, H: AllocGlobal + Files>(
+    files: &CommandFiles<'a, H>,
     accepted: &Accepted<Global>,
-    input: &str,
-    output: &str,
-    taken: &[FileId],
-) -> Result<Vec<FileId>, NoMemory> {
-    let mut files = Vec::from_slice(rt.alloc(), taken)?;
-    add_captures(rt, accepted, input, &mut files)?;
-    add_captures(rt, accepted, output, &mut files)?;
-    let report = report_path(rt.alloc(), output)?;
-    add_file(&mut files, regular_at(rt, report.as_str()))?;
-    Ok(files)
+    job: &RunJob<'_>,
+) -> Result<CommandFiles<'a, H>, NoMemory> {
+    let mut all = files.copy()?;
+    note_captures(&mut all, accepted, job.input)?;
+    note_captures(&mut all, accepted, job.output)?;
+    let report = report_path(files.alloc(), job.output)?;
+    all.note_regular(report.as_str())?;
+    Ok(all)
 }
 
-/// `File` of a path that leads to one of some files.
-fn spare<H: AllocGlobal + Files>(
-    rt: &H,
-    path: &str,
-    files: &[FileId],
-    cause: &mut Option<Cause>,
-) -> Result<(), Fault>
+/// Refuses the path of an output that leads to one of these files.
+fn spare<H: AllocGlobal + Files>(files: &CommandFiles<'_, H>, path: &str) -> Result<(), Fault>
     ensures { IfErr result (IsOfTable (Some path.now)) }
 {
-    if !is_one_of(files, regular_at(rt, path)) {
-        return Ok(());
-    }
-    *cause = Some(Cause::Taken);
-    match String::from_str(rt.alloc(), path) {
-        Ok(path) => Err(Fault::File(path)),
-        Err(_) => Err(Fault::Run(RunFault::NoMemory)),
+    match files.spare(path) {
+        Ok(()) => Ok(()),
+        Err(fault) => Err(file_failure(fault)),
     }
 }
 
-/// `File` of a table that is asked for and would be one of some files.
+/// Refuses a table that is asked for and would be one of these files.
 fn spare_table<H: AllocGlobal + Files>(
-    rt: &H,
+    files: &CommandFiles<'_, H>,
     path: &Option<String>,
-    files: &[FileId],
-    cause: &mut Option<Cause>,
 ) -> Result<(), Fault>
     ensures { IfErr result (IsOfTable (option_map string_bytes path.now)) }
 {
     match path {
-        Some(path) => spare(rt, path.as_str(), files, cause),
+        Some(path) => spare(files, path.as_str()),
         None => Ok(()),
     }
 }
 
-/// `File` of a picture that is asked for and would be one of some files.
+/// Refuses a picture that is asked for and would be one of these files.
 fn spare_picture<H: AllocGlobal + Files>(
-    rt: &H,
-    sketch: &Option<PictureRequest>,
-    files: &[FileId],
-    cause: &mut Option<Cause>,
+    files: &CommandFiles<'_, H>,
+    picture: &Option<PictureRequest>,
 ) -> Result<(), Fault>
-    ensures { IfErr result (IsOfShowing (option_map (λ s. string_bytes s.file) sketch.now)) }
+    ensures { IfErr result (IsOfShowing (option_map (λ s. string_bytes s.file) picture.now)) }
 {
-    match sketch {
-        Some(sketch) => spare(rt, sketch.file.as_str(), files, cause),
+    match picture {
+        Some(picture) => spare(files, picture.file.as_str()),
         None => Ok(()),
     }
 }
 
-/// `File` of the first table, or else of the picture, that is asked for beside a run and would be one of some files.
+/// Refuses the first table, or else the picture, that is asked for beside a run and would be one of these files.
 fn spare_each<H: AllocGlobal + Files>(
-    rt: &H,
-    tables: &TableRequest,
-    sketch: &Option<PictureRequest>,
-    files: &[FileId],
-    cause: &mut Option<Cause>,
+    files: &CommandFiles<'_, H>,
+    job: &RunJob<'_>,
 ) -> Result<(), Fault>
-    ensures { IfErr result (λ f. IsOfShowing (option_map (λ s. string_bytes s.file) sketch.now) f
-        ⊎ IsOfTables (option_map string_bytes tables.now.delays) (option_map string_bytes tables.now.frames) f) }
+    ensures { IfErr result (λ f. IsOfShowing (option_map (λ s. string_bytes s.file) job.now.picture.now) f
+        ⊎ IsOfTables (option_map string_bytes job.now.tables.now.delays) (option_map string_bytes job.now.tables.now.frames) f) }
 {
-    if let Err(fault) = spare_table(rt, &tables.delays, files, cause) {
+    if let Err(fault) = spare_table(files, &job.tables.delays) {
         return Err(fault);
     }
-    if let Err(fault) = spare_table(rt, &tables.frames, files, cause) {
+    if let Err(fault) = spare_table(files, &job.tables.frames) {
         return Err(fault);
     }
-    spare_picture(rt, sketch, files, cause)
+    spare_picture(files, job.picture)
 }
 
-/// `File` of the first table, or else of the picture, that is asked for beside a run from one folder into another and would be
-/// one of its files or of those taken, as far as these are there already.
+/// Refuses the first table, or else the picture, that is asked for beside a run and would be a file in use or a file of the run, as far
+/// as these exist.
 pub(crate) fn spare_files<H: AllocGlobal + Files>(
-    rt: &H,
+    files: &CommandFiles<'_, H>,
     accepted: &Accepted<Global>,
-    input: &str,
-    output: &str,
-    tables: &TableRequest,
-    sketch: &Option<PictureRequest>,
-    taken: &[FileId],
-    cause: &mut Option<Cause>,
+    job: &RunJob<'_>,
 ) -> Result<(), Fault>
-    ensures { IfErr result (λ f. IsOfShowing (option_map (λ s. string_bytes s.file) sketch.now) f
-        ⊎ IsOfTables (option_map string_bytes tables.now.delays) (option_map string_bytes tables.now.frames) f) }
+    ensures { IfErr result (λ f. IsOfShowing (option_map (λ s. string_bytes s.file) job.now.picture.now) f
+        ⊎ IsOfTables (option_map string_bytes job.now.tables.now.delays) (option_map string_bytes job.now.tables.now.frames) f) }
 {
-    if tables.delays.is_none() && tables.frames.is_none() && sketch.is_none() {
+    if job.tables.delays.is_none() && job.tables.frames.is_none() && job.picture.is_none() {
         return Ok(());
     }
-    let Ok(files) = files_of_run(rt, accepted, input, output, taken) else {
-        return Err(Fault::Run(RunFault::NoMemory));
+    let Ok(files) = files_of_run(files, accepted, job) else {
+        return Err(Fault::NoMemory);
     };
-    spare_each(rt, tables, sketch, &files, cause)
+    spare_each(&files, job)
 }

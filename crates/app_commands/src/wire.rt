@@ -1,12 +1,11 @@
 //! The command `wire`: one capture through one queue.
-ghost use Rattle.std.specs.Prelude.{◌≡◌, ◌≤◌, ℕ, IfErr, IfOk, List, None, false, string_bytes};
+ghost use Rattle.std.specs.Prelude.{◌≤◌, ℕ, IfErr, IfOk, List};
 ghost use Rattle.app_commands.specs.WireFiles.{EndsWiring, SaysCounts};
 ghost use Rattle.app_commands.specs.CommandOutputs.{IsWireOutput};
 
+use crate::files::wire_between;
 use crate::output::{Output, print_text};
-use crate::refusal::Refusal;
-use crate::wiring::told_wire_job;
-use crate::wishes::Wishes;
+use app_failure::Fault;
 use app_files::Said;
 use bridge_frame::Speed;
 use bridge_port::LARGEST_ROOM;
@@ -19,18 +18,16 @@ pub fn send_capture<H: Input + AllocGlobal + Print + Files>(
     rt: &H,
     speed: Speed,
     room: u16,
-    input: String,
-    output: String,
-    wishes: Wishes,
-) -> Result<Output, Refusal>
+    input: &str,
+    output: &str,
+) -> Result<Output, Fault>
     requires room { (1 ≤ room) × (room ≤ LARGEST_ROOM) }
-    ensures ok { IfOk result (IsWireOutput (string_bytes output)) }
-    ensures fails { IfErr result (λ refusal. EndsWiring (string_bytes input) (string_bytes output) refusal.fault) }
-    ensures plain { IfErr result (λ refusal. wishes.is_explained ≡ false → refusal.said ≡ None) }
+    ensures ok { IfOk result (IsWireOutput output.now) }
+    ensures fails { IfErr result (EndsWiring input.now output.now) }
 {
-    match told_wire_job(rt, speed, room, input, output, wishes.is_explained) {
+    match wire_between(rt, speed, room, input, output) {
         Ok(said) => Ok(output_of(rt.alloc(), said)),
-        Err(refusal) => Err(refusal),
+        Err(fault) => Err(fault),
     }
 }
 

@@ -36,7 +36,8 @@ file_ends p path input f h = h
 pub commands_end : {A : Type 0} (p : Plan A) (path input : List ℕ) (f : Fault) → EndsCommands p path input f → EndsCommanded p (Some path) (Some input) f
 commands_end p path input (fault.Commands f) h = (some_is_none path, h)
 commands_end p path input (fault.File q) h = ap Some (sym h)
-commands_end p path input (fault.Run f) h = (some_is_none path, h)
+commands_end p path input fault.NoMemory h = some_is_none path
+commands_end p path input (fault.Run f) h = absurd h
 commands_end p path input (fault.Text f) h = absurd h
 commands_end p path input (fault.Plan f) h = absurd h
 commands_end p path input (fault.Check f) h = absurd h

@@ -5,7 +5,6 @@ use Rattle.bridge_schema.specs.Readers.{Fails}
 use Rattle.bridge_config.specs.declared.command.Command.{Command}
 use Rattle.bridge_config.specs.Document.{commands_of_text}
 use Rattle.bridge_config.specs.Model.{Plan}
-use Rattle.bridge_capture.specs.declared.run_fault.RunFault.TheVariants as run
 use Rattle.app_failure.specs.declared.fault.Fault.{Fault}
 use Rattle.app_failure.specs.declared.fault.Fault.TheVariants as fault
 use Rattle.app_failure.specs.Jobs.{RefusesCheck}
@@ -33,6 +32,6 @@ EndsCommands plan path input f = IsOfFile path f
 abbrev pub EndsCommanded : {A : Type 0} → Plan A → Option (List ℕ) → Option (List ℕ) → Fault → Type 0
 EndsCommanded plan path text (fault.Commands f) = (path ≢ None) × Fails f (commands_for plan text)
 EndsCommanded plan path text (fault.Check f) = ((commands : List Command) × (commands_for plan text ≡ Ok commands)) × RefusesCheck plan (fault.Check f)
-EndsCommanded plan path text (fault.File p) = path ≡ Some (string_bytes p)
-EndsCommanded plan path text (fault.Run f) = (path ≢ None) × (f ≡ run.NoMemory)
+EndsCommanded plan path text (fault.File e) = path ≡ Some (string_bytes e.path)
+EndsCommanded plan path text fault.NoMemory = path ≢ None
 EndsCommanded plan path text f = ⊥

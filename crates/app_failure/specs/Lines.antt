@@ -4,6 +4,7 @@ use Rattle.bridge_capture.specs.declared.fault.CaptureFault.{CaptureFault}
 use Rattle.bridge_capture.specs.declared.fault.CaptureFault.TheVariants as capture
 use Rattle.bridge_capture.specs.declared.run_fault.RunFault.{RunFault}
 use Rattle.bridge_capture.specs.declared.run_fault.RunFault.TheVariants as run
+use Rattle.bridge_text.specs.Escaped.{escaped}
 use Rattle.app_failure.specs.declared.fault.TextFault.{TextFault}
 use Rattle.app_failure.specs.declared.fault.TextFault.TheVariants as text
 use Rattle.app_failure.specs.declared.fault.Fault.{Fault}
@@ -56,9 +57,9 @@ line_of_text text.NotHex = codes "text refused: NotHex"
 line_of_text text.TooLong = codes "text refused: TooLong"
 line_of_text (text.Run f) = line_of_run f
 
--- a file that can't be opened, made, read or written
+-- A file that can't be opened, made, read or written. Control characters of its path are escaped, so the line is one line.
 abbrev pub not_there : List ℕ → List ℕ
-not_there path = codes "file " ++ path
+not_there path = codes "file " ++ escaped path
 
 -- the line of a fault
 abbrev pub line_of : Fault → List ℕ
@@ -70,4 +71,5 @@ line_of (fault.Commands f) = line_of_commands f
 line_of (fault.Network line) = string_bytes line
 line_of (fault.Rounds line) = string_bytes line
 line_of fault.Words = codes "command line refused"
-line_of (fault.File path) = not_there (string_bytes path)
+line_of fault.NoMemory = codes "no memory"
+line_of (fault.File e) = not_there (string_bytes e.path)

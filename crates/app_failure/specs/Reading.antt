@@ -1,30 +1,33 @@
--- What an error of a reader is, and which fault of the program.
-use Rattle.std.specs.Prelude.{◌≡◌, ◌⊎◌, ℕ, List, codes, string_bytes}
-use Rattle.std.specs.declared.io.ErrorKind.{ErrorKind}
-use Rattle.std.specs.declared.io.ErrorKind.TheVariants as kind
-use Rattle.bridge_capture.specs.declared.run_fault.RunFault.TheVariants as run
+-- The faults of files.
+use Rattle.std.specs.Prelude.{◌≡◌, ◌⊎◌, ℕ, List, [], codes, string_bytes}
+use Rattle.app_files.specs.FailedFiles.{IsCapture}
 use Rattle.app_failure.specs.declared.fault.Fault.{Fault}
 use Rattle.app_failure.specs.declared.fault.Fault.TheVariants as fault
-use Rattle.app_failure.specs.declared.reading.ReadFault.{ReadFault}
-use Rattle.app_failure.specs.declared.reading.ReadFault.TheVariants.{Broken, NoMemory}
 
--- want of memory, else a reader that failed
-abbrev pub read_fault_of : ErrorKind → ReadFault
-read_fault_of kind.OutOfMemory = NoMemory
-read_fault_of _ = Broken
-
--- words were refused, or memory for them
-abbrev pub IsOfWords : Fault → Type 0
-IsOfWords f = (f ≡ fault.Words) ⊎ (f ≡ fault.Run run.NoMemory)
-
--- standard input or output failed, or memory was refused
-abbrev pub IsOfStandardFile : Fault → Type 0
-IsOfStandardFile (fault.File path) = string_bytes path ≡ codes "-"
-IsOfStandardFile (fault.Run f) = f ≡ run.NoMemory
-IsOfStandardFile f = ⊥
-
--- the file of this path failed, or memory was refused
+-- the file of this path failed, or memory ran out
 abbrev pub IsOfFile : List ℕ → Fault → Type 0
-IsOfFile path (fault.File p) = string_bytes p ≡ path
-IsOfFile path (fault.Run f) = f ≡ run.NoMemory
+IsOfFile path (fault.File e) = string_bytes e.path ≡ path
+IsOfFile path fault.NoMemory = Unit {0}
 IsOfFile path f = ⊥
+
+-- standard input or output failed, or memory ran out
+abbrev pub IsOfStandardFile : Fault → Type 0
+IsOfStandardFile f = IsOfFile (codes "-") f
+
+-- the capture of one of these ports in a folder failed, or memory ran out
+abbrev pub FailsCaptures : List ℕ → List ℕ → Fault → Type 0
+FailsCaptures folder ports (fault.File e) = IsCapture folder ports (string_bytes e.path)
+FailsCaptures folder ports fault.NoMemory = Unit {0}
+FailsCaptures folder ports f = ⊥
+
+-- one of two folders has an empty path, and the file of the empty path failed, or memory ran out
+abbrev pub LacksPath : List ℕ → List ℕ → Fault → Type 0
+LacksPath input output (fault.File e) = ((input ≡ []) ⊎ (output ≡ [])) × (string_bytes e.path ≡ [])
+LacksPath input output fault.NoMemory = Unit {0}
+LacksPath input output f = ⊥
+
+-- some file failed, or memory ran out
+abbrev pub EndsFiles : Fault → Type 0
+EndsFiles (fault.File e) = Unit {0}
+EndsFiles fault.NoMemory = Unit {0}
+EndsFiles f = ⊥

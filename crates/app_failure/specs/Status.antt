@@ -60,4 +60,5 @@ status_of (fault.Commands f) = status_of_plan f
 status_of (fault.Network line) = 1
 status_of (fault.Rounds line) = 2
 status_of fault.Words = 4
-status_of (fault.File path) = 3
+status_of fault.NoMemory = 3
+status_of (fault.File e) = 3

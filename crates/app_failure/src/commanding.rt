@@ -8,7 +8,7 @@ ghost use Rattle.app_failure.specs.Commanding.{EndsCommanded, EndsCommands, Tell
 use crate::accepting::checked;
 use crate::fault::Fault;
 use crate::jobs::fault_of_file;
-use crate::reading::read_text;
+use app_files::read_text;
 use bridge_check::Accepted;
 use bridge_config::{Command, Plan, commands_of};
 use std::alloc::{Allocator, Global};
@@ -65,7 +65,7 @@ fn commands_in<R: Read + Drop, A: Allocator + Copy>(
 {
     match file {
         None => Ok(Vec::new(alloc)),
-        Some((path, reader)) => commands_from(alloc, heap, plan, path, reader),
+        Some((path, reader)) => commands_from(alloc, heap, plan, path.as_str(), reader),
     }
 }
 
@@ -74,7 +74,7 @@ fn commands_from<R: Read + Drop, A: Allocator + Copy>(
     alloc: A,
     heap: Global,
     plan: &Plan<A>,
-    path: String,
+    path: &str,
     reader: R,
 ) -> Result<Vec<Command, A>, Fault>
     ensures commands { IfOk result (λ v. AreCommands plan.now v.items) }
@@ -82,14 +82,14 @@ fn commands_from<R: Read + Drop, A: Allocator + Copy>(
     ensures ok { (input : List ℕ) → R.remaining reader ≡ Some input
         → IfOk result (λ v. commands_of_text plan.now input ≡ Ok v.items) }
     ensures err { (input : List ℕ) → R.remaining reader ≡ Some input
-        → IfErr result (EndsCommands plan.now (string_bytes path) input) }
-    ensures only { IfErr result (λ fault. (input : List ℕ) × EndsCommands plan.now (string_bytes path) input fault) }
+        → IfErr result (EndsCommands plan.now path.now input) }
+    ensures only { IfErr result (λ fault. (input : List ℕ) × EndsCommands plan.now path.now input fault) }
 {
     match read_text(alloc, reader) {
         Ok(text) => match commands_of(alloc, heap, &text, plan) {
             Ok(commands) => Ok(commands),
             Err(fault) => Err(Fault::Commands(fault)),
         },
-        Err(fault) => Err(fault_of_file(path, fault)),
+        Err(fault) => Err(fault_of_file(heap, path, fault)),
     }
 }

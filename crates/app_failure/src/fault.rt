@@ -1,10 +1,12 @@
 //! Why the program stops.
 ghost use Rattle.std.specs.Prelude.{◌≡◌};
-ghost use Rattle.bridge_capture.specs.declared.run_fault.RunFault.TheVariants.{NoMemory as no_memory};
-ghost use Rattle.app_failure.specs.declared.fault.Fault.TheVariants.{Run as run};
+ghost use Rattle.app_failure.specs.Faults.{of_file_fault};
+ghost use Rattle.app_failure.specs.declared.fault.Fault.TheVariants.{NoMemory as no_memory};
 
+use app_files::{FileError, FileFault};
 use bridge_capture::RunFault;
 use bridge_check::CheckFault;
+use bridge_limits::NoMemory;
 use bridge_schema::PlanFault;
 use std::alloc::AllocError;
 use thiserror::Error;
@@ -38,32 +40,54 @@ impl TextFault {
     }
 }
 
-/// Why the program stops. Standard input or output that fails is a file of the path `-`.
+/// Why the program stops.
 #[derive(Debug, Drop)]
 pub enum Fault {
-    Text(TextFault),
-    Run(RunFault),
-    /// A plan that is refused.
-    Plan(PlanFault),
-    /// A plan that doesn't isolate a protected filter.
-    Check(CheckFault),
-    /// Commands that are refused, or want of memory for them.
-    Commands(PlanFault),
-    /// A network of bridges that is refused, or traffic, by the line that says so; who reads and tests them writes it.
-    Network(String),
-    /// A run of a network that a capture stopped, or that doesn't settle, by the line that says so; who runs networks
-    /// writes it.
-    Rounds(String),
-    /// The words of the command line.
+    /// The arguments of the command line are refused.
     Words,
-    /// A file that can't be opened, made, read or written, by its path as given.
-    File(String),
+    /// Memory ran out.
+    NoMemory,
+    /// A file can't be opened, made, read or written. Standard input and output are the file `-`.
+    File(FileError),
+    /// The hexadecimal text of standard input is refused, or its run stopped.
+    Text(TextFault),
+    /// A run stopped: at a capture that is refused, or at a device.
+    Run(RunFault),
+    /// A plan is refused.
+    Plan(PlanFault),
+    /// A plan doesn't isolate a protected filter.
+    Check(CheckFault),
+    /// Commands are refused.
+    Commands(PlanFault),
+    /// A network of bridges or its traffic is refused. The text is the line of the fault, by whoever reads and tests them.
+    Network(String),
+    /// A run of a network stopped at a capture, or doesn't settle. The text is the line of the fault, by whoever runs networks.
+    Rounds(String),
 }
 
 impl From<AllocError> for Fault {
-    ghost from_gives = { λ _ e. e ≡ run no_memory };
+    ghost from_gives = { λ _ fault. fault ≡ no_memory };
 
     fn from(_: AllocError) -> Fault {
-        Fault::Run(RunFault::NoMemory)
+        Fault::NoMemory
+    }
+}
+
+impl From<NoMemory> for Fault {
+    ghost from_gives = { λ _ fault. fault ≡ no_memory };
+
+    fn from(_: NoMemory) -> Fault {
+        Fault::NoMemory
+    }
+}
+
+impl From<FileFault> for Fault {
+    ghost from_gives = { λ file fault. fault ≡ of_file_fault file };
+
+    fn from(fault: FileFault) -> Fault {
+        match fault {
+            FileFault::File(error) => Fault::File(error),
+            FileFault::NoMemory => Fault::NoMemory,
+        }
     }
 }

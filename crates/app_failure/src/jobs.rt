@@ -6,8 +6,7 @@ ghost use Rattle.app_failure.specs.Reading.{IsOfFile, IsOfStandardFile};
 
 use crate::accepting::{check_line, checked};
 use crate::fault::Fault;
-use crate::reading::{ReadFault, read_text};
-use bridge_capture::RunFault;
+use app_files::{Cause, FileError, ReadFault, read_text};
 use bridge_check::Accepted;
 use bridge_config::{Plan, plan_of};
 use std::alloc::{Allocator, Global};
@@ -19,12 +18,12 @@ use std::io::Read;
 pub fn planned<R: Read + Drop, A: Allocator + Copy>(
     alloc: A,
     heap: Global,
-    path: String,
+    path: &str,
     reader: R,
 ) -> Result<Accepted<A>, Fault>
     ensures ok { (input : List ℕ) → R.remaining reader ≡ Some input → IfOk result (λ accepted. Accepts input accepted) }
     ensures err { (input : List ℕ) → R.remaining reader ≡ Some input
-        → IfErr result (EndsCheck A (string_bytes path) input) }
+        → IfErr result (EndsCheck A path.now input) }
 {
     let plan = match plan_from(alloc, heap, path, reader) {
         Ok(plan) => plan,
@@ -40,22 +39,22 @@ pub fn planned<R: Read + Drop, A: Allocator + Copy>(
 pub fn plan_from<R: Read + Drop, A: Allocator + Copy>(
     alloc: A,
     heap: Global,
-    path: String,
+    path: &str,
     reader: R,
 ) -> Result<Plan<A>, Fault>
     ensures ok { (input : List ℕ) → R.remaining reader ≡ Some input
         → IfOk result (λ plan. plan_of_text input ≡ Ok plan) }
     ensures err { (input : List ℕ) → R.remaining reader ≡ Some input
-        → IfErr result (EndsPlan A (string_bytes path) input) }
+        → IfErr result (EndsPlan A path.now input) }
     ensures read { IfOk result (λ plan. (input : List ℕ) × (plan_of_text input ≡ Ok plan)) }
-    ensures only { IfErr result (λ fault. (input : List ℕ) × EndsPlan A (string_bytes path) input fault) }
+    ensures only { IfErr result (λ fault. (input : List ℕ) × EndsPlan A path.now input fault) }
 {
     match read_text(alloc, reader) {
         Ok(text) => match plan_of(alloc, heap, &text) {
             Ok(plan) => Ok(plan),
             Err(fault) => Err(Fault::Plan(fault)),
         },
-        Err(fault) => Err(fault_of_file(path, fault)),
+        Err(fault) => Err(fault_of_file(heap, path, fault)),
     }
 }
 
@@ -63,13 +62,13 @@ pub fn plan_from<R: Read + Drop, A: Allocator + Copy>(
 pub fn check_job<R: Read + Drop, A: Allocator + Copy>(
     alloc: A,
     heap: Global,
-    path: String,
+    path: &str,
     reader: R,
 ) -> Result<String<A>, Fault>
     ensures ok { (input : List ℕ) → R.remaining reader ≡ Some input
         → IfOk result (λ line. PrintsAccepted A input (string_bytes line)) }
     ensures err { (input : List ℕ) → R.remaining reader ≡ Some input
-        → IfErr result (EndsCheck A (string_bytes path) input) }
+        → IfErr result (EndsCheck A path.now input) }
 {
     let accepted = match planned(alloc, heap, path, reader) {
         Ok(accepted) => accepted,
@@ -79,26 +78,33 @@ pub fn check_job<R: Read + Drop, A: Allocator + Copy>(
     drop(accepted);
     match line {
         Ok(line) => Ok(line),
-        Err(_) => Err(Fault::Run(RunFault::NoMemory)),
+        Err(_) => Err(Fault::NoMemory),
     }
 }
 
-/// The fault of standard input or output that failed.
+/// Returns the fault of standard input or output that failed.
 pub fn standard_file(alloc: Global) -> Fault
     ensures { IsOfStandardFile result }
 {
-    match String::from_str(alloc, "-") {
-        Ok(path) => Fault::File(path),
-        Err(_) => Fault::Run(RunFault::NoMemory),
+    failed_file(alloc, "-", Cause::Standard)
+}
+
+/// Returns the fault of the file at a path, by the fault of its reader.
+pub fn fault_of_file(alloc: Global, path: &str, fault: ReadFault) -> Fault
+    ensures { IsOfFile path.now result }
+{
+    match fault {
+        ReadFault::Broken => failed_file(alloc, path, Cause::Unknown),
+        ReadFault::NoMemory => Fault::NoMemory,
     }
 }
 
-/// The fault of a file that can't be read, by its path.
-pub fn fault_of_file(path: String, fault: ReadFault) -> Fault
-    ensures { IsOfFile (string_bytes path) result }
+/// Returns the fault of the file at a path. If there is no memory for the path, the fault says so.
+fn failed_file(alloc: Global, path: &str, cause: Cause) -> Fault
+    ensures { IsOfFile path.now result }
 {
-    match fault {
-        ReadFault::Broken => Fault::File(path),
-        ReadFault::NoMemory => Fault::Run(RunFault::NoMemory),
+    match String::from_str(alloc, path) {
+        Ok(path) => Fault::File(FileError { path, cause }),
+        Err(_) => Fault::NoMemory,
     }
 }

@@ -42,7 +42,8 @@ fn put_fault<A: Allocator + Copy>(alloc: A, text: &mut Text<A>, fault: &Fault)
         Fault::Network(line) => text.put(line.as_str()),
         Fault::Rounds(line) => text.put(line.as_str()),
         Fault::Words => text.put("command line refused"),
-        Fault::File(path) => put_file(text, path.as_str()),
+        Fault::NoMemory => text.put("no memory"),
+        Fault::File(error) => put_file(text, error.path.as_str()),
     }
 }
 
@@ -129,10 +130,11 @@ fn put_unwritten<A: Allocator>(text: &mut Text<A>, port: u8)
     text.put(" not written");
 }
 
-/// Puts that a file can't be opened, made, read or written.
+/// Puts that a file can't be opened, made, read or written. Control characters of the path are escaped, so that the fault has one
+/// line.
 fn put_file<A: Allocator>(text: &mut Text<A>, path: &str)
     ensures { HasGrown text.old (not_there path.now) text.new }
 {
     text.put("file ");
-    text.put(path);
+    text.put_escaped(path);
 }

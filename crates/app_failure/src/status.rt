@@ -33,7 +33,7 @@ pub fn ending(fault: &Fault) -> u8
         Fault::Network(_) => REFUSED_PLAN,
         Fault::Rounds(_) => REFUSED,
         Fault::Words => WORDS,
-        Fault::File(_) => FAILED,
+        Fault::NoMemory | Fault::File(_) => FAILED,
     }
 }
 

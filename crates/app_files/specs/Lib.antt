@@ -1,5 +1,6 @@
 pub mod Paths
-pub mod Files
+pub mod FailedFiles
 pub mod Taken
 pub mod Said
 pub mod Folders
+pub mod Reading

@@ -1,12 +1,42 @@
-//! Why a file can't be opened, made, read or written, as the call that failed tells.
+//! Why a file can't be opened, made, read or written, as the call that failed says.
 //!
-//! The fault of a file has its path alone. Its cause is noted beside it, where it is found: of the file system no more is asked
-//! than whether there is a folder of a path that isn't there, and what lies beside a capture that isn't.
+//! The file system is asked for two more facts at most: whether the folder of a missing file is there, and what lies next to a
+//! missing capture.
 
-use app_failure::Cause;
 use std::fs;
 use std::io::{Error, ErrorKind};
 use std::rt::Files;
+
+/// Why a file can't be opened, made, read or written.
+#[derive(Clone, Copy, Debug)]
+pub enum Cause {
+    /// There is no file of this name.
+    NotFound,
+    /// There is none, and it is the capture that a port of a plan needs.
+    NoCapture,
+    /// There is none, but a pcapng file of the same name with its own ending.
+    Pcapng,
+    /// There is none, but one of the name that is packed by gzip.
+    Gzip,
+    /// The folder in which it should lie isn't there.
+    NoFolder,
+    /// It is a folder.
+    Folder,
+    /// What should be its folder is a file.
+    NoFolderButFile,
+    /// The user may not read it.
+    NotReadable,
+    /// The user may not make or write it.
+    NotWritable,
+    /// It is the folder of the captures that are read.
+    SameFolder,
+    /// The command reads this file, or writes it for something else.
+    InUse,
+    /// Standard input or output.
+    Standard,
+    /// Nothing is found.
+    Unknown,
+}
 
 /// The folder of a path, where it names one.
 fn folder_of(path: &str) -> Option<&str> {

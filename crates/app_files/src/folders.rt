@@ -2,29 +2,23 @@
 ghost use Rattle.std.specs.Prelude.{IfErr, OnOk};
 ghost use Rattle.app_files.specs.Folders.{HavePaths, LackPath};
 
-use app_failure::{Cause, Fault};
+use crate::cause::Cause;
+use crate::failed_file::{FileFault, failed_at};
 use std::alloc::Global;
 
-/// Refuses folders of which one has an empty path. `Err` is `File` of the empty path, and the cause is noted.
+/// Refuses folders of which one has an empty path. The fault is that of the file of the empty path.
 ///
 /// Each command that reads one folder and writes another one calls the function before it opens their files. Otherwise the
 /// files of a folder with an empty path would lie at the root of the file system: `/1.pcap`.
-pub fn test_folders(
-    alloc: Global,
-    input: &str,
-    output: &str,
-    cause: &mut Option<Cause>,
-) -> Result<(), Fault>
+pub fn test_folders(alloc: Global, input: &str, output: &str) -> Result<(), FileFault>
     ensures named { OnOk result (HavePaths input.now output.now) }
     ensures unnamed { IfErr result (LackPath input.now output.now) }
 {
     if input.is_empty() {
-        *cause = Some(Cause::NotFound);
-        return Err(Fault::File(String::new(alloc)));
+        return Err(failed_at(alloc, "", Cause::NotFound));
     }
     if output.is_empty() {
-        *cause = Some(Cause::NotFound);
-        return Err(Fault::File(String::new(alloc)));
+        return Err(failed_at(alloc, "", Cause::NotFound));
     }
     Ok(())
 }

@@ -1,8 +1,8 @@
 //! Files that are written anew without losing what they held before anything is written.
-ghost use Rattle.std.specs.Prelude.{◌≡◌, ◌↔◌, IsTrue, OnErr, OnOk, true};
+ghost use Rattle.std.specs.Prelude.{◌≡◌, ◌↔◌, IfOk, IsTrue, OnErr, OnOk, true};
 ghost use Rattle.app_files.specs.Taken.{AreSame, IsAmong, with_known};
 
-use app_failure::NoMemory;
+use bridge_limits::NoMemory;
 use std::fs::{Metadata, OpenFile, OpenOptions};
 use std::io::Write;
 use std::os::unix::fs::MetadataExt;
@@ -30,15 +30,19 @@ impl<F: Write + OpenFile + Drop> Output<F> {
         file_of(&self.file)
     }
 
-    /// Ends what is written: a file to which nothing was written is empty then.
-    pub fn finish(self) -> io::Result<()> {
+    /// Ends what is written, and returns the file. A file to which nothing was written is empty then.
+    pub fn finish(self) -> io::Result<Output<F>>
+        ensures { IfOk result (λ done. done.file ≡ self.file) }
+    {
         let mut output = self;
-        output.empty()
+        output.empty()?;
+        Ok(output)
     }
 
     /// Empties the file, once. What has no length, as a pipe or a device, has nothing to lose and is left alone.
     fn empty(&mut self) -> io::Result<()>
-        ensures { OnOk result (self.new.was_emptied ≡ true) }
+        ensures emptied { OnOk result (self.new.was_emptied ≡ true) }
+        ensures file { self.new.file ≡ self.old.file }
     {
         if self.was_emptied {
             return Ok(());
@@ -52,6 +56,8 @@ impl<F: Write + OpenFile + Drop> Output<F> {
 }
 
 impl<F: Write + OpenFile + Drop> Write for Output<F> {
+    ghost contents = { λ output. F.contents output.file };
+
     fn write(&mut self, buf: &[u8]) -> io::Result<usize> {
         if !buf.is_empty() {
             self.empty()?;
@@ -119,17 +125,6 @@ pub fn add_file(files: &mut Vec<FileId>, file: Option<FileId>) -> Result<(), NoM
             Err(_) => Err(NoMemory),
         },
     }
-}
-
-/// The files of some paths, where the system tells which they are.
-pub fn files_at<H: AllocGlobal + Files>(rt: &H, paths: &[String]) -> Result<Vec<FileId>, NoMemory> {
-    let mut files = Vec::new(rt.alloc());
-    for path in paths {
-        let Ok(()) = add_file(&mut files, file_at(rt, path.as_str())) else {
-            return Err(NoMemory);
-        };
-    }
-    Ok(files)
 }
 
 /// Whether a file is one of a list. One that isn't known is none of them.

@@ -2,7 +2,7 @@
 ghost use Rattle.std.specs.Prelude.{◌≡◌, IfOk, string_bytes};
 ghost use Rattle.app_files.specs.Paths.{capture_path, report_path};
 
-use app_failure::NoMemory;
+use bridge_limits::NoMemory;
 use std::alloc::Allocator;
 
 /// The path of the capture of a port in a folder: the folder, `/`, the number of the port in decimal, `.pcap`.

@@ -4,22 +4,22 @@ use Rattle.clap.specs.Words.{Text}
 use Rattle.bridge_limits.specs.declared.NoMemory.{NoMemory}
 use Rattle.app_failure.specs.declared.fault.Fault.{Fault}
 use Rattle.app_failure.specs.declared.fault.Fault.TheVariants as fault
-use Rattle.app_failure.specs.Reading.{IsOfWords}
 use Rattle.app_failure.specs.Status.{status_of}
 use Rattle.app_cli.specs.CommandLine.{AsksFor}
 use Rattle.app_cli.specs.Helping.{explains}
 use Rattle.app_cli.specs.Sketching.{NamesPart}
 use Rattle.app_cli.specs.declared.job.Job.{Job}
 use Rattle.app_cli.specs.declared.request.Request.{Request}
-use Rattle.app_commands.specs.Outputs.{Reports, ReportsFault}
-use Rattle.app_commands.proofs.CheckEnded.{reported}
+use Rattle.app_cli.specs.declared.words_fault.WordsFault.{WordsFault}
+use Rattle.app_cli.specs.declared.words_fault.WordsFault.TheVariants as words_fault
+use Rattle.app_commands.specs.Outputs.{Reports}
 use Rattle.app_commands.specs.declared.output.Output.{Output}
-use Rattle.app_networks.specs.Program.{FailsRequest, IsOutput, IsOutputOf, IsRequest, MissesHelp, PerformsRequest, RefusesWords}
+use Rattle.app_networks.specs.Program.{FailsRequest, IsOutput, IsOutputOf, IsRequest, MissesHelp, PerformsRequest, RefusesWords, of_words_fault}
 
 -- the fault of words refuses them
-pub refuses_words : (words : List Text) (f : Fault) → MissesHelp words → IsOfWords f → (f ≡ fault.Words → (job : Job) → AsksFor words job → NamesPart words) → RefusesWords words f
-refuses_words words f missed (inl is) none = subst (RefusesWords words) (sym is) (missed, none is)
-refuses_words words f missed (inr is) none = subst (RefusesWords words) (sym is) refl
+pub refuses_words : {X : Type 0} (words : List Text) (x : WordsFault) (r : Result X WordsFault) → MissesHelp words → r ≡ Err x → (r ≡ Err words_fault.Words → (job : Job) → AsksFor words job → NamesPart words) → RefusesWords words (of_words_fault x)
+refuses_words words words_fault.Words r missed is none = (missed, none is)
+refuses_words words words_fault.NoMemory r missed is none = tt
 
 -- words that are refused
 pub refused : (words : List Text) (f : Fault) (r : Result Output NoMemory) → RefusesWords words f → IfOk r (Reports (explains words) f) → IfOk r (IsOutput words)
@@ -27,9 +27,9 @@ refused words f (Ok output) refuses reports = inr (inl (f, refuses, reports))
 refused words f (Err e) refuses reports = tt
 
 -- a command that fails
-pub failed : (request : Request) (f : Fault) (said : Option (String Global)) (r : Result Output NoMemory) → FailsRequest request f → (request.is_explained ≡ false → said ≡ None) → IfOk r (ReportsFault f said) → IfOk r (IsOutputOf request)
-failed request f said (Ok output) fails plain told = inr (f, fails, reported request.is_explained f said (Ok output) plain told)
-failed request f said (Err e) fails plain told = tt
+pub failed : (request : Request) (f : Fault) (r : Result Output NoMemory) → FailsRequest request f → IfOk r (Reports request.is_explained f) → IfOk r (IsOutputOf request)
+failed request f (Ok output) fails told = inr (f, fails, told)
+failed request f (Err e) fails told = tt
 
 -- the output of what the words ask for
 pub asked : (words : List Text) (request : Request) (r : Result Output NoMemory) → IsRequest words request → IfOk r (IsOutputOf request) → IfOk r (IsOutput words)

@@ -6,8 +6,6 @@ use Rattle.bridge_config.specs.Document.{commands_of_text}
 use Rattle.bridge_config.specs.Model.{Plan}
 use Rattle.bridge_cycle.specs.declared.cyclic.ListFault.{ListFault}
 use Rattle.bridge_cycle.specs.declared.cyclic.ListFault.TheVariants as list
-use Rattle.bridge_capture.specs.declared.run_fault.RunFault.{RunFault}
-use Rattle.bridge_capture.specs.declared.run_fault.RunFault.TheVariants as run
 use Rattle.app_failure.specs.declared.fault.Fault.{Fault}
 use Rattle.app_failure.specs.declared.fault.Fault.TheVariants as fault
 use Rattle.app_failure.specs.Status.{status_of_plan}
@@ -24,7 +22,8 @@ use Rattle.net_run.specs.Rounds.{AreIncoming, StopsSettling}
 use Rattle.bridge_schema.specs.declared.fault.PlanFault.{PlanFault}
 use Rattle.bridge_schema.specs.declared.fault.PlanFault.TheVariants as plan
 use Rattle.bridge_schema.specs.Readers.{Fails}
-use Rattle.app_networks.specs.Folders.{EndsBridge, EndsFiles, EndsReading, EndsRounds, EndsRun, IsMostRounds, SaysCommands, SaysStopped}
+use Rattle.app_failure.specs.Reading.{EndsFiles}
+use Rattle.app_networks.specs.Folders.{EndsBridge, EndsReading, EndsRounds, EndsRun, IsMostRounds, SaysCommands, SaysStopped}
 
 -- what the exit of a `?` returns
 pub goes_out : {T E : Type 0} (P : E → Type 0) (r : Result T E) (e : E) → IsErrAnd r (λ y. y ≡ e) → P e → IfErr r P
@@ -50,26 +49,28 @@ fails_is plan.NoMemory read one fails = absurd (omega (arith, one))
 -- what ends the reading of a file ends that of what comes to a bridge
 pub bridge_file : {A : Type 0} (p : Plan A) (name : List ℕ) (f : Fault) → EndsFiles f → EndsBridge p name f
 bridge_file p name (fault.Text t) e = absurd e
-bridge_file p name (fault.Run r) e = e
+bridge_file p name fault.NoMemory e = tt
+bridge_file p name (fault.Run r) e = absurd e
 bridge_file p name (fault.Plan t) e = absurd e
 bridge_file p name (fault.Check t) e = absurd e
 bridge_file p name (fault.Commands t) e = absurd e
 bridge_file p name (fault.Network lines) e = absurd e
 bridge_file p name (fault.Rounds line) e = absurd e
 bridge_file p name fault.Words e = absurd e
-bridge_file p name (fault.File path) e = tt
+bridge_file p name (fault.File x) e = tt
 
 -- so do refused commands
 pub bridge_commands : {A : Type 0} (p : Plan A) (name text : List ℕ) (e : PlanFault) (f : Fault) → Fails e (commands_of_text p text) → SaysCommands name e f → EndsBridge p name f
 bridge_commands p name text e (fault.Text t) fails says = absurd says
-bridge_commands p name text e (fault.Run r) fails says = says
+bridge_commands p name text e fault.NoMemory fails says = tt
+bridge_commands p name text e (fault.Run r) fails says = absurd says
 bridge_commands p name text e (fault.Plan t) fails says = absurd says
 bridge_commands p name text e (fault.Check t) fails says = absurd says
 bridge_commands p name text e (fault.Commands t) fails says = absurd says
 bridge_commands p name text e (fault.Network lines) fails says = (text, e, fails_is e (commands_of_text p text) says.0 fails, says.1)
 bridge_commands p name text e (fault.Rounds line) fails says = absurd says
 bridge_commands p name text e fault.Words fails says = absurd says
-bridge_commands p name text e (fault.File path) fails says = absurd says
+bridge_commands p name text e (fault.File x) fails says = absurd says
 
 -- what ends the reading of what comes to the bridge at a place
 pub reading_at : {A : Type 0} (plans : List (Plan A)) (bridges : List Bridge) (b : ℕ) (p : Plan A) (name : List ℕ) (f : Fault) → slice_get plans b ≡ Some p → name ≡ name_at bridges b → EndsBridge p name f → EndsReading plans bridges f
@@ -80,20 +81,21 @@ pub reading_for : {A : Type 0} (ps qs : List (Plan A)) (bridges : List Bridge) (
 reading_for ps qs bridges f same ends = subst (λ (l : List (Plan _)). EndsReading l bridges f) same ends
 
 -- so does want of memory
-pub reading_memory : {A : Type 0} (plans : List (Plan A)) (bridges : List Bridge) (b : ℕ) (p : Plan A) (f : Fault) → slice_get plans b ≡ Some p → f ≡ fault.Run run.NoMemory → EndsReading plans bridges f
-reading_memory plans bridges b p f there is = (b, p, there, subst (EndsBridge p (name_at bridges b)) (sym is) refl)
+pub reading_memory : {A : Type 0} (plans : List (Plan A)) (bridges : List Bridge) (b : ℕ) (p : Plan A) (f : Fault) → slice_get plans b ≡ Some p → f ≡ fault.NoMemory → EndsReading plans bridges f
+reading_memory plans bridges b p f there is = (b, p, there, subst (EndsBridge p (name_at bridges b)) (sym is) tt)
 
 -- what ends the reading or the writing of a file ends the run of a network
 pub run_files : {A : Type 0} (n : Parts A) (bridges : List Bridge) (f : Fault) → EndsFiles f → EndsRun n bridges f
 run_files n bridges (fault.Text t) e = absurd e
-run_files n bridges (fault.Run r) e = e
+run_files n bridges fault.NoMemory e = tt
+run_files n bridges (fault.Run r) e = absurd e
 run_files n bridges (fault.Plan t) e = absurd e
 run_files n bridges (fault.Check t) e = absurd e
 run_files n bridges (fault.Commands t) e = absurd e
 run_files n bridges (fault.Network lines) e = absurd e
 run_files n bridges (fault.Rounds line) e = absurd e
 run_files n bridges fault.Words e = absurd e
-run_files n bridges (fault.File path) e = tt
+run_files n bridges (fault.File x) e = tt
 
 pub files_end : {A X : Type 0} (n : Parts A) (bridges : List Bridge) (r : Result X Fault) → IfErr r EndsFiles → IfErr r (EndsRun n bridges)
 files_end n bridges (Ok x) e = tt
@@ -102,30 +104,32 @@ files_end n bridges (Err f) e = run_files n bridges f e
 -- so does what ends the reading of what comes to a bridge
 pub run_reading : {A : Type 0} (n : Parts A) (bridges : List Bridge) (f : Fault) → EndsReading n.plans bridges f → EndsRun n bridges f
 run_reading n bridges (fault.Text t) (b, p, there, e) = absurd e
-run_reading n bridges (fault.Run r) (b, p, there, e) = e
+run_reading n bridges fault.NoMemory (b, p, there, e) = tt
+run_reading n bridges (fault.Run r) (b, p, there, e) = absurd e
 run_reading n bridges (fault.Plan t) (b, p, there, e) = absurd e
 run_reading n bridges (fault.Check t) (b, p, there, e) = absurd e
 run_reading n bridges (fault.Commands t) (b, p, there, e) = absurd e
 run_reading n bridges (fault.Network lines) e = e
 run_reading n bridges (fault.Rounds line) (b, p, there, e) = absurd e
 run_reading n bridges fault.Words (b, p, there, e) = absurd e
-run_reading n bridges (fault.File path) e = tt
+run_reading n bridges (fault.File x) e = tt
 
 -- so does what is said of a run that stops
 pub run_stopped : {A : Type 0} (n : Parts A) (bridges : List Bridge) (came : List (Incoming A)) (rounds : ℕ) (e : RoundsFault) (f : Fault)
     → AreIncoming n.plans came → IsMostRounds n rounds → StopsSettling n came rounds e → SaysStopped bridges e f → EndsRun n bridges f
 run_stopped n bridges came rounds e (fault.Text t) are most stops says = absurd says
-run_stopped n bridges came rounds e (fault.Run r) are most stops says = says
+run_stopped n bridges came rounds e fault.NoMemory are most stops says = tt
+run_stopped n bridges came rounds e (fault.Run r) are most stops says = absurd says
 run_stopped n bridges came rounds e (fault.Plan t) are most stops says = absurd says
 run_stopped n bridges came rounds e (fault.Check t) are most stops says = absurd says
 run_stopped n bridges came rounds e (fault.Commands t) are most stops says = absurd says
 run_stopped n bridges came rounds e (fault.Network lines) are most stops says = absurd says
 run_stopped n bridges came rounds e (fault.Rounds line) are most stops says = (came, rounds, e, are, most, stops, says)
 run_stopped n bridges came rounds e fault.Words are most stops says = absurd says
-run_stopped n bridges came rounds e (fault.File path) are most stops says = absurd says
+run_stopped n bridges came rounds e (fault.File x) are most stops says = absurd says
 
 -- which faults end the job
-pub job_memory : (A : Type 0) (path : List ℕ) (f : Fault) → f ≡ fault.Run run.NoMemory → EndsRounds A path f
+pub job_memory : (A : Type 0) (path : List ℕ) (f : Fault) → f ≡ fault.NoMemory → EndsRounds A path f
 job_memory A path f e = inl (inl e)
 
 pub job_text : (A : Type 0) (path at : List ℕ) (f : Fault) → at ≡ path → EndsText at f → EndsRounds A path f

@@ -14,3 +14,5 @@ pub mod Losses
 pub mod Warned
 pub mod Ran
 pub mod Asked
+pub mod Written
+pub mod RunAsked

@@ -3,7 +3,6 @@ use Rattle.std.specs.Prelude.{◌≡◌, ◌⊎◌, ℕ, ◌-◌, ◌^◌, List,
 use Rattle.bridge_config.specs.Document.{commands_of_text}
 use Rattle.bridge_config.specs.Model.{Plan}
 use Rattle.bridge_capture.specs.declared.run_fault.RunFault.{RunFault}
-use Rattle.bridge_capture.specs.declared.run_fault.RunFault.TheVariants as run
 use Rattle.net_file.specs.Model.{Bridge}
 use Rattle.net_file.specs.Model as file
 use Rattle.net_model.specs.declared.links.Link.{Link}
@@ -51,14 +50,8 @@ IsStoppedLine bridges rounds.NoMemory line = ⊥
 -- a fault of the program says this one of a run of a network, or that memory ran out
 abbrev pub SaysStopped : List Bridge → RoundsFault → Fault → Type 0
 SaysStopped bridges e (fault.Rounds line) = IsStoppedLine bridges e (string_bytes line)
-SaysStopped bridges e (fault.Run f) = f ≡ run.NoMemory
+SaysStopped bridges e fault.NoMemory = Unit {0}
 SaysStopped bridges e f = ⊥
-
--- a file failed, or memory ran out
-abbrev pub EndsFiles : Fault → Type 0
-EndsFiles (fault.File path) = Unit {0}
-EndsFiles (fault.Run e) = e ≡ run.NoMemory
-EndsFiles f = ⊥
 
 -- The lines of refused commands: that of the network, with the bridge's name, and the commands' own.
 unfoldable pub commands_lines : List ℕ → List ℕ → List ℕ
@@ -67,7 +60,7 @@ commands_lines name line = codes "network refused: Commands " ++ (name ++ (codes
 -- Holds if a fault of the program has the lines of commands to the bridge `name`, refused by the fault `e`, or memory ran out.
 abbrev pub SaysCommands : List ℕ → PlanFault → Fault → Type 0
 SaysCommands name e (fault.Network line) = (status_of (fault.Commands e) ≡ 1) × (string_bytes line ≡ commands_lines name (line_of_commands e))
-SaysCommands name e (fault.Run r) = r ≡ run.NoMemory
+SaysCommands name e fault.NoMemory = Unit {0}
 SaysCommands name e f = ⊥
 
 -- Holds if the commands to a bridge of the plan `p` and this name are refused with these lines: their text has this fault.
@@ -77,9 +70,9 @@ RefusesCommandsOf p name lines = (text : List ℕ) × (e : PlanFault) × (comman
 -- Holds if what comes to a bridge of the plan `p` and this name can't be read: a file fails, its commands are refused, or memory
 -- ran out.
 abbrev pub EndsBridge : {A : Type 0} → Plan A → List ℕ → Fault → Type 0
-EndsBridge p name (fault.File path) = Unit {0}
+EndsBridge p name (fault.File e) = Unit {0}
 EndsBridge p name (fault.Network lines) = RefusesCommandsOf p name (string_bytes lines)
-EndsBridge p name (fault.Run e) = e ≡ run.NoMemory
+EndsBridge p name fault.NoMemory = Unit {0}
 EndsBridge p name f = ⊥
 
 -- Holds if what comes to one of the bridges of these plans can't be read.
@@ -103,10 +96,10 @@ StopsRun {A} n bridges line =
 -- Holds if the fault `f` ends a run of the accepted network `n`: a file fails, commands are refused, the run stops, or memory ran
 -- out.
 abbrev pub EndsRun : {A : Type 0} → Parts A → List Bridge → Fault → Type 0
-EndsRun n bridges (fault.File path) = Unit {0}
+EndsRun n bridges (fault.File e) = Unit {0}
 EndsRun n bridges (fault.Network lines) = EndsReading n.plans bridges (fault.Network lines)
 EndsRun n bridges (fault.Rounds line) = StopsRun n bridges (string_bytes line)
-EndsRun n bridges (fault.Run e) = e ≡ run.NoMemory
+EndsRun n bridges fault.NoMemory = Unit {0}
 EndsRun n bridges f = ⊥
 
 -- Holds if the fault `f` ends the run of the network file at `path`: it ends the job of `net check` over this file, or the network

@@ -1,3 +1,4 @@
+pub mod OutputFiles
 pub mod InTime
 pub mod Counted
 pub mod Folders

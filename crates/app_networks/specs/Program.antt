@@ -3,7 +3,6 @@ use Rattle.std.specs.Prelude.{◌≡◌, ◌⊎◌, ℕ, Bool, true, false, List
 use Rattle.std.specs.declared.alloc.Global.{Global}
 use Rattle.std.specs.List.{list_any}
 use Rattle.clap.specs.Words.{Row, Text, fault_of, subcommand_of}
-use Rattle.bridge_capture.specs.declared.run_fault.RunFault.TheVariants as run
 use Rattle.app_failure.specs.declared.fault.Fault.{Fault}
 use Rattle.app_failure.specs.declared.fault.Fault.TheVariants as fault
 use Rattle.app_cli.specs.CommandLine.{AsksFor, HasRoom, commands}
@@ -13,12 +12,14 @@ use Rattle.app_cli.specs.Tabling.{AsksForTables}
 use Rattle.app_cli.specs.declared.job.Job.{Job}
 use Rattle.app_cli.specs.declared.job.Job.TheVariants as job
 use Rattle.app_cli.specs.declared.request.Request.{Request}
+use Rattle.app_cli.specs.declared.words_fault.WordsFault.{WordsFault}
+use Rattle.app_cli.specs.declared.words_fault.WordsFault.TheVariants as words
 use Rattle.app_commands.specs.WireFiles.{EndsWiring}
 use Rattle.app_commands.specs.Checked.{EndsChecked}
 use Rattle.app_commands.specs.Outputs.{Prints, Reports}
 use Rattle.app_commands.specs.declared.output.Output.{Output}
-use Rattle.app_commands.specs.ShownFiles.{EndsPicture}
-use Rattle.app_commands.specs.CommandOutputs.{FailsRun, FailsText, IsCheckOutput, IsPictureOutput, IsRunOutput, IsStandardFailure, IsTextOutput, IsWireOutput}
+use Rattle.app_commands.specs.ShownFiles.{EndsPicture, EndsTold}
+use Rattle.app_commands.specs.CommandOutputs.{FailsText, IsCheckOutput, IsPictureOutput, IsRunOutput, IsStandardFailure, IsTextOutput, IsWireOutput}
 use Rattle.net_check.specs.Networks.{EndsNetwork}
 use Rattle.app_networks.specs.Folders.{EndsRounds}
 use Rattle.app_networks.specs.Bounds.{FailsTraffic, IsBoundsOutput, IsTrafficOutput}
@@ -40,11 +41,16 @@ pub record IsRequest (words : List Text) (r : Request) : Type 0 where
 abbrev pub MissesHelp : List Text → Type 0
 MissesHelp words = list_any is_help_word words ≡ true → ¬ AsksForHelp (fault_of commands words)
 
+-- The fault of the program for words that are refused.
+abbrev pub of_words_fault : WordsFault → Fault
+of_words_fault words.Words = fault.Words
+of_words_fault words.NoMemory = fault.NoMemory
+
 -- Holds if the fault `f` refuses the words: they ask neither for help nor for a command, except that they may name a part of a run or of
 -- a plan; or memory ran out for them.
 abbrev pub RefusesWords : List Text → Fault → Type 0
 RefusesWords words fault.Words = MissesHelp words × ((job : Job) → AsksFor words job → NamesPart words)
-RefusesWords words (fault.Run f) = f ≡ run.NoMemory
+RefusesWords words fault.NoMemory = Unit {0}
 RefusesWords words f = ⊥
 
 -- A COMMAND THAT IS DONE
@@ -86,7 +92,8 @@ FailsJob job.Text r f = FailsText f
 FailsJob (job.Wire speed room input file) r f = EndsWiring (string_bytes input) (string_bytes file) f
 FailsJob (job.Check plan) r f = EndsChecked Global (string_bytes plan) f
 FailsJob (job.Run plan input folder commands) r f =
-    FailsRun (record { plan = plan; input = input; output = folder; commands = commands; tables = r.tables; picture = r.picture }) f
+    EndsTold Global (string_bytes plan) (option_map string_bytes commands) (string_bytes input) (string_bytes folder)
+    (option_map string_bytes r.tables.delays) (option_map string_bytes r.tables.frames) (option_map (λ p. string_bytes p.file) r.picture) f
 FailsJob (job.Picture plan file) r f = FailsPicture (string_bytes plan) (string_bytes file) (is_some r.picture) f
 FailsJob (job.Bounds plan traffic) r f = FailsBounds (string_bytes plan) (option_map string_bytes traffic) f
 FailsJob (job.Network network) r f = EndsNetwork Global (string_bytes network) f

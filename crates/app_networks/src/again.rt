@@ -1,7 +1,7 @@
 //! Files that are read a second time, for what is told beside a line.
 
-use crate::drawing::paths_of;
-use net_check::read_network;
+use app_files::CommandFiles;
+use net_check::{paths_of, read_network};
 use std::fs;
 use std::rt::Files;
 
@@ -29,11 +29,9 @@ pub fn can_read_network_again<H: AllocGlobal + Files>(rt: &H, path: &str) -> boo
     if !can_read_again(rt, path) {
         return false;
     }
-    let Ok(copy) = String::from_str(rt.alloc(), path) else {
-        return false;
-    };
-    match read_network(rt, copy) {
-        Ok(file) => match paths_of(rt.alloc(), path, &file) {
+    let mut files = CommandFiles::new(rt);
+    match read_network(rt.alloc(), &mut files, path) {
+        Ok(file) => match paths_of(rt.alloc(), path, file.bridges()) {
             Ok(paths) => can_read_all_again(rt, &paths),
             Err(_) => false,
         },

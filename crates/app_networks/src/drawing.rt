@@ -2,26 +2,16 @@
 ghost use Rattle.std.specs.Prelude.{◌≤◌, IfOk, IfErr, length, string_bytes};
 ghost use Rattle.net_check.specs.Networks.{EndsNetwork};
 
-use app_failure::Fault;
+use app_failure::{Fault, NoMemory};
+use app_files::ReadFiles;
 use bridge_check::Accepted;
-use bridge_limits::NoMemory;
-use net_check::{beside, memory_fault, read_network, read_plans, tested};
+use net_check::{read_network, read_plans, tested};
 use net_file::NetworkFile;
 use net_latency::{bounds_of_all, bounds_of_streams};
 use net_report::draw_network;
-use std::alloc::{AllocError, Global};
-use std::rt::Files;
+use std::alloc::Global;
 
-/// The picture of a network, with the files that were read for it.
-#[derive(Drop)]
-pub struct NetworkPicture {
-    /// The picture, an SVG text of at most 2,000,000 octets.
-    pub text: String,
-    /// The paths of the network's file and of the plans of its bridges.
-    pub read: Vec<String>,
-}
-
-/// The picture of a network of these plans.
+/// Draws the network of these plans.
 fn drawn(
     alloc: Global,
     file: &NetworkFile<Global>,
@@ -34,37 +24,25 @@ fn drawn(
     draw_network(alloc, file.bridges(), file.links(), file.streams(), &rows)
 }
 
-/// The paths of the files that a network is made of.
-pub fn paths_of(
+/// Draws the network of the file at a path, if it is accepted: its bridges, its links, and its streams with their delay bounds. The
+/// picture is an SVG text of at most 2,000,000 octets. Its faults are those of `network_job`.
+pub fn network_picture<F: ReadFiles>(
     alloc: Global,
+    files: &mut F,
     path: &str,
-    file: &NetworkFile<Global>,
-) -> Result<Vec<String>, AllocError> {
-    let mut paths = Vec::new(alloc);
-    paths.push(String::from_str(alloc, path)?)?;
-    for bridge in file.bridges() {
-        paths.push(beside(alloc, path, bridge.plan())?)?;
-    }
-    Ok(paths)
-}
-
-/// The picture of the network of a file whose plans lie beside it, where it is accepted: its bridges, its links, and its streams
-/// with how long each takes at most. Its faults are those of `network_job`.
-pub fn network_picture<H: AllocGlobal + Files>(rt: &H, path: &str) -> Result<NetworkPicture, Fault>
-    ensures ok { IfOk result (λ picture. length (string_bytes picture.text) ≤ 2000000) }
+) -> Result<String, Fault>
+    ensures ok { IfOk result (λ picture. length (string_bytes picture) ≤ 2000000) }
     ensures err { IfErr result (EndsNetwork Global path.now) }
 {
-    let alloc = rt.alloc();
-    let copy = String::from_str(alloc, path)?;
-    let file = read_network(rt, copy)?;
-    let plans = read_plans(rt, path, file.bridges())?;
+    let file = read_network(alloc, files, path)?;
+    let plans = read_plans(alloc, files, path, file.bridges())?;
     match tested(alloc, alloc, &file, plans) {
         Ok(network) => {
             let text = drawn(alloc, &file, network.plans());
             drop(network);
-            match (text, paths_of(alloc, path, &file)) {
-                (Ok(text), Ok(read)) => Ok(NetworkPicture { text, read }),
-                _ => Err(memory_fault()),
+            match text {
+                Ok(text) => Ok(text),
+                Err(_) => Err(Fault::NoMemory),
             }
         }
         Err(fault) => Err(fault),

@@ -2,8 +2,9 @@
 //! can't be read again is left out.
 
 use crate::refusing::explain_stopped;
-use app_commands::{said_of_capture_at, said_of_plan};
+use app_commands::{explain_capture_at, explain_plan_fault};
 use app_failure::accepted_of;
+use app_files::CommandFiles;
 use bridge_config::{commands_of, plan_of};
 use net_check::{beside, explain_loops, explain_network, read_network};
 use net_file::{network_of, traffic_of};
@@ -62,8 +63,8 @@ pub(crate) fn said_of_network(
 /// Returns the path of the plan of a bridge, by the path of the network's file and the name of the bridge.
 fn plan_path(rt: &(impl AllocGlobal + Files), path: &str, name: &str) -> Option<String> {
     let alloc = rt.alloc();
-    let copy = String::from_str(alloc, path).ok()?;
-    let Ok(file) = read_network(rt, copy) else {
+    let mut files = CommandFiles::new(rt);
+    let Ok(file) = read_network(alloc, &mut files, path) else {
         return None;
     };
     for bridge in file.bridges() {
@@ -84,7 +85,7 @@ fn said_of_bridge(rt: &(impl AllocGlobal + Files), path: &str, name: &str) -> Op
             drop(accepted);
             None
         }
-        Err(fault) => said_of_plan(alloc, place.as_str(), &text, None, &fault),
+        Err(fault) => explain_plan_fault(alloc, place.as_str(), &text, &fault),
     }
 }
 
@@ -137,5 +138,5 @@ fn said_of_capture(rt: &(impl AllocGlobal + Files), input: &str, line: &str) -> 
     let (end, _) = line.split_once(' ')?;
     let (name, port) = end.rsplit_once('.')?;
     let path = format!(in rt.alloc(); "{input}/{name}/{port}.pcap").ok()?;
-    said_of_capture_at(rt, path.as_str())
+    explain_capture_at(rt, path.as_str())
 }

@@ -3,9 +3,9 @@ ghost use Rattle.std.specs.Prelude.{◌≡◌, ◌≤◌, IfOk, IfErr, IfSome, N
 ghost use Rattle.app_files.specs.Folders.{HavePaths};
 ghost use Rattle.app_networks.specs.Losing.{AreToldLines, AreWarningsIf, PrintsRunLosses, PrintsWarnings, TellsRunLosses, TellsWarnings, has_lines};
 ghost use Rattle.app_networks.specs.InTime.{HaveViews};
-ghost use Rattle.app_networks.specs.Folders.{EndsFiles, EndsRounds, EndsRun, IsAccepted, IsLine, IsMostRounds, PrintsRounds, PrintsRoundsIn, TellsRun, TellsRunIn, network_words, rounds_line};
+ghost use Rattle.app_failure.specs.Reading.{EndsFiles};
+ghost use Rattle.app_networks.specs.Folders.{EndsRounds, EndsRun, IsAccepted, IsLine, IsMostRounds, PrintsRounds, PrintsRoundsIn, TellsRun, TellsRunIn, network_words, rounds_line};
 
-use crate::drawing::paths_of;
 use crate::incoming::read_all;
 use crate::losing::fault_lines;
 use crate::outputs::{Outputs, open_outputs};
@@ -14,16 +14,19 @@ use crate::refusing::said_of_run;
 use crate::tables::put_tables;
 use crate::watching::{Teller, is_long};
 use crate::writing::put_bridges;
-use app_failure::{Cause, Fault};
-use app_files::{FileId, Output, files_at, take_standard, test_folders};
+use app_commands::Flags;
+use app_failure::{Fault, file_failure};
+use app_files::{CommandFiles, Output, test_folders};
 use bridge_limits::NoMemory;
-use net_check::{memory_fault, read_network, read_plans, tested, warnings_of};
+use net_check::{read_network, read_plans, tested, warnings_of};
 use net_file::NetworkFile;
 use net_latency::{QueueBound, bounds_of_all, bounds_of_streams};
 use net_loops::circulations_in;
 use net_model::Network;
 use net_run::{Settled, settle};
-use std::alloc::{AllocError, Global};
+use std::alloc::Global;
+use std::fs::OpenFile;
+use std::io::Write;
 use std::rt::Files;
 
 /// After how many rounds a network in which frames may go round isn't run further, if it still changes.
@@ -45,7 +48,7 @@ fn most_rounds(alloc: Global, network: &Network<Global>) -> Result<u32, NoMemory
 
 /// How many bridges, links and streams a network has.
 #[tactic(auto, unfolding(crate::specs::Folders::network_words))]
-fn network_words(alloc: Global, file: &NetworkFile<Global>) -> Result<String, AllocError>
+fn network_words(alloc: Global, file: &NetworkFile<Global>) -> Result<String, NoMemory>
     ensures { IfOk result (λ words. string_bytes words ≡ network_words file.now) }
 {
     let bridges = file.bridges().len();
@@ -64,7 +67,7 @@ fn line_of(
     file: &NetworkFile<Global>,
     frames: u64,
     delivered: u64,
-) -> Result<String, AllocError>
+) -> Result<String, NoMemory>
     ensures { IfOk result (λ line. string_bytes line ≡ rounds_line file.now frames delivered) }
 {
     let start = network_words(alloc, file)?;
@@ -106,14 +109,14 @@ fn lost_if(
 }
 
 /// Writes what a run of a network told.
-fn put_all<H: AllocGlobal + Files>(
-    rt: &H,
+fn put_all<F: Write + OpenFile + Drop>(
+    alloc: Global,
     file: &NetworkFile<Global>,
     network: &Network<Global>,
     queues: &[Vec<QueueBound>],
     output: &str,
     settled: &[Settled<Global>],
-    outputs: Outputs<H::File>,
+    outputs: Outputs<F>,
     is_strict: bool,
 ) -> Result<RunLines, Fault>
     requires views { HaveViews settled.now file.now.streams }
@@ -121,7 +124,6 @@ fn put_all<H: AllocGlobal + Files>(
     ensures lost { IfOk result (λ lines. AreToldLines network.now.links settled.now file.now is_strict (string_bytes lines.lost)) }
     ensures err { IfErr result EndsFiles }
 {
-    let alloc = rt.alloc();
     let Outputs {
         bridges,
         streams,
@@ -131,12 +133,15 @@ fn put_all<H: AllocGlobal + Files>(
         drop(bridges);
         drop(streams);
         drop(frames);
-        return Err(memory_fault());
+        return Err(Fault::NoMemory);
     };
-    if let Err(fault) = put_bridges(alloc, network, file.bridges(), output, settled, bridges) {
-        drop(streams);
-        drop(frames);
-        return Err(fault);
+    match put_bridges(alloc, network, file.bridges(), output, settled, bridges) {
+        Ok(written) => drop(written),
+        Err(fault) => {
+            drop(streams);
+            drop(frames);
+            return Err(fault);
+        }
     }
     let totals = put_tables(
         alloc,
@@ -149,11 +154,11 @@ fn put_all<H: AllocGlobal + Files>(
         frames,
     )?;
     let Ok(lost) = lost_if(alloc, file, network, settled, is_strict) else {
-        return Err(memory_fault());
+        return Err(Fault::NoMemory);
     };
     match line_of(alloc, file, totals.frames, totals.delivered) {
         Ok(line) => Ok(RunLines { line, lost }),
-        Err(_) => Err(memory_fault()),
+        Err(_) => Err(Fault::NoMemory),
     }
 }
 
@@ -165,7 +170,7 @@ fn put_drawn<H: AllocGlobal + Files>(
     output: &str,
     settled: &[Settled<Global>],
     outputs: Outputs<H::File>,
-    picture: Option<String>,
+    picture: &Option<String>,
     drawing: Option<Output<H::File>>,
     is_strict: bool,
 ) -> Result<RunLines, Fault>
@@ -177,10 +182,17 @@ fn put_drawn<H: AllocGlobal + Files>(
     let Ok(queues) = bounds_of_all(rt.alloc(), network.plans()) else {
         drop(outputs);
         drop(drawing);
-        return Err(memory_fault());
+        return Err(Fault::NoMemory);
     };
     let lines = match put_all(
-        rt, file, network, &queues, output, settled, outputs, is_strict,
+        rt.alloc(),
+        file,
+        network,
+        &queues,
+        output,
+        settled,
+        outputs,
+        is_strict,
     ) {
         Ok(lines) => lines,
         Err(fault) => {
@@ -202,48 +214,36 @@ fn put_drawn<H: AllocGlobal + Files>(
     }
 }
 
-/// What is wanted of a run of a network beside its line.
-#[derive(Clone, Copy)]
-struct Wishes {
-    /// Whether a stream that lost frames or missed its deadline is a fault.
-    is_strict: bool,
-    /// Whether a long run says on standard error how far it is.
-    is_watched: bool,
-}
-
 /// Runs a network from one folder into another, if both have a path. Returns the lines of the run, and in how many rounds it was
 /// found.
 fn run_network<H: AllocGlobal + Eprint + Files>(
-    rt: &H,
+    files: &mut CommandFiles<'_, H>,
     file: &NetworkFile<Global>,
     network: &Network<Global>,
-    input: &str,
-    output: &str,
-    picture: Option<String>,
-    wishes: Wishes,
-    teller: &mut Teller<'_, H>,
-    taken: Vec<FileId>,
-    cause: &mut Option<Cause>,
+    job: &RoundsJob<'_>,
+    flags: Flags,
 ) -> Result<(RunLines, u32), Fault>
     requires few { length network.now.plans ≤ 64 }
     requires accepted { IsAccepted network.now file.now }
     ensures ok { IfOk result (λ ran. TellsRun network.now file.now (string_bytes ran.0.line)) }
     ensures rounds { IfOk result (λ ran. TellsRunIn network.now file.now (string_bytes ran.0.line) ran.1) }
-    ensures lost { IfOk result (λ ran. TellsRunLosses network.now file.now wishes.is_strict (string_bytes ran.0.line) ran.1 (string_bytes ran.0.lost)) }
-    ensures named { IfOk result (λ _. HavePaths input.now output.now) }
+    ensures lost { IfOk result (λ ran. TellsRunLosses network.now file.now flags.is_strict (string_bytes ran.0.line) ran.1 (string_bytes ran.0.lost)) }
+    ensures named { IfOk result (λ _. HavePaths job.now.input.now job.now.output.now) }
     ensures err { IfErr result (EndsRun network.now file.now.bridges) }
 {
-    let (mut taken, plans, bridges) = (taken, network.plans(), file.bridges());
-    test_folders(rt.alloc(), input, output, cause)?;
-    let incoming = read_all(rt, network, bridges, input, &mut taken, cause)?;
-    let outputs = match open_outputs(rt, plans, bridges, input, output, &mut taken, cause) {
+    let (alloc, plans, bridges) = (files.alloc(), network.plans(), file.bridges());
+    if let Err(fault) = test_folders(alloc, job.input, job.output) {
+        return Err(file_failure(fault));
+    }
+    let incoming = read_all(alloc, files, network, bridges, job.input)?;
+    let outputs = match open_outputs(files, plans, bridges, job.input, job.output) {
         Ok(outputs) => outputs,
         Err(fault) => {
             drop(incoming);
             return Err(fault);
         }
     };
-    let drawing = match open_picture(rt, &picture, &mut taken, cause) {
+    let drawing = match open_picture(files, job.picture) {
         Ok(drawing) => drawing,
         Err(fault) => {
             drop(incoming);
@@ -251,27 +251,30 @@ fn run_network<H: AllocGlobal + Eprint + Files>(
             return Err(fault);
         }
     };
-    teller.is_wanted = wishes.is_watched && is_long(&incoming);
-    let Ok(rounds) = most_rounds(rt.alloc(), network) else {
+    let mut teller = Teller {
+        rt: files.rt,
+        bridges,
+        is_wanted: flags.is_watched && is_long(&incoming),
+    };
+    let Ok(rounds) = most_rounds(alloc, network) else {
         drop(incoming);
         drop(outputs);
         drop(drawing);
-        return Err(memory_fault());
+        return Err(Fault::NoMemory);
     };
-    match settle(rt.alloc(), network, incoming, rounds, teller) {
+    match settle(alloc, network, incoming, rounds, &mut teller) {
         Ok(settled) => {
-            *cause = Some(Cause::NotWritable);
-            let (is_strict, rounds) = (wishes.is_strict, settled.rounds);
+            let rounds = settled.rounds;
             let told = put_drawn(
-                rt,
+                files.rt,
                 file,
                 network,
-                output,
+                job.output,
                 &settled.bridges,
                 outputs,
-                picture,
+                job.picture,
                 drawing,
-                is_strict,
+                flags.is_strict,
             );
             drop(settled);
             match told {
@@ -282,7 +285,7 @@ fn run_network<H: AllocGlobal + Eprint + Files>(
         Err(fault) => {
             drop(outputs);
             drop(drawing);
-            Err(said_of_run(rt.alloc(), bridges, fault))
+            Err(said_of_run(alloc, bridges, fault))
         }
     }
 }
@@ -338,34 +341,25 @@ fn warnings_if(
 
 /// Runs an accepted network. If a warning is a fault and the network has one, the function runs nothing and opens no file.
 fn run_accepted<H: AllocGlobal + Eprint + Files>(
-    rt: &H,
+    files: &mut CommandFiles<'_, H>,
     file: &NetworkFile<Global>,
     network: &Network<Global>,
-    job: RoundsJob,
-    taken: Vec<FileId>,
-    cause: &mut Option<Cause>,
+    job: &RoundsJob<'_>,
+    flags: Flags,
 ) -> Result<RoundsSaid, Fault>
     requires few { length network.now.plans ≤ 64 }
     requires accepted { IsAccepted network.now file.now }
     ensures ok { IfOk result (λ said. IfSome said.line (λ line. TellsRun network.now file.now (string_bytes line))) }
     ensures rounds { IfOk result (λ said. IfSome said.line (λ line. TellsRunIn network.now file.now (string_bytes line) said.rounds)) }
-    ensures told { IfOk result (λ said. IfSome said.line (λ line. TellsRunLosses network.now file.now job.is_strict (string_bytes line) said.rounds (string_bytes said.told))) }
+    ensures told { IfOk result (λ said. IfSome said.line (λ line. TellsRunLosses network.now file.now flags.is_strict (string_bytes line) said.rounds (string_bytes said.told))) }
     ensures lossy { IfOk result (λ said. IfSome said.line (λ _. said.is_lossy ≡ has_lines (string_bytes said.told))) }
-    ensures named { IfOk result (λ said. IfSome said.line (λ _. HavePaths (string_bytes job.input) (string_bytes job.output))) }
+    ensures named { IfOk result (λ said. IfSome said.line (λ _. HavePaths job.now.input.now job.now.output.now)) }
     ensures warned { IfOk result (λ said. said.is_warned ≡ true → said.line ≡ None) }
-    ensures idle { IfOk result (λ said. said.line ≡ None → (said.is_warned ≡ true) × ((job.is_strict ≡ true) × TellsWarnings network.now file.now (string_bytes said.told))) }
+    ensures idle { IfOk result (λ said. said.line ≡ None → (said.is_warned ≡ true) × ((flags.is_strict ≡ true) × TellsWarnings network.now file.now (string_bytes said.told))) }
     ensures err { IfErr result (EndsRun network.now file.now.bridges) }
 {
-    let RoundsJob {
-        network: _,
-        input,
-        output,
-        picture,
-        is_strict,
-        is_watched,
-    } = job;
-    let Ok(warnings) = warnings_if(rt.alloc(), file, network, is_strict) else {
-        return Err(memory_fault());
+    let Ok(warnings) = warnings_if(files.alloc(), file, network, flags.is_strict) else {
+        return Err(Fault::NoMemory);
     };
     if !warnings.as_str().is_empty() {
         return Ok(RoundsSaid {
@@ -376,27 +370,7 @@ fn run_accepted<H: AllocGlobal + Eprint + Files>(
             rounds: 0,
         });
     }
-    let wishes = Wishes {
-        is_strict,
-        is_watched,
-    };
-    let mut teller = Teller {
-        rt,
-        bridges: file.bridges(),
-        is_wanted: false,
-    };
-    match run_network(
-        rt,
-        file,
-        network,
-        input.as_str(),
-        output.as_str(),
-        picture,
-        wishes,
-        &mut teller,
-        taken,
-        cause,
-    ) {
+    match run_network(files, file, network, job, flags) {
         Ok((lines, rounds)) => Ok(ran(lines, rounds)),
         Err(fault) => Err(fault),
     }
@@ -421,29 +395,17 @@ fn ran(lines: RunLines, rounds: u32) -> RoundsSaid
     }
 }
 
-/// A run of a network that is asked for.
-#[derive(Drop)]
-pub struct RoundsJob {
+/// A run of a network that the arguments ask for.
+#[derive(Clone, Copy)]
+pub struct RoundsJob<'a> {
     /// The path of the network.
-    pub network: String,
+    pub network: &'a str,
     /// The path of the folder that is read.
-    pub input: String,
+    pub input: &'a str,
     /// The path of the folder that is written.
-    pub output: String,
+    pub output: &'a str,
     /// The path of a picture of the run, if one is made.
-    pub picture: Option<String>,
-    /// Whether a warning of `net check`, a lost frame and a missed deadline are faults.
-    pub is_strict: bool,
-    /// Whether a long run says on standard error how far it is: in which round which bridge runs.
-    pub is_watched: bool,
-}
-
-/// Returns the files of some paths, and the file into which standard output goes, if it is a regular one: no output may be one of
-/// them.
-fn taken_at<H: AllocGlobal + Files>(rt: &H, paths: &[String]) -> Result<Vec<FileId>, NoMemory> {
-    let mut taken = files_at(rt, paths)?;
-    take_standard(rt, &mut taken)?;
-    Ok(taken)
+    pub picture: &'a Option<String>,
 }
 
 /// What is printed for a run of the network of a file whose plans lie beside it, where it is accepted: the captures of the open
@@ -459,37 +421,31 @@ fn taken_at<H: AllocGlobal + Files>(rt: &H, paths: &[String]) -> Result<Vec<File
 ///
 /// Faults in this order: those of `network_job`; `File` of the empty path if IN or OUT is empty; what comes to each bridge; the
 /// folders and files that are written; the run, `Rounds` of a capture, or where frames may go round and something still changes after
-/// 64 rounds; then the writing. What the outputs hold stays until the run is done. The cause of a file that fails is noted, except for
-/// the network's and its plans'.
-pub fn rounds_noted<H: AllocGlobal + Eprint + Files>(
-    rt: &H,
-    job: RoundsJob,
-    cause: &mut Option<Cause>,
+/// 64 rounds; then the writing. What the outputs hold stays until the run is done.
+pub fn run_rounds<H: AllocGlobal + Eprint + Files>(
+    files: &mut CommandFiles<'_, H>,
+    job: &RoundsJob<'_>,
+    flags: Flags,
 ) -> Result<RoundsSaid, Fault>
     ensures ok { IfOk result (λ said. IfSome said.line (λ line. PrintsRounds Global (string_bytes line))) }
     ensures rounds { IfOk result (λ said. IfSome said.line (λ line. PrintsRoundsIn Global (string_bytes line) said.rounds)) }
-    ensures told { IfOk result (λ said. IfSome said.line (λ line. PrintsRunLosses Global job.is_strict (string_bytes line) said.rounds (string_bytes said.told))) }
+    ensures told { IfOk result (λ said. IfSome said.line (λ line. PrintsRunLosses Global flags.is_strict (string_bytes line) said.rounds (string_bytes said.told))) }
     ensures lossy { IfOk result (λ said. IfSome said.line (λ _. said.is_lossy ≡ has_lines (string_bytes said.told))) }
-    ensures named { IfOk result (λ said. IfSome said.line (λ _. HavePaths (string_bytes job.input) (string_bytes job.output))) }
+    ensures named { IfOk result (λ said. IfSome said.line (λ _. HavePaths job.now.input.now job.now.output.now)) }
     ensures warned { IfOk result (λ said. said.is_warned ≡ true → said.line ≡ None) }
-    ensures idle { IfOk result (λ said. said.line ≡ None → (said.is_warned ≡ true) × ((job.is_strict ≡ true) × PrintsWarnings Global (string_bytes said.told))) }
-    ensures err { IfErr result (EndsRounds Global (string_bytes job.network)) }
+    ensures idle { IfOk result (λ said. said.line ≡ None → (said.is_warned ≡ true) × ((flags.is_strict ≡ true) × PrintsWarnings Global (string_bytes said.told))) }
+    ensures err { IfErr result (EndsRounds Global job.now.network.now) }
 {
-    let alloc = rt.alloc();
-    let copy = String::from_str(alloc, job.network.as_str())?;
-    let file = read_network(rt, copy)?;
-    let plans = read_plans(rt, job.network.as_str(), file.bridges())?;
-    let Ok(paths) = paths_of(alloc, job.network.as_str(), &file) else {
+    let alloc = files.alloc();
+    let file = read_network(alloc, files, job.network)?;
+    let plans = read_plans(alloc, files, job.network, file.bridges())?;
+    let Ok(()) = files.note_standard_output() else {
         drop(plans);
-        return Err(memory_fault());
-    };
-    let Ok(taken) = taken_at(rt, &paths) else {
-        drop(plans);
-        return Err(memory_fault());
+        return Err(Fault::NoMemory);
     };
     match tested(alloc, alloc, &file, plans) {
         Ok(network) => {
-            let told = run_accepted(rt, &file, &network, job, taken, cause);
+            let told = run_accepted(files, &file, &network, job, flags);
             drop(network);
             told
         }

@@ -1,49 +1,41 @@
 //! The commands of networks: `net check`, `net`, and `picture` for a network.
-ghost use Rattle.std.specs.Prelude.{[], ◌≡◌, ◌⊎◌, IfErr, IfOk, None, false, string_bytes};
+ghost use Rattle.std.specs.Prelude.{[], ◌≡◌, IfErr, IfOk, false, string_bytes};
 ghost use Rattle.std.specs.declared.alloc.Global.{Global};
 ghost use Rattle.net_check.specs.Networks.{EndsNetwork};
-ghost use Rattle.app_files.specs.Said.{IsStandard};
-ghost use Rattle.app_commands.specs.ShownFiles.{IsOfPicture};
 ghost use Rattle.app_networks.specs.Folders.{EndsRounds};
 ghost use Rattle.app_commands.specs.CommandOutputs.{IsPictureOutput};
 ghost use Rattle.app_networks.specs.Networks.{FailsNetworkPicture, IsNetworkOutput, IsNetworkRunOutput, IsOutputOfCheck, IsOutputOfRun, IsWithRounds};
 
 use crate::again::can_read_network_again;
-use crate::drawing::{NetworkPicture, network_picture};
-use crate::job::{RoundsJob, RoundsSaid, rounds_noted};
-use crate::refused_networks::{of_network, of_rounds};
+use crate::drawing::network_picture;
+use crate::job::{RoundsJob, RoundsSaid, run_rounds};
 use app_commands::{
-    Output, Refusal, Wishes, line_or_nothing, of_file, picture_apart, print_text, status_if,
-    unexplained, write_picture,
+    Flags, Output, line_or_nothing, picture_apart, print_text, put_picture, status_if,
 };
-use app_failure::{Cause, Fault, NoMemory};
-use app_files::is_standard;
-use net_check::{NetworkSaid, explain_refusable_streams, memory_fault, network_job};
+use app_failure::{Fault, NoMemory};
+use app_files::{CommandFiles, is_standard};
+use net_check::{NetworkSaid, explain_refusable_streams, network_job};
 use std::alloc::Global;
 use std::rt::Files;
 
 /// Checks the network of a file. The status is 1 if a stream is refusable or late; it is also 1 if a warning is a fault and the
 /// network has one.
-pub(crate) fn check_network(
-    rt: &(impl AllocGlobal + Files),
-    path: String,
-    wishes: Wishes,
-) -> Result<Output, Refusal>
-    ensures ok { IfOk result (IsNetworkOutput wishes.is_strict wishes.is_explained) }
-    ensures fails { IfErr result (λ refusal. EndsNetwork Global (string_bytes path) refusal.fault) }
-    ensures plain { IfErr result (λ refusal. wishes.is_explained ≡ false → refusal.said ≡ None) }
+pub(crate) fn check_network<H: AllocGlobal + Files>(
+    files: &mut CommandFiles<'_, H>,
+    path: &str,
+    flags: Flags,
+) -> Result<Output, Fault>
+    ensures ok { IfOk result (IsNetworkOutput flags.is_strict flags.is_explained) }
+    ensures fails { IfErr result (EndsNetwork Global path.now) }
 {
-    let Ok(copy) = String::from_str(rt.alloc(), path.as_str()) else {
-        return Err(unexplained(memory_fault()));
-    };
-    let said = match network_job(rt, copy) {
+    let said = match network_job(files.alloc(), files, path) {
         Ok(said) => said,
-        Err(fault) => return Err(of_network(rt, path.as_str(), None, wishes, fault)),
+        Err(fault) => return Err(fault),
     };
-    let reasons = reasons_of(rt, path.as_str(), wishes.is_explained);
-    match output_of_check(said, reasons, wishes) {
+    let reasons = reasons_of(files.rt, path, flags.is_explained);
+    match output_of_check(said, reasons, flags) {
         Ok(output) => Ok(output),
-        Err(NoMemory) => Err(unexplained(memory_fault())),
+        Err(NoMemory) => Err(Fault::NoMemory),
     }
 }
 
@@ -64,11 +56,11 @@ fn reasons_of(rt: &(impl AllocGlobal + Files), path: &str, is_asked: bool) -> St
 }
 
 /// Returns the output of the check of an accepted network: its lines with its warnings, and the reasons of refusable streams.
-fn output_of_check(said: NetworkSaid, reasons: String, wishes: Wishes) -> Result<Output, NoMemory>
-    ensures { IfOk result (IsOutputOfCheck said wishes.is_strict reasons) }
+fn output_of_check(said: NetworkSaid, reasons: String, flags: Flags) -> Result<Output, NoMemory>
+    ensures { IfOk result (IsOutputOfCheck said flags.is_strict reasons) }
 {
     let NetworkSaid { lines, told, kept } = said;
-    let is_well = kept && !(wishes.is_strict && !told.as_str().is_empty());
+    let is_well = kept && !(flags.is_strict && !told.as_str().is_empty());
     let mut stdout = lines;
     let Ok(()) = stdout.push_str(told.as_str()) else {
         return Err(NoMemory);
@@ -82,32 +74,24 @@ fn output_of_check(said: NetworkSaid, reasons: String, wishes: Wishes) -> Result
 
 /// Runs a network. The status is 1 if a warning is a fault and the network has one, and nothing ran then; it is also 1 if a loss is a
 /// fault and a stream lost a frame or missed its deadline.
-pub(crate) fn run_network(
-    rt: &(impl AllocGlobal + Eprint + Files),
-    job: RoundsJob,
-    wishes: Wishes,
-) -> Result<Output, Refusal>
-    ensures ok { IfOk result (IsNetworkRunOutput job.is_strict wishes.is_explained) }
-    ensures fails { IfErr result (λ refusal. EndsRounds Global (string_bytes job.network) refusal.fault) }
-    ensures plain { IfErr result (λ refusal. wishes.is_explained ≡ false → refusal.said ≡ None) }
+pub(crate) fn run_network<H: AllocGlobal + Eprint + Files>(
+    files: &mut CommandFiles<'_, H>,
+    job: &RoundsJob<'_>,
+    flags: Flags,
+) -> Result<Output, Fault>
+    ensures ok { IfOk result (IsNetworkRunOutput flags.is_strict flags.is_explained) }
+    ensures fails { IfErr result (EndsRounds Global job.now.network.now) }
 {
-    let Ok(path) = String::from_str(rt.alloc(), job.network.as_str()) else {
-        return Err(unexplained(memory_fault()));
-    };
-    let Ok(input) = String::from_str(rt.alloc(), job.input.as_str()) else {
-        return Err(unexplained(memory_fault()));
-    };
-    let mut cause = None;
-    match rounds_noted(rt, job, &mut cause) {
-        Ok(said) => Ok(output_of_run(rt.alloc(), said, wishes)),
-        Err(fault) => Err(of_rounds(rt, path.as_str(), input.as_str(), cause, wishes, fault)),
+    match run_rounds(files, job, flags) {
+        Ok(said) => Ok(output_of_run(files.alloc(), said, flags)),
+        Err(fault) => Err(fault),
     }
 }
 
 /// Returns the output of the run of a network: its line, and the lines of lost and late streams. In an explanation the number of rounds
 /// stands behind these.
-fn output_of_run(alloc: Global, said: RoundsSaid, wishes: Wishes) -> Output
-    ensures { IsOutputOfRun said wishes.is_explained result }
+fn output_of_run(alloc: Global, said: RoundsSaid, flags: Flags) -> Output
+    ensures { IsOutputOfRun said flags.is_explained result }
 {
     let status = said.status();
     let RoundsSaid {
@@ -120,7 +104,7 @@ fn output_of_run(alloc: Global, said: RoundsSaid, wishes: Wishes) -> Output
     let has_run = line.is_some();
     Output {
         stdout: line_or_nothing(alloc, line),
-        stderr: with_rounds(alloc, told, rounds, wishes.is_explained && has_run),
+        stderr: with_rounds(alloc, told, rounds, flags.is_explained && has_run),
         status,
     }
 }
@@ -145,44 +129,26 @@ fn rounds_line(alloc: Global, rounds: u32) -> String {
 }
 
 /// Draws the network of a file into another file, or for standard output if that path is `-`.
-pub(crate) fn draw_network(
-    rt: &(impl AllocGlobal + Files),
-    path: String,
-    file: String,
-    wishes: Wishes,
-) -> Result<Output, Refusal>
-    ensures ok { IfOk result (IsPictureOutput (string_bytes file)) }
-    ensures fails { IfErr result (λ refusal. FailsNetworkPicture (string_bytes path) (string_bytes file) refusal.fault) }
-    ensures plain { IfErr result (λ refusal. wishes.is_explained ≡ false → refusal.said ≡ None) }
+pub(crate) fn draw_network<H: AllocGlobal + Files>(
+    files: &mut CommandFiles<'_, H>,
+    path: &str,
+    file: &str,
+) -> Result<Output, Fault>
+    ensures ok { IfOk result (IsPictureOutput file.now) }
+    ensures fails { IfErr result (FailsNetworkPicture path.now file.now) }
 {
-    let picture = match network_picture(rt, path.as_str()) {
-        Ok(picture) => picture,
-        Err(fault) => return Err(of_network(rt, path.as_str(), None, wishes, fault)),
+    let text = match network_picture(files.alloc(), files, path) {
+        Ok(text) => text,
+        Err(fault) => return Err(fault),
     };
-    let mut cause = None;
-    match put_network(rt, picture, file, &mut cause) {
-        Ok(text) => Ok(print_text(rt.alloc(), text, 0)),
-        Err(fault) => Err(of_file(rt.alloc(), cause, wishes, fault)),
+    if is_standard(file) {
+        return match picture_apart(files, text) {
+            Ok(text) => Ok(print_text(files.alloc(), text, 0)),
+            Err(fault) => Err(fault),
+        };
     }
-}
-
-/// Writes the picture of a network into a file, and returns the text for standard output: the picture if the path is `-`, else nothing.
-/// The cause of a file that fails is noted.
-fn put_network(
-    rt: &(impl AllocGlobal + Files),
-    picture: NetworkPicture,
-    file: String,
-    cause: &mut Option<Cause>,
-) -> Result<String, Fault>
-    ensures ok { IfOk result (λ text. IsStandard (string_bytes file) ⊎ (string_bytes text ≡ [])) }
-    ensures fails { IfErr result (IsOfPicture (string_bytes file)) }
-{
-    let NetworkPicture { text, read } = picture;
-    if is_standard(file.as_str()) {
-        return picture_apart(rt, &read, text, cause);
-    }
-    match write_picture(rt, file, &read, text.as_str(), cause) {
-        Ok(()) => Ok(String::new(rt.alloc())),
+    match put_picture(files, file, text.as_str()) {
+        Ok(_) => Ok(print_text(files.alloc(), String::new(files.alloc()), 0)),
         Err(fault) => Err(fault),
     }
 }

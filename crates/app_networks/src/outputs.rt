@@ -1,25 +1,26 @@
 //! The files that a run of a network writes.
-ghost use Rattle.std.specs.Prelude.{IfErr};
-ghost use Rattle.app_networks.specs.Folders.{EndsFiles};
+ghost use Rattle.std.specs.Prelude.{◌≡◌, IfErr, IfOk, string_bytes};
+ghost use Rattle.app_failure.specs.Reading.{EndsFiles};
+ghost use Rattle.app_networks.specs.OutputFiles.{folder_path};
 
 use crate::refusing::name_at;
-use app_failure::{Cause, Fault};
+use app_failure::{Fault, NoMemory, file_failure};
 use app_files::{
-    FileId, Output, add_file, cause_of_write, create_all, file_at, is_one_of, output_apart,
-    report_path, take_outputs,
+    Cause, CommandFiles, FileId, Output, cause_of_write, failed_at, file_at, report_path,
 };
 use bridge_check::Accepted;
-use net_check::memory_fault;
 use net_file::BridgeRow;
-use std::alloc::{AllocError, Global};
+use std::alloc::Global;
 use std::fs;
 use std::fs::OpenFile;
 use std::io::Write;
 use std::rt::Files;
 
-/// The folder of a bridge in a folder.
-pub(crate) fn folder_of(alloc: Global, folder: &str, name: &str) -> Result<String, AllocError> {
-    format!(in alloc; "{folder}/{name}")
+/// Returns the path of the folder of a bridge in a folder.
+pub(crate) fn folder_of(alloc: Global, folder: &str, name: &str) -> Result<String, NoMemory>
+    ensures { IfOk result (λ path. string_bytes path ≡ folder_path folder.now name.now) }
+{
+    Ok(format!(in alloc; "{folder}/{name}")?)
 }
 
 /// What is written of a bridge: the captures of what left its ports, by rising number, and its report.
@@ -37,12 +38,12 @@ pub(crate) struct Outputs<F: Write + OpenFile + Drop> {
     pub(crate) frames: Output<F>,
 }
 
-/// The folders that are read, where the system tells which they are.
+/// Returns the folders that are read, as far as the system says which they are.
 fn folders_read<H: AllocGlobal + Files>(
     rt: &H,
     bridges: &[BridgeRow<Global>],
     input: &str,
-) -> Result<Vec<FileId>, AllocError> {
+) -> Result<Vec<FileId>, NoMemory> {
     let mut folders = Vec::new(rt.alloc());
     if let Some(folder) = file_at(rt, input) {
         folders.push(folder)?;
@@ -56,113 +57,121 @@ fn folders_read<H: AllocGlobal + Files>(
     Ok(folders)
 }
 
-/// Makes a folder, and those above it, where it isn't there. It is `File` of its path where it can't be made, or is one of
-/// those that are read, and its cause is noted.
-fn make_folder<H: AllocGlobal + Files>(
-    rt: &H,
-    path: &str,
-    read: &[FileId],
-    cause: &mut Option<Cause>,
-) -> Result<(), Fault>
+/// Makes a folder, and those above it, if there is none. A folder that is read is refused.
+fn make_folder<H: AllocGlobal + Files>(rt: &H, path: &str, read: &[FileId]) -> Result<(), Fault>
     ensures { IfErr result EndsFiles }
 {
-    if is_one_of(read, file_at(rt, path)) {
-        *cause = Some(Cause::SameFolder);
-    } else {
-        match fs::create_dir_all(rt, path) {
-            Ok(()) => return Ok(()),
-            Err(error) => *cause = Some(cause_of_write(rt, path, &error)),
+    if let Some(folder) = file_at(rt, path) {
+        if read.contains(&folder) {
+            return Err(file_failure(failed_at(rt.alloc(), path, Cause::SameFolder)));
         }
     }
-    match String::from_str(rt.alloc(), path) {
-        Ok(path) => Err(Fault::File(path)),
-        Err(_) => Err(memory_fault()),
+    match fs::create_dir_all(rt, path) {
+        Ok(()) => Ok(()),
+        Err(error) => {
+            let cause = cause_of_write(rt, path, &error);
+            Err(file_failure(failed_at(rt.alloc(), path, cause)))
+        }
     }
 }
 
-/// Opens a file to be written anew, and adds it to those that are taken. It is `File` of its path where it can't be opened or
-/// made, or is one of those taken, and its cause is noted.
+/// Opens the file at a path for writing. It wasn't in use and is in use then.
 pub(crate) fn open_output<H: AllocGlobal + Files>(
-    rt: &H,
-    path: String,
-    taken: &mut Vec<FileId>,
-    cause: &mut Option<Cause>,
+    files: &mut CommandFiles<'_, H>,
+    path: &str,
 ) -> Result<Output<H::File>, Fault>
     ensures { IfErr result EndsFiles }
 {
-    let Some(output) = output_apart(rt, path.as_str(), taken, cause) else {
-        return Err(Fault::File(path));
-    };
-    match add_file(taken, output.id()) {
-        Ok(()) => Ok(output),
-        Err(_) => Err(memory_fault()),
+    match files.create_new(path) {
+        Ok(output) => Ok(output),
+        Err(fault) => Err(file_failure(fault)),
     }
 }
 
-/// Opens a table in a folder to be written anew.
+/// Opens a table in a folder for writing.
 fn open_table<H: AllocGlobal + Files>(
-    rt: &H,
+    files: &mut CommandFiles<'_, H>,
     folder: &str,
     name: &str,
-    taken: &mut Vec<FileId>,
-    cause: &mut Option<Cause>,
 ) -> Result<Output<H::File>, Fault>
     ensures { IfErr result EndsFiles }
 {
-    match format!(in rt.alloc(); "{folder}/{name}.csv") {
-        Ok(path) => open_output(rt, path, taken, cause),
-        Err(_) => Err(memory_fault()),
+    match format!(in files.alloc(); "{folder}/{name}.csv") {
+        Ok(path) => open_output(files, path.as_str()),
+        Err(_) => Err(Fault::NoMemory),
     }
 }
 
-/// Opens the captures and the report of a bridge to be written anew, in its folder. No two of them are one file.
+/// Opens the captures of ports in a folder for writing. No two of them are one file.
+fn open_captures<H: AllocGlobal + Files>(
+    files: &mut CommandFiles<'_, H>,
+    folder: &str,
+    ports: &[u8],
+) -> Result<Vec<Output<H::File>>, Fault>
+    ensures { IfErr result EndsFiles }
+{
+    let outputs = match files.create_captures(folder, ports) {
+        Ok(outputs) => outputs,
+        Err(fault) => return Err(file_failure(fault)),
+    };
+    match files.note_captures(folder, ports) {
+        Ok(()) => Ok(outputs),
+        Err(fault) => {
+            drop(outputs);
+            Err(file_failure(fault))
+        }
+    }
+}
+
+/// Opens the captures and the report of a bridge for writing, in its folder. No two of them are one file.
 fn open_bridge<H: AllocGlobal + Files>(
-    rt: &H,
+    files: &mut CommandFiles<'_, H>,
     accepted: &Accepted<Global>,
     folder: &str,
-    taken: &mut Vec<FileId>,
-    cause: &mut Option<Cause>,
 ) -> Result<BridgeOutputs<H::File>, Fault>
     ensures { IfErr result EndsFiles }
 {
-    let Ok(ports) = accepted.plan().port_numbers(rt.alloc()) else {
-        return Err(memory_fault());
+    let Ok(ports) = accepted.plan().port_numbers(files.alloc()) else {
+        return Err(Fault::NoMemory);
     };
-    let taps = create_all(rt, folder, &ports, taken, cause)?;
-    take_outputs(rt, folder, &ports, taken, cause)?;
-    let Ok(path) = report_path(rt.alloc(), folder) else {
-        return Err(memory_fault());
+    let taps = open_captures(files, folder, &ports)?;
+    let Ok(path) = report_path(files.alloc(), folder) else {
+        drop(taps);
+        return Err(Fault::NoMemory);
     };
-    let report = open_output(rt, path, taken, cause)?;
-    Ok(BridgeOutputs { taps, report })
+    match open_output(files, path.as_str()) {
+        Ok(report) => Ok(BridgeOutputs { taps, report }),
+        Err(fault) => {
+            drop(taps);
+            Err(fault)
+        }
+    }
 }
 
 /// Opens what is written of each bridge.
 fn open_bridges<H: AllocGlobal + Files>(
-    rt: &H,
+    files: &mut CommandFiles<'_, H>,
     plans: &[Accepted<Global>],
     bridges: &[BridgeRow<Global>],
     input: &str,
     output: &str,
-    taken: &mut Vec<FileId>,
-    cause: &mut Option<Cause>,
 ) -> Result<Vec<BridgeOutputs<H::File>>, Fault>
     ensures { IfErr result EndsFiles }
 {
-    let Ok(read) = folders_read(rt, bridges, input) else {
-        return Err(memory_fault());
+    let Ok(read) = folders_read(files.rt, bridges, input) else {
+        return Err(Fault::NoMemory);
     };
-    make_folder(rt, output, &read, cause)?;
-    let mut all = Vec::new(rt.alloc());
+    make_folder(files.rt, output, &read)?;
+    let mut all = Vec::new(files.alloc());
     for accepted in plans {
         let name = name_at(bridges, all.len());
-        let Ok(folder) = folder_of(rt.alloc(), output, name) else {
-            return Err(memory_fault());
+        let Ok(folder) = folder_of(files.alloc(), output, name) else {
+            return Err(Fault::NoMemory);
         };
-        make_folder(rt, folder.as_str(), &read, cause)?;
-        let outputs = open_bridge(rt, accepted, folder.as_str(), taken, cause)?;
+        make_folder(files.rt, folder.as_str(), &read)?;
+        let outputs = open_bridge(files, accepted, folder.as_str())?;
         if all.push(outputs).is_err() {
-            return Err(memory_fault());
+            return Err(Fault::NoMemory);
         }
     }
     Ok(all)
@@ -171,26 +180,35 @@ fn open_bridges<H: AllocGlobal + Files>(
 /// Opens all files that a run of a network writes, in a folder with one for each bridge; folders that aren't there are made.
 /// What the files hold stays until they are written.
 ///
-/// `File` of a folder that can't be made or is one that is read, and of a file that can't be opened or made, or is one of
-/// those that are taken: of the folder, then by the order of the bridges the folder, the captures by rising port and the
-/// report, then of the tables.
+/// `File` of a folder that can't be made or is one that is read, and of a file that can't be opened or made, or is in use: of the
+/// folder, then by the order of the bridges the folder, the captures by rising port and the report, then of the tables.
 pub(crate) fn open_outputs<H: AllocGlobal + Files>(
-    rt: &H,
+    files: &mut CommandFiles<'_, H>,
     plans: &[Accepted<Global>],
     bridges: &[BridgeRow<Global>],
     input: &str,
     output: &str,
-    taken: &mut Vec<FileId>,
-    cause: &mut Option<Cause>,
 ) -> Result<Outputs<H::File>, Fault>
     ensures { IfErr result EndsFiles }
 {
-    let opened = open_bridges(rt, plans, bridges, input, output, taken, cause)?;
-    let streams = open_table(rt, output, "streams", taken, cause)?;
-    let frames = open_table(rt, output, "frames", taken, cause)?;
-    Ok(Outputs {
-        bridges: opened,
-        streams,
-        frames,
-    })
+    let opened = open_bridges(files, plans, bridges, input, output)?;
+    let streams = match open_table(files, output, "streams") {
+        Ok(streams) => streams,
+        Err(fault) => {
+            drop(opened);
+            return Err(fault);
+        }
+    };
+    match open_table(files, output, "frames") {
+        Ok(frames) => Ok(Outputs {
+            bridges: opened,
+            streams,
+            frames,
+        }),
+        Err(fault) => {
+            drop(opened);
+            drop(streams);
+            Err(fault)
+        }
+    }
 }

@@ -1,15 +1,13 @@
 //! The picture of a run of a network.
 ghost use Rattle.std.specs.Prelude.{IfErr};
-ghost use Rattle.app_networks.specs.Folders.{EndsFiles};
+ghost use Rattle.app_failure.specs.Reading.{EndsFiles};
 ghost use Rattle.app_networks.specs.InTime.{HaveViews};
 
 use crate::outputs::open_output;
 use crate::tables::{hop_name, runs_of};
-use crate::writing::write_whole;
-use app_failure::{Cause, Fault};
-use app_files::{FileId, Output};
+use app_failure::{Fault, file_failure};
+use app_files::{CommandFiles, Output, write_file};
 use bridge_limits::NoMemory;
-use net_check::memory_fault;
 use net_file::{BridgeRow, NetworkFile, StreamRow};
 use net_latency::QueueBound;
 use net_model::Network;
@@ -20,22 +18,17 @@ use std::fs::OpenFile;
 use std::io::Write;
 use std::rt::Files;
 
-/// Opens the file of a picture to be written anew, where one is asked for.
+/// Opens the file of a picture for writing, if one is asked for.
 pub(crate) fn open_picture<H: AllocGlobal + Files>(
-    rt: &H,
+    files: &mut CommandFiles<'_, H>,
     path: &Option<String>,
-    taken: &mut Vec<FileId>,
-    cause: &mut Option<Cause>,
 ) -> Result<Option<Output<H::File>>, Fault>
     ensures { IfErr result EndsFiles }
 {
     let Some(path) = path else {
         return Ok(None);
     };
-    let Ok(copy) = String::from_str(rt.alloc(), path.as_str()) else {
-        return Err(memory_fault());
-    };
-    match open_output(rt, copy, taken, cause) {
+    match open_output(files, path.as_str()) {
         Ok(output) => Ok(Some(output)),
         Err(fault) => Err(fault),
     }
@@ -170,7 +163,7 @@ pub(crate) fn put_picture<F: Write + OpenFile + Drop>(
     network: &Network<Global>,
     queues: &[Vec<QueueBound>],
     settled: &[Settled<Global>],
-    path: Option<String>,
+    path: &Option<String>,
     output: Option<Output<F>>,
 ) -> Result<(), Fault>
     requires { HaveViews settled.now file.now.streams }
@@ -187,11 +180,11 @@ pub(crate) fn put_picture<F: Write + OpenFile + Drop>(
         Ok(text) => text,
         Err(_) => {
             drop(output);
-            return Err(memory_fault());
+            return Err(Fault::NoMemory);
         }
     };
-    match write_whole(output, text.as_bytes()) {
-        Ok(()) => Ok(()),
-        Err(_) => Err(Fault::File(path)),
+    match write_file(alloc, path.as_str(), output, text.as_bytes()) {
+        Ok(_) => Ok(()),
+        Err(fault) => Err(file_failure(fault)),
     }
 }

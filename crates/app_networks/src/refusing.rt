@@ -7,7 +7,6 @@ use app_failure::{Fault, fault_line};
 use bridge_capture::RunFault;
 use bridge_limits::NoMemory;
 use bridge_schema::PlanFault;
-use net_check::memory_fault;
 use net_file::BridgeRow;
 use net_run::RoundsFault;
 use std::alloc::Global;
@@ -22,14 +21,14 @@ pub(crate) fn said_of_commands(alloc: Global, name: &str, fault: PlanFault) -> F
     ensures { SaysCommands name.now fault result }
 {
     let Ok((line, status)) = fault_line(alloc, &Fault::Commands(fault)) else {
-        return memory_fault();
+        return Fault::NoMemory;
     };
     if status != REFUSED_COMMANDS {
-        return memory_fault();
+        return Fault::NoMemory;
     }
     match format!(in alloc; "network refused: Commands {name}\n{line}") {
         Ok(line) => Fault::Network(line),
-        Err(_) => memory_fault(),
+        Err(_) => Fault::NoMemory,
     }
 }
 
@@ -74,11 +73,11 @@ pub(crate) fn said_of_run(alloc: Global, bridges: &[BridgeRow<Global>], fault: R
         RoundsFault::NotSettled { bridge, port } => {
             line_of_port(alloc, name_at(bridges, bridge), port)
         }
-        RoundsFault::NoMemory => return memory_fault(),
+        RoundsFault::NoMemory => return Fault::NoMemory,
     };
     match said {
         Ok(line) => Fault::Rounds(line),
-        Err(_) => memory_fault(),
+        Err(_) => Fault::NoMemory,
     }
 }
 

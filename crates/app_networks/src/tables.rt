@@ -3,16 +3,15 @@ ghost use Rattle.std.specs.Prelude.{◌≡◌, ℕ, IfErr, IfOk, OnOk, length, m
 ghost use Rattle.bridge_semantics.specs.declared.outcome.Outcome.{Outcome};
 ghost use Rattle.net_run.specs.Rounds.{AreOutcomes};
 ghost use Rattle.app_networks.specs.Counted.{CountsTo};
-ghost use Rattle.app_networks.specs.Folders.{EndsFiles};
+ghost use Rattle.app_failure.specs.Reading.{EndsFiles};
 ghost use Rattle.app_networks.specs.InTime.{AreRunsOf, HasView, HaveViews, HaveViewsOf, IsRunOf};
 ghost use Rattle.app_networks.specs.Tables.{TablesStream, WriteStreams, WriteTables, hop_text};
 
 use crate::refusing::name_at;
-use app_failure::Fault;
-use app_files::Output;
+use app_failure::{Fault, file_failure};
+use app_files::{Cause, Output, failed_at};
 use bridge_limits::NoMemory;
 use bridge_report::view_of;
-use net_check::memory_fault;
 use net_file::{BridgeRow, NetworkFile, StreamRow};
 use net_model::Link;
 use net_report::{
@@ -193,7 +192,10 @@ pub(crate) fn write_tables<V: Write, W: Write>(
 fn end_table<F: Write + OpenFile + Drop>(output: Output<F>) -> io::Result<()> {
     let mut output = output;
     output.flush()?;
-    output.finish()
+    match output.finish() {
+        Ok(_) => Ok(()),
+        Err(error) => Err(error),
+    }
 }
 
 /// Returns the fault of the tables in a folder.
@@ -203,11 +205,11 @@ fn fault_of(alloc: Global, folder: &str, fault: TableFault) -> Fault
     let path = match fault {
         TableFault::Broken(Table::Streams) => format!(in alloc; "{folder}/streams.csv"),
         TableFault::Broken(Table::Frames) => format!(in alloc; "{folder}/frames.csv"),
-        TableFault::NoMemory => return memory_fault(),
+        TableFault::NoMemory => return Fault::NoMemory,
     };
     match path {
-        Ok(path) => Fault::File(path),
-        Err(_) => memory_fault(),
+        Ok(path) => file_failure(failed_at(alloc, path.as_str(), Cause::NotWritable)),
+        Err(_) => Fault::NoMemory,
     }
 }
 

@@ -1,107 +1,136 @@
 //! What a run of a network writes of each bridge.
-ghost use Rattle.std.specs.Prelude.{IfErr};
-ghost use Rattle.app_networks.specs.Folders.{EndsFiles};
+ghost use Rattle.std.specs.Prelude.{IfErr, IfOk};
+ghost use Rattle.std.specs.Io.KnownBytes.{Appends};
+ghost use Rattle.bridge_report.specs.Section.{report_of};
+ghost use Rattle.app_failure.specs.Reading.{EndsFiles};
+ghost use Rattle.app_networks.specs.OutputFiles.{AreWrittenBy, IsBridgeWritten, IsTapWritten};
 
 use crate::outputs::{BridgeOutputs, folder_of};
-use app_failure::Fault;
-use app_files::{Output, capture_path, report_path};
+use app_failure::{Fault, file_failure};
+use app_files::{Cause, Output, capture_path, failed_at, finish_file, report_path, write_file};
 use bridge_capture::VecSink;
 use bridge_config::Plan;
 use bridge_report::{ReportFault, write_report};
 use bridge_semantics::Outcome;
-use net_check::memory_fault;
 use net_file::BridgeRow;
 use net_model::Network;
 use net_run::Settled;
 use std::alloc::Global;
 use std::fs::OpenFile;
-use std::io;
 use std::io::Write;
 
-/// Writes some octets as the whole of a file.
-pub(crate) fn write_whole<F: Write + OpenFile + Drop>(
+/// Writes the capture of what left a port of a bridge into its folder, and returns the file.
+fn put_tap<F: Write + OpenFile + Drop>(
+    alloc: Global,
+    folder: &str,
+    port: u8,
     output: Output<F>,
-    octets: &[u8],
-) -> io::Result<()> {
-    let mut output = output;
-    output.write_all(octets)?;
-    output.flush()?;
-    output.finish()
+    tap: &VecSink<Global>,
+) -> Result<Output<F>, Fault>
+    ensures written { IfOk result (IsTapWritten ⟦<Output<F> as Write>⟧.contents output tap.now) }
+    ensures fails { IfErr result EndsFiles }
+{
+    let Ok(path) = capture_path(alloc, folder, port) else {
+        drop(output);
+        return Err(Fault::NoMemory);
+    };
+    match write_file(alloc, path.as_str(), output, tap.octets()) {
+        Ok(output) => Ok(output),
+        Err(fault) => Err(file_failure(fault)),
+    }
 }
 
-/// Writes the captures of what left the ports of a bridge into its folder.
+/// Writes the captures of what left the ports of a bridge into its folder, and returns the files.
 fn put_taps<F: Write + OpenFile + Drop>(
     alloc: Global,
     folder: &str,
     ports: &[u8],
     outputs: Vec<Output<F>>,
     taps: &[VecSink<Global>],
-) -> Result<(), Fault>
-    ensures { IfErr result EndsFiles }
+) -> Result<Vec<Output<F>>, Fault>
+    ensures written { IfOk result (λ done. AreWrittenBy (IsTapWritten ⟦<Output<F> as Write>⟧.contents) outputs.items taps.now done.items) }
+    ensures fails { IfErr result EndsFiles }
 {
-    let mut place = 0usize;
+    let mut done = Vec::new(alloc);
     for output in outputs {
+        let place = done.len();
         if place >= taps.len() || place >= ports.len() {
-            return Err(memory_fault());
+            drop(output);
+            return Err(Fault::NoMemory);
         }
-        if write_whole(output, taps[place].octets()).is_err() {
-            return match capture_path(alloc, folder, ports[place]) {
-                Ok(path) => Err(Fault::File(path)),
-                Err(_) => Err(memory_fault()),
-            };
+        let written = match put_tap(alloc, folder, ports[place], output, &taps[place]) {
+            Ok(written) => written,
+            Err(fault) => return Err(fault),
+        };
+        match done.push(written) {
+            Ok(()) => {}
+            Err(_) => return Err(Fault::NoMemory),
         }
-        place += 1;
     }
-    Ok(())
+    Ok(done)
 }
 
-/// Writes the report of a bridge into its folder.
+/// Writes the report of a bridge into its folder, and returns the file.
 fn put_report<F: Write + OpenFile + Drop>(
     alloc: Global,
     folder: &str,
     outcome: &Outcome<Global>,
     output: Output<F>,
-) -> Result<(), Fault>
-    ensures { IfErr result EndsFiles }
+) -> Result<Output<F>, Fault>
+    ensures written { IfOk result (λ done. Appends (⟦<Output<F> as Write>⟧.contents output)
+        (⟦<Output<F> as Write>⟧.contents done) (report_of outcome.now.filters.items)) }
+    ensures fails { IfErr result EndsFiles }
 {
     let Ok(path) = report_path(alloc, folder) else {
-        return Err(memory_fault());
+        drop(output);
+        return Err(Fault::NoMemory);
     };
-    match write_report(alloc, outcome, output) {
-        Ok(output) => match output.finish() {
-            Ok(()) => Ok(()),
-            Err(_) => Err(Fault::File(path)),
-        },
-        Err(ReportFault::Broken) => Err(Fault::File(path)),
-        Err(ReportFault::NoMemory) => Err(memory_fault()),
+    let written = match write_report(alloc, outcome, output) {
+        Ok(written) => written,
+        Err(ReportFault::Broken) => {
+            return Err(file_failure(failed_at(alloc, path.as_str(), Cause::NotWritable)));
+        }
+        Err(ReportFault::NoMemory) => return Err(Fault::NoMemory),
+    };
+    match finish_file(alloc, path.as_str(), written) {
+        Ok(done) => Ok(done),
+        Err(fault) => Err(file_failure(fault)),
     }
 }
 
-/// Writes what a bridge told and what left its ports.
+/// Writes the captures and the report of a bridge into its folder, and returns the files.
 fn put_bridge<F: Write + OpenFile + Drop>(
     alloc: Global,
     plan: &Plan<Global>,
     folder: &str,
     settled: &Settled<Global>,
     outputs: BridgeOutputs<F>,
-) -> Result<(), Fault>
-    ensures { IfErr result EndsFiles }
+) -> Result<BridgeOutputs<F>, Fault>
+    ensures written { IfOk result (IsBridgeWritten ⟦<Output<F> as Write>⟧.contents outputs settled.now) }
+    ensures fails { IfErr result EndsFiles }
 {
     let Ok(ports) = plan.port_numbers(alloc) else {
         drop(outputs);
-        return Err(memory_fault());
+        return Err(Fault::NoMemory);
     };
     let BridgeOutputs { taps, report } = outputs;
-    match put_taps(alloc, folder, &ports, taps, &settled.taps) {
-        Ok(()) => put_report(alloc, folder, &settled.outcome, report),
+    let taps = match put_taps(alloc, folder, &ports, taps, &settled.taps) {
+        Ok(taps) => taps,
         Err(fault) => {
             drop(report);
+            return Err(fault);
+        }
+    };
+    match put_report(alloc, folder, &settled.outcome, report) {
+        Ok(report) => Ok(BridgeOutputs { taps, report }),
+        Err(fault) => {
+            drop(taps);
             Err(fault)
         }
     }
 }
 
-/// Writes what each bridge told and what left its ports, into the folder of its name in a folder.
+/// Writes the captures and the report of each bridge into the folder of its name in a folder, and returns the files.
 pub(crate) fn put_bridges<F: Write + OpenFile + Drop>(
     alloc: Global,
     network: &Network<Global>,
@@ -109,28 +138,36 @@ pub(crate) fn put_bridges<F: Write + OpenFile + Drop>(
     output: &str,
     settled: &[Settled<Global>],
     outputs: Vec<BridgeOutputs<F>>,
-) -> Result<(), Fault>
-    ensures { IfErr result EndsFiles }
+) -> Result<Vec<BridgeOutputs<F>>, Fault>
+    ensures written { IfOk result (λ done. AreWrittenBy (IsBridgeWritten ⟦<Output<F> as Write>⟧.contents) outputs.items settled.now done.items) }
+    ensures fails { IfErr result EndsFiles }
 {
     let plans = network.plans();
-    let mut place = 0usize;
+    let mut done = Vec::new(alloc);
     for opened in outputs {
+        let place = done.len();
         if place >= plans.len() || place >= settled.len() || place >= bridges.len() {
             drop(opened);
-            return Err(memory_fault());
+            return Err(Fault::NoMemory);
         }
         let Ok(folder) = folder_of(alloc, output, bridges[place].name()) else {
             drop(opened);
-            return Err(memory_fault());
+            return Err(Fault::NoMemory);
         };
-        put_bridge(
+        let written = match put_bridge(
             alloc,
             plans[place].plan(),
             folder.as_str(),
             &settled[place],
             opened,
-        )?;
-        place += 1;
+        ) {
+            Ok(written) => written,
+            Err(fault) => return Err(fault),
+        };
+        match done.push(written) {
+            Ok(()) => {}
+            Err(_) => return Err(Fault::NoMemory),
+        }
     }
-    Ok(())
+    Ok(done)
 }

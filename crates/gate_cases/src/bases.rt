@@ -4,7 +4,6 @@ ghost use Rattle.bridge_text.specs.Growth.{HasGrown};
 
 use crate::case::halves;
 use app_failure::Fault;
-use bridge_capture::RunFault;
 use bridge_config::{Plan, plan_of};
 use bridge_text::Text;
 use std::alloc::Global;
@@ -25,7 +24,7 @@ pub fn bases_of(alloc: Global, pieces: String, more: &str) -> Result<Bases, Faul
     let mut text = Text::new(alloc);
     put_changed(&mut text, pieces.as_str(), END, more);
     let Ok(text) = text.done() else {
-        return Err(Fault::Run(RunFault::NoMemory));
+        return Err(Fault::NoMemory);
     };
     match plan_of(alloc, alloc, text.as_bytes()) {
         Ok(plan) => Ok(Bases { pieces, plan }),

@@ -4,11 +4,10 @@ use crate::adding::add_debug;
 use crate::fault_lines::put_status;
 use crate::short::{is_refused, put_refused};
 use app_cli::{
-    Job, TableRequest, job_of, picture_request_of, table_request_of, wants_explanation,
+    Job, TableRequest, WordsFault, job_of, picture_request_of, table_request_of, wants_explanation,
     wants_strictness,
 };
 use app_failure::Fault;
-use bridge_capture::RunFault;
 use bridge_text::Text;
 use fixture_alloc::Ending;
 use std::alloc::{AllocError, Global};
@@ -67,7 +66,7 @@ fn put_read(alloc: Global, said: &mut Text<Global>, words: &[String]) {
             put_picture(alloc, said, words);
             put_tables(alloc, said, words);
         }
-        Err(fault) => put_status(alloc, said, &fault),
+        Err(fault) => put_status(alloc, said, &fault_of(fault)),
     }
 }
 
@@ -91,7 +90,7 @@ fn put_picture(alloc: Global, said: &mut Text<Global>, words: &[String]) {
             said.put("\n");
         }
         Ok(None) => {}
-        Err(fault) => put_status(alloc, said, &fault),
+        Err(fault) => put_status(alloc, said, &fault_of(fault)),
     }
 }
 
@@ -108,7 +107,7 @@ fn put_tables(alloc: Global, said: &mut Text<Global>, words: &[String]) {
             add_debug(alloc, said, &tables);
             said.put("\n");
         }
-        Err(fault) => put_status(alloc, said, &fault),
+        Err(fault) => put_status(alloc, said, &fault_of(fault)),
     }
 }
 
@@ -123,11 +122,19 @@ pub fn put_short_lines(alloc: Global, said: &mut Text<Global>) {
     }
 }
 
+/// Returns the fault of the program for words that are refused.
+pub fn fault_of(fault: WordsFault) -> Fault {
+    match fault {
+        WordsFault::Words => Fault::Words,
+        WordsFault::NoMemory => Fault::NoMemory,
+    }
+}
+
 /// How the words of a job are read.
 fn job_ending(alloc: Global, words: &[String]) -> Ending {
     match job_of(alloc, words) {
         Ok(_) => Ending::Whole,
-        Err(Fault::Run(RunFault::NoMemory)) => Ending::NoMemory,
+        Err(WordsFault::NoMemory) => Ending::NoMemory,
         Err(_) => Ending::Wrong,
     }
 }

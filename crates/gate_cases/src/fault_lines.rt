@@ -3,6 +3,7 @@
 use crate::growths::{growths_of_count, growths_of_line, put_growths};
 use app_commands::wire_line;
 use app_failure::{Fault, TextFault, fault_line};
+use app_files::{Cause, FileError};
 use bridge_capture::{CaptureFault, RunFault};
 use bridge_check::CheckFault;
 use bridge_cycle::ListFault;
@@ -199,7 +200,10 @@ fn put_plans(alloc: Global, said: &mut Text<Global>) {
 /// Puts the faults that have a path or a line of their own.
 fn put_named(alloc: Global, said: &mut Text<Global>) {
     match String::from_str(alloc, "a/b.pcap") {
-        Ok(path) => put(alloc, said, &Fault::File(path)),
+        Ok(path) => {
+            let cause = Cause::Unknown;
+            put(alloc, said, &Fault::File(FileError { path, cause }));
+        }
         Err(_) => said.give_up(),
     }
     match String::from_str(alloc, "network refused: LinkTwice link 2 a.1") {

@@ -4,7 +4,6 @@ use crate::bases::{Bases, bases_of};
 use crate::outcome::{Finding, found};
 use crate::reading::text_in;
 use app_failure::{Fault, print};
-use bridge_capture::RunFault;
 use bridge_text::Text;
 use std::alloc::Global;
 use std::rt::Files;
@@ -51,7 +50,7 @@ fn judge_file(
 pub fn print_text(rt: &(impl AllocGlobal + Print), said: Text<Global>) -> Result<(), Fault> {
     match said.done() {
         Ok(said) => print(rt, said.as_str()),
-        Err(_) => Err(Fault::Run(RunFault::NoMemory)),
+        Err(_) => Err(Fault::NoMemory),
     }
 }
 

@@ -27,7 +27,8 @@ mod told_cases;
 mod told_faults;
 mod told_jobs;
 
-use app_failure::{Fault, end, words_of};
+use app_cli::words_of;
+use app_failure::{Fault, end};
 use judging::judged;
 use std::process::ExitCode;
 use std::rt::{Env, Files};
@@ -43,7 +44,9 @@ fn main(rt: HostRuntime) -> ExitCode {
 
 /// Judges the cases before the word `told`, and tells of those behind it; whether all are as they say.
 fn run(rt: &(impl AllocGlobal + Print + Env + Files)) -> Result<bool, Fault> {
-    let words = words_of(rt)?;
+    let Ok(words) = words_of(rt) else {
+        return Err(Fault::Words);
+    };
     let Some(place) = words.iter().position(|word| word.as_str() == "told") else {
         return Err(Fault::Words);
     };

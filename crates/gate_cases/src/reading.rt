@@ -1,5 +1,6 @@
 //! Files as texts.
-use app_failure::{Fault, read_at_most};
+use app_failure::{Fault, file_failure};
+use app_files::{Cause, failed_at, read_at_most};
 use std::fs;
 use std::rt::Files;
 
@@ -7,7 +8,7 @@ use std::rt::Files;
 pub fn text_in(rt: &(impl AllocGlobal + Files), path: &str) -> Result<String, Fault> {
     match read(rt, path) {
         Some(text) => Ok(text),
-        None => Err(Fault::File(String::from_str(rt.alloc(), path)?)),
+        None => Err(file_failure(failed_at(rt.alloc(), path, Cause::Unknown))),
     }
 }
 

@@ -2,7 +2,7 @@
 
 use crate::adding::add;
 use crate::captures::put_of_captures;
-use crate::command_lines::words_in;
+use crate::command_lines::{fault_of, words_in};
 use crate::parts::put_of_parts;
 use crate::told_jobs::put_of_job;
 use app_cli::job_of;
@@ -131,7 +131,7 @@ fn put_of_words(alloc: Global, said: &mut Text<Global>, text: &str) {
     match words_in(alloc, text) {
         Ok(words) => match job_of(alloc, &words).err() {
             None => said.put("accepted\n"),
-            Some(fault) => put_line(alloc, said, &fault, explain_words(alloc, &words)),
+            Some(fault) => put_line(alloc, said, &fault_of(fault), explain_words(alloc, &words)),
         },
         Err(_) => said.give_up(),
     }

@@ -2,7 +2,8 @@
 
 use crate::adding::add;
 use crate::told_cases::put_line;
-use app_failure::{Cause, Fault, TextFault};
+use app_failure::{Fault, TextFault};
+use app_files::Cause;
 use bridge_capture::{CaptureFault, RunFault};
 use bridge_check::CheckFault;
 use bridge_config::plan_of;
@@ -43,7 +44,7 @@ const CAUSES: &[Cause] = &[
     Cause::NotReadable,
     Cause::NotWritable,
     Cause::SameFolder,
-    Cause::Taken,
+    Cause::InUse,
     Cause::Standard,
     Cause::Unknown,
 ];

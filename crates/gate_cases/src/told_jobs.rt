@@ -85,8 +85,7 @@ fn done<A: Allocator + Copy>(
     text: &str,
 ) -> Result<String<A>, Fault> {
     if heading.starts_with("check") {
-        let path = String::from_str(heap, "PLAN")?;
-        check_job(alloc, heap, path, text.as_bytes())
+        check_job(alloc, heap, "PLAN", text.as_bytes())
     } else if heading.starts_with("run") {
         taken(alloc, heap, text)
     } else {
@@ -99,7 +98,6 @@ fn done<A: Allocator + Copy>(
 
 /// How many commands the plan before a line `--` takes from the text behind it, or from no file where there is none.
 fn taken<A: Allocator + Copy>(alloc: A, heap: Global, text: &str) -> Result<String<A>, Fault> {
-    let path = String::from_str(heap, "PLAN")?;
     let (plan, file) = match text.split_once("\n--\n") {
         Some((plan, commands)) => (
             plan,
@@ -107,7 +105,7 @@ fn taken<A: Allocator + Copy>(alloc: A, heap: Global, text: &str) -> Result<Stri
         ),
         None => (text, None),
     };
-    match plan_from(alloc, heap, path, plan.as_bytes()) {
+    match plan_from(alloc, heap, "PLAN", plan.as_bytes()) {
         Ok(plan) => counted(alloc, commanded(alloc, heap, plan, file)),
         Err(fault) => Err(fault),
     }

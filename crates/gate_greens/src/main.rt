@@ -37,7 +37,7 @@ fn run(rt: &(impl AllocGlobal + Print)) -> Result<bool, Fault> {
 fn print_said(rt: &(impl AllocGlobal + Print), said: Text<Global>) -> Result<(), Fault> {
     match said.done() {
         Ok(said) => print(rt, said.as_str()),
-        Err(_) => Err(Fault::Run(RunFault::NoMemory)),
+        Err(_) => Err(Fault::NoMemory),
     }
 }
 

@@ -56,7 +56,7 @@ fn perform(rt: &(impl AllocGlobal + Print)) -> Result<(), Fault> {
     match run(alloc, &accepted, &mut sinks) {
         Ok(outcome) => match report(alloc, &outcome) {
             Ok(text) => print(rt, text.as_str()),
-            Err(_) => Err(Fault::Run(RunFault::NoMemory)),
+            Err(_) => Err(Fault::NoMemory),
         },
         Err(fault) => Err(Fault::Run(fault)),
     }

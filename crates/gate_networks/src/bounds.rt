@@ -7,7 +7,8 @@ mod periods;
 mod running;
 
 use crate::of_run;
-use app_failure::{Fault, planned};
+use app_failure::{Fault, file_failure, planned};
+use app_files::{Cause, failed_at};
 use bridge_capture::RunFault;
 use bridge_check::Accepted;
 use bridge_text::Text;
@@ -107,10 +108,9 @@ pub fn run(rt: &(impl AllocGlobal + Files), said: &mut Text<Global>) -> Result<b
 
 /// The plan of a file.
 fn plan_at(rt: &(impl AllocGlobal + Files), file: &str) -> Result<Accepted<Global>, Fault> {
-    let path = String::from_str(rt.alloc(), file)?;
     match fs::open(rt, file) {
-        Ok(reader) => planned(rt.alloc(), rt.alloc(), path, reader),
-        Err(_) => Err(Fault::File(path)),
+        Ok(reader) => planned(rt.alloc(), rt.alloc(), file, reader),
+        Err(_) => Err(file_failure(failed_at(rt.alloc(), file, Cause::Unknown))),
     }
 }
 

@@ -17,7 +17,7 @@ mod telling;
 mod verbs;
 mod ways;
 
-use app_failure::words_of;
+use app_cli::words_of;
 use case::Case;
 use said::Said;
 use std::fs;

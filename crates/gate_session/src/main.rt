@@ -9,7 +9,7 @@ mod files;
 mod pipes;
 mod sections;
 
-use app_failure::words_of;
+use app_cli::words_of;
 use app_networks::{Output, perform};
 use bridge_text::Text;
 use files::{change, count, double, first, holding, octets, octets_of, pad, pair_of, same, show};

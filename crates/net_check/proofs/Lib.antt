@@ -2,3 +2,4 @@ pub mod Folders
 pub mod Named
 pub mod Refused
 pub mod Told
+pub mod Plans

@@ -10,7 +10,8 @@ use Rattle.net_check.specs.Networks.{IsMadeOf, RefusesNetwork, RefusesPeriods}
 
 pub refused_for : {A : Type 0} (f : file.Network) (plans : List (Plan A)) (n : Parts A) (e : Fault) → IsMadeOf f plans n → first_fault n ≡ None → RefusesPeriods f n.plans e → RefusesNetwork f plans e
 refused_for f plans n (fault.Network line) made accepted refused = (n, made, inr (accepted, refused))
-refused_for f plans n (fault.Run e) made accepted refused = refused
+refused_for f plans n fault.NoMemory made accepted refused = refused
+refused_for f plans n (fault.Run e) made accepted refused = absurd refused
 refused_for f plans n (fault.Text x) made accepted refused = absurd refused
 refused_for f plans n (fault.Plan x) made accepted refused = absurd refused
 refused_for f plans n (fault.Check x) made accepted refused = absurd refused

@@ -1,12 +1,11 @@
 -- Networks of files: what is made of their text, and what is printed.
-use Rattle.std.specs.Prelude.{◌≡◌, ◌≢◌, ◌⊎◌, ◌==◌, ℕ, Bool, List, ◌++◌, if◌then◌else◌, map, slice_index, length, sum_by, option_map, Option, Some, None, Result, Err, Vec, codes, decimal, string_bytes}
+use Rattle.std.specs.Prelude.{◌≡◌, ◌≢◌, ◌⊎◌, ◌==◌, ℕ, Bool, List, [], ◌∷◌, ◌++◌, if◌then◌else◌, map, slice_get, slice_index, length, sum_by, take, option_map, Option, Some, None, Result, Ok, Err, Vec, codes, decimal, string_bytes}
 use Rattle.std.specs.Path.{rsplit_once}
 use Rattle.bridge_limits.specs.Members.{In}
 use Rattle.bridge_config.specs.Model.{Plan}
-use Rattle.bridge_capture.specs.declared.run_fault.RunFault.TheVariants as run
 use Rattle.app_failure.specs.declared.fault.Fault.{Fault}
 use Rattle.app_failure.specs.declared.fault.Fault.TheVariants as fault
-use Rattle.app_failure.specs.Jobs.{RefusesPlan}
+use Rattle.app_failure.specs.Jobs.{Accepts, RefusesPlan}
 use Rattle.app_failure.specs.Lines.{line_of as fault_line}
 use Rattle.app_failure.specs.Status.{status_of}
 use Rattle.net_file.specs.declared.fault.NetFault.{NetFault}
@@ -87,7 +86,7 @@ line_of bridges (network.NotFed stream hop) = of_hop (codes "NotFed") stream hop
 -- memory
 abbrev pub RefusesPeriods : {A : Type 0} → file.Network → List (Plan A) → Fault → Type 0
 RefusesPeriods f plans (fault.Network line) = (e : NetFault) × (first_misfit plans 1 f.streams ≡ Some e) × (string_bytes line ≡ text_line e)
-RefusesPeriods f plans (fault.Run e) = e ≡ run.NoMemory
+RefusesPeriods f plans fault.NoMemory = Unit {0}
 RefusesPeriods f plans e = ⊥
 
 -- why a network of these plans is refused: its first fault, by its line, or where it has none its periods; or want of memory
@@ -95,7 +94,7 @@ abbrev pub RefusesNetwork : {A : Type 0} → file.Network → List (Plan A) → 
 RefusesNetwork {A} f plans (fault.Network line) = (n : Parts A) × IsMadeOf f plans n
     × (((e : NetworkFault) × (first_fault n ≡ Some e) × (string_bytes line ≡ line_of f.bridges e))
     ⊎ ((first_fault n ≡ None) × RefusesPeriods f n.plans (fault.Network line)))
-RefusesNetwork f plans (fault.Run e) = e ≡ run.NoMemory
+RefusesNetwork f plans fault.NoMemory = Unit {0}
 RefusesNetwork f plans e = ⊥
 
 -- the lines of a network: that it is accepted, and how long frames of each stream take; and whether each stream that keeps a
@@ -119,7 +118,7 @@ pub record PrintsNetwork (A : Type 0) (lines told : List ℕ) (kept : Bool) : Ty
   pub are_lines : AreLinesOfNetwork file network lines kept
   pub are_told : AreWarnings file network told
 
--- THE FAULTS OF THE JOB
+-- THE FILES OF A NETWORK
 
 -- The folder of the file at `path`: what stands before the last `/` of the path, if it has one.
 abbrev pub folder_of : List ℕ → Option (List ℕ)
@@ -138,10 +137,33 @@ is_absolute path = slice_index path 0 == 47
 abbrev pub beside : List ℕ → List ℕ → List ℕ
 beside path file = if is_absolute file then file else in_folder (folder_of path) file
 
+-- Holds if `file` is the network of the file at `path`, if the octets of that file are known: `octets_at` gives them.
+abbrev pub IsNetworkAt : (List ℕ → Option (List ℕ)) → List ℕ → file.Network → Type 0
+IsNetworkAt octets_at path f = (text : List ℕ) → octets_at path ≡ Some text → network_of_text (take 1048577 text) ≡ Ok f
+
+-- Holds if `plan` is the plan of the file at `path`, if the octets of that file are known, and it isolates each of its protected filters.
+abbrev pub IsPlanAt : {A : Type 0} → (List ℕ → Option (List ℕ)) → List ℕ → Plan A → Type 0
+IsPlanAt octets_at path plan = (text : List ℕ) → octets_at path ≡ Some text → Accepts (take 1048577 text) plan
+
+-- Holds if these plans grew by the plan of the file at `path`.
+abbrev pub AddsPlanAt : {A : Type 0} → (List ℕ → Option (List ℕ)) → List ℕ → List (Plan A) → List (Plan A) → Type 0
+AddsPlanAt {A} octets_at path old new = (p : Plan A) × (new ≡ old ++ p ∷ []) × IsPlanAt octets_at path p
+
+-- Holds if each of these plans is that of the bridge in the same place: of the file that the network file at `path` names for it.
+abbrev pub ArePlansAt : {A : Type 0} → (List ℕ → Option (List ℕ)) → List ℕ → List Bridge → List (Plan A) → Type 0
+ArePlansAt {A} octets_at path bridges plans =
+    (i : ℕ) (b : Bridge) (p : Plan A) → slice_get bridges i ≡ Some b → slice_get plans i ≡ Some p → IsPlanAt octets_at (beside path b.plan) p
+
+-- The paths of the files of a network: its own, and those of the plans of its bridges.
+abbrev pub paths_of : List ℕ → List Bridge → List (List ℕ)
+paths_of path bridges = path ∷ map (λ (b : Bridge). beside path b.plan) bridges
+
+-- THE FAULTS OF THE JOB
+
 -- Holds if a fault of the program is the line of the text fault `e`, or that memory ran out.
 abbrev pub SaysText : NetFault → Fault → Type 0
 SaysText e (fault.Network line) = (e ≢ net.NoMemory) × (string_bytes line ≡ text_line e)
-SaysText e (fault.Run r) = r ≡ run.NoMemory
+SaysText e fault.NoMemory = Unit {0}
 SaysText e f = ⊥
 
 -- Holds if the network's text of at most 1,048,577 octets is refused: its first fault, by its line.
@@ -151,14 +173,14 @@ RefusesText line = (text : List ℕ) × (e : NetFault) × (network_of_text text 
 -- Holds if a reading of a network's text gives the fault whose line a fault of the program has, or memory ran out.
 abbrev pub RefusesTextBy : Result file.Network NetFault → Fault → Type 0
 RefusesTextBy reading (fault.Network line) = (e : NetFault) × (reading ≡ Err e) × (string_bytes line ≡ text_line e)
-RefusesTextBy reading (fault.Run r) = r ≡ run.NoMemory
+RefusesTextBy reading fault.NoMemory = Unit {0}
 RefusesTextBy reading f = ⊥
 
 -- Holds if the file at `path` has no network: it can't be read, its text is refused, or memory ran out.
 abbrev pub EndsText : List ℕ → Fault → Type 0
-EndsText path (fault.File p) = string_bytes p ≡ path
+EndsText path (fault.File e) = string_bytes e.path ≡ path
 EndsText path (fault.Network line) = RefusesText (string_bytes line)
-EndsText path (fault.Run e) = e ≡ run.NoMemory
+EndsText path fault.NoMemory = Unit {0}
 EndsText path f = ⊥
 
 -- The lines of a refused plan: that of the network, with the bridge's name, and the plan's own.
@@ -168,7 +190,7 @@ plan_lines name line = codes "network refused: Plan " ++ (name ++ (codes "\n" ++
 -- Holds if a fault of the program has the lines of a plan of the bridge `name`, refused by the fault `e`, or memory ran out.
 abbrev pub SaysPlan : List ℕ → Fault → Fault → Type 0
 SaysPlan name e (fault.Network line) = (status_of e ≡ 1) × (string_bytes line ≡ plan_lines name (fault_line e))
-SaysPlan name e (fault.Run r) = r ≡ run.NoMemory
+SaysPlan name e fault.NoMemory = Unit {0}
 SaysPlan name e f = ⊥
 
 -- Holds if the plan of the bridge `b` is refused with these lines: the text of a plan has this fault, or the plan isolates not
@@ -179,15 +201,15 @@ RefusesPlanOf A b lines = (text : List ℕ) × (e : Fault) × RefusesPlan A text
 -- Holds if a plan's text is refused with the lines that a fault of the program has, or memory ran out.
 abbrev pub RefusesPlanBy : (A : Type 0) → List ℕ → List ℕ → Fault → Type 0
 RefusesPlanBy A name text (fault.Network line) = (e : Fault) × RefusesPlan A text e × (status_of e ≡ 1) × (string_bytes line ≡ plan_lines name (fault_line e))
-RefusesPlanBy A name text (fault.Run r) = r ≡ run.NoMemory
+RefusesPlanBy A name text fault.NoMemory = Unit {0}
 RefusesPlanBy A name text f = ⊥
 
 -- Holds if the bridge `b` of the network file at `path` has no accepted plan: the plan's file can't be read, the plan is refused,
 -- or memory ran out.
 abbrev pub EndsPlanOf : (A : Type 0) → List ℕ → Bridge → Fault → Type 0
-EndsPlanOf A path b (fault.File p) = string_bytes p ≡ beside path b.plan
+EndsPlanOf A path b (fault.File e) = string_bytes e.path ≡ beside path b.plan
 EndsPlanOf A path b (fault.Network line) = RefusesPlanOf A b (string_bytes line)
-EndsPlanOf A path b (fault.Run e) = e ≡ run.NoMemory
+EndsPlanOf A path b fault.NoMemory = Unit {0}
 EndsPlanOf A path b f = ⊥
 
 -- Holds if one of the bridges has no accepted plan.
@@ -198,6 +220,6 @@ EndsPlans A path bridges f = (b : Bridge) × In b bridges × EndsPlanOf A path b
 -- network is refused, or memory ran out.
 abbrev pub EndsNetwork : (A : Type 0) → List ℕ → Fault → Type 0
 EndsNetwork A path f =
-    (f ≡ fault.Run run.NoMemory)
+    (f ≡ fault.NoMemory)
     ⊎ (EndsText path f
     ⊎ ((n : file.Network) × (EndsPlans A path n.bridges f ⊎ ((plans : List (Plan A)) × RefusesNetwork n plans f))))

@@ -7,6 +7,7 @@ use crate::network::{beside, links_of, read_network, read_plans, streams_of, tes
 use crate::open_streams::said_of_open;
 use crate::telling::push_rounds;
 use app_failure::Fault;
+use app_files::CommandFiles;
 use bridge_check::Accepted;
 use bridge_text::{Document, Text, put_text};
 use net_file::{NetFault, NetField, NetSection, NetworkFile, document_of, network_of};
@@ -30,9 +31,10 @@ pub fn explain_network<H: AllocGlobal + Files>(rt: &H, path: &str) -> Option<Str
         return None;
     };
     let asked = network_text(path, text, &table, &file);
-    match read_plans(rt, path, file.bridges()) {
+    let mut files = CommandFiles::new(rt);
+    match read_plans(alloc, &mut files, path, file.bridges()) {
         Ok(plans) => said_of_plans(alloc, asked, plans),
-        Err(Fault::File(place)) => said_of_path(alloc, asked, place.as_str()),
+        Err(Fault::File(error)) => said_of_path(alloc, asked, error.path.as_str()),
         Err(_) => None,
     }
 }
@@ -75,11 +77,11 @@ fn network_text<'a>(
 /// the plans beside it.
 pub fn explain_loops<H: AllocGlobal + Files>(rt: &H, path: &str) -> Option<String> {
     let alloc = rt.alloc();
-    let copy = String::from_str(alloc, path).ok()?;
-    let Ok(file) = read_network(rt, copy) else {
+    let mut files = CommandFiles::new(rt);
+    let Ok(file) = read_network(alloc, &mut files, path) else {
         return None;
     };
-    let Ok(plans) = read_plans(rt, path, file.bridges()) else {
+    let Ok(plans) = read_plans(alloc, &mut files, path, file.bridges()) else {
         return None;
     };
     let Ok(network) = tested(alloc, alloc, &file, plans) else {

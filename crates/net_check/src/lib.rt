@@ -12,9 +12,7 @@ mod telling;
 mod warnings;
 
 pub use explaining::{explain_loops, explain_network};
-pub use network::{
-    NetworkSaid, beside, memory_fault, network_job, read_network, read_plans, tested,
-};
+pub use network::{NetworkSaid, beside, network_job, paths_of, read_network, read_plans, tested};
 pub use refusable_streams::explain_refusable_streams;
 pub use refusing::said_of_network;
 pub use warnings::warnings_of;

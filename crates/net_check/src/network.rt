@@ -1,21 +1,20 @@
 //! Networks of files, from their text to their line.
-ghost use Rattle.std.specs.Prelude.{◌≡◌, ◌≤◌, ◌+◌, All, None, Vec, length, map, IfOk, IfErr, OnOk, option_map, string_bytes};
+ghost use Rattle.std.specs.Prelude.{◌≡◌, ◌≤◌, ℕ, All, List, None, Ok, Vec, length, map, IfOk, IfErr, OnOk, option_map, string_bytes};
 ghost use Rattle.net_file.specs.Document.{network_of_text};
 ghost use Rattle.net_file.specs.Model.{Stream};
 ghost use Rattle.net_model.specs.declared.links.StreamHop.{StreamHop as Hop};
 ghost use Rattle.net_model.specs.Refusing.{first_fault};
-ghost use Rattle.bridge_capture.specs.declared.run_fault.RunFault.{RunFault};
-ghost use Rattle.app_failure.specs.declared.fault.Fault.{Fault};
 ghost use Rattle.net_latency.specs.Bounds.{IsPlaced};
 ghost use Rattle.net_check.specs.Warnings.{AreWarnings};
-ghost use Rattle.net_check.specs.Networks.{AreLinesOfNetwork, EndsNetwork, EndsPlanOf, EndsPlans, EndsText, IsMadeOf, PrintsNetwork, RefusesNetwork, RefusesPeriods, RefusesPlanBy, RefusesTextBy, SaysPlan, SaysText, accepted_line, beside, folder_of, hops_in, is_absolute, link_in};
+ghost use Rattle.app_failure.specs.Jobs.{Accepts};
+ghost use Rattle.net_check.specs.Networks.{AddsPlanAt, AreLinesOfNetwork, ArePlansAt, EndsNetwork, EndsPlanOf, EndsPlans, EndsText, IsMadeOf, IsNetworkAt, IsPlanAt, PrintsNetwork, RefusesNetwork, RefusesPeriods, RefusesPlanBy, RefusesTextBy, SaysPlan, SaysText, accepted_line, beside, folder_of, hops_in, is_absolute, link_in, paths_of};
 ghost use Rattle.net_latency.specs.Streams.{AreBoundsOf, hop_in};
 ghost use Rattle.net_latency.specs.Talkers.{first_misfit};
 
 use crate::refusing::said_of_network;
 use crate::warnings::warnings_of;
-use app_failure::{Fault, accepted_of, fault_line as plan_line, fault_of_file, read_text};
-use bridge_capture::RunFault;
+use app_failure::{Fault, accepted_of, fault_line as plan_line, file_failure};
+use app_files::{MOST_TEXT, ReadFiles};
 use bridge_check::Accepted;
 use bridge_limits::NoMemory;
 use net_file::{BridgeRow, LinkRow, NetFault, NetworkFile, StreamRow, fault_line, network_of};
@@ -23,9 +22,7 @@ use net_latency::{
     QueueBound, StreamLines, bounds_of_all, first_misfit as misfit_in, hops_of, stream_lines,
 };
 use net_model::{End, Link, Network, StreamHop, check_network};
-use std::alloc::{AllocError, Allocator, Global};
-use std::fs;
-use std::rt::Files;
+use std::alloc::{Allocator, Global};
 
 /// The status of a plan that is refused, and not for want of memory.
 const REFUSED: u8 = 1;
@@ -75,13 +72,6 @@ pub(crate) fn streams_of<A: Allocator + Copy>(
     Ok(streams)
 }
 
-/// The fault of a growth that was refused.
-pub fn memory_fault() -> Fault
-    ensures { result ≡ Fault.Run RunFault.NoMemory }
-{
-    Fault::Run(RunFault::NoMemory)
-}
-
 /// The network, where the periods of its talkers suit its plans.
 fn suited<A: Allocator + Copy>(
     heap: Global,
@@ -98,7 +88,7 @@ fn suited<A: Allocator + Copy>(
     drop(network);
     match fault_line(heap, &fault) {
         Ok(line) => Err(Fault::Network(line)),
-        Err(_) => Err(memory_fault()),
+        Err(_) => Err(Fault::NoMemory),
     }
 }
 
@@ -119,12 +109,12 @@ pub fn tested<A: Allocator + Copy>(
 {
     let Ok(links) = links_of(alloc, file.links()) else {
         drop(plans);
-        return Err(memory_fault());
+        return Err(Fault::NoMemory);
     };
     let Ok(streams) = streams_of(alloc, file.streams()) else {
         drop(plans);
         drop(links);
-        return Err(memory_fault());
+        return Err(Fault::NoMemory);
     };
     match check_network(plans, links, streams) {
         Ok(network) => suited(heap, file, network),
@@ -133,7 +123,7 @@ pub fn tested<A: Allocator + Copy>(
             drop(refused);
             match said {
                 Ok(line) => Err(Fault::Network(line)),
-                Err(_) => Err(memory_fault()),
+                Err(_) => Err(Fault::NoMemory),
             }
         }
     }
@@ -198,26 +188,26 @@ fn lines_of<A: Allocator + Copy>(
 
 /// Reads the network of the file at a path.
 ///
-/// `File` if the file can't be read, `Network` with the line of the text's first fault, or `Run` with `NoMemory`.
-pub fn read_network<H: AllocGlobal + Files>(
-    rt: &H,
-    path: String,
+/// `File` if the file can't be read, `Network` with the line of the text's first fault, or `NoMemory`.
+pub fn read_network<F: ReadFiles>(
+    alloc: Global,
+    files: &mut F,
+    path: &str,
 ) -> Result<NetworkFile<Global>, Fault>
-    ensures { IfErr result (EndsText (string_bytes path)) }
+    ensures file { IfOk result (IsNetworkAt (F.octets_at files.old) path.now) }
+    ensures ends { IfErr result (EndsText path.now) }
+    ensures same { (p : List ℕ) → F.octets_at files.new p ≡ F.octets_at files.old p }
 {
-    let alloc = rt.alloc();
-    let Ok(reader) = fs::open(rt, path.as_str()) else {
-        return Err(Fault::File(path));
-    };
-    match read_text(alloc, reader) {
+    match files.read(path, MOST_TEXT) {
         Ok(text) => network_in(alloc, &text),
-        Err(fault) => Err(fault_of_file(path, fault)),
+        Err(fault) => Err(file_failure(fault)),
     }
 }
 
 /// Returns the network of a text, or its first fault.
 fn network_in(alloc: Global, text: &[u8]) -> Result<NetworkFile<Global>, Fault>
-    ensures { IfErr result (RefusesTextBy (network_of_text text.now)) }
+    ensures file { IfOk result (λ file. network_of_text text.now ≡ Ok file) }
+    ensures refused { IfErr result (RefusesTextBy (network_of_text text.now)) }
 {
     match network_of(alloc, alloc, text) {
         Ok(file) => Ok(file),
@@ -230,11 +220,11 @@ fn refused_text(alloc: Global, fault: &NetFault) -> Fault
     ensures { SaysText fault.now result }
 {
     if let NetFault::NoMemory = fault {
-        return memory_fault();
+        return Fault::NoMemory;
     }
     match fault_line(alloc, fault) {
         Ok(line) => Fault::Network(line),
-        Err(_) => memory_fault(),
+        Err(_) => Fault::NoMemory,
     }
 }
 
@@ -256,15 +246,15 @@ fn is_absolute(path: &str) -> bool
 }
 
 /// Returns the path of a file by its path in another file: an absolute path as it is, else the path in the folder of the other file.
-pub fn beside(alloc: Global, path: &str, file: &str) -> Result<String, AllocError>
+pub fn beside(alloc: Global, path: &str, file: &str) -> Result<String, NoMemory>
     ensures { IfOk result (λ place. string_bytes place ≡ beside path.now file.now) }
 {
     if is_absolute(file) {
-        return String::from_str(alloc, file);
+        return Ok(String::from_str(alloc, file)?);
     }
     match folder_of(path) {
-        Some(folder) => format!(in alloc; "{folder}/{file}"),
-        None => String::from_str(alloc, file),
+        Some(folder) => Ok(format!(in alloc; "{folder}/{file}")?),
+        None => Ok(String::from_str(alloc, file)?),
     }
 }
 
@@ -275,20 +265,21 @@ fn said_of_plan(alloc: Global, name: &str, fault: &Fault) -> Fault
     ensures { SaysPlan name.now fault.now result }
 {
     let Ok((line, status)) = plan_line(alloc, fault) else {
-        return memory_fault();
+        return Fault::NoMemory;
     };
     if status != REFUSED {
-        return memory_fault();
+        return Fault::NoMemory;
     }
     match format!(in alloc; "network refused: Plan {name}\n{line}") {
         Ok(line) => Fault::Network(line),
-        Err(_) => memory_fault(),
+        Err(_) => Fault::NoMemory,
     }
 }
 
 /// Returns the accepted plan of a text, or the fault of the network with the name of the bridge.
 fn plan_in(alloc: Global, name: &str, text: &[u8]) -> Result<Accepted<Global>, Fault>
-    ensures { IfErr result (RefusesPlanBy Global name.now text.now) }
+    ensures accepts { IfOk result (Accepts text.now) }
+    ensures refused { IfErr result (RefusesPlanBy Global name.now text.now) }
 {
     match accepted_of(alloc, alloc, text) {
         Ok(accepted) => Ok(accepted),
@@ -301,40 +292,41 @@ fn plan_in(alloc: Global, name: &str, text: &[u8]) -> Result<Accepted<Global>, F
 }
 
 /// Reads the plan of a bridge, if it is accepted. Its path is absolute, or relative to the folder of the network's file.
-pub(crate) fn read_plan<H: AllocGlobal + Files>(
-    rt: &H,
+pub(crate) fn read_plan<F: ReadFiles>(
+    alloc: Global,
+    files: &mut F,
     path: &str,
     bridge: &BridgeRow<Global>,
 ) -> Result<Accepted<Global>, Fault>
-    ensures { IfErr result (EndsPlanOf Global path.now bridge.now) }
+    ensures plan { IfOk result (IsPlanAt (F.octets_at files.old) (beside path.now bridge.now.plan)) }
+    ensures ends { IfErr result (EndsPlanOf Global path.now bridge.now) }
+    ensures same { (p : List ℕ) → F.octets_at files.new p ≡ F.octets_at files.old p }
 {
-    let alloc = rt.alloc();
     let Ok(place) = beside(alloc, path, bridge.plan()) else {
-        return Err(memory_fault());
+        return Err(Fault::NoMemory);
     };
-    let Ok(reader) = fs::open(rt, place.as_str()) else {
-        return Err(Fault::File(place));
-    };
-    match read_text(alloc, reader) {
+    match files.read(place.as_str(), MOST_TEXT) {
         Ok(text) => plan_in(alloc, bridge.name(), &text),
-        Err(fault) => Err(fault_of_file(place, fault)),
+        Err(fault) => Err(file_failure(fault)),
     }
 }
 
 /// Adds the plan of a bridge.
-fn push_plan<H: AllocGlobal + Files>(
-    rt: &H,
+fn push_plan<F: ReadFiles>(
+    alloc: Global,
+    files: &mut F,
     path: &str,
     bridge: &BridgeRow<Global>,
     plans: &mut Vec<Accepted<Global>>,
 ) -> Result<(), Fault>
-    ensures more { OnOk result (length plans.new.items ≡ length plans.old.items + 1) }
+    ensures more { OnOk result (AddsPlanAt (F.octets_at files.old) (beside path.now bridge.now.plan) plans.old.items plans.new.items) }
     ensures ends { IfErr result (EndsPlanOf Global path.now bridge.now) }
+    ensures same { (p : List ℕ) → F.octets_at files.new p ≡ F.octets_at files.old p }
 {
-    match read_plan(rt, path, bridge) {
+    match read_plan(alloc, files, path, bridge) {
         Ok(accepted) => match plans.push(accepted) {
             Ok(()) => Ok(()),
-            Err(_) => Err(memory_fault()),
+            Err(_) => Err(Fault::NoMemory),
         },
         Err(fault) => Err(fault),
     }
@@ -342,22 +334,41 @@ fn push_plan<H: AllocGlobal + Files>(
 
 /// Reads the plans of the bridges, in their order.
 ///
-/// `File` of a plan that can't be read, `Network` with the lines of one that is refused, or `Run` with `NoMemory`.
-pub fn read_plans<H: AllocGlobal + Files>(
-    rt: &H,
+/// `File` of a plan that can't be read, `Network` with the lines of one that is refused, or `NoMemory`.
+pub fn read_plans<F: ReadFiles>(
+    alloc: Global,
+    files: &mut F,
     path: &str,
     bridges: &[BridgeRow<Global>],
 ) -> Result<Vec<Accepted<Global>>, Fault>
     ensures each { IfOk result (λ plans. length plans.items ≡ length bridges.now) }
+    ensures plans { IfOk result (λ plans. ArePlansAt (F.octets_at files.old) path.now bridges.now plans.items) }
     ensures ends { IfErr result (EndsPlans Global path.now bridges.now) }
+    ensures same { (p : List ℕ) → F.octets_at files.new p ≡ F.octets_at files.old p }
 {
-    let mut plans = Vec::new(rt.alloc());
+    let mut plans = Vec::new(alloc);
     for bridge in bridges {
-        if let Err(fault) = push_plan(rt, path, bridge, &mut plans) {
+        if let Err(fault) = push_plan(alloc, files, path, bridge, &mut plans) {
             return Err(fault);
         }
     }
     Ok(plans)
+}
+
+/// Returns the paths of the files of a network: its own, and those of the plans of its bridges.
+pub fn paths_of(
+    alloc: Global,
+    path: &str,
+    bridges: &[BridgeRow<Global>],
+) -> Result<Vec<String>, NoMemory>
+    ensures { IfOk result (λ paths. map string_bytes paths.items ≡ paths_of path.now bridges.now) }
+{
+    let mut paths = Vec::new(alloc);
+    paths.push(String::from_str(alloc, path)?)?;
+    for bridge in bridges {
+        paths.push(beside(alloc, path, bridge.plan())?)?;
+    }
+    Ok(paths)
 }
 
 /// What is said of a network that is accepted.
@@ -399,30 +410,31 @@ fn said_of<A: Allocator + Copy>(
     })
 }
 
-/// What is printed for the network of a file whose plans lie beside it, where its streams are closed: one line that counts
-/// its bridges, links, streams and hops, and one for each stream with how long in ns a frame takes at most that goes once
-/// through each of its hops, from when it came to the first until it is out of the last, or, where its talker keeps a period,
-/// at worst and at best, and its jitter; and behind these what is told and not refused.
+/// Checks the network of the file at a path, with the plans that the file names. Returns one line that counts its bridges, links,
+/// streams and hops, and one line for each stream with its delays in ns: the worst and the best delay if its talker keeps a period, else
+/// the delay bound. Warnings are apart.
 ///
-/// Faults in this order: NET opened and read, its text; then by the order of the bridges the plan opened and read, its
-/// text, its check; then the tests on the network, and the periods of its talkers by its plans. `File` of a file, `Network`
-/// with the line of a refusal, and `Run` with `NoMemory`.
-pub fn network_job<H: AllocGlobal + Files>(rt: &H, path: String) -> Result<NetworkSaid, Fault>
+/// Faults in this order: the file opened and read, its text; then by the order of the bridges the plan opened and read, its text, its
+/// check; then the tests on the network, and the periods of its talkers by its plans. `File` of a file, `Network` with the line of a
+/// refusal, and `NoMemory`.
+pub fn network_job<F: ReadFiles>(
+    alloc: Global,
+    files: &mut F,
+    path: &str,
+) -> Result<NetworkSaid, Fault>
     ensures ok { IfOk result (λ said. PrintsNetwork Global (string_bytes said.lines)
         (string_bytes said.told) said.kept) }
-    ensures err { IfErr result (EndsNetwork Global (string_bytes path)) }
+    ensures err { IfErr result (EndsNetwork Global path.now) }
 {
-    let alloc = rt.alloc();
-    let copy = String::from_str(alloc, path.as_str())?;
-    let file = read_network(rt, copy)?;
-    let plans = read_plans(rt, path.as_str(), file.bridges())?;
+    let file = read_network(alloc, files, path)?;
+    let plans = read_plans(alloc, files, path, file.bridges())?;
     match tested(alloc, alloc, &file, plans) {
         Ok(network) => {
             let said = said_of(alloc, alloc, &file, &network);
             drop(network);
             match said {
                 Ok(said) => Ok(said),
-                Err(_) => Err(memory_fault()),
+                Err(_) => Err(Fault::NoMemory),
             }
         }
         Err(fault) => Err(fault),

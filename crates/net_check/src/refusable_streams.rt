@@ -8,6 +8,7 @@ ghost use Rattle.net_latency.specs.Bounds.{IsPlaced};
 
 use crate::network::{read_network, read_plans, tested};
 use crate::refusing::name_of;
+use app_files::CommandFiles;
 use bridge_bounds::filter_at;
 use bridge_config::Plan;
 use bridge_filter::FilterPlan;
@@ -26,11 +27,11 @@ use std::rt::Files;
 /// the first hop at which a frame may be refused, and the first condition that fails there.
 pub fn explain_refusable_streams<H: AllocGlobal + Files>(rt: &H, path: &str) -> Option<String> {
     let alloc = rt.alloc();
-    let copy = String::from_str(alloc, path).ok()?;
-    let Ok(file) = read_network(rt, copy) else {
+    let mut files = CommandFiles::new(rt);
+    let Ok(file) = read_network(alloc, &mut files, path) else {
         return None;
     };
-    let Ok(plans) = read_plans(rt, path, file.bridges()) else {
+    let Ok(plans) = read_plans(alloc, &mut files, path, file.bridges()) else {
         return None;
     };
     let Ok(network) = tested(alloc, alloc, &file, plans) else {

@@ -1,7 +1,6 @@
 -- What is printed of traffic.
 use Rattle.std.specs.Prelude.{◌≡◌, ◌⊎◌, ℕ, ◌-◌, Bool, true, false, ◌++◌, List, Option, None, Some, Ok, Err, flat_map, codes, decimal, string_bytes, take}
 use Rattle.bridge_config.specs.Model.{Plan}
-use Rattle.bridge_capture.specs.declared.run_fault.RunFault.TheVariants as run
 use Rattle.net_file.specs.declared.fault.NetFault.{NetFault}
 use Rattle.app_failure.specs.declared.fault.Fault.{Fault}
 use Rattle.app_failure.specs.declared.fault.Fault.TheVariants as fault
@@ -97,16 +96,16 @@ pub record PrintsTraffic (A : Type 0) (input words lines : List ℕ) (kept : Boo
 -- a fault of the program says this one of traffic, or that there was no memory for its line
 abbrev pub IsSaid : TrafficFault → Fault → Type 0
 IsSaid e (fault.Network line) = string_bytes line ≡ traffic_line e
-IsSaid e (fault.Run f) = f ≡ run.NoMemory
+IsSaid e fault.NoMemory = Unit {0}
 IsSaid e f = ⊥
 
 -- why a text gives no rows: it has a fault, or memory was refused
 abbrev pub RefusesRows : List ℕ → Fault → Type 0
-RefusesRows words f = (f ≡ fault.Run run.NoMemory) ⊎ ((e : NetFault) × (rows_of_text (take 1048577 words) ≡ Err e) × IsSaid (text.Text e) f)
+RefusesRows words f = (f ≡ fault.NoMemory) ⊎ ((e : NetFault) × (rows_of_text (take 1048577 words) ≡ Err e) × IsSaid (text.Text e) f)
 
 -- why rows give no figures: they don't suit the plan, or memory was refused
 abbrev pub RefusesTimings : {A : Type 0} → Plan A → List TrafficRow → Fault → Type 0
-RefusesTimings p rows f = (f ≡ fault.Run run.NoMemory) ⊎ ((e : TrafficFault) × (first_fault_from p 1 rows ≡ Some e) × IsSaid e f)
+RefusesTimings p rows f = (f ≡ fault.NoMemory) ⊎ ((e : TrafficFault) × (first_fault_from p 1 rows ≡ Some e) × IsSaid e f)
 
 -- Holds if the fault `f` ends the job over an accepted plan: the traffic file can't be read, its text is refused, or its rows are
 -- refused by the plan, in this order.
@@ -132,7 +131,7 @@ pub record PrintsRows (A : Type 0) (input words lines : List ℕ) (kept : Bool) 
 
 -- Holds if the fault `f` says why the traffic of the text `words` gives no rows, or memory ran out.
 abbrev pub RefusesWords : List ℕ → Fault → Type 0
-RefusesWords words f = (f ≡ fault.Run run.NoMemory) ⊎ ((e : NetFault) × (rows_of_text words ≡ Err e) × IsSaid (text.Text e) f)
+RefusesWords words f = (f ≡ fault.NoMemory) ⊎ ((e : NetFault) × (rows_of_text words ≡ Err e) × IsSaid (text.Text e) f)
 
 -- Holds if the fault `f` ends the job over an accepted plan: the traffic file can't be read, its text `words` is refused, or its rows
 -- are refused by the plan.

@@ -44,9 +44,8 @@ pub fn explain_traffic<H: AllocGlobal + Files>(
     let Ok(rows) = traffic_of(alloc, alloc, &octets) else {
         return None;
     };
-    let path = String::from_str(alloc, plan).ok()?;
     let reader = fs::open(rt, plan).ok()?;
-    let accepted = match planned(alloc, alloc, path, reader) {
+    let accepted = match planned(alloc, alloc, plan, reader) {
         Ok(accepted) => accepted,
         Err(_) => return None,
     };

@@ -6,7 +6,6 @@ ghost use Rattle.net_latency.specs.Printing.{AreLinesOf, PrintsBounds, bound_lin
 use crate::bounds::QueueBound;
 use crate::tight::tight_bounds_of;
 use app_failure::{Fault, planned};
-use bridge_capture::RunFault;
 use bridge_check::Accepted;
 use bridge_limits::NoMemory;
 use std::alloc::{AllocError, Allocator, Global};
@@ -65,13 +64,13 @@ pub(crate) fn lines_of<A: Allocator + Copy>(
 pub fn bounds_job<R: Read + Drop, A: Allocator + Copy>(
     alloc: A,
     heap: Global,
-    path: String,
+    path: &str,
     reader: R,
 ) -> Result<String<A>, Fault>
     ensures ok { (input : List ℕ) → R.remaining reader ≡ Some input
         → IfOk result (λ lines. PrintsBounds A input (string_bytes lines)) }
     ensures err { (input : List ℕ) → R.remaining reader ≡ Some input
-        → IfErr result (EndsCheck A (string_bytes path) input) }
+        → IfErr result (EndsCheck A path.now input) }
 {
     let accepted = match planned(alloc, heap, path, reader) {
         Ok(accepted) => accepted,
@@ -81,6 +80,6 @@ pub fn bounds_job<R: Read + Drop, A: Allocator + Copy>(
     drop(accepted);
     match told {
         Ok(lines) => Ok(lines),
-        Err(_) => Err(Fault::Run(RunFault::NoMemory)),
+        Err(_) => Err(Fault::NoMemory),
     }
 }

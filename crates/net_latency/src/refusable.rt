@@ -29,15 +29,13 @@ pub fn explain_refusable<H: AllocGlobal + Files>(
     traffic: &str,
 ) -> Option<String> {
     let alloc = rt.alloc();
-    let path = String::from_str(alloc, plan).ok()?;
-    let file = String::from_str(alloc, traffic).ok()?;
     let reader = fs::open(rt, plan).ok()?;
     let texts = fs::open(rt, traffic).ok()?;
-    let accepted = match planned(alloc, alloc, path, reader) {
+    let accepted = match planned(alloc, alloc, plan, reader) {
         Ok(accepted) => accepted,
         Err(_) => return None,
     };
-    let said = match rows_from(alloc, alloc, file, texts) {
+    let said = match rows_from(alloc, alloc, traffic, texts) {
         Ok(rows) => said_of_rows(alloc, &accepted, &rows),
         Err(_) => None,
     };

@@ -9,8 +9,8 @@ ghost use Rattle.net_latency.specs.TrafficText.{AreLinesOfTraffic, EndsTexts, En
 use crate::printing::lines_of;
 use crate::timings::{are_kept, timings_of, timings_text};
 use crate::traffic::traffic_fault;
-use app_failure::{Fault, fault_of_file, planned, read_text};
-use bridge_capture::RunFault;
+use app_failure::{Fault, fault_of_file, planned};
+use app_files::read_text;
 use bridge_check::Accepted;
 use bridge_limits::NoMemory;
 use net_file::{NetFault, TrafficFault, TrafficRow, traffic_fault_line as fault_line, traffic_of};
@@ -32,7 +32,7 @@ fn refused(heap: Global, fault: &TrafficFault) -> Fault
 {
     match fault_line(heap, fault) {
         Ok(line) => Fault::Network(line),
-        Err(_) => Fault::Run(RunFault::NoMemory),
+        Err(_) => Fault::NoMemory,
     }
 }
 
@@ -51,7 +51,7 @@ fn rows_in<A: Allocator + Copy>(
 {
     match traffic_of(alloc, heap, text) {
         Ok(rows) => Ok(rows),
-        Err(NetFault::NoMemory) => Err(Fault::Run(RunFault::NoMemory)),
+        Err(NetFault::NoMemory) => Err(Fault::NoMemory),
         Err(fault) => Err(refused(heap, &TrafficFault::Text(fault))),
     }
 }
@@ -60,20 +60,20 @@ fn rows_in<A: Allocator + Copy>(
 pub(crate) fn rows_from<R: Read + Drop, A: Allocator + Copy>(
     alloc: A,
     heap: Global,
-    path: String,
+    path: &str,
     reader: R,
 ) -> Result<Vec<TrafficRow, A>, Fault>
     ensures ok { (words : List ℕ) → R.remaining reader ≡ Some words → IfOk result (λ rows. ReadsRows words rows.items) }
     ensures rows { IfOk result (λ rows. All IsRow rows.items) }
     ensures few { IfOk result (λ rows. length rows.items ≤ 1024) }
     ensures err { (words : List ℕ) → R.remaining reader ≡ Some words
-        → IfErr result (λ f. IsOfFile (string_bytes path) f ⊎ RefusesRows words f) }
+        → IfErr result (λ f. IsOfFile path.now f ⊎ RefusesRows words f) }
     ensures read { IfOk result (λ rows. (words : List ℕ) × (rows_of_text words ≡ Ok rows.items)) }
-    ensures refused { IfErr result (λ f. IsOfFile (string_bytes path) f ⊎ ((words : List ℕ) × RefusesWords words f)) }
+    ensures refused { IfErr result (λ f. IsOfFile path.now f ⊎ ((words : List ℕ) × RefusesWords words f)) }
 {
     match read_text(heap, reader) {
         Ok(text) => rows_in(alloc, heap, &text),
-        Err(fault) => Err(fault_of_file(path, fault)),
+        Err(fault) => Err(fault_of_file(heap, path, fault)),
     }
 }
 
@@ -119,7 +119,7 @@ fn report_of<A: Allocator + Copy>(
     }
     match report_in(alloc, accepted, rows) {
         Ok(report) => Ok(report),
-        Err(_) => Err(Fault::Run(RunFault::NoMemory)),
+        Err(_) => Err(Fault::NoMemory),
     }
 }
 
@@ -131,24 +131,23 @@ fn report_of<A: Allocator + Copy>(
 pub fn traffic_job<R: Read + Drop, S: Read + Drop, A: Allocator + Copy>(
     alloc: A,
     heap: Global,
-    path: String,
+    path: &str,
     reader: R,
-    file: String,
+    file: &str,
     traffic: S,
 ) -> Result<TrafficReport<A>, Fault>
     ensures ok { (input words : List ℕ) → R.remaining reader ≡ Some input → S.remaining traffic ≡ Some words
         → IfOk result (λ r. PrintsTraffic A input words (string_bytes r.text) r.kept) }
     ensures err { (input words : List ℕ) → R.remaining reader ≡ Some input → S.remaining traffic ≡ Some words
-        → IfErr result (EndsTraffic A (string_bytes path) input (string_bytes file) words) }
+        → IfErr result (EndsTraffic A path.now input file.now words) }
     ensures read { (input : List ℕ) → R.remaining reader ≡ Some input
         → IfOk result (λ r. (words : List ℕ) × PrintsRows A input words (string_bytes r.text) r.kept) }
     ensures refused { (input : List ℕ) → R.remaining reader ≡ Some input
-        → IfErr result (λ f. (words : List ℕ) × EndsTexts A (string_bytes path) input (string_bytes file) words f) }
+        → IfErr result (λ f. (words : List ℕ) × EndsTexts A path.now input file.now words f) }
 {
     let accepted = match planned(alloc, heap, path, reader) {
         Ok(accepted) => accepted,
         Err(fault) => {
-            drop(file);
             drop(traffic);
             return Err(fault);
         }

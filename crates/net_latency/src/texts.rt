@@ -1,6 +1,6 @@
 //! Files that are read again for an explanation.
 
-use app_failure::read_text;
+use app_files::read_text;
 use bridge_text::{Document, Instance, Position, Text, put_position};
 use net_file::{BridgeRow, NetSection, NetworkFile};
 use std::alloc::Global;

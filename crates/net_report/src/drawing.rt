@@ -1,20 +1,22 @@
 //! A picture of how the frames of streams went through a run of a network.
-ghost use Rattle.std.specs.Prelude.{◌<◌};
+ghost use Rattle.std.specs.Prelude.{◌≤◌, IfOk, length, string_bytes};
 
 use crate::hop_run::HopRun;
-use crate::tallies::passes;
-use bridge_cycle::{END_OF_TURNS, Egress, Timeline, is_open};
+use crate::lanes::{put_window, put_windows};
+use crate::rows::put_hop;
+use bridge_cycle::Egress;
 use bridge_limits::NoMemory;
-use bridge_semantics::{Departure, Origin, View};
-use net_model::{Link, sender_of};
-use show_svg::{Shapes, Span, form_of};
+use bridge_semantics::View;
+use bridge_text::Text;
+use net_model::Link;
+use show_svg::{Bar, Element, Shapes, Size, Span, head_of, note_of};
 use std::alloc::{Allocator, Global};
 
 /// Where moments begin, in pixels from the left.
-const LEFT: u64 = 220;
+pub(crate) const LEFT: u64 = 220;
 
 /// How many pixels all moments of a picture take together.
-const WIDTH: u64 = 1000;
+pub(crate) const WIDTH: u64 = 1000;
 
 /// The pixels from one row to the next one.
 const ROW: u64 = 26;
@@ -22,47 +24,34 @@ const ROW: u64 = 26;
 /// Where the first row is, in pixels from the top.
 const TOP: u64 = 60;
 
-/// The turns of a list that are looked at for one queue, and the windows that are drawn of it at most.
-const MOST_TURNS: usize = 20_000;
-
-const MOST_WINDOWS: u32 = 500;
+/// The side of the squares in which windows that aren't drawn are hatched.
+const HATCHES: u64 = 7;
 
 /// The styles of all shapes.
 const STYLES: &str = ":root{color-scheme:light dark}\
 text{font:13px system-ui,sans-serif;fill:#222}.s{font-size:11px;fill:#666}.page{fill:#fff}\
 .row{stroke:#d5dae1}.open{fill:#cdeccf}.wait{fill:#f0b429}.out{fill:#2a7de1}.lost{fill:#d64545}.link{stroke:#8a94a3}\
-@media(prefers-color-scheme:dark){text{fill:#e6e6e6}.s{fill:#a0a0a0}.page{fill:#16181c}.row{stroke:#3a4048}.open{fill:#254d2b}}";
+.hatch{fill:url(#h)}.h0{stroke:#111;stroke-width:2;opacity:.6}\
+@media(prefers-color-scheme:dark){text{fill:#e6e6e6}.s{fill:#a0a0a0}.page{fill:#16181c}.row{stroke:#3a4048}.open{fill:#254d2b}.h0{stroke:#fff}}";
 
-/// What stands around the shapes of a picture.
-const HEAD: &str = r#"<svg xmlns="http://www.w3.org/2000/svg" viewBox="0 0 {0} {1}">
-<style>{a}</style>
-<rect class="page" width="100%" height="100%"/>
-<text class="s" x="12" y="24">{2} to {3} ns; yellow: waiting, blue: on the link, red: refused, green: queue open{b}</text>
-"#;
+/// What the shapes say, from one moment to another.
+const LEGEND: &str = "{0} to {1} ns; yellow: waiting, blue: on the link, green: queue open, \
+red triangle: refused by the filter (tip up) or dropped by a queue (tip down)";
+
+/// How many windows are drawn, and how many shapes aren't, where these aren't all.
+const WINDOWS_LEFT_OUT: &str = "; windows drawn: {0} of {1} (hatched: not drawn)";
 
 const LEFT_OUT: &str = "; not drawn: {0} shapes";
 
-/// A bar of a copy that left, so far from the left and the top and so wide; one of a frame that was refused; a way over a link; the
-/// row of a hop with its name; a window of a queue.
-const LEFT_BAR: &str =
-    r#"<rect class="{a}" x="{0}" y="{1}" width="{2}" height="12"><title>frame {3} arrived {4}, started {5}, ended {6} ns, port {7}</title></rect>"#;
-
-const LOST_BAR: &str =
-    r#"<rect class="lost" x="{0}" y="{1}" width="{2}" height="12"><title>refused</title></rect>"#;
-
-const LINK: &str = r#"<path class="link" d="M{0} {1}L{2} {3}"/>"#;
-
-const HOP: &str = r#"<text x="12" y="{0}">{a}</text><path class="row" d="M{1} {2}H{3}"/>"#;
-
-const WINDOW: &str =
-    r#"<rect class="open" x="{0}" y="{1}" width="{2}" height="20"><title>port {3} opens class {4}</title></rect>"#;
-
-/// A picture under way: the stretch of time that it shows, its rows so far, and its shapes.
+/// A picture under way: the stretch of time that it shows, its rows so far, how many windows their queues have and how many of these
+/// are drawn, and its shapes.
 #[derive(Drop)]
 pub struct RunPicture {
-    span: Span,
-    rows: u64,
-    shapes: Shapes,
+    pub(crate) span: Span,
+    pub(crate) rows: u64,
+    pub(crate) windows: u64,
+    pub(crate) drawn: u64,
+    pub(crate) shapes: Shapes,
 }
 
 /// A stretch of time with all moments of some hops.
@@ -88,171 +77,40 @@ fn span_of_view<A: Allocator>(view: &View<A>, span: Span) -> Span {
 }
 
 /// Where a moment is, in pixels from the left.
-fn place_of(picture: &RunPicture, moment: u64) -> u64 {
+pub(crate) fn place_of(picture: &RunPicture, moment: u64) -> u64 {
     LEFT + picture.span.along(moment, WIDTH)
 }
 
-/// Adds a shape, where there is room for it.
-fn put(picture: &mut RunPicture, form: &str, numbers: &[u64], word: &str) {
-    picture.shapes.put(form, numbers, &[word]);
+/// Adds an element, with the words that show where it is pointed at.
+pub(crate) fn put_titled(
+    picture: &mut RunPicture,
+    style: &str,
+    element: Element,
+    words: &str,
+    numbers: &[u64],
+    word: &str,
+) {
+    let shapes = &mut picture.shapes;
+    shapes.begin_titled(style, element);
+    shapes.add(words, numbers, &[word]);
+    shapes.end_titled(element);
+    shapes.end();
 }
 
 /// Where a row is, in pixels from the top.
-fn height_of(row: u64) -> u64 {
+pub(crate) fn height_of(row: u64) -> u64 {
     row.saturating_mul(ROW).saturating_add(TOP)
 }
 
-/// The moment at which a frame of a hop came, by its number there, from 1.
-fn came_at(origins: &[Origin], own: u64, other: u64) -> u64 {
-    if own == 0 {
-        return other;
-    }
-    match origins.get((own - 1) as usize) {
-        Some(origin) => origin.at,
-        None => other,
-    }
-}
-
-/// The place from the left of a bar between two moments, and its width.
-fn bar_of(picture: &RunPicture, from: u64, to: u64) -> (u64, u64) {
+/// A bar between two moments, so far from the top and so high.
+pub(crate) fn bar_of(picture: &RunPicture, from: u64, to: u64, y: u64, height: u64) -> Element {
     let x = place_of(picture, from);
-    (x, place_of(picture, to).saturating_sub(x).max(1))
-}
-
-/// The place of the first of some hops at a bridge.
-fn hop_at<A: Allocator>(hops: &[HopRun<'_, A>], bridge: usize) -> Option<usize> {
-    for place in 0..hops.len() {
-        if hops[place].bridge == bridge {
-            return Some(place);
-        }
-    }
-    None
-}
-
-/// Adds the way of a copy over a link to the row of the hop at its other end.
-fn put_link<A: Allocator>(
-    picture: &mut RunPicture,
-    links: &[Link],
-    hops: &[HopRun<'_, A>],
-    bridge: usize,
-    y: u64,
-    departure: &Departure,
-) {
-    let Some(other) = sender_of(links, bridge, departure.port) else {
-        return;
-    };
-    let Some(place) = hop_at(hops, other.from.bridge as usize) else {
-        return;
-    };
-    let from = place_of(picture, departure.done);
-    let to = place_of(picture, departure.done.saturating_add(other.delay));
-    let below = height_of(picture.rows.saturating_add(place as u64));
-    put(picture, LINK, &[from, y, to, below], "");
-}
-
-/// Adds a copy that left a hop: how long it waited, and how long it was on the link.
-fn put_departure(picture: &mut RunPicture, origins: &[Origin], y: u64, departure: &Departure) {
-    let Departure {
-        own,
-        port,
-        start,
-        done,
-    } = *departure;
-    let at = came_at(origins, own, start);
-    let top = y.saturating_sub(6);
-    let port = u64::from(port);
-    let (x, width) = bar_of(picture, at, start);
-    put(
-        picture,
-        LEFT_BAR,
-        &[x, top, width, own, at, start, done, port],
-        "wait",
-    );
-    let (x, width) = bar_of(picture, start, done);
-    put(
-        picture,
-        LEFT_BAR,
-        &[x, top, width, own, at, start, done, port],
-        "out",
-    );
-}
-
-/// Adds the frames that a hop refused.
-fn put_refused<A: Allocator>(picture: &mut RunPicture, view: &View<A>, y: u64) {
-    for place in 0..view.verdicts.len() {
-        if place >= view.origins.len() {
-            return;
-        }
-        if !passes(view.verdicts[place]) {
-            let at = view.origins[place].at;
-            let (x, width) = bar_of(picture, at, at);
-            put(picture, LOST_BAR, &[x, y.saturating_sub(6), width], "");
-        }
-    }
-}
-
-/// Adds the row of a hop.
-fn put_hop<A: Allocator>(
-    picture: &mut RunPicture,
-    links: &[Link],
-    hops: &[HopRun<'_, A>],
-    hop: &HopRun<'_, A>,
-    y: u64,
-    name: &str,
-) {
-    put(
-        picture,
-        HOP,
-        &[y.saturating_add(4), LEFT, y, LEFT + WIDTH],
-        name,
-    );
-    for departure in &hop.view.departures {
-        put_departure(picture, &hop.view.origins, y, departure);
-        put_link(picture, links, hops, hop.bridge, y, departure);
-    }
-    put_refused(picture, hop.view, y);
-}
-
-/// Adds a window of a queue, behind what else stands in a row.
-fn put_window(picture: &mut RunPicture, y: u64, queue: (u8, u8), from: u64, to: u64) {
-    let (x, width) = bar_of(picture, from, to);
-    let (port, class) = (u64::from(queue.0), u64::from(queue.1));
-    put(
-        picture,
-        WINDOW,
-        &[x, y.saturating_sub(10), width, port, class],
-        "",
-    );
-}
-
-/// Adds the windows in which lists open a class, over the moments of a picture.
-fn put_turns<L: Timeline<State = u8>>(picture: &mut RunPicture, y: u64, queue: (u8, u8), list: &L)
-    requires { queue.1 < 8 }
-{
-    let end = picture.span.to.min(END_OF_TURNS);
-    let mut at = picture.span.from;
-    let mut opened = None;
-    let mut drawn: u32 = 0;
-    for _ in 0..MOST_TURNS {
-        if at >= end || drawn >= MOST_WINDOWS {
-            break;
-        }
-        let turn = list.turn(at);
-        if is_open(turn.state, queue.1) {
-            opened = opened.or(Some(at));
-        } else if let Some(from) = opened {
-            put_window(picture, y, queue, from, at);
-            drawn += 1;
-            opened = None;
-        }
-        at = turn.end;
-    }
-    if let Some(from) = opened {
-        put_window(picture, y, queue, from, at.min(end));
-    }
-    if at < end {
-        picture.shapes.leave_out();
-    }
+    Element::Bar(Bar {
+        x,
+        y,
+        width: place_of(picture, to).saturating_sub(x).max(1),
+        height,
+    })
 }
 
 impl RunPicture {
@@ -264,6 +122,8 @@ impl RunPicture {
                 to: 0,
             },
             rows: 0,
+            windows: 0,
+            drawn: 0,
             shapes: Shapes::new(alloc),
         }
     }
@@ -289,8 +149,11 @@ impl RunPicture {
         }
         let Span { from, to } = self.span;
         match list {
-            Some(list) => put_turns(self, y, (port, class), list),
-            None => put_window(self, y, (port, class), from, to),
+            Some(list) => put_windows(self, y, (port, class), list),
+            None => {
+                self.windows = self.windows.saturating_add(1);
+                put_window(self, y, (port, class), from, to);
+            }
         }
     }
 
@@ -306,17 +169,34 @@ impl RunPicture {
         self.rows = self.rows.saturating_add(hops.len() as u64);
     }
 
-    /// The picture as an SVG text: a row for each hop, in which each copy that left waited (yellow) from when its frame came, and was
-    /// then on the link (blue); red where a frame was refused; behind them (green) when its queues are open.
-    pub fn finish(self, alloc: Global) -> Result<String, NoMemory> {
-        let RunPicture { span, rows, shapes } = self;
-        let height = height_of(rows).saturating_add(30);
-        let numbers = [LEFT + WIDTH + 30, height, span.from.min(span.to), span.to];
-        let note = match shapes.left_out() {
-            0 => String::new(alloc),
-            count => form_of(alloc, LEFT_OUT, &[count], &[])?,
-        };
-        let head = form_of(alloc, HEAD, &numbers, &[STYLES, note.as_str()])?;
+    /// What the shapes say, and what isn't drawn.
+    fn legend(&self, alloc: Global) -> Result<String, NoMemory> {
+        let mut legend = Text::new(alloc);
+        let Span { from, to } = self.span;
+        legend.fill(LEGEND, &[from.min(to), to], &[]);
+        if self.drawn < self.windows {
+            legend.fill(WINDOWS_LEFT_OUT, &[self.drawn, self.windows], &[]);
+        }
+        match self.shapes.left_out() {
+            0 => {}
+            count => legend.fill(LEFT_OUT, &[count], &[]),
+        }
+        legend.done()
+    }
+
+    /// The picture as an SVG text of at most 2,000,000 octets: a row for each hop, in which each copy that left waited (yellow) from
+    /// when its frame came, and was then on the link (blue), with a line to the hop to which it came; a red triangle where the filter
+    /// refused a frame or a queue dropped a copy; behind them (green) when its queues are open, and hatched where windows aren't drawn.
+    pub fn finish(self, alloc: Global) -> Result<String, NoMemory>
+        ensures { IfOk result (λ text. length (string_bytes text) ≤ 2000000) }
+    {
+        let legend = self.legend(alloc)?;
+        let height = height_of(self.rows).saturating_add(30);
+        let size = Size::Wide(LEFT + WIDTH + 30, height);
+        let mut head = head_of(alloc, size, STYLES, Some(HATCHES))?;
+        let note = note_of(alloc, (12, 24), legend.as_str())?;
+        head.push_str(note.as_str())?;
+        let RunPicture { shapes, .. } = self;
         shapes.done(alloc, head.as_str(), "")
     }
 }

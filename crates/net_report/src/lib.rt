@@ -8,14 +8,17 @@ mod figures;
 mod frames;
 mod hop_run;
 mod hops;
+mod lanes;
 mod lines;
 mod losing;
 mod network_picture;
 mod pieces;
+mod rows;
 mod tables;
 mod tallies;
 mod tally;
 mod tracing;
+mod windows;
 
 pub use counting::tallies_of;
 pub use drawing::RunPicture;

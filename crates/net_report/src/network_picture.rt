@@ -3,7 +3,7 @@ ghost use Rattle.std.specs.Prelude.{◌≤◌, IfOk, length, string_bytes};
 
 use bridge_limits::NoMemory;
 use net_file::{BridgeRow, LinkRow, StreamRow};
-use show_svg::{Shapes, form_of};
+use show_svg::{Bar, Element, Point, Shapes, Size, form_of, head_of, note_of};
 use std::alloc::{Allocator, Global};
 
 /// Where the column of the first bridge begins, in pixels from the left.
@@ -24,31 +24,22 @@ text{font:13px system-ui,sans-serif;fill:#222}.m{text-anchor:middle;font-weight:
 .page{fill:#fff}.box{fill:#e3e8ef;stroke:#8a94a3}.link{fill:none;stroke:#8a94a3;stroke-width:2}.way{fill:none;stroke:#2a7de1;stroke-width:3}.hop{fill:#2a7de1}\
 @media(prefers-color-scheme:dark){text{fill:#e6e6e6}.s{fill:#a0a0a0}.page{fill:#16181c}.box{fill:#22262c}}";
 
-/// The head of a picture, so wide and high, and what stands at its end where not all shapes have room.
-const HEAD: &str =
-    r#"<svg xmlns="http://www.w3.org/2000/svg" width="{0}" height="{1}" viewBox="0 0 {0} {1}">
-<style>{a}</style>
-<rect class="page" width="{0}" height="{1}"/>
-"#;
+/// What stands at the end of a picture where not all shapes have room.
+const LEFT_OUT: &str = "not drawn: {0} shapes (no space)";
 
-const LEFT_OUT: &str = r#"<text class="s" x="10" y="{0}">not drawn: {1} shapes (no space)</text>
-"#;
+/// The words of a link, with its ports and its delay; of a hop; and how long a stream takes.
+const LINK: &str = "{a}.{0} to {b}.{1}, {2} ns";
 
-/// The arc of a link from a place over another one to a third, with its ports and its delay; the box of a bridge with its name;
-/// the line to a hop of a stream, and its dot; the name of a stream, and how long it takes.
-const LINK: &str =
-    r#"<path class="link" d="M{0} {1}Q{2} {3} {4} {1}"><title>{a}.{5} to {b}.{6}, {7} ns</title></path>"#;
+const HOP: &str = "{a}.{0}";
 
-const BRIDGE: &str =
-    r#"<rect class="box" x="{0}" y="{1}" width="92" height="{2}" rx="4"/><text class="m" x="{3}" y="{4}">{a}</text>"#;
+const TAKES: &str = "bound {a} ns";
 
-const WAY: &str = r#"<path class="way" d="M{0} {1}H{2}"/>"#;
-
-const HOP: &str = r#"<circle class="hop" cx="{0}" cy="{1}" r="6"><title>{a}.{2}</title></circle>"#;
-
-const NAME: &str = r#"<text x="10" y="{0}">{a}</text>"#;
-
-const TAKES: &str = r#"<text class="s" x="{0}" y="{1}">bound {a} ns</text>"#;
+/// Adds a text at a point, of a style or of none.
+fn put_text(shapes: &mut Shapes, style: &str, at: Point, form: &str, word: &str) {
+    shapes.begin_text(style, at);
+    shapes.add(form, &[], &[word]);
+    shapes.end_text();
+}
 
 /// The middle of the column of a bridge.
 fn middle_of(place: u16) -> u64 {
@@ -97,9 +88,12 @@ fn put_link<A: Allocator + Copy>(
     let between = from.saturating_add(to) / 2;
     let above = top.saturating_sub(height_of(link).saturating_mul(2));
     let (one, other) = (u64::from(link.one.1), u64::from(link.other.1));
-    let numbers = [from, top, between, above, to, one, other, link.delay];
+    let arc = Element::Arc((from, top), (between, above), to);
     let names = [name_of(bridges, link.one.0), name_of(bridges, link.other.0)];
-    shapes.put(LINK, &numbers, &names);
+    shapes.begin_titled("link", arc);
+    shapes.add(LINK, &[one, other, link.delay], &names);
+    shapes.end_titled(arc);
+    shapes.end();
 }
 
 /// Adds the box of a bridge, with its name.
@@ -110,8 +104,21 @@ fn put_bridge<A: Allocator + Copy>(
     top: u64,
 ) {
     let x = middle_of(place);
-    let numbers = [x.saturating_sub(46), top, BOX, x, top.saturating_add(20)];
-    shapes.put(BRIDGE, &numbers, &[bridge.name()]);
+    let bar = Bar {
+        x: x.saturating_sub(46),
+        y: top,
+        width: 92,
+        height: BOX,
+    };
+    shapes.draw("box", Element::Box(bar));
+    put_text(
+        shapes,
+        "m",
+        (x, top.saturating_add(20)),
+        "{a}",
+        bridge.name(),
+    );
+    shapes.end();
 }
 
 /// Adds a hop of a stream, which tells its filter where it is pointed at, and the line to it from the hop before it.
@@ -124,10 +131,13 @@ fn put_hop<A: Allocator + Copy>(
 ) {
     let x = middle_of(hop.0);
     if let Some(from) = before {
-        shapes.add(WAY, &[from, y, x], &[]);
+        shapes.draw("way", Element::Level((from, y), x));
     }
-    let name = name_of(bridges, hop.0);
-    shapes.put(HOP, &[x, y, u64::from(hop.1)], &[name]);
+    let dot = Element::Circle((x, y), 6);
+    shapes.begin_titled("hop", dot);
+    shapes.add(HOP, &[u64::from(hop.1)], &[name_of(bridges, hop.0)]);
+    shapes.end_titled(dot);
+    shapes.end();
 }
 
 /// Adds the row of a stream: its name, its hops, and how long it takes.
@@ -140,7 +150,7 @@ fn put_stream<A: Allocator + Copy>(
     y: u64,
 ) -> Result<(), NoMemory> {
     let line = y.saturating_add(4);
-    shapes.add(NAME, &[line], &[stream.name()]);
+    put_text(shapes, "", (10, line), "{a}", stream.name());
     let mut before = None;
     for hop in stream.hops() {
         put_hop(shapes, bridges, before, *hop, y);
@@ -149,7 +159,8 @@ fn put_stream<A: Allocator + Copy>(
     if let Some(bound) = bound {
         let x = width_of(bridges.len()).saturating_sub(150);
         let bound = format!(in alloc; "{bound}")?;
-        shapes.put(TAKES, &[x, line], &[bound.as_str()]);
+        put_text(shapes, "s", (x, line), TAKES, bound.as_str());
+        shapes.end();
     }
     Ok(())
 }
@@ -207,11 +218,19 @@ pub fn draw_network<A: Allocator + Copy>(
     let mut shapes = Shapes::new(alloc);
     put_all(alloc, &mut shapes, bridges, links, streams, bounds, top)?;
     let height = row_of(top, streams.len()).saturating_add(30);
-    let size = [width_of(bridges.len()), height];
-    let head = form_of(alloc, HEAD, &size, &[STYLES])?;
+    let width = width_of(bridges.len());
+    let head = head_of(
+        alloc,
+        Size::Fixed(width, height, width, height),
+        STYLES,
+        None,
+    )?;
     let foot = match shapes.left_out() {
         0 => String::new(alloc),
-        count => form_of(alloc, LEFT_OUT, &[height.saturating_sub(12), count], &[])?,
+        count => {
+            let words = form_of(alloc, LEFT_OUT, &[count], &[])?;
+            note_of(alloc, (10, height.saturating_sub(12)), words.as_str())?
+        }
     };
     shapes.done(alloc, head.as_str(), foot.as_str())
 }

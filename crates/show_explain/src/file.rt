@@ -2,7 +2,7 @@
 ghost use Rattle.std.specs.Prelude.{IfOk, string_bytes};
 ghost use Rattle.bridge_text.specs.Named.{BeginsWith};
 
-use app_failure::Cause;
+use app_files::Cause;
 use bridge_limits::NoMemory;
 use bridge_text::{Text, behind};
 use std::alloc::{Allocator, Global};
@@ -42,7 +42,7 @@ fn sentence_of(cause: Cause) -> &'static str {
         Cause::SameFolder => {
             ": OUT is IN, so the run would overwrite its captures. Name another folder.\n"
         }
-        Cause::Taken =>
+        Cause::InUse =>
             ": the command already reads or writes this file. Name another output file.\n",
         Cause::Standard => ": standard input or output can't be read or written.\n",
         Cause::Unknown => ": the system gave no known reason.\n",

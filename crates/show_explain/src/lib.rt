@@ -23,4 +23,4 @@ pub use file::{explain_file, put_unread};
 pub use network::{explain_network_text, explain_traffic_text};
 pub use plan::{explain_commands, explain_plan};
 pub use run::{explain_run, explain_text};
-pub use words::explain_words;
+pub use words::{explain_part, explain_words};

@@ -32,6 +32,20 @@ pub fn explain_words(alloc: Global, words: &[String]) -> Result<String, NoMemory
     behind(alloc, "command line: ", said)
 }
 
+/// What is said of a part of a network's picture, at the path `{a}` of the network.
+const PART_OF_NETWORK: &str =
+    ": This file describes a network. The options --from, --to and --ports are for plans: `tsnbridge picture PLAN FILE` and `tsnbridge run PLAN IN OUT --picture FILE` take them.\nWithout these options, `tsnbridge picture {a} FILE` draws the network.\n";
+
+/// Returns why a part of a network's picture is refused: what the file is, and which commands take the options of a part. It begins with
+/// the path of the file.
+pub fn explain_part(alloc: Global, path: &str) -> Result<String, NoMemory>
+    ensures { IfOk result (λ said. BeginsWith path.now (string_bytes said)) }
+{
+    let mut said = Text::new(alloc);
+    said.fill(PART_OF_NETWORK, &[], &[path]);
+    behind(alloc, path, said)
+}
+
 /// Whether an option has a value behind it, by its name with the `--` before it; none where no command has it.
 fn takes_value(name: &str) -> Option<bool> {
     match name.strip_prefix("--") {

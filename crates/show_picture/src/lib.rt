@@ -1,8 +1,8 @@
 #![tactic(auto)]
 //! Pictures: a plan's windows and gates by time, and what left each port in a run, as SVG texts.
 //!
-//! Layout gives shapes, each a form with its numbers and words, to a page of `show_svg`, which writes them. The colours follow the
-//! reader's light or dark scheme. Nothing here changes what it draws.
+//! Layout gives elements, each with its places, its style and its words, to a page of `show_svg`, which writes them. The colours follow
+//! the reader's light or dark scheme. Nothing here changes what it draws.
 
 mod frames;
 mod lanes;

@@ -2,6 +2,7 @@
 ghost use Rattle.std.specs.Prelude.{◌≤◌, IfOk, length, string_bytes};
 
 use crate::frames::{Choice, Frame, choice_of};
+use crate::legend::colour_style;
 use crate::picture::Picture;
 use crate::time::Part;
 use bridge_bounds::bound_of;
@@ -9,25 +10,17 @@ use bridge_check::Accepted;
 use bridge_limits::NoMemory;
 use bridge_semantics::{Departure, Origin, Outcome};
 use show_lint::Hypercycle;
-use show_svg::{ACROSS, LEFT, Span, either};
+use show_svg::{ACROSS, Bar, Element, LEFT, Mark, Span};
 use std::alloc::{Allocator, Global};
 
 /// How many frames and marks aren't drawn.
 const LEFT_OUT: &str =
     "not drawn (hatched): {0} of {1} frames, {2} of {3} marks. Choose a shorter time with --from and --to.";
 
-/// Where a protected frame came, and how long it waited.
-const CAME: &str = r#"<rect class="c{2}" x="{0}" y="{1}" width="12" height="90"/>"#;
+/// What shows where a frame that left is pointed at, and where one is that was not let on.
+const FRAME: &str = "filter {0} frame {1}, sent {2} to {3} ns, arrived at {4} ns";
 
-const WAITED: &str = r#"<rect class="c{3}" x="{0}" y="{1}" width="{2}" height="14"/>"#;
-
-/// A frame that left, in the colour of its filter, and what shows where it is pointed at; a frame that was not let on, a triangle
-/// by its corners.
-const FRAME: &str =
-    r#"<rect class="c{4}{a}" x="{0}" y="{1}" width="{2}" height="{3}"><title>filter {5} frame {6}, sent {7} to {8} ns, arrived at {9} ns"#;
-
-const MARK: &str =
-    r#"<path class="c{8}{a}" d="M{0} {1}H{2}L{3} {4}Z"><title>filter {5} frame {6}, arrived at {7} ns: "#;
+const MARK: &str = "filter {0} frame {1}, arrived at {2} ns: {a}";
 
 /// How long a frame of a protected filter takes at most from when it came until it is out of a port, whichever of the port's
 /// queues takes it.
@@ -63,11 +56,11 @@ impl Picture {
         let (x, due) = self.span.extent(came, by);
         let (_, waited) = self.span.extent(came, frame.start);
         self.page.bar("grey", x, 245, due, 10);
+        let style = colour_style(colour, false);
         if self.span.has(came, came.saturating_add(1)) {
-            self.page.put(CAME, &[x, self.page.below(165), colour], "");
+            self.page.bar(style, x, 165, 12, 90);
         }
-        self.page
-            .put(WAITED, &[x, self.page.below(225), waited, colour], "");
+        self.page.bar(style, x, 225, waited, 14);
     }
 
     /// Draws a frame that left, higher where it is protected, with when it is done at the latest there, where it is known how long
@@ -86,12 +79,18 @@ impl Picture {
         let is_edged = frame.is_protected && width >= 70;
         let y = self.page.below(if frame.is_protected { 15 } else { 55 });
         let high = if frame.is_protected { 190 } else { 130 };
-        let numbers = [x, y, width, high, colour, filter, own, start, done, came];
-        self.page.add(FRAME, &numbers, either(is_edged, " e", ""));
+        let bar = Element::Bar(Bar {
+            x,
+            y,
+            width,
+            height: high,
+        });
+        self.page.begin_titled(colour_style(colour, is_edged), bar);
+        self.page.add(FRAME, &[filter, own, start, done, came], "");
         if longest.is_some() {
             self.page.add(", latest end {0} ns", &[by], "");
         }
-        self.page.put("</title></rect>", &[], "");
+        self.page.end_titled(bar);
     }
 
     /// Draws a frame that was not let on, greater and with an edge where its filter is protected: with its tip above where its
@@ -102,13 +101,18 @@ impl Picture {
         let tip = if is_stopped { 10 } else { 130 };
         let base = if is_stopped { 10 + high } else { 130 - high };
         let (x, half) = (self.span.place(frame.came), high / 2);
-        let (left, right) = (x.saturating_sub(half), x.saturating_add(half));
-        let (base, tip) = (self.page.below(base), self.page.below(tip));
-        let (filter, own, came) = (u64::from(frame.filter), frame.own, frame.came);
-        let numbers = [left, base, right, x, tip, filter, own, came, frame.colour];
-        self.page
-            .add(MARK, &numbers, either(frame.is_protected, " e", ""));
-        self.page.put("{a}</title></path>", &[], frame.why);
+        let mark = Element::Mark(Mark {
+            left: x.saturating_sub(half),
+            right: x.saturating_add(half),
+            base: self.page.below(base),
+            middle: x,
+            tip: self.page.below(tip),
+        });
+        let numbers = [u64::from(frame.filter), frame.own, frame.came];
+        let style = colour_style(frame.colour, frame.is_protected);
+        self.page.begin_titled(style, mark);
+        self.page.add(MARK, &numbers, frame.why);
+        self.page.end_titled(mark);
     }
 
     /// Draws the link of a port with what left it, frames of each protected filter with when they are done at the latest, and

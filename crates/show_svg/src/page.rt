@@ -1,6 +1,7 @@
 //! A page that grows downwards: texts, bars, legends, moments and the axis of time. All lengths are tenths of a pixel.
 ghost use Rattle.std.specs.Prelude.{◌≤◌, ◌+◌, IfOk, length, string_bytes};
 
+use crate::elements::{Bar, Element, Mark, Size, head_of, note_of};
 use crate::shapes::{Shapes, form_of};
 use crate::span::{Clock, MOST_INTERVALS, Span};
 use bridge_limits::NoMemory;
@@ -13,29 +14,29 @@ pub const LEFT: u64 = 1_500;
 
 pub const ACROSS: u64 = 10_000;
 
-/// The head of a picture: its size, its styles, how what is left out is hatched, and its ground.
-const HEAD: &str =
-    r#"<svg xmlns="http://www.w3.org/2000/svg" width="{0}" height="{1}" viewBox="0 0 {2} {3}">
-<style>{a}</style>
-<pattern id="h" width="70" height="70" patternUnits="userSpaceOnUse" patternTransform="rotate(45)"><path class="h0" d="M0 0V70"/></pattern>
-<rect class="page" width="{2}" height="{3}"/>
-"#;
+/// The side of the squares in which what is left out is hatched.
+const HATCHES: u64 = 70;
 
 /// What stands at the end where not all shapes have room.
-const LEFT_OUT: &str =
-    r#"<text class="s" x="100" y="{0}">not drawn: {1} shapes (limit of 2000000 octets)</text>
-"#;
+const LEFT_OUT: &str = "not drawn: {0} shapes (limit of 2000000 octets)";
 
-/// A bar at a place, so wide and high; a text up to its words; a line downwards.
-const BAR: &str = r#"<rect class="{a}" x="{0}" y="{1}" width="{2}" height="{3}"/>"#;
+/// What a row of a legend shows before its words.
+#[derive(Clone, Copy, PartialEq, Eq)]
+pub enum Sample {
+    Nothing,
+    Bar,
+    /// A line with a tick where it begins.
+    Waits,
+    /// A thin line.
+    Due,
+    TipBelow,
+    TipAbove,
+    /// A line downwards.
+    Line,
+}
 
-const TEXT: &str = r#"<text class="{a}" x="{0}" y="{1}">"#;
-
-const LINE: &str = r#"<path class="{a}" d="M{0} {1}V{2}"/>"#;
-
-/// A row of a legend: a sample, the style of its shapes, and the words behind it. In a sample 0 is the left end, 3, 5 and 4 are
-/// 30, 80 and 130 to the right; 1 is the top, 2, 6 and 7 are 60, 100 and 110 below; 8 is the number of a colour.
-pub type Legend = (&'static str, &'static str, &'static str);
+/// A row of a legend: a sample, the style of its shapes, and the words behind it.
+pub type Legend = (Sample, &'static str, &'static str);
 
 /// A page: its shapes, how far down they go and how far to the right its legend.
 #[derive(Drop)]
@@ -80,14 +81,9 @@ impl Page {
         self.shapes.add(words, &[], &[]);
     }
 
-    /// Adds what a form says, and ends the shape.
-    pub fn put(&mut self, form: &str, numbers: &[u64], word: &str) {
-        self.shapes.put(form, numbers, &[word]);
-    }
-
     /// Begins a text at a place.
     pub fn begin(&mut self, style: &str, x: u64, y: u64) {
-        self.add(TEXT, &[x, y], style);
+        self.shapes.begin_text(style, (x, y));
     }
 
     /// Begins a line of text at the left end of the time, so far further down.
@@ -98,7 +94,8 @@ impl Page {
 
     /// Ends a text.
     pub fn end(&mut self) {
-        self.put("</text>", &[], "");
+        self.shapes.end_text();
+        self.shapes.end();
     }
 
     /// Adds a text so far below how far the page goes.
@@ -108,9 +105,26 @@ impl Page {
         self.end();
     }
 
+    /// Adds an element.
+    pub fn draw(&mut self, style: &str, element: Element) {
+        self.shapes.draw(style, element);
+        self.shapes.end();
+    }
+
+    /// Begins an element, up to the words that show when it is pointed at.
+    pub fn begin_titled(&mut self, style: &str, element: Element) {
+        self.shapes.begin_titled(style, element);
+    }
+
+    /// Ends an element with such words.
+    pub fn end_titled(&mut self, element: Element) {
+        self.shapes.end_titled(element);
+        self.shapes.end();
+    }
+
     /// Adds a bar so far below how far the page goes, so wide and high.
     pub fn bar(&mut self, style: &str, x: u64, by: u64, width: u64, height: u64) {
-        self.put(BAR, &[x, self.below(by), width, height], style);
+        self.draw(style, bar_at(x, self.below(by), width, height));
     }
 
     /// Begins a legend, on a line of its own.
@@ -119,9 +133,28 @@ impl Page {
         self.right = LEFT;
     }
 
-    /// Adds a row of so many letters, with the numbers of a colour and of what it names, behind the others, or on a further line
-    /// where there is no room beside them.
-    pub fn put_legend(&mut self, row: Legend, letters: usize, colour: u64, number: u64) {
+    /// Adds a sample of a legend, 160 wide and 110 high at most, with its upper left corner at a place.
+    fn put_sample(&mut self, sample: Sample, style: &str, x: u64, y: u64) {
+        match sample {
+            Sample::Nothing => {}
+            Sample::Bar => self.draw(style, bar_at(x, y, 160, 100)),
+            Sample::Waits => {
+                self.draw(style, bar_at(x, y, 12, 90));
+                self.draw(style, bar_at(x, y.saturating_add(60), 160, 14));
+            }
+            Sample::Due => self.draw(style, bar_at(x, y.saturating_add(60), 160, 10)),
+            Sample::TipBelow => self.draw(style, mark_at(x, y, y.saturating_add(100))),
+            Sample::TipAbove => self.draw(style, mark_at(x, y.saturating_add(100), y)),
+            Sample::Line => {
+                let from = (x.saturating_add(80), y);
+                self.draw(style, Element::Down(from, y.saturating_add(110)));
+            }
+        }
+    }
+
+    /// Adds a row of so many letters, with the number of what it names, behind the others, or on a further line where there is no
+    /// room beside them.
+    pub fn put_legend(&mut self, row: Legend, letters: usize, number: u64) {
         let (sample, style, words) = row;
         let width = (letters as u64).saturating_mul(62).saturating_add(360);
         if self.right.saturating_add(width) > WIDTH && self.right > LEFT {
@@ -129,14 +162,11 @@ impl Page {
             self.right = LEFT;
         }
         let x = self.right.min(WIDTH);
-        let y = self.down.saturating_sub(90).min(u64::MAX - 110);
         self.right = x.saturating_add(width);
-        if sample.is_empty() {
+        if sample == Sample::Nothing {
             return self.say("t", x, 0, words, &[]);
         }
-        let (ends, base) = ((x + 30, x + 130), y + 100);
-        let places = [x, y, y + 60, ends.0, ends.1, x + 80, base, y + 110, colour];
-        self.put(sample, &places, style);
+        self.put_sample(sample, style, x, self.down.saturating_sub(90));
         self.say("t", x + 210, 0, words, &[number]);
     }
 
@@ -188,7 +218,8 @@ impl Page {
             let at = first.saturating_add(number).saturating_mul(step);
             if at <= span.to {
                 let x = span.place(at);
-                self.put(LINE, &[x, top, self.below(60)], "grid");
+                let end = self.below(60);
+                self.draw("grid", Element::Down((x, top), end));
                 if self.down.saturating_sub(top) > 7_000 {
                     self.put_label(span, x, top.saturating_sub(40), at);
                 }
@@ -197,7 +228,8 @@ impl Page {
         }
         if let Some(at) = change {
             if span.has(at, at.saturating_add(1)) {
-                self.put(LINE, &[span.place(at), top, self.down], "change");
+                let line = Element::Down((span.place(at), top), self.down);
+                self.draw("change", line);
             }
         }
         self.bar("grid", LEFT, 0, ACROSS, 6);
@@ -210,16 +242,14 @@ impl Page {
         ensures { IfOk result (λ text. length (string_bytes text) ≤ 2000000) }
     {
         let high = self.below(150);
-        let head = form_of(
-            alloc,
-            HEAD,
-            &[WIDTH / 10, high / 10, WIDTH, high],
-            &[styles],
-        )?;
-        let left_out = self.shapes.left_out();
-        let foot = match left_out {
+        let size = Size::Fixed(WIDTH / 10, high / 10, WIDTH, high);
+        let head = head_of(alloc, size, styles, Some(HATCHES))?;
+        let foot = match self.shapes.left_out() {
             0 => String::new(alloc),
-            _ => form_of(alloc, LEFT_OUT, &[high.saturating_sub(30), left_out], &[])?,
+            left_out => {
+                let words = form_of(alloc, LEFT_OUT, &[left_out], &[])?;
+                note_of(alloc, (100, high.saturating_sub(30)), words.as_str())?
+            }
         };
         let Page { shapes, .. } = self;
         shapes.done(alloc, head.as_str(), foot.as_str())
@@ -240,6 +270,27 @@ impl Span {
         let x = self.place(from);
         (x, self.place(to).saturating_sub(x).max(8))
     }
+}
+
+/// A bar at a place, so wide and high.
+fn bar_at(x: u64, y: u64, width: u64, height: u64) -> Element {
+    Element::Bar(Bar {
+        x,
+        y,
+        width,
+        height,
+    })
+}
+
+/// The triangle of a sample: its base and its tip are so far down.
+fn mark_at(x: u64, base: u64, tip: u64) -> Element {
+    Element::Mark(Mark {
+        left: x.saturating_add(30),
+        right: x.saturating_add(130),
+        base,
+        middle: x.saturating_add(80),
+        tip,
+    })
 }
 
 /// One of two words.

@@ -40,7 +40,7 @@ impl Shapes {
     }
 
     /// Counts a shape that isn't drawn.
-    pub fn leave_out(&mut self) {
+    fn leave_out(&mut self) {
         self.left_out = self.left_out.saturating_add(1);
     }
 
@@ -98,7 +98,7 @@ pub fn form_of(
 }
 
 /// Writes what a form says.
-fn put_form(text: &mut Text<Global>, form: &str, numbers: &[u64], words: &[&str]) {
+pub(crate) fn put_form(text: &mut Text<Global>, form: &str, numbers: &[u64], words: &[&str]) {
     for piece in form.split('{') {
         match piece.split_once('}') {
             Some((place, behind)) => {

@@ -3,9 +3,10 @@
 ghost use Rattle.std.specs.Prelude.{IfOk, map, string_bytes};
 ghost use Rattle.app_networks.specs.Program.{IsPrinted};
 
+use app_cli::words_of;
 use app_commands::{put_stdout, tell};
-use app_failure::{NoMemory, end, words_of};
-use app_networks::{Output, perform};
+use app_failure::{NoMemory, end};
+use app_networks::{Output, of_words_fault, perform};
 use std::io::IsTerminal;
 use std::process::ExitCode;
 use std::rt::Files;
@@ -14,7 +15,7 @@ fn main(rt: HostRuntime) -> ExitCode {
     let is_watched = rt.stderr().is_terminal();
     match words_of(&rt) {
         Ok(words) => tell(&rt, run(&rt, &words, is_watched)),
-        Err(fault) => end(&rt, &fault),
+        Err(fault) => end(&rt, &of_words_fault(fault)),
     }
 }
 

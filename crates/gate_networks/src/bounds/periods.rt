@@ -7,7 +7,8 @@ use crate::bounds::captures::{Ends, ends_capture};
 use crate::bounds::plan_at;
 use crate::bounds::running::{done_in, ran_at};
 use crate::of_run;
-use app_failure::{Fault, read_at_most};
+use app_failure::{Fault, file_failure};
+use app_files::{Cause, failed_at, read_at_most};
 use bridge_capture::RunFault;
 use bridge_check::Accepted;
 use bridge_text::Text;
@@ -82,16 +83,15 @@ fn rows_of(rt: &(impl AllocGlobal + Files), file: &str) -> Result<Vec<TrafficRow
     ensures rows { IfOk result (λ rows. All IsRow rows.items) }
     ensures few { IfOk result (λ rows. length rows.items ≤ 1024) }
 {
-    let path = String::from_str(rt.alloc(), file)?;
     let Ok(reader) = fs::open(rt, file) else {
-        return Err(Fault::File(path));
+        return Err(file_failure(failed_at(rt.alloc(), file, Cause::Unknown)));
     };
     let Ok(text) = read_at_most(rt.alloc(), reader, MOST_OCTETS) else {
-        return Err(Fault::File(path));
+        return Err(file_failure(failed_at(rt.alloc(), file, Cause::Unknown)));
     };
     match traffic_of(rt.alloc(), rt.alloc(), &text) {
         Ok(rows) => Ok(rows),
-        Err(_) => Err(Fault::File(path)),
+        Err(_) => Err(file_failure(failed_at(rt.alloc(), file, Cause::Unknown))),
     }
 }
 

@@ -4,4 +4,5 @@ use Rattle.app_commands.proofs.job.tell.Goals as goal
 
 pub returns-clause-err : goal.returns-clause-err
 returns-clause-err g c =
-    all_behind (option_map string_bytes c.args.tables.delays) (option_map string_bytes c.args.tables.frames) (option_map (λ s. string_bytes s.file) c.args.sketch) c.show.result c.show.ensures.err
+    let j = c.args.job.now in
+    all_behind (option_map string_bytes j.tables.now.delays) (option_map string_bytes j.tables.now.frames) (option_map (λ s. string_bytes s.file) j.picture.now) c.show.result c.show.ensures.err

@@ -3,4 +3,4 @@ use Rattle.app_commands.proofs.ShownEnded.{frames_told}
 use Rattle.app_commands.proofs.tables.put_tables.Goals as goal
 
 pub returns : goal.returns
-returns g c = frames_told (option_map string_bytes c.args.tables.delays) (option_map string_bytes c.args.tables.frames) c.put_frames.result c.put_frames.ensures
+returns g c = frames_told (option_map string_bytes c.args.tables.now.delays) (option_map string_bytes c.args.tables.now.frames) c.put_frames.result c.put_frames.ensures

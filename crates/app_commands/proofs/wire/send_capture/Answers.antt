@@ -1,5 +1,4 @@
-use Rattle.std.proofs.Common.{string_bytes}
 use Rattle.app_commands.proofs.wire.send_capture.Goals as goal
 
 pub returns-in-Ok-clause-ok : goal.returns-in-Ok-clause-ok
-returns-in-Ok-clause-ok g c = c.output_of.ensures (string_bytes c.args.output) c.in-Ok.ensures.ok
+returns-in-Ok-clause-ok g c = c.output_of.ensures c.args.output.now c.in-Ok.ensures.ok

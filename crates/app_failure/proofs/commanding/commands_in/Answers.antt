@@ -1,4 +1,5 @@
-use Rattle.std.proofs.Common.{Some, string_bytes}
+use Rattle.std.proofs.Common.{Some, string_bytes, subst}
+use Rattle.app_failure.specs.Commanding.{EndsCommands}
 use Rattle.app_failure.proofs.WithCommands.{commands_end, where_err, where_ok}
 use Rattle.app_failure.proofs.commanding.commands_in.Goals as goal
 
@@ -7,4 +8,4 @@ returns-in-Some-clause-some g c = where_ok c.commands_from.result (λ v h. (Some
 
 pub returns-in-Some-clause-only : goal.returns-in-Some-clause-only
 returns-in-Some-clause-only g c =
-    rw (c.in-Some.is) (where_err c.commands_from.result (λ f h. (Some h.0, commands_end c.args.plan.now (string_bytes c.in-Some.path) h.0 f h.1)) c.commands_from.ensures.only)
+    rw (c.in-Some.is) (where_err c.commands_from.result (λ f h. (Some h.0, commands_end c.args.plan.now (string_bytes c.in-Some.path) h.0 f (subst (λ p. EndsCommands c.args.plan.now p h.0 f) c.as_str.ensures.value h.1))) c.commands_from.ensures.only)

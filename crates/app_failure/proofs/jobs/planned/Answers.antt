@@ -1,4 +1,3 @@
-use Rattle.std.proofs.Common.{string_bytes}
 use Rattle.app_failure.proofs.Looks.{all_accepted, all_ended, plan_ends}
 use Rattle.app_failure.proofs.jobs.planned.Goals as goal
 
@@ -6,7 +5,7 @@ pub returns-clause-ok : goal.returns-clause-ok
 returns-clause-ok g c = λ input told. all_accepted input c.in-Ok.plan c.checked.result (c.in-Ok.ensures.ok input told) c.checked.ensures.ok
 
 pub returns-clause-err : goal.returns-clause-err
-returns-clause-err g c = λ input told. all_ended (string_bytes c.args.path) input c.in-Ok.plan c.checked.result (c.in-Ok.ensures.ok input told) c.checked.ensures.err
+returns-clause-err g c = λ input told. all_ended c.args.path.now input c.in-Ok.plan c.checked.result (c.in-Ok.ensures.ok input told) c.checked.ensures.err
 
 pub returns-in-Err-clause-err : goal.returns-in-Err-clause-err
-returns-in-Err-clause-err g c = λ input told. plan_ends g.row.A.Denot (string_bytes c.args.path) input c.in-Err.fault (c.in-Err.ensures.err input told)
+returns-in-Err-clause-err g c = λ input told. plan_ends g.row.A.Denot c.args.path.now input c.in-Err.fault (c.in-Err.ensures.err input told)

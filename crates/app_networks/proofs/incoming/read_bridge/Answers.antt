@@ -9,7 +9,7 @@ use Rattle.app_networks.proofs.incoming.read_bridge.Goals as goal
 pub returns-in_err-captures-clause-ends : goal.returns-in_err-captures-clause-ends
 returns-in_err-captures-clause-ends g c =
     let p = c.args.accepted.now in
-    let name = c.args.name.now in
+    let name = c.args.place.now.name.now in
     goes_out (EndsBridge p name) c.from_residual.result _ c.from_residual.ensures.1 (bridge_file p name _ c.in_err-captures.ensures.ends)
 
 pub returns-clause-came : goal.returns-clause-came

@@ -14,7 +14,7 @@ pub returns-in-Ok-run_network-clause-told : goal.returns-in-Ok-run_network-claus
 returns-in-Ok-run_network-clause-told g c =
     let n = c.args.network.now in
     let f = c.args.file.now in
-    let strict = c.args.job.is_strict in
+    let strict = c.args.flags.is_strict in
     let lines = c.in-Ok-run_network.lines in
     subst (λ (o : Option (String Global)). IfSome o (λ line. TellsRunLosses n f strict (string_bytes line) c.ran.result.rounds (string_bytes c.ran.result.told))) (sym c.ran.ensures.line)
     (subst (λ (t : String Global). TellsRunLosses n f strict (string_bytes lines.line) c.ran.result.rounds (string_bytes t)) (sym c.ran.ensures.told)

@@ -1,8 +1,12 @@
-use Rattle.std.proofs.Common.{Err, ap, map, string_bytes}
+use Rattle.std.proofs.Common.{map, string_bytes, subst, sym, IfOk}
+use Rattle.app_cli.specs.Helping.{explains}
+use Rattle.app_commands.specs.Outputs.{Reports}
+use Rattle.app_networks.specs.Program.{RefusesWords}
 use Rattle.app_networks.proofs.Asked.{refused, refuses_words}
 use Rattle.app_networks.proofs.program.perform_request.Goals as goal
 
 pub returns-in-Err : goal.returns-in-Err
 returns-in-Err g c =
     let words = map string_bytes c.args.words.now in
-    refused words c.in-Err.fault c.report_words.result (refuses_words words c.in-Err.fault c.requires c.in-Err.ensures.only (λ is. c.in-Err.ensures.words (ap Err is))) c.report_words.ensures
+    refused words c.of_words_fault.result c.report_words.result
+    (subst (RefusesWords words) (sym c.of_words_fault.ensures) (refuses_words words c.in-Err.fault c.request_of.result c.requires c.in-Err.is c.request_of.ensures.words)) c.report_words.ensures

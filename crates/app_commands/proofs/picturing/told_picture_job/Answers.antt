@@ -1,6 +1,0 @@
-use Rattle.std.proofs.Common.{string_bytes, subst, sym, Global}
-use Rattle.app_commands.specs.ShownFiles.{EndsPicture}
-use Rattle.app_commands.proofs.picturing.told_picture_job.Goals as goal
-
-pub returns-clause-err : goal.returns-clause-err
-returns-clause-err g c = subst (EndsPicture Global (string_bytes c.args.plan) (string_bytes c.args.file)) (sym c.refusal_of.ensures.fault) c.in-Err.ensures

@@ -1,0 +1,56 @@
+//! Files that are written whole.
+ghost use Rattle.std.specs.Prelude.{◌≡◌, IfErr, IfOk};
+ghost use Rattle.std.specs.Io.KnownBytes.{Appends};
+ghost use Rattle.app_files.specs.FailedFiles.{IsOfPath};
+
+use crate::cause::Cause;
+use crate::failed_file::{FileFault, failed_at};
+use crate::output::Output;
+use std::alloc::Global;
+use std::fs::OpenFile;
+use std::io;
+use std::io::Write;
+
+/// Writes octets as the whole of the file at a path, and returns the file. A caller that needs the file can't hide a failed write.
+pub fn write_file<F: Write + OpenFile + Drop>(
+    alloc: Global,
+    path: &str,
+    output: Output<F>,
+    octets: &[u8],
+) -> Result<Output<F>, FileFault>
+    ensures written { IfOk result (λ done. Appends (⟦<Output<F> as Write>⟧.contents output)
+        (⟦<Output<F> as Write>⟧.contents done) octets.now) }
+    ensures fails { IfErr result (IsOfPath path.now) }
+{
+    match write_all(output, octets) {
+        Ok(output) => Ok(output),
+        Err(_) => Err(failed_at(alloc, path, Cause::NotWritable)),
+    }
+}
+
+/// Writes octets as the whole of a file, and returns the file.
+fn write_all<F: Write + OpenFile + Drop>(output: Output<F>, octets: &[u8]) -> io::Result<Output<F>>
+    ensures { IfOk result (λ done. Appends (⟦<Output<F> as Write>⟧.contents output)
+        (⟦<Output<F> as Write>⟧.contents done) octets.now) }
+{
+    let mut output = output;
+    output.write_all(octets)?;
+    output.flush()?;
+    output.finish()
+}
+
+/// Ends what is written to the file at a path, and returns the file. A file to which nothing was written is empty then.
+pub fn finish_file<F: Write + OpenFile + Drop>(
+    alloc: Global,
+    path: &str,
+    output: Output<F>,
+) -> Result<Output<F>, FileFault>
+    ensures kept { IfOk result (λ done. ⟦<Output<F> as Write>⟧.contents done
+        ≡ ⟦<Output<F> as Write>⟧.contents output) }
+    ensures fails { IfErr result (IsOfPath path.now) }
+{
+    match output.finish() {
+        Ok(output) => Ok(output),
+        Err(_) => Err(failed_at(alloc, path, Cause::NotWritable)),
+    }
+}
