@@ -19,7 +19,7 @@ pub use document::{
     twin_of, value_of,
 };
 pub use kind::{FileKind, is_network_text, kind_of, put_other_kind};
-pub use named::{behind, of_file};
+pub use named::{behind, escape_text, of_file};
 pub use nearest::{BRIDGES, KEYS, Listing, SECTIONS, nearest_name, put_nearest};
 pub use position::{
     Position, key_position, position_behind, put_position, table_position, top_position,

@@ -1,5 +1,7 @@
 //! A text that grows at its end.
-ghost use Rattle.std.specs.Prelude.{◌≡◌, [], IfErr, IfOk, IfSome, None, Some, decimal, length, string_bytes};
+ghost use Rattle.std.specs.Prelude.{◌≡◌, ◌<◌, [], ◌∷◌, IfErr, IfOk, IfSome, None, Some, decimal, encode_utf8, length, string_bytes};
+ghost use Rattle.std.specs.Char.{digit_char};
+ghost use Rattle.bridge_text.specs.Escaped.{control_escape, escaped, escaped_letter, hexadecimal};
 ghost use Rattle.bridge_text.specs.Growth.{HasGrown, IsLonger};
 
 use bridge_limits::NoMemory;
@@ -88,6 +90,78 @@ impl<A: Allocator> Text<A> {
         }
     }
 
+    /// Puts a character at the end.
+    fn put_char(&mut self, letter: char)
+        ensures { HasGrown self.old (encode_utf8 letter) self.new }
+    {
+        let is_refused = match &mut self.held {
+            Some(held) => held.push(letter).is_err(),
+            None => false,
+        };
+        if is_refused {
+            self.held = None;
+        }
+    }
+
+    /// Puts a digit of a hexadecimal number at the end.
+    fn put_digit(&mut self, digit: u8)
+        requires { digit < 16 }
+        ensures { HasGrown self.old (digit_char digit ∷ []) self.new }
+    {
+        self.put_char(digit_letter(digit) as char);
+    }
+
+    /// Puts a code below 256 in hexadecimal at the end.
+    fn put_hexadecimal(&mut self, code: u8)
+        ensures { HasGrown self.old (hexadecimal code) self.new }
+    {
+        if code < 16 {
+            return self.put_digit(code);
+        }
+        self.put_digit(code / 16);
+        self.put_digit(code % 16);
+    }
+
+    /// Puts the escape of a control character at the end, by its code.
+    fn put_control(&mut self, code: u8)
+        ensures { HasGrown self.old (control_escape code) self.new }
+    {
+        match code {
+            b'\t' => self.put("\\t"),
+            b'\n' => self.put("\\n"),
+            b'\r' => self.put("\\r"),
+            _ => {
+                self.put("\\u{");
+                self.put_hexadecimal(code);
+                self.put("}");
+            }
+        }
+    }
+
+    /// Puts a character at the end, a control character by its escape.
+    fn put_letter(&mut self, letter: char)
+        ensures { HasGrown self.old (escaped_letter letter) self.new }
+    {
+        let code = letter as u32;
+        if code < 32 {
+            return self.put_control(code as u8);
+        }
+        if code >= 127 && code < 160 {
+            return self.put_control(code as u8);
+        }
+        self.put_char(letter);
+    }
+
+    /// Puts a piece at the end that stays on one line: control characters are escaped as Rust escapes them, such as a line feed by
+    /// `\n` and an escape character by `\u{1b}`. Paths in lines and in explanations are put so.
+    pub fn put_escaped(&mut self, piece: &str)
+        ensures { HasGrown self.old (escaped piece.now) self.new }
+    {
+        for letter in piece.chars() {
+            self.put_letter(letter);
+        }
+    }
+
     /// Puts a template at the end: in place of `{0}` to `{9}` the digits of numbers, in place of `{a}` to `{z}` words, by
     /// their places; nothing where there are fewer.
     #[tactic(auto, using(crate::proofs::Longer::longer))]
@@ -149,5 +223,18 @@ impl<A: Allocator> Text<A> {
             Some(text) => Ok(text),
             None => Err(NoMemory),
         }
+    }
+}
+
+/// Returns the octet of a hexadecimal digit.
+fn digit_letter(digit: u8) -> u8
+    requires { digit < 16 }
+    ensures letter { result ≡ digit_char digit }
+    ensures ascii { result < 128 }
+{
+    if digit < 10 {
+        b'0' + digit
+    } else {
+        b'a' + (digit - 10)
     }
 }
