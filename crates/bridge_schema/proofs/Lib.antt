@@ -3,4 +3,3 @@ pub mod Sets
 mod Lists
 pub mod Standing
 pub mod Faults
-mod Rows

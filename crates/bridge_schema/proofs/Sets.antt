@@ -1,5 +1,5 @@
 -- A set of numbers, one number more at a time.
-use Rattle.std.proofs.Common.{◌≡◌, ℕ, zero, suc, ◌+◌, ◌-◌, ◌*◌, ◌^◌, ◌%◌, ◌<◌, ◌≤◌, Bool, true, false, ◌&&◌, nat_le, ◌==◌, List, [], ◌∷◌, bit_or, length, get_or, drop, take, set, ◌++◌, append_assoc, append-nil, refl, sym, ap, ◌∙◌, arith, rules, pos, negsuc, ℤ}
+use Rattle.std.proofs.Common.{◌≡◌, ℕ, suc, ◌+◌, ◌-◌, ◌*◌, ◌^◌, ◌%◌, ◌<◌, ◌≤◌, true, ◌&&◌, nat_le, List, [], ◌∷◌, bit_or, length, get_or, drop, take, set, ◌++◌, append_assoc, append-nil, refl, sym, ap, ◌∙◌, arith, pos, negsuc}
 use Rattle.std.proofs.lemmas.List.{take_more_set, take_all, drop_all}
 use Rattle.std.proofs.lemmas.Bool.{and_parts, false≢true}
 use Rattle.std.proofs.lemmas.Bool.Decides.{nat_tests}

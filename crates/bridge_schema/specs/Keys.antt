@@ -1,4 +1,4 @@
--- The spelling of the sections and of each key.
+-- The spelling of the sections and of each key, and the limit of each section.
 use Rattle.std.specs.Prelude.{ℕ, List, codes}
 use Rattle.bridge_schema.specs.declared.fault.Section.{Section}
 use Rattle.bridge_schema.specs.declared.fault.Section.TheVariants as section
@@ -17,6 +17,19 @@ name_of section.Gate = codes "gate"
 name_of section.Meter = codes "meter"
 name_of section.Filter = codes "filter"
 name_of section.Command = codes "command"
+
+-- the most instances of a section
+abbrev pub limit_of : Section → ℕ
+limit_of section.Top = 0
+limit_of section.Change = 1
+limit_of section.Port = 16
+limit_of section.Vlan = 4094
+limit_of section.Static = 4096
+limit_of section.Stream = 4096
+limit_of section.Gate = 1024
+limit_of section.Meter = 1024
+limit_of section.Filter = 1024
+limit_of section.Command = 4096
 
 -- the spelling of a key
 abbrev pub key_of : Field → List ℕ

@@ -1,8 +1,7 @@
 -- How the keys of a table are read: the kinds of values, their presence, and which keys are known.
-use Rattle.std.specs.Prelude.{ℕ, zero, suc, pos, negsuc, ◌+◌, ◌-◌, ◌^◌, ◌≡◌, Bool, true, false, not, ◌&&◌, List, [], ◌∷◌, ◌++◌, length, Option, Some, None, is_some, Result, Ok, Err, nat_le, nat_eq, bit_and, bit_or, if◌then◌else◌}
-use Rattle.std.specs.List.{list_any, list_all}
-use Rattle.std.specs.Cmp.Lexicographic.{pointwise}
-use Rattle.toml.specs.Data.{Data, string, integer, float, boolean, datetime, array, table, Items, no_items, item, Members, no_members, member, get_member}
+use Rattle.std.specs.Prelude.{ℕ, pos, negsuc, ◌-◌, ◌^◌, Bool, true, false, not, ◌&&◌, List, [], ◌∷◌, ◌++◌, length, Option, Some, None, is_some, Result, Ok, Err, nat_le, nat_eq, bit_and, bit_or, if◌then◌else◌}
+use Rattle.std.specs.List.{list_all}
+use Rattle.toml.specs.Data.{Data, string, integer, boolean, array, table, Items, no_items, item, Members, get_member}
 use Rattle.bridge_frame.specs.declared.Speed.{Speed}
 use Rattle.bridge_frame.specs.Link.{speed_of}
 use Rattle.bridge_schema.specs.declared.fault.Field.{Field}
@@ -12,27 +11,25 @@ use Rattle.bridge_schema.specs.declared.fault.Place.{Place}
 use Rattle.bridge_schema.specs.declared.fault.PlanFault.{PlanFault}
 use Rattle.bridge_schema.specs.declared.fault.PlanFault.TheVariants as fault
 use Rattle.bridge_schema.specs.Keys.{key_of}
+use Rattle.bridge_schema.specs.Reading as reading
+pub use Rattle.bridge_schema.specs.Reading.{◌>>=◌, are_tables, count_of, instances, instances_from}
 
--- goes on with what was read; the first refusal is the answer
-infixl 10 ◌>>=◌
--- what is read behind another thing, or the first fault
-abbrev pub ◌>>=◌ : {A B E : Type 0} → Result A E → (A → Result B E) → Result B E
-(Ok x) >>= f = f x
-(Err e) >>= f = Err e
+-- whether memory ran out
+abbrev pub is_no_memory : PlanFault → Bool
+is_no_memory fault.NoMemory = true
+is_no_memory _ = false
 
 -- a call's fault is the one of the reading, unless memory ran out
 abbrev pub Fails : {Y : Type 0} → PlanFault → Result Y PlanFault → Type 0
-Fails fault.NoMemory read = Unit {0}
-Fails e read = read ≡ Err e
+Fails = reading.Fails is_no_memory
 
 -- a call's answer, as it is viewed, is what the reading gives, unless memory ran out
 abbrev pub GivesAs : {X Y : Type 0} → (X → Y) → Result X PlanFault → Result Y PlanFault → Type 0
-GivesAs view (Ok x) read = read ≡ Ok (view x)
-GivesAs view (Err e) read = Fails e read
+GivesAs = reading.GivesAs is_no_memory
 
 -- a call's answer is what the reading gives, unless memory ran out
 abbrev pub Gives : {X : Type 0} → Result X PlanFault → Result X PlanFault → Type 0
-Gives = GivesAs (λ x. x)
+Gives = reading.Gives is_no_memory
 
 -- THE KINDS OF VALUES
 
@@ -80,17 +77,6 @@ abbrev pub are_between : ℕ → ℕ → Items → Bool
 are_between low high no_items = true
 are_between low high (item (integer (pos n)) ds) = (nat_le low n && nat_le n high) && are_between low high ds
 are_between low high (item _ ds) = false
-
--- whether each item is a table
-abbrev pub are_tables : Items → Bool
-are_tables no_items = true
-are_tables (item (table ms) ds) = are_tables ds
-are_tables (item _ ds) = false
-
--- how many items there are
-abbrev pub count_of : Items → ℕ
-count_of no_items = 0
-count_of (item d ds) = suc (count_of ds)
 
 -- whether there are no items
 abbrev pub is_empty : Items → Bool
@@ -157,23 +143,19 @@ flawed place flaw.Unresolved = fault.Unresolved place
 
 -- what was read at a place, or the fault of the place
 abbrev pub at_place : {A : Type 0} → Place → Result A Flaw → Result A PlanFault
-at_place place (Ok x) = Ok x
-at_place place (Err e) = Err (flawed place e)
+at_place = reading.at_place flawed
 
 -- a value that must be there
 abbrev pub required_in : {A : Type 0} → Place → (Data → Result A Flaw) → Option Data → Result A PlanFault
-required_in place kind None = Err (fault.Missing place)
-required_in place kind (Some d) = at_place place (kind d)
+required_in = reading.required_in fault.Missing flawed
 
 -- a value that may be absent
 abbrev pub optional_in : {A : Type 0} → Place → (Data → Result A Flaw) → Option Data → Result (Option A) PlanFault
-optional_in place kind None = Ok None
-optional_in place kind (Some d) = at_place place (kind d) >>= λ x. Ok (Some x)
+optional_in = reading.optional_in flawed
 
 -- a value that is the default where it is absent
 abbrev pub default_in : {A : Type 0} → A → Place → (Data → Result A Flaw) → Option Data → Result A PlanFault
-default_in default place kind None = Ok default
-default_in default place kind (Some d) = at_place place (kind d)
+default_in = reading.default_in flawed
 
 -- a key that must be there
 unfoldable pub required : {A : Type 0} → Place → Field → (Data → Result A Flaw) → Members → Result A PlanFault
@@ -203,12 +185,11 @@ only_without key absent read members = if has_key key members then Ok absent els
 
 -- whether a text spells one of the keys
 abbrev pub is_among : List Field → List ℕ → Bool
-is_among keys k = list_any (λ f. pointwise nat_eq (key_of f) k) keys
+is_among = reading.is_among key_of
 
 -- whether a table has no key but these
 abbrev pub are_known : List Field → Members → Bool
-are_known keys no_members = true
-are_known keys (member k d ms) = is_among keys k && are_known keys ms
+are_known = reading.are_known key_of
 
 -- whether no table among the items has a key but these
 abbrev pub are_known_in : List Field → Items → Bool
@@ -250,13 +231,3 @@ list_at place entry (Some d) = list_of place entry d >>= λ xs. Ok (Some xs)
 -- what was read, after what stands before it
 abbrev pub with_front : {A : Type 0} → List A → Result (List A) PlanFault → Result (List A) PlanFault
 with_front front read = read >>= λ xs. Ok (front ++ xs)
-
--- the instances of a section, each read by those before it, its place in the array and its table
-abbrev pub instances_from : {A : Type 0} → (List A → ℕ → Members → Result A PlanFault) → List A → ℕ → Items → Result (List A) PlanFault
-instances_from read earlier index no_items = Ok earlier
-instances_from read earlier index (item (table ms) ds) = read earlier index ms >>= λ x. instances_from read (earlier ++ x ∷ []) (index + 1) ds
-instances_from read earlier index (item _ ds) = instances_from read earlier (index + 1) ds
-
--- the instances of a section, whose places are counted from 1
-abbrev pub instances : {A : Type 0} → (List A → ℕ → Members → Result A PlanFault) → Items → Result (List A) PlanFault
-instances read items = instances_from read [] 1 items

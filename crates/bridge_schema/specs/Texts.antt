@@ -1,5 +1,5 @@
 -- What the texts of a plan stand for.
-use Rattle.std.specs.Prelude.{ℕ, zero, suc, ◌+◌, ◌*◌, ◌-◌, Bool, true, false, ◌&&◌, List, [], ◌∷◌, codes, Option, Some, None, nat_le, nat_eq, length, slice_index, if◌then◌else◌}
+use Rattle.std.specs.Prelude.{ℕ, ◌+◌, ◌*◌, ◌-◌, Bool, true, false, ◌&&◌, List, [], ◌∷◌, codes, Option, Some, None, nat_le, nat_eq, length, slice_index, if◌then◌else◌}
 use Rattle.std.specs.Cmp.Lexicographic.{pointwise}
 
 -- the value of a hexadecimal digit, in either case

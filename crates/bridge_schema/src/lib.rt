@@ -7,6 +7,7 @@
 //! it is a `PlanFault` that names the section, the instance and the key.
 
 pub mod arrays;
+pub mod document;
 pub mod entries;
 pub mod fault;
 pub mod instances;
@@ -15,10 +16,12 @@ pub mod kinds;
 pub mod known;
 pub mod presence;
 pub mod ranges;
+pub mod reader_fault;
 pub mod row;
 pub mod texts;
 
 pub use arrays::{Classes, PortsOf, Rooms, SetOf, are_tables, with_bit};
+pub use document::{document_of, has_only, is_empty, items_of};
 pub use entries::{Entry, list_at};
 pub use fault::{Field, Flaw, Place, PlanFault, Section};
 pub use instances::{SectionReader, read_instances};
@@ -31,11 +34,13 @@ pub use keys::{
 pub use kinds::{Between, Finds, Kind, Known, Mbps, Switch};
 pub use known::{Hindrance, are_known, are_known_at, hindrance_of};
 pub use presence::{
-    default_to, has_key, optional, required, required_with, required_without, value_at,
+    default_in, default_to, has_key, optional, optional_in, required, required_in, required_with,
+    required_without, value_at,
 };
 pub use ranges::{
-    BURST, LARGEST_NUMBER, LAST_MOMENT, LENGTH, MAX_SDU, MOMENT, NUMBER, PORT, PRIORITY, RATE,
-    ROOM, VID, the_limit,
+    BURST, LARGEST_NUMBER, LAST_MOMENT, LENGTH, MAX_SDU, MOMENT, MOST_OCTETS, NUMBER, PORT,
+    PRIORITY, RATE, ROOM, VID, the_limit,
 };
+pub use reader_fault::{ReaderFault, Spell, TextSection, limit_of};
 pub use row::Row;
 pub use texts::{Address, Meaning, Openness, Text};

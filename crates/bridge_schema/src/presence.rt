@@ -5,10 +5,12 @@ ghost use Rattle.std.specs.Option.{ForSome};
 ghost use Rattle.toml.specs.Data.{get_member};
 ghost use Rattle.toml.specs.View.{view, table_view};
 ghost use Rattle.bridge_schema.specs.Readers as spec;
+ghost use Rattle.bridge_schema.specs.Reading as reading;
 ghost use Rattle.bridge_schema.specs.Readers.{Gives};
 
-use crate::fault::{Field, Flaw, Place, PlanFault};
+use crate::fault::{Field, Place, PlanFault};
 use crate::kinds::Kind;
+use crate::reader_fault::ReaderFault;
 use toml::{Table, Value};
 
 /// The value at a key of a table.
@@ -25,28 +27,22 @@ pub fn has_key(table: &Table, key: Field) -> bool
     value_at(table, key.key()).is_some()
 }
 
-fn flawed(place: Place, flaw: Flaw) -> PlanFault
-    ensures flawed { result ≡ spec.flawed place flaw }
-    ensures takes_no_memory { ¬ (result ≡ NoMemory) }
-{
-    match flaw {
-        Flaw::WrongKind => PlanFault::WrongKind(place),
-        Flaw::OutOfRange => PlanFault::OutOfRange(place),
-        Flaw::Unresolved => PlanFault::Unresolved(place),
-    }
-}
-
-fn required_in<K: Kind>(place: Place, kind: &K, value: Option<&Value>) -> Result<K::Out, PlanFault>
-    ensures reads { Gives result (spec.required_in place (K.reading kind.now)
+/// The value of a place that must be there, or the fault of the place. Takes no memory.
+pub fn required_in<F: ReaderFault, K: Kind>(
+    place: F::Place,
+    kind: &K,
+    value: Option<&Value>,
+) -> Result<K::Out, F>
+    ensures reads { reading.Gives F.is_memory result (reading.required_in F.missing F.flawed place (K.reading kind.now)
         (option_map (λ v. view v.now) value.entry)) }
     ensures fits { IfOk result (K.Fits kind.now) }
-    ensures takes_no_memory { IfErr result (λ e. ¬ (e ≡ NoMemory)) }
+    ensures takes_no_memory { IfErr result (λ e. ¬ (e ≡ F.memory)) }
 {
     match value {
-        None => Err(PlanFault::Missing(place)),
+        None => Err(F::missing(place)),
         Some(value) => match kind.read(value) {
             Ok(out) => Ok(out),
-            Err(flaw) => Err(flawed(place, flaw)),
+            Err(flaw) => Err(F::flawed(place, flaw)),
         },
     }
 }
@@ -66,21 +62,22 @@ pub fn required<K: Kind>(
     required_in(place, kind, value_at(table, key.key()))
 }
 
-fn optional_in<K: Kind>(
-    place: Place,
+/// The value of a place that may be absent, or the fault of the place. Takes no memory.
+pub fn optional_in<F: ReaderFault, K: Kind>(
+    place: F::Place,
     kind: &K,
     value: Option<&Value>,
-) -> Result<Option<K::Out>, PlanFault>
-    ensures reads { Gives result (spec.optional_in place (K.reading kind.now)
+) -> Result<Option<K::Out>, F>
+    ensures reads { reading.Gives F.is_memory result (reading.optional_in F.flawed place (K.reading kind.now)
         (option_map (λ v. view v.now) value.entry)) }
     ensures fits { IfOk result (λ x. ForSome x (K.Fits kind.now)) }
-    ensures takes_no_memory { IfErr result (λ e. ¬ (e ≡ NoMemory)) }
+    ensures takes_no_memory { IfErr result (λ e. ¬ (e ≡ F.memory)) }
 {
     match value {
         None => Ok(None),
         Some(value) => match kind.read(value) {
             Ok(out) => Ok(Some(out)),
-            Err(flaw) => Err(flawed(place, flaw)),
+            Err(flaw) => Err(F::flawed(place, flaw)),
         },
     }
 }
@@ -100,25 +97,26 @@ pub fn optional<K: Kind>(
     optional_in(place, kind, value_at(table, key.key()))
 }
 
-fn default_in<K: Kind>(
+/// The value of a place, or the default if the value is absent, or the fault of the place. Takes no memory.
+pub fn default_in<F: ReaderFault, K: Kind>(
     default: K::Out,
-    place: Place,
+    place: F::Place,
     kind: &K,
     value: Option<&Value>,
-) -> Result<K::Out, PlanFault>
+) -> Result<K::Out, F>
 where
     K::Out: Drop,
-    requires { K.Fits kind.now default }
-    ensures reads { Gives result (spec.default_in default place (K.reading kind.now)
+    requires fits { K.Fits kind.now default }
+    ensures reads { reading.Gives F.is_memory result (reading.default_in F.flawed default place (K.reading kind.now)
         (option_map (λ v. view v.now) value.entry)) }
     ensures fits { IfOk result (K.Fits kind.now) }
-    ensures takes_no_memory { IfErr result (λ e. ¬ (e ≡ NoMemory)) }
+    ensures takes_no_memory { IfErr result (λ e. ¬ (e ≡ F.memory)) }
 {
     match value {
         None => Ok(default),
         Some(value) => match kind.read(value) {
             Ok(out) => Ok(out),
-            Err(flaw) => Err(flawed(place, flaw)),
+            Err(flaw) => Err(F::flawed(place, flaw)),
         },
     }
 }

@@ -5,6 +5,9 @@ use crate::kinds::Between;
 use bridge_limits::END_OF_TIME;
 use bridge_meter::{HIGHEST_RATE, LARGEST_BURST};
 
+/// The most octets of a text.
+pub const MOST_OCTETS: usize = 1_048_576;
+
 /// The largest number of a document.
 const LARGEST: u64 = 9_223_372_036_854_775_807;
 

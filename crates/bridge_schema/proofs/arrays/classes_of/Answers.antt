@@ -1,8 +1,8 @@
-use Rattle.std.proofs.Common.{rules, ◌≡◌, ◌≤◌, ◌<◌, ◌+◌, ℕ, true, get_or, drop, take, length, arith, refl, sym, ap, ◌∙◌}
+use Rattle.std.proofs.Common.{◌≡◌, ◌<◌, get_or, length, arith, sym, ap, ◌∙◌}
 use Rattle.std.proofs.lemmas.Grind.{common_steps}
-use Rattle.toml.specs.View.{view, items_view}
-use Rattle.bridge_schema.specs.Readers.{number_in, numbers_of, are_within}
-use Rattle.bridge_schema.proofs.Sets.{Front, front_at, put_number, all_put, numbers_within}
+use Rattle.toml.specs.View.{items_view}
+use Rattle.bridge_schema.specs.Readers.{numbers_of, are_within}
+use Rattle.bridge_schema.proofs.Sets.{front_at, put_number, all_put, numbers_within}
 use Rattle.bridge_schema.proofs.arrays.classes_of.Goals as goal
 
 pub items-preserved : goal.items-preserved

@@ -1,5 +1,4 @@
-use Rattle.std.proofs.Common.{rules, ◌≡◌, ◌≤◌, ◌<◌, ◌+◌, ◌-◌, ◌^◌, ℕ, Bool, true, get_or, drop, arith, refl, sym, ◌∙◌}
-use Rattle.std.proofs.lemmas.Grind.{common_steps}
+use Rattle.std.proofs.Common.{◌≡◌, ◌+◌, get_or, drop, arith, sym, ◌∙◌}
 use Rattle.toml.specs.View.{view, items_view}
 use Rattle.bridge_schema.proofs.Sets.{Front, front_at, set_at, more_fits}
 use Rattle.bridge_schema.proofs.arrays.set_of.Goals as goal

@@ -1,6 +1,6 @@
 use Rattle.std.proofs.Common.{◌≡◌, ◌≤◌, ◌+◌, length, drop}
 use Rattle.toml.specs.View.{items_view}
-use Rattle.bridge_schema.specs.Readers.{instances, instances_from}
+use Rattle.bridge_schema.specs.Reading.{instances, instances_from}
 use Rattle.bridge_schema.proofs.instances.read_instances.Given as goal
 
 abbrev pub invariant-items : goal.invariant-items
