@@ -1,37 +1,11 @@
 -- How many items an array has.
-use Rattle.std.proofs.Common.{◌≡◌, ℕ, ◌+◌, ◌<◌, true, List, [], ◌∷◌, ◌++◌, length, Option, Result, Ok, Err, refl, ap, ◌∙◌, arith}
-use Rattle.std.proofs.lemmas.Bool.{false≢true}
-use Rattle.bridge_limits.proofs.Orders.{more_by_one}
-use Rattle.bridge_limits.proofs.Lists.{one_longer}
+use Rattle.std.proofs.Common.{◌≡◌, ℕ, ◌+◌, ◌<◌, true, List, [], length, Option, Ok, arith}
 use Rattle.toml.specs.View.{items_view}
 use Rattle.toml.specs.declared.value.Value.{Value}
-use Rattle.toml.specs.Data.{string, integer, float, boolean, datetime, array, table, Items, no_items, item, Members}
-use Rattle.bridge_schema.specs.declared.fault.PlanFault.{PlanFault}
-use Rattle.bridge_schema.specs.Readers.{◌>>=◌, are_tables, count_of, instances, instances_from}
-use Rattle.bridge_schema.proofs.Counts.{count_of_view}
+use Rattle.bridge_schema.specs.Readers.{are_tables, count_of, instances}
+use Rattle.bridge_schema.proofs.Counts.{count_of_view, counted}
 use Rattle.bridge_config.specs.declared.ports.PortPlan.{PortPlan}
 use Rattle.bridge_config.specs.Sections.{port_at}
-
-ok_parts : {X Y : Type 0} (r : Result X PlanFault) (k : X → Result Y PlanFault) (y : Y) → (r >>= k) ≡ Ok y → (x : X) × (k x ≡ Ok y)
-ok_parts (Ok x) k y h = (x, h)
-ok_parts (Err e) k y h = absurd (cc)
-
-ok_is : {X : Type 0} (x y : X) (r : Result X PlanFault) → r ≡ Ok x → r ≡ Ok y → x ≡ y
-ok_is x y r g h = cc
-
--- each table of an array is an instance
-counted : {A : Type 0} (read : List A → ℕ → Members → Result A PlanFault) (earlier : List A) (i : ℕ) (ds : Items) (xs : List A) → are_tables ds ≡ true → instances_from read earlier i ds ≡ Ok xs → length xs ≡ length earlier + count_of ds
-counted read earlier i no_items xs tables h = let e : length earlier ≡ length xs = ap length (ok_is earlier xs (Ok earlier) refl h) in omega (arith, e)
-counted read earlier i (item (table ms) ds) xs tables h =
-    let (x, more) = ok_parts (read earlier i ms) (λ x. instances_from read (earlier ++ x ∷ []) (i + 1) ds) xs h in
-    let rest : length xs ≡ length (earlier ++ x ∷ []) + count_of ds = counted read (earlier ++ x ∷ []) (i + 1) ds xs tables more in
-    more_by_one (length xs) (count_of ds) (length earlier) (rest ∙ ap (λ n. n + count_of ds) (one_longer earlier x))
-counted read earlier i (item (integer z) ds) xs tables h = absurd (false≢true tables)
-counted read earlier i (item (string s) ds) xs tables h = absurd (false≢true tables)
-counted read earlier i (item (float x) ds) xs tables h = absurd (false≢true tables)
-counted read earlier i (item (boolean b) ds) xs tables h = absurd (false≢true tables)
-counted read earlier i (item (datetime t) ds) xs tables h = absurd (false≢true tables)
-counted read earlier i (item (array es) ds) xs tables h = absurd (false≢true tables)
 
 pub as_many : {A : Type 0} (change : Option ℕ) (ports : List (PortPlan A)) (vs : List Value) → instances (port_at change) (items_view vs) ≡ Ok ports → are_tables (items_view vs) ≡ true → 0 < length vs → 0 < length ports
 as_many change ports vs h tables some =

@@ -6,26 +6,14 @@ use Rattle.std.proofs.lemmas.Result.{IfOk-weaker}
 use Rattle.std.specs.Result.{IfOk, IfErr, IsErrAnd}
 use Rattle.bridge_schema.specs.declared.fault.PlanFault.{PlanFault}
 use Rattle.bridge_schema.specs.declared.fault.PlanFault.TheVariants as fault
-use Rattle.bridge_schema.specs.Readers.{◌>>=◌, Fails, Gives, GivesAs}
+use Rattle.bridge_schema.specs.Readers.{◌>>=◌, Fails, Gives, GivesAs, is_no_memory}
 use Rattle.bridge_config.specs.Sections.{provided}
 use Rattle.bridge_config.specs.Taken.{fault_in, value_or, first_of, unless_fault, Takes, Expects, Ends, Reads, ReadsBy}
-use Rattle.bridge_schema.proofs.Faults.{fails_on, handed_on}
+use Rattle.bridge_schema.proofs.Faults.{fails_on, handed_on, unless_holds}
 
 -- a fault is that of the whole, unless memory ran out
 pub fails_of : {B : Type 0} (e : PlanFault) (whole : Result B PlanFault) → whole ≡ Err e → Fails e whole
-fails_of fault.Syntax whole is = is
-fails_of fault.TooLong whole is = is
-fails_of (fault.UnknownKey a b) whole is = is
-fails_of (fault.NotAList a) whole is = is
-fails_of (fault.Missing a) whole is = is
-fails_of (fault.WrongKind a) whole is = is
-fails_of (fault.OutOfRange a) whole is = is
-fails_of (fault.Duplicate a b) whole is = is
-fails_of (fault.Unresolved a) whole is = is
-fails_of (fault.TooMany a) whole is = is
-fails_of (fault.BadList a b c) whole is = is
-fails_of fault.NoPorts whole is = is
-fails_of fault.NoMemory whole is = tt
+fails_of e whole is = unless_holds (is_no_memory e) is
 
 -- without a fault the whole is what is left
 abbrev pub StandsBy : {A : Type 0} → Option PlanFault → Result A PlanFault → Result A PlanFault → Type 0

@@ -1,59 +1,30 @@
 -- The plan of a text, and the commands of another: what it stands for, or the first fault in order.
-use Rattle.std.specs.Prelude.{ℕ, Bool, true, not, ◌&&◌, List, [], ◌∷◌, length, Option, Some, None, Result, Ok, Err, nat_le, nat_lt, nat_eq, if◌then◌else◌}
-use Rattle.std.specs.List.{list_any}
-use Rattle.std.specs.Cmp.Lexicographic.{pointwise}
-use Rattle.std.specs.Str.Lossy.{utf8_valid_len}
-use Rattle.toml.specs.Data.{Data, array, table, Items, no_items, item, Members, no_members, member, get_member}
-use Rattle.toml.specs.Parse.{parse_document}
+use Rattle.std.specs.Prelude.{ℕ, Bool, not, List, [], ◌∷◌, Option, Some, None, Result, Ok}
+use Rattle.toml.specs.Data.{Data, table, Items, no_items, item, Members}
 use Rattle.bridge_schema.specs.declared.fault.Section.{Section}
 use Rattle.bridge_schema.specs.declared.fault.Section.TheVariants as section
 use Rattle.bridge_schema.specs.declared.fault.PlanFault.{PlanFault}
 use Rattle.bridge_schema.specs.declared.fault.PlanFault.TheVariants as fault
-use Rattle.bridge_schema.specs.Keys.{name_of}
-use Rattle.bridge_schema.specs.Readers.{◌>>=◌, are_tables, count_of, instances, is_empty}
+use Rattle.bridge_schema.specs.Keys.{limit_of, name_of}
+use Rattle.bridge_schema.specs.Readers.{◌>>=◌, instances, is_empty}
+use Rattle.bridge_schema.specs.Reading as reading
 use Rattle.bridge_config.specs.declared.command.Command.{Command}
 use Rattle.bridge_config.specs.Model.{Policing, Plan}
 use Rattle.bridge_config.specs.Rules.{port_set}
 use Rattle.bridge_config.specs.Sections.{provided, change_at, port_at, vlan_at, static_at, stream_at, gate_at, meter_at, filter_at}
 use Rattle.bridge_config.specs.Commands.{command_at}
 
--- the most instances of a section
-abbrev pub limit_of : Section → ℕ
-limit_of section.Top = 0
-limit_of section.Change = 1
-limit_of section.Port = 16
-limit_of section.Vlan = 4094
-limit_of section.Static = 4096
-limit_of section.Stream = 4096
-limit_of section.Gate = 1024
-limit_of section.Meter = 1024
-limit_of section.Filter = 1024
-limit_of section.Command = 4096
-
--- a section's items, where it is an array of tables that are few enough; an absent one has none
-abbrev pub items_in : Section → Option Data → Result Items PlanFault
-items_in section None = Ok no_items
-items_in section (Some (array items)) =
-    if are_tables items then (if nat_le (count_of items) (limit_of section) then Ok items else Err (fault.TooMany section))
-    else Err (fault.NotAList section)
-items_in section (Some _) = Err (fault.NotAList section)
-
--- the same of a section of a document
+-- the items of a section of a document
 abbrev pub items_of : Section → Members → Result Items PlanFault
-items_of section members = items_in section (get_member (name_of section) members)
+items_of = reading.items_of (λ section. fault.NotAList section) (λ section. fault.TooMany section) limit_of name_of
 
 -- the sections of a plan
 abbrev pub plan_sections : List Section
 plan_sections = section.Change ∷ section.Port ∷ section.Vlan ∷ section.Static ∷ section.Stream ∷ section.Gate ∷ section.Meter ∷ section.Filter ∷ []
 
--- whether a text is the name of one of the sections
-abbrev pub is_section : List Section → List ℕ → Bool
-is_section sections k = list_any (λ s. pointwise nat_eq (name_of s) k) sections
-
 -- whether a document has no key but these sections
 abbrev pub are_sections : List Section → Members → Bool
-are_sections sections no_members = true
-are_sections sections (member k d ms) = is_section sections k && are_sections sections ms
+are_sections = reading.are_known name_of
 
 -- the items of all sections
 pub record Arrays : Type 0 where
@@ -118,17 +89,9 @@ second_pass arrays = do
 abbrev pub plan_of_document : {A : Type 0} → Members → Result (Plan A) PlanFault
 plan_of_document members = first_pass members >>= second_pass
 
--- the document of what TOML makes of a text
-abbrev pub document_in : Option Members → Result Members PlanFault
-document_in None = Err fault.Syntax
-document_in (Some members) = Ok members
-
 -- the document of a text, which is not too long and is UTF-8
 unfoldable pub document_of : List ℕ → Result Members PlanFault
-document_of text =
-    if nat_lt 1048576 (length text) then Err fault.TooLong
-    else if nat_eq (utf8_valid_len text) (length text) then document_in (parse_document text)
-    else Err fault.Syntax
+document_of = reading.document_of fault.TooLong fault.Syntax
 
 -- the plan of a text
 abbrev pub plan_of_text : {A : Type 0} → List ℕ → Result (Plan A) PlanFault

@@ -1,5 +1,5 @@
 -- The sections of a plan, key by key in the order of the table of keys.
-use Rattle.std.specs.Prelude.{ℕ, ◌-◌, ◌^◌, Bool, true, false, not, ◌&&◌, List, [], ◌∷◌, ◌++◌, Option, Some, None, Result, Ok, Err, replicate}
+use Rattle.std.specs.Prelude.{ℕ, ◌-◌, ◌^◌, Bool, false, not, ◌&&◌, List, [], ◌∷◌, ◌++◌, Option, Some, None, Result, Ok, Err, replicate}
 use Rattle.toml.specs.Data.{Members, get_member}
 use Rattle.bridge_limits.specs.declared.TheConstants.{END_OF_TIME}
 use Rattle.bridge_cycle.specs.Cyclic.{Cyclic, fault_of}
@@ -25,16 +25,12 @@ use Rattle.bridge_schema.specs.declared.fault.PlanFault.{PlanFault}
 use Rattle.bridge_schema.specs.declared.fault.PlanFault.TheVariants as fault
 use Rattle.bridge_schema.specs.Keys.{key_of}
 use Rattle.bridge_schema.specs.Readers.{◌>>=◌, required, optional, default_to, only_with, only_without, between, switch, speed, known, text, set_of, ports_of, eight, list_at, are_known, are_known_at, with_key, without_key}
+pub use Rattle.bridge_schema.specs.Reading.{provided}
 use Rattle.bridge_schema.specs.Texts.{address_of, openness_of}
 use Rattle.bridge_schema.specs.declared.ranges.TheConstants.{LARGEST_NUMBER}
 use Rattle.bridge_config.specs.Texts.{kind_of, tag_of, awareness_of}
 use Rattle.bridge_config.specs.Rules.{has_port, has_vlan, has_static}
 use Rattle.bridge_config.specs.declared.ports.PortPlan.{PortPlan}
-
--- goes on where a test holds, else a fault
-abbrev pub provided : Bool → PlanFault → Result Bool PlanFault
-provided true e = Ok true
-provided false e = Err e
 
 -- goes on where no earlier instance is alike
 abbrev pub no_duplicate : Section → ℕ → Bool → Result Bool PlanFault

@@ -4,13 +4,13 @@ ghost use Rattle.toml.specs.View.{table_view, items_view};
 ghost use Rattle.bridge_limits.specs.declared.TheConstants.{END_OF_TIME};
 ghost use Rattle.bridge_schema.specs.declared.fault.PlanFault.TheVariants.{NoMemory};
 ghost use Rattle.bridge_schema.specs.declared.fault.Section.TheVariants as the_section;
+ghost use Rattle.bridge_schema.specs.Keys.{limit_of};
 ghost use Rattle.bridge_schema.specs.Readers.{Gives, GivesAs};
 ghost use Rattle.bridge_config.specs.Commands as spec;
 ghost use Rattle.bridge_config.specs.Commands.{AreCommands};
 ghost use Rattle.bridge_config.specs.Document as doc;
 ghost use Rattle.bridge_config.specs.Texts as texts;
 
-use crate::arrays::{are_sections, items_of};
 use crate::command::Command;
 use crate::first::FirstFault;
 use crate::numbers::has_number;
@@ -18,7 +18,7 @@ use crate::plan::{Plan, document_of};
 use bridge_filter::Clear;
 use bridge_schema::{
     Between, COMMAND_KEYS, COMMAND_SECTIONS, Field, Finds, Known, LAST_MOMENT, Meaning, NUMBER,
-    PlanFault, Row, Section, SectionReader, Text, are_known, read_instances,
+    PlanFault, Row, Section, SectionReader, Text, are_known, has_only, items_of, read_instances,
 };
 use std::alloc::{Allocator, Global};
 use toml::{Table, Value};
@@ -129,6 +129,8 @@ struct Commands<'a, B: Allocator + Copy> {
 }
 
 impl<'a, A: Allocator + Copy, B: Allocator + Copy> SectionReader<A> for Commands<'a, B> {
+    type Fault = PlanFault;
+
     type Instance = Command;
 
     ghost reading = { λ s. spec.command_at s.plan.now };
@@ -151,10 +153,10 @@ impl<'a, A: Allocator + Copy, B: Allocator + Copy> SectionReader<A> for Commands
 #[tactic(auto, unfolding(crate::specs::Document::command_items))]
 fn command_items<'a>(table: &'a Table) -> Result<&'a [Value], PlanFault>
     ensures reads { GivesAs (λ x. items_view x.now) result (doc.command_items (table_view table.now)) }
-    ensures few { IfOk result (λ x. length x.now ≤ doc.limit_of the_section.Command) }
+    ensures few { IfOk result (λ x. length x.now ≤ limit_of the_section.Command) }
     ensures takes_no_memory { IfErr result (λ e. ¬ (e ≡ NoMemory)) }
 {
-    if !are_sections(&COMMAND_SECTIONS, table) {
+    if !has_only(table, &COMMAND_SECTIONS) {
         return Err(PlanFault::UnknownKey(Section::Top, 0));
     }
     items_of(Section::Command, table)

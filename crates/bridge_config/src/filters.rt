@@ -107,6 +107,8 @@ struct Filters<'a, A: Allocator + Copy> {
 }
 
 impl<'a, A: Allocator + Copy> SectionReader<A> for Filters<'a, A> {
+    type Fault = PlanFault;
+
     type Instance = (u32, FilterPlan);
 
     ghost reading = { λ s. sections.filter_at s.gates.now s.meters.now };

@@ -247,6 +247,8 @@ pub(crate) struct Gates {
 }
 
 impl<A: Allocator + Copy> SectionReader<A> for Gates {
+    type Fault = PlanFault;
+
     type Instance = (u32, GatePlan<A>);
 
     ghost reading = { λ s. sections.gate_at s.change };

@@ -17,9 +17,8 @@ mod statics;
 mod streams;
 mod vlans;
 
-pub use arrays::limit_of;
 pub use bridge_forward::PortSet;
-pub use bridge_schema::PlanFault;
+pub use bridge_schema::{PlanFault, limit_of};
 pub use command::Command;
 pub use commands::commands_of;
 pub use plan::{Plan, plan_of};

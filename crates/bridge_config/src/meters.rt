@@ -95,6 +95,8 @@ fn meter_of(
 pub(crate) struct Meters;
 
 impl<A: Allocator + Copy> SectionReader<A> for Meters {
+    type Fault = PlanFault;
+
     type Instance = (u32, MeterPlan);
 
     ghost reading = { λ _. sections.meter_at };

@@ -32,9 +32,6 @@ use std::alloc::{Allocator, Global};
 use std::marker::Model;
 use toml::Table;
 
-/// The most bytes of a text.
-const MOST_BYTES: usize = 1_048_576;
-
 /// A plan. It comes from `plan_of` alone, and keeps the rules of plans.
 #[derive(Drop)]
 pub struct Plan<A: Allocator + Copy> {
@@ -281,21 +278,11 @@ fn second_pass<A: Allocator + Copy>(alloc: A, arrays: Arrays<'_>) -> Result<Plan
 }
 
 /// The document of a text.
-#[tactic(auto, unfolding(crate::specs::Document::document_of), using(bridge_limits::proofs::Octets::utf8_whole))]
+#[tactic(auto, unfolding(crate::specs::Document::document_of))]
 pub(crate) fn document_of(heap: Global, text: &[u8]) -> Result<Table, PlanFault>
     ensures { GivesAs table_view result (doc.document_of text.now) }
 {
-    if text.len() > MOST_BYTES {
-        return Err(PlanFault::TooLong);
-    }
-    let Ok(text) = str::from_utf8(text) else {
-        return Err(PlanFault::Syntax);
-    };
-    match toml::table_from_str(heap, text) {
-        Ok(table) => Ok(table),
-        Err(error) if error.is_memory() => Err(PlanFault::NoMemory),
-        Err(_) => Err(PlanFault::Syntax),
-    }
+    bridge_schema::document_of(heap, text)
 }
 
 /// The plan of a TOML text, or its first fault: `TooLong`, `Syntax`, an unknown key at the top, then the sections in

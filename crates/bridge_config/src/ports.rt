@@ -266,6 +266,8 @@ pub(crate) struct Ports {
 }
 
 impl<A: Allocator + Copy> SectionReader<A> for Ports {
+    type Fault = PlanFault;
+
     type Instance = PortPlan<A>;
 
     ghost reading = { λ s. sections.port_at s.change };

@@ -87,6 +87,8 @@ pub(crate) struct Statics<'a> {
 }
 
 impl<'a, A: Allocator + Copy> SectionReader<A> for Statics<'a> {
+    type Fault = PlanFault;
+
     type Instance = StaticEntry;
 
     ghost reading = { λ s. sections.static_at s.all s.vlans.now };

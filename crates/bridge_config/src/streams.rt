@@ -128,6 +128,8 @@ pub(crate) struct Streams<'a, A: Allocator + Copy> {
 }
 
 impl<'a, A: Allocator + Copy> SectionReader<A> for Streams<'a, A> {
+    type Fault = PlanFault;
+
     type Instance = StreamEntry;
 
     ghost reading = { λ s. sections.stream_at s.ports.now };

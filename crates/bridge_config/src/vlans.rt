@@ -73,6 +73,8 @@ pub(crate) struct Vlans {
 }
 
 impl<A: Allocator + Copy> SectionReader<A> for Vlans {
+    type Fault = PlanFault;
+
     type Instance = Vlan;
 
     ghost reading = { λ s. sections.vlan_at s.all };

@@ -6,6 +6,11 @@ use Rattle.bridge_schema.specs.Readers.{is_no_memory}
 use Rattle.bridge_schema.specs.Reading.{◌>>=◌, Unless}
 use Rattle.bridge_schema.specs.Reading as reading
 
+-- what holds also holds unless memory ran out
+pub unless_holds : {P : Type 0} (memory : Bool) → P → Unless memory P
+unless_holds true is = tt
+unless_holds false is = is
+
 -- what follows from what holds unless memory ran out holds unless memory ran out
 pub unless_follows : {P Q : Type 0} (memory : Bool) → (P → Q) → Unless memory P → Unless memory Q
 unless_follows true f h = tt

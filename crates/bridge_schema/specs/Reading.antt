@@ -45,7 +45,7 @@ document_in syntax None = Err syntax
 document_in syntax (Some members) = Ok members
 
 -- the document of a text, which is not too long and is UTF-8
-unfoldable pub document_of : {E : Type 0} → E → E → List ℕ → Result Members E
+abbrev pub document_of : {E : Type 0} → E → E → List ℕ → Result Members E
 document_of too_long syntax text =
     if nat_lt 1048576 (length text) then Err too_long
     else if nat_eq (utf8_valid_len text) (length text) then document_in syntax (parse_document text)

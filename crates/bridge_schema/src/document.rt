@@ -12,7 +12,7 @@ use std::alloc::Global;
 use toml::{Table, Value};
 
 /// The document of a text, in `heap`: `too_long` above 1,048,576 octets, `syntax` if it is no TOML document in UTF-8.
-#[tactic(auto, unfolding(crate::specs::Reading::document_of), using(bridge_limits::proofs::Octets::utf8_whole))]
+#[tactic(auto, using(bridge_limits::proofs::Octets::utf8_whole))]
 pub fn document_of<F: ReaderFault>(heap: Global, text: &[u8]) -> Result<Table, F>
     ensures { spec.GivesAs F.is_memory table_view result (spec.document_of F.too_long F.syntax text.now) }
 {

@@ -8,7 +8,7 @@ use Rattle.bridge_config.proofs.arrays.first_pass.Goals as goal
 pub returns-clause-reads : goal.returns-clause-reads
 unfolding doc.first_pass
 returns-clause-reads c =
-    let read = begun _ _ c.unless-first.ensures c.are_sections.ensures in
+    let read = begun _ _ c.unless-first.ensures c.has_only.ensures.known in
     let read = taken _ c.items_or-changes.ensures.takes read in
     let read = taken _ c.items_or-ports.ensures.takes read in
     let read = tested _ _ c.expect.ensures (ap not c.is_empty.ensures.empty) read in

@@ -1,9 +1,0 @@
-use Rattle.std.proofs.Common.{◌≡◌}
-use Rattle.toml.specs.View.{members_view}
-use Rattle.bridge_config.specs.Document.{are_sections}
-use Rattle.bridge_config.proofs.arrays.are_sections.Given as goal
-
-abbrev pub invariant-members : goal.invariant-members
-invariant-members l =
-    (goal.iterator-members).can_next l.key-iterator × (goal.iterator-members).is_finite l.key-iterator
-    × (are_sections l.sections (members_view l.key-iterator) ≡ are_sections l.sections (members_view l.table.entries))

@@ -1,9 +1,0 @@
-use Rattle.std.proofs.Common.{◌≡◌}
-use Rattle.toml.specs.View.{members_view}
-use Rattle.net_file.specs.Reading.{are_known}
-use Rattle.net_file.proofs.reading.are_known.Given as goal
-
-abbrev pub invariant-members : goal.invariant-members
-invariant-members l =
-    (goal.iterator-members).can_next l.key-iterator × (goal.iterator-members).is_finite l.key-iterator
-    × (are_known l.keys (members_view l.key-iterator) ≡ are_known l.keys (members_view l.table.entries))
