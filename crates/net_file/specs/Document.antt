@@ -1,11 +1,8 @@
 -- The network of a text: what it stands for, or the first fault in order.
-use Rattle.std.specs.Prelude.{ℕ, Bool, true, not, ◌&&◌, List, [], ◌∷◌, length, Option, Some, None, Result, Ok, Err, nat_lt, nat_eq, if◌then◌else◌}
-use Rattle.std.specs.List.{list_any}
-use Rattle.std.specs.Cmp.Lexicographic.{pointwise}
-use Rattle.std.specs.Str.Lossy.{utf8_valid_len}
-use Rattle.toml.specs.Data.{Items, Members, no_members, member}
-use Rattle.toml.specs.Parse.{parse_document}
+use Rattle.std.specs.Prelude.{ℕ, Bool, not, List, [], ◌∷◌, Result, Ok}
+use Rattle.toml.specs.Data.{Items, Members}
 use Rattle.bridge_schema.specs.Readers.{◌>>=◌, is_empty}
+use Rattle.bridge_schema.specs.Reading as reading
 use Rattle.net_file.specs.declared.fault.NetSection.{NetSection}
 use Rattle.net_file.specs.declared.fault.NetSection.TheVariants as section
 use Rattle.net_file.specs.declared.fault.NetField.TheVariants as field
@@ -13,21 +10,16 @@ use Rattle.net_file.specs.declared.fault.NetFault.{NetFault}
 use Rattle.net_file.specs.declared.fault.NetFault.TheVariants as fault
 use Rattle.net_file.specs.Faults.{name_of}
 use Rattle.net_file.specs.Model.{Network}
-use Rattle.net_file.specs.Reading.{provided, items_of, rows}
+use Rattle.net_file.specs.Reading.{provided, items_of, instances}
 use Rattle.net_file.specs.Sections.{bridge_at, link_at, stream_at}
 
 -- the sections of a network
 abbrev pub net_sections : List NetSection
 net_sections = section.Bridge ∷ section.Link ∷ section.Stream ∷ []
 
--- whether a text is the name of one of the sections
-abbrev pub is_section : List NetSection → List ℕ → Bool
-is_section sections k = list_any (λ s. pointwise nat_eq (name_of s) k) sections
-
 -- whether a document has no key but these sections
 abbrev pub are_sections : List NetSection → Members → Bool
-are_sections sections no_members = true
-are_sections sections (member k d ms) = is_section sections k && are_sections sections ms
+are_sections = reading.are_known name_of
 
 -- the items of all sections
 pub record Arrays : Type 0 where
@@ -52,26 +44,18 @@ first_pass members = do
 -- second pass: the instances, section by section, each by what stands before
 unfoldable pub second_pass : Arrays → Result Network NetFault
 second_pass arrays = do
-  bridges ← rows bridge_at arrays.bridges
-  links ← rows (link_at bridges) arrays.links
-  streams ← rows (stream_at bridges) arrays.streams
+  bridges ← instances bridge_at arrays.bridges
+  links ← instances (link_at bridges) arrays.links
+  streams ← instances (stream_at bridges) arrays.streams
   Ok (record { bridges = bridges; links = links; streams = streams })
 
 -- the network of a document
 abbrev pub network_of_document : Members → Result Network NetFault
 network_of_document members = first_pass members >>= second_pass
 
--- the document of what TOML makes of a text
-abbrev pub document_in : Option Members → Result Members NetFault
-document_in None = Err fault.Syntax
-document_in (Some members) = Ok members
-
 -- the document of a text, which is not too long and is UTF-8
 unfoldable pub document_of : List ℕ → Result Members NetFault
-document_of text =
-    if nat_lt 1048576 (length text) then Err fault.TooLong
-    else if nat_eq (utf8_valid_len text) (length text) then document_in (parse_document text)
-    else Err fault.Syntax
+document_of = reading.document_of fault.TooLong fault.Syntax
 
 -- the network of a text
 abbrev pub network_of_text : List ℕ → Result Network NetFault

@@ -6,7 +6,7 @@ use Rattle.net_file.specs.declared.fault.NetSection.TheVariants as section
 use Rattle.net_file.specs.declared.fault.NetFault.{NetFault}
 use Rattle.net_file.specs.declared.fault.NetFault.TheVariants as fault
 use Rattle.net_file.specs.Document.{are_sections, document_of}
-use Rattle.net_file.specs.Reading.{items_of, provided, rows}
+use Rattle.net_file.specs.Reading.{instances, items_of, provided}
 use Rattle.net_file.specs.declared.traffic_row.TrafficRow.{TrafficRow}
 use Rattle.net_file.specs.TrafficRows.{row_at}
 
@@ -18,7 +18,7 @@ row_items members = do
 
 -- the rows of a document
 abbrev pub rows_of_document : Members → Result (List TrafficRow) NetFault
-rows_of_document members = row_items members >>= λ items. rows row_at items
+rows_of_document members = row_items members >>= λ items. instances row_at items
 
 -- the rows of a text
 abbrev pub rows_of_text : List ℕ → Result (List TrafficRow) NetFault

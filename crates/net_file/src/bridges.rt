@@ -9,8 +9,8 @@ ghost use Rattle.net_file.specs.Sections as sections;
 
 use crate::fault::{NetFault, NetField, NetPlace, NetSection};
 use crate::keys::BRIDGE_KEYS;
-use crate::reading::{are_known, name_at, text_at};
-use crate::rows::RowReader;
+use crate::reading::{name_at, text_at};
+use bridge_schema::{SectionReader, has_only};
 use std::alloc::Allocator;
 use std::marker::Model;
 use toml::Table;
@@ -82,7 +82,7 @@ fn bridge_of<A: Allocator + Copy>(
     ensures own { IfOk result (λ b. rules.has_bridge earlier.now b.name ≡ false) }
     ensures name { IfOk result (λ b. is_name b.name ≡ true) }
 {
-    if !are_known(table, &BRIDGE_KEYS) {
+    if !has_only(table, &BRIDGE_KEYS) {
         return Err(NetFault::UnknownKey(NetSection::Bridge, index));
     }
     let name = match name_at(table, of_bridge(index, NetField::Name)) {
@@ -109,8 +109,10 @@ fn bridge_of<A: Allocator + Copy>(
 #[derive(Clone, Copy)]
 pub(crate) struct Bridges;
 
-impl<A: Allocator + Copy> RowReader<A> for Bridges {
-    type Row = BridgeRow<A>;
+impl<A: Allocator + Copy> SectionReader<A> for Bridges {
+    type Fault = NetFault;
+
+    type Instance = BridgeRow<A>;
 
     ghost reading = { λ _. sections.bridge_at };
 

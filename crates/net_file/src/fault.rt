@@ -1,8 +1,11 @@
 //! What is wrong with the text of a network or of traffic, and where.
 ghost use Rattle.std.specs.Prelude.{◌≡◌};
+ghost use Rattle.net_file.specs.declared.fault.NetFault.TheVariants as the_fault;
 ghost use Rattle.net_file.specs.declared.fault.NetFault.TheVariants.{NoMemory};
 ghost use Rattle.net_file.specs.Faults.{key_of, name_of, number_of};
+ghost use Rattle.net_file.specs.Reading as spec;
 
+use bridge_schema::{Flaw, ReaderFault, Spell, TextSection};
 use std::alloc::{AllocError, AllocFailed};
 use thiserror::Error;
 
@@ -176,5 +179,96 @@ impl<T: Drop> From<AllocFailed<T>> for NetFault {
 
     fn from(_e: AllocFailed<T>) -> NetFault {
         NetFault::NoMemory
+    }
+}
+
+/// The most instances of a section.
+pub fn limit_of(section: NetSection) -> usize
+    ensures { result ≡ spec.limit_of section }
+{
+    match section {
+        NetSection::Top => 0,
+        NetSection::Bridge => 64,
+        NetSection::Link => 512,
+        NetSection::Stream => 1024,
+        NetSection::Traffic => 1024,
+    }
+}
+
+impl Spell for NetSection {
+    ghost spelling = { name_of };
+
+    fn spell(&self) -> &'static str {
+        self.name()
+    }
+}
+
+impl TextSection for NetSection {
+    ghost limit = { spec.limit_of };
+
+    fn limit(&self) -> usize {
+        limit_of(*self)
+    }
+}
+
+impl Spell for NetField {
+    ghost spelling = { key_of };
+
+    fn spell(&self) -> &'static str {
+        self.key()
+    }
+}
+
+impl ReaderFault for NetFault {
+    type Section = NetSection;
+
+    type Place = NetPlace;
+
+    ghost is_memory = { spec.is_no_memory };
+
+    ghost memory = { NoMemory };
+
+    ghost too_long = { the_fault.TooLong };
+
+    ghost syntax = { the_fault.Syntax };
+
+    ghost not_a_list = { λ section. the_fault.NotAList section };
+
+    ghost too_many = { λ section. the_fault.TooMany section };
+
+    ghost missing = { λ place. the_fault.Missing place };
+
+    ghost flawed = { spec.flawed };
+
+    fn no_memory() -> NetFault {
+        NetFault::NoMemory
+    }
+
+    fn too_long() -> NetFault {
+        NetFault::TooLong
+    }
+
+    fn syntax() -> NetFault {
+        NetFault::Syntax
+    }
+
+    fn not_a_list(section: NetSection) -> NetFault {
+        NetFault::NotAList(section)
+    }
+
+    fn too_many(section: NetSection) -> NetFault {
+        NetFault::TooMany(section)
+    }
+
+    fn missing(place: NetPlace) -> NetFault {
+        NetFault::Missing(place)
+    }
+
+    fn flawed(place: NetPlace, flaw: Flaw) -> NetFault {
+        match flaw {
+            Flaw::WrongKind => NetFault::WrongKind(place),
+            Flaw::OutOfRange => NetFault::OutOfRange(place),
+            Flaw::Unresolved => NetFault::Unresolved(place),
+        }
     }
 }

@@ -5,9 +5,6 @@ use crate::fault::{NetField, NetSection};
 use bridge_limits::{END_OF_TIME, LONGEST_FRAME};
 use bridge_schema::{Between, NUMBER};
 
-/// The most octets of a text.
-pub const MOST_OCTETS: usize = 1_048_576;
-
 /// The most octets of a name.
 pub const LONGEST_NAME: usize = 32;
 

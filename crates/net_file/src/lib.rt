@@ -10,26 +10,25 @@ mod links;
 mod names;
 mod network;
 mod reading;
-mod rows;
 mod streams;
 mod talkers;
 mod traffic;
 mod traffic_fault;
 mod traffic_row;
 
+pub use bridge_schema::MOST_OCTETS;
 pub use bridges::BridgeRow;
-pub use fault::{NetFault, NetField, NetPlace, NetSection};
+pub use fault::{NetFault, NetField, NetPlace, NetSection, limit_of};
 pub use keys::{
     BRIDGE_KEYS, DEADLINE, DELAY, FIRST_PORT, LAST_PORT, LINK_KEYS, LONGEST_NAME, MOST_HOPS,
-    MOST_OCTETS, NetAllowed, OCTETS, PERIOD, PHASE, STREAM_KEYS, TALKER_KEYS, TRAFFIC_KEYS,
-    allowed_at, fields_of,
+    NetAllowed, OCTETS, PERIOD, PHASE, STREAM_KEYS, TALKER_KEYS, TRAFFIC_KEYS, allowed_at,
+    fields_of,
 };
 pub use lines::{fault_line, refusal_line};
 pub use links::LinkRow;
 pub use names::is_in_form;
-pub use network::{NetworkFile, are_sections, document_of, network_of};
-pub use reading::{are_known, optional, required};
-pub use rows::{RowReader, items_of, limit_of, read_rows};
+pub use network::{NetworkFile, document_of, network_of};
+pub use reading::{optional, required};
 pub use streams::StreamRow;
 pub use talkers::Talker;
 pub use traffic::traffic_of;

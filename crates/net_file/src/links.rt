@@ -11,9 +11,8 @@ use crate::bridges::BridgeRow;
 use crate::fault::{NetFault, NetField, NetPlace, NetSection};
 use crate::keys::{DELAY, FIRST_PORT, LAST_PORT, LINK_KEYS};
 use crate::names::end_of;
-use crate::reading::{are_known, default_to, required};
-use crate::rows::RowReader;
-use bridge_schema::{Flaw, Kind};
+use crate::reading::{default_to, required};
+use bridge_schema::{Flaw, Kind, SectionReader, has_only};
 use std::alloc::Allocator;
 use toml::{Table, Value};
 
@@ -82,7 +81,7 @@ fn link_of<A: Allocator + Copy>(
     ensures link { IfOk result (rules.IsLink (length bridges.now)) }
     ensures takes_no_memory { IfErr result (λ e. ¬ (e ≡ NoMemory)) }
 {
-    if !are_known(table, &LINK_KEYS) {
+    if !has_only(table, &LINK_KEYS) {
         return Err(NetFault::UnknownKey(NetSection::Link, index));
     }
     let ports = PortOf { bridges };
@@ -108,8 +107,10 @@ pub(crate) struct Links<'a, A: Allocator + Copy> {
     ghost few: { length bridges.now ≤ 64 },
 }
 
-impl<'a, A: Allocator + Copy> RowReader<A> for Links<'a, A> {
-    type Row = LinkRow;
+impl<'a, A: Allocator + Copy> SectionReader<A> for Links<'a, A> {
+    type Fault = NetFault;
+
+    type Instance = LinkRow;
 
     ghost reading = { λ s. sections.link_at s.bridges.now };
 

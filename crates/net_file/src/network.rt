@@ -1,19 +1,17 @@
 //! A network, and how it is made of a text.
-ghost use Rattle.std.specs.Prelude.{◌≡◌, ◌<◌, IfErr, IfOk, true, false, length};
-ghost use Rattle.toml.specs.View.{table_view, items_view};
+ghost use Rattle.std.specs.Prelude.{◌≡◌, IfErr, IfOk};
+ghost use Rattle.toml.specs.View.{table_view};
 ghost use Rattle.net_file.specs.declared.fault.NetFault.TheVariants.{NoMemory};
 ghost use Rattle.net_file.specs.Arrays.{items_of_arrays, AreFew};
-ghost use Rattle.bridge_schema.specs.Readers as readers;
 ghost use Rattle.net_file.specs.Document as doc;
 ghost use Rattle.net_file.specs.Reading.{Gives, GivesAs};
 ghost use Rattle.net_file.specs.Rules as rules;
 
 use crate::bridges::{BridgeRow, Bridges};
 use crate::fault::{NetFault, NetField, NetPlace, NetSection};
-use crate::keys::MOST_OCTETS;
 use crate::links::{LinkRow, Links};
-use crate::rows::{items_of, read_rows};
 use crate::streams::{StreamRow, Streams};
+use bridge_schema::{has_only, is_empty, items_of, read_instances};
 use std::alloc::{Allocator, Global};
 use std::marker::Model;
 use toml::{Table, Value};
@@ -75,34 +73,6 @@ struct Arrays<'a> {
     streams: &'a [Value],
 }
 
-/// Whether there are no items.
-#[tactic(auto, using(bridge_schema::proofs::Counts::is_empty_view))]
-fn is_empty(items: &[Value]) -> bool
-    ensures empty { result ≡ readers.is_empty (items_view items.now) }
-    ensures some { result ≡ false → 0 < length items.now }
-{
-    items.len() == 0
-}
-
-/// Whether a text is the name of one of the sections.
-fn is_section(sections: &[NetSection], key: &str) -> bool
-    ensures { result ≡ doc.is_section sections.now key.now }
-{
-    sections.iter().any(|s| s.name() == key)
-}
-
-/// Whether a document has no key but these sections.
-pub fn are_sections(sections: &[NetSection], table: &Table) -> bool
-    ensures { result ≡ doc.are_sections sections.now (table_view table.now) }
-{
-    'members: for (key, _) in table.iter() {
-        if !is_section(sections, key.as_str()) {
-            return false;
-        }
-    }
-    true
-}
-
 /// The items of all sections of a network's document. Takes no memory.
 #[tactic(auto, unfolding(crate::specs::Document::first_pass))]
 fn first_pass<'a>(table: &'a Table) -> Result<Arrays<'a>, NetFault>
@@ -111,7 +81,7 @@ fn first_pass<'a>(table: &'a Table) -> Result<Arrays<'a>, NetFault>
     ensures takes_no_memory { IfErr result (λ e. ¬ (e ≡ NoMemory)) }
 {
     let sections = [NetSection::Bridge, NetSection::Link, NetSection::Stream];
-    if !are_sections(&sections, table) {
+    if !has_only(table, &sections) {
         return Err(NetFault::UnknownKey(NetSection::Top, 0));
     }
     let bridges = match items_of(NetSection::Bridge, table) {
@@ -149,9 +119,9 @@ fn second_pass<A: Allocator + Copy>(
     requires { AreFew arrays }
     ensures { Gives result (doc.second_pass (items_of_arrays arrays.entry)) }
 {
-    let bridges = read_rows(alloc, &Bridges, arrays.bridges)?;
-    let links = read_rows(alloc, &Links { bridges: &bridges }, arrays.links)?;
-    let streams = read_rows(alloc, &Streams { bridges: &bridges }, arrays.streams)?;
+    let bridges = read_instances(alloc, &Bridges, arrays.bridges)?;
+    let links = read_instances(alloc, &Links { bridges: &bridges }, arrays.links)?;
+    let streams = read_instances(alloc, &Streams { bridges: &bridges }, arrays.streams)?;
     Ok(NetworkFile {
         bridges,
         links,
@@ -160,21 +130,11 @@ fn second_pass<A: Allocator + Copy>(
 }
 
 /// The document of a text, in `heap`: `TooLong` above 1,048,576 octets, `Syntax` where it is no TOML document in UTF-8.
-#[tactic(auto, unfolding(crate::specs::Document::document_of), using(bridge_limits::proofs::Octets::utf8_whole))]
+#[tactic(auto, unfolding(crate::specs::Document::document_of))]
 pub fn document_of(heap: Global, text: &[u8]) -> Result<Table, NetFault>
     ensures { GivesAs table_view result (doc.document_of text.now) }
 {
-    if text.len() > MOST_OCTETS {
-        return Err(NetFault::TooLong);
-    }
-    let Ok(text) = str::from_utf8(text) else {
-        return Err(NetFault::Syntax);
-    };
-    match toml::table_from_str(heap, text) {
-        Ok(table) => Ok(table),
-        Err(error) if error.is_memory() => Err(NetFault::NoMemory),
-        Err(_) => Err(NetFault::Syntax),
-    }
+    bridge_schema::document_of(heap, text)
 }
 
 /// The network of a TOML text, or its first fault: `TooLong`, `Syntax`, an unknown key at the top, then the sections in

@@ -1,4 +1,4 @@
-//! The keys of a table: whether they must be there, what stands there, and which keys a table may have.
+//! The keys of a table: whether they must be there, and what stands there.
 ghost use Rattle.std.specs.Prelude.{◌≡◌, IfErr, IfOk, option_map, true};
 ghost use Rattle.std.specs.Option.{ForSome};
 ghost use Rattle.toml.specs.View.{view, table_view};
@@ -7,41 +7,10 @@ ghost use Rattle.net_file.specs.Names.{is_name};
 ghost use Rattle.net_file.specs.Reading as spec;
 ghost use Rattle.net_file.specs.Reading.{Gives, GivesAs};
 
-use crate::fault::{NetFault, NetField, NetPlace};
+use crate::fault::{NetFault, NetPlace};
 use crate::names::is_name;
-use bridge_schema::{Flaw, Kind, value_at};
+use bridge_schema::{Kind, default_in, optional_in, required_in, value_at};
 use toml::{Table, Value};
-
-/// The fault of a place whose value has a flaw.
-pub(crate) fn flawed(place: NetPlace, flaw: Flaw) -> NetFault
-    ensures flawed { result ≡ spec.flawed place flaw }
-    ensures takes_no_memory { ¬ (result ≡ NoMemory) }
-{
-    match flaw {
-        Flaw::WrongKind => NetFault::WrongKind(place),
-        Flaw::OutOfRange => NetFault::OutOfRange(place),
-        Flaw::Unresolved => NetFault::Unresolved(place),
-    }
-}
-
-fn required_in<K: Kind>(
-    place: NetPlace,
-    kind: &K,
-    value: Option<&Value>,
-) -> Result<K::Out, NetFault>
-    ensures reads { Gives result (spec.required_in place (K.reading kind.now)
-        (option_map (λ v. view v.now) value.entry)) }
-    ensures fits { IfOk result (K.Fits kind.now) }
-    ensures takes_no_memory { IfErr result (λ e. ¬ (e ≡ NoMemory)) }
-{
-    match value {
-        None => Err(NetFault::Missing(place)),
-        Some(value) => match kind.read(value) {
-            Ok(out) => Ok(out),
-            Err(flaw) => Err(flawed(place, flaw)),
-        },
-    }
-}
 
 /// The value of a place's key, which must be there. Takes no memory.
 #[tactic(auto, unfolding(crate::specs::Reading::required))]
@@ -51,25 +20,6 @@ pub fn required<K: Kind>(table: &Table, place: NetPlace, kind: &K) -> Result<K::
     ensures takes_no_memory { IfErr result (λ e. ¬ (e ≡ NoMemory)) }
 {
     required_in(place, kind, value_at(table, place.field.key()))
-}
-
-fn optional_in<K: Kind>(
-    place: NetPlace,
-    kind: &K,
-    value: Option<&Value>,
-) -> Result<Option<K::Out>, NetFault>
-    ensures reads { Gives result (spec.optional_in place (K.reading kind.now)
-        (option_map (λ v. view v.now) value.entry)) }
-    ensures fits { IfOk result (λ x. ForSome x (K.Fits kind.now)) }
-    ensures takes_no_memory { IfErr result (λ e. ¬ (e ≡ NoMemory)) }
-{
-    match value {
-        None => Ok(None),
-        Some(value) => match kind.read(value) {
-            Ok(out) => Ok(Some(out)),
-            Err(flaw) => Err(flawed(place, flaw)),
-        },
-    }
 }
 
 /// The value of a place's key, which may be absent. Takes no memory.
@@ -84,29 +34,6 @@ pub fn optional<K: Kind>(
     ensures takes_no_memory { IfErr result (λ e. ¬ (e ≡ NoMemory)) }
 {
     optional_in(place, kind, value_at(table, place.field.key()))
-}
-
-fn default_in<K: Kind>(
-    default: K::Out,
-    place: NetPlace,
-    kind: &K,
-    value: Option<&Value>,
-) -> Result<K::Out, NetFault>
-where
-    K::Out: Drop,
-    requires { K.Fits kind.now default }
-    ensures reads { Gives result (spec.default_in default place (K.reading kind.now)
-        (option_map (λ v. view v.now) value.entry)) }
-    ensures fits { IfOk result (K.Fits kind.now) }
-    ensures takes_no_memory { IfErr result (λ e. ¬ (e ≡ NoMemory)) }
-{
-    match value {
-        None => Ok(default),
-        Some(value) => match kind.read(value) {
-            Ok(out) => Ok(out),
-            Err(flaw) => Err(flawed(place, flaw)),
-        },
-    }
 }
 
 /// The value of a place's key, or the default where the key is absent. Takes no memory.
@@ -178,22 +105,4 @@ pub(crate) fn name_at<'a>(table: &'a Table, place: NetPlace) -> Result<&'a str, 
     ensures takes_no_memory { IfErr result (λ e. ¬ (e ≡ NoMemory)) }
 {
     name_in(place, value_at(table, place.field.key()))
-}
-
-fn is_among(keys: &[NetField], key: &str) -> bool
-    ensures { result ≡ spec.is_among keys.now key.now }
-{
-    keys.iter().any(|f| f.key() == key)
-}
-
-/// Whether a table has no key but these.
-pub fn are_known(table: &Table, keys: &[NetField]) -> bool
-    ensures known { result ≡ spec.are_known keys.now (table_view table.now) }
-{
-    'members: for (key, _) in table.iter() {
-        if !is_among(keys, key.as_str()) {
-            return false;
-        }
-    }
-    true
 }

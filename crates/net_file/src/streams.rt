@@ -16,10 +16,9 @@ use crate::bridges::BridgeRow;
 use crate::fault::{NetFault, NetField, NetPlace, NetSection};
 use crate::keys::{DEADLINE, MOST_HOPS, STREAM_KEYS};
 use crate::names::{end_of, is_in_form};
-use crate::reading::{are_known, flawed, name_at, optional};
-use crate::rows::RowReader;
+use crate::reading::{name_at, optional};
 use crate::talkers::{Talker, talker_in};
-use bridge_schema::{Flaw, value_at};
+use bridge_schema::{Flaw, ReaderFault, SectionReader, has_only, value_at};
 use std::alloc::Allocator;
 use std::marker::Model;
 use toml::{Table, Value};
@@ -162,7 +161,7 @@ fn hop_of<A: Allocator + Copy>(
 {
     match filter_of(bridges, value) {
         Ok(hop) => Ok(hop),
-        Err(flaw) => Err(flawed(place, flaw)),
+        Err(flaw) => Err(NetFault::flawed(place, flaw)),
     }
 }
 
@@ -260,7 +259,7 @@ fn stream_of<A: Allocator + Copy>(
     ensures own { IfOk result (λ s. rules.has_stream earlier.now s.name ≡ false) }
     ensures stream { IfOk result (rules.IsStream (length bridges.now)) }
 {
-    if !are_known(table, &STREAM_KEYS) {
+    if !has_only(table, &STREAM_KEYS) {
         return Err(NetFault::UnknownKey(NetSection::Stream, index));
     }
     let name = match name_at(table, of_stream(index, NetField::Name)) {
@@ -301,8 +300,10 @@ pub(crate) struct Streams<'a, A: Allocator + Copy> {
     ghost few: { length bridges.now ≤ 64 },
 }
 
-impl<'a, A: Allocator + Copy> RowReader<A> for Streams<'a, A> {
-    type Row = StreamRow<A>;
+impl<'a, A: Allocator + Copy> SectionReader<A> for Streams<'a, A> {
+    type Fault = NetFault;
+
+    type Instance = StreamRow<A>;
 
     ghost reading = { λ s. sections.stream_at s.bridges.now };
 

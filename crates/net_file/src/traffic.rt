@@ -8,9 +8,9 @@ ghost use Rattle.net_file.specs.TrafficDocument as doc;
 ghost use Rattle.net_file.specs.TrafficRows.{IsRow};
 
 use crate::fault::{NetFault, NetSection};
-use crate::network::{are_sections, document_of};
-use crate::rows::{items_of, read_rows};
+use crate::network::document_of;
 use crate::traffic_row::{Rows, TrafficRow};
+use bridge_schema::{has_only, items_of, read_instances};
 use std::alloc::{Allocator, Global};
 use toml::{Table, Value};
 
@@ -21,7 +21,7 @@ fn row_items<'a>(table: &'a Table) -> Result<&'a [Value], NetFault>
     ensures few { IfOk result (λ x. length x.now ≤ 1024) }
     ensures takes_no_memory { IfErr result (λ e. ¬ (e ≡ NoMemory)) }
 {
-    if !are_sections(&[NetSection::Traffic], table) {
+    if !has_only(table, &[NetSection::Traffic]) {
         return Err(NetFault::UnknownKey(NetSection::Top, 0));
     }
     items_of(NetSection::Traffic, table)
@@ -46,5 +46,5 @@ pub fn traffic_of<A: Allocator + Copy>(
 {
     let document = document_of(heap, text)?;
     let items = row_items(&document)?;
-    read_rows(alloc, &Rows, items)
+    read_instances(alloc, &Rows, items)
 }

@@ -9,9 +9,8 @@ ghost use Rattle.net_file.specs.TrafficRows.{AreRows, IsRow};
 
 use crate::fault::{NetFault, NetField, NetPlace, NetSection};
 use crate::keys::{DEADLINE, OCTETS, PERIOD, PHASE, TRAFFIC_KEYS};
-use crate::reading::{are_known, optional, required};
-use crate::rows::RowReader;
-use bridge_schema::{Between, NUMBER};
+use crate::reading::{optional, required};
+use bridge_schema::{Between, NUMBER, SectionReader, has_only};
 use net_periods::Traffic;
 use std::alloc::Allocator;
 use toml::Table;
@@ -45,7 +44,7 @@ fn row_of(index: u32, table: &Table) -> Result<TrafficRow, NetFault>
     ensures row { IfOk result IsRow }
     ensures takes_no_memory { IfErr result (λ e. ¬ (e ≡ NoMemory)) }
 {
-    if !are_known(table, &TRAFFIC_KEYS) {
+    if !has_only(table, &TRAFFIC_KEYS) {
         return Err(NetFault::UnknownKey(NetSection::Traffic, index));
     }
     let filter = required(table, place_of(index, NetField::Filter), &NUMBER)?;
@@ -106,8 +105,10 @@ fn row_behind(earlier: &[TrafficRow], index: u32, table: &Table) -> Result<Traff
 #[derive(Clone, Copy)]
 pub(crate) struct Rows;
 
-impl<A: Allocator + Copy> RowReader<A> for Rows {
-    type Row = TrafficRow;
+impl<A: Allocator + Copy> SectionReader<A> for Rows {
+    type Fault = NetFault;
+
+    type Instance = TrafficRow;
 
     ghost reading = { λ _. spec.row_at };
 

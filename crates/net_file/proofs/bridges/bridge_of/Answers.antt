@@ -7,15 +7,15 @@ use Rattle.net_file.specs.Sections as sections
 use Rattle.net_file.proofs.Passing.{fails_here, fails_behind, gives_behind}
 use Rattle.net_file.proofs.bridges.bridge_of.Goals as goal
 
-pub returns-then-not-are_known-clause-reads : goal.returns-then-not-are_known-clause-reads
+pub returns-then-not-has_only-clause-reads : goal.returns-then-not-has_only-clause-reads
 unfolding sections.bridge_at
-returns-then-not-are_known-clause-reads g c = rw (sym c.if-not-are_known.ensures.known) refl
+returns-then-not-has_only-clause-reads g c = rw (sym c.if-not-has_only.ensures.known) refl
 
 pub returns-in-Err-clause-reads : goal.returns-in-Err-clause-reads
 unfolding sections.bridge_at
 returns-in-Err-clause-reads g c =
     let table = table_view c.args.table.now in
-    let known = ap (λ b. provided b (fault.UnknownKey section.Bridge c.args.index)) (sym c.if-not-are_known.ensures.known) in
+    let known = ap (λ b. provided b (fault.UnknownKey section.Bridge c.args.index)) (sym c.if-not-has_only.ensures.known) in
     let name = subst (λ p. Fails c.in-Err.fault (required p name_text table)) c.of_bridge.ensures c.in-Err.ensures.reads in
     fails_behind _ _ _ _ known (fails_here _ _ _ name)
 
@@ -23,7 +23,7 @@ pub returns-in-Err-text_at-clause-reads : goal.returns-in-Err-text_at-clause-rea
 unfolding sections.bridge_at
 returns-in-Err-text_at-clause-reads g c =
     let table = table_view c.args.table.now in
-    let known = ap (λ b. provided b (fault.UnknownKey section.Bridge c.args.index)) (sym c.if-not-are_known.ensures.known) in
+    let known = ap (λ b. provided b (fault.UnknownKey section.Bridge c.args.index)) (sym c.if-not-has_only.ensures.known) in
     let name = subst (λ p. required p name_text table ≡ Ok c.in-Ok.name.now) c.of_bridge.ensures c.in-Ok.ensures.reads in
     let plan = subst (λ p. Fails c.in-Err-text_at.fault (required p any_text table)) c.of_bridge-2.ensures c.in-Err-text_at.ensures.reads in
     fails_behind _ _ _ _ known (fails_behind _ _ _ _ name (fails_here _ _ _ plan))
@@ -32,7 +32,7 @@ pub returns-then-has_bridge-clause-reads : goal.returns-then-has_bridge-clause-r
 unfolding sections.bridge_at
 returns-then-has_bridge-clause-reads g c =
     let table = table_view c.args.table.now in
-    let known = ap (λ b. provided b (fault.UnknownKey section.Bridge c.args.index)) (sym c.if-not-are_known.ensures.known) in
+    let known = ap (λ b. provided b (fault.UnknownKey section.Bridge c.args.index)) (sym c.if-not-has_only.ensures.known) in
     let name = subst (λ p. required p name_text table ≡ Ok c.in-Ok.name.now) c.of_bridge.ensures c.in-Ok.ensures.reads in
     let plan = subst (λ p. required p any_text table ≡ Ok c.in-Ok-text_at.plan.now) c.of_bridge-2.ensures c.in-Ok-text_at.ensures.reads in
     gives_behind _ _ _ _ known (gives_behind _ _ _ _ name (gives_behind _ _ _ _ plan (rw (sym c.if-has_bridge.ensures) refl)))
@@ -41,7 +41,7 @@ pub returns-clause-reads : goal.returns-clause-reads
 unfolding sections.bridge_at
 returns-clause-reads g c =
     let table = table_view c.args.table.now in
-    let known = ap (λ b. provided b (fault.UnknownKey section.Bridge c.args.index)) (sym c.if-not-are_known.ensures.known) in
+    let known = ap (λ b. provided b (fault.UnknownKey section.Bridge c.args.index)) (sym c.if-not-has_only.ensures.known) in
     let name = subst (λ p. required p name_text table ≡ Ok c.in-Ok.name.now) c.of_bridge.ensures c.in-Ok.ensures.reads in
     let plan = subst (λ p. required p any_text table ≡ Ok c.in-Ok-text_at.plan.now) c.of_bridge-2.ensures c.in-Ok-text_at.ensures.reads in
     gives_behind _ _ _ _ known (gives_behind _ _ _ _ name (gives_behind _ _ _ _ plan (rw (sym c.if-has_bridge.ensures, c.in-Ok-from_str.ensures.ok, c.in-Ok-from_str-2.ensures.ok) refl)))

@@ -8,15 +8,15 @@ use Rattle.net_file.specs.Sections as sections
 use Rattle.net_file.proofs.Passing.{fails_here, fails_behind, gives_behind}
 use Rattle.net_file.proofs.links.link_of.Goals as goal
 
-pub returns-then-not-are_known-clause-reads : goal.returns-then-not-are_known-clause-reads
+pub returns-then-not-has_only-clause-reads : goal.returns-then-not-has_only-clause-reads
 unfolding sections.link_among
-returns-then-not-are_known-clause-reads g c = rw (sym c.if-not-are_known.ensures.known) refl
+returns-then-not-has_only-clause-reads g c = rw (sym c.if-not-has_only.ensures.known) refl
 
 pub returns-in-Err-clause-reads : goal.returns-in-Err-clause-reads
 unfolding sections.link_among
 returns-in-Err-clause-reads g c =
     let table = table_view c.args.table.now in
-    let known = ap (λ b. provided b (fault.UnknownKey section.Link c.args.index)) (sym c.if-not-are_known.ensures.known) in
+    let known = ap (λ b. provided b (fault.UnknownKey section.Link c.args.index)) (sym c.if-not-has_only.ensures.known) in
     let one = subst (λ p. Fails c.in-Err.fault (required p (sections.port_text c.args.bridges.now) table)) c.of_link.ensures c.in-Err.ensures.reads in
     fails_behind _ _ _ _ known (fails_here _ _ _ one)
 
@@ -24,7 +24,7 @@ pub returns-in-Err-required-clause-reads : goal.returns-in-Err-required-clause-r
 unfolding sections.link_among
 returns-in-Err-required-clause-reads g c =
     let table = table_view c.args.table.now in
-    let known = ap (λ b. provided b (fault.UnknownKey section.Link c.args.index)) (sym c.if-not-are_known.ensures.known) in
+    let known = ap (λ b. provided b (fault.UnknownKey section.Link c.args.index)) (sym c.if-not-has_only.ensures.known) in
     let one = subst (λ p. required p (sections.port_text c.args.bridges.now) table ≡ Ok c.in-Ok.one) c.of_link.ensures c.in-Ok.ensures.reads in
     let other = subst (λ p. Fails c.in-Err-required.fault (required p (sections.port_text c.args.bridges.now) table)) c.of_link-2.ensures c.in-Err-required.ensures.reads in
     fails_behind _ _ _ _ known (fails_behind _ _ _ _ one (fails_here _ _ _ other))
@@ -33,7 +33,7 @@ pub returns-in-Err-default_to-clause-reads : goal.returns-in-Err-default_to-clau
 unfolding sections.link_among
 returns-in-Err-default_to-clause-reads g c =
     let table = table_view c.args.table.now in
-    let known = ap (λ b. provided b (fault.UnknownKey section.Link c.args.index)) (sym c.if-not-are_known.ensures.known) in
+    let known = ap (λ b. provided b (fault.UnknownKey section.Link c.args.index)) (sym c.if-not-has_only.ensures.known) in
     let one = subst (λ p. required p (sections.port_text c.args.bridges.now) table ≡ Ok c.in-Ok.one) c.of_link.ensures c.in-Ok.ensures.reads in
     let other = subst (λ p. required p (sections.port_text c.args.bridges.now) table ≡ Ok c.in-Ok-required.other) c.of_link-2.ensures c.in-Ok-required.ensures.reads in
     let delay = subst (λ p. Fails c.in-Err-default_to.fault (default_to 0 p (between 0 (10 ^ 9)) table)) c.of_link-3.ensures c.in-Err-default_to.ensures.reads in
@@ -43,7 +43,7 @@ pub returns-clause-reads : goal.returns-clause-reads
 unfolding sections.link_among
 returns-clause-reads g c =
     let table = table_view c.args.table.now in
-    let known = ap (λ b. provided b (fault.UnknownKey section.Link c.args.index)) (sym c.if-not-are_known.ensures.known) in
+    let known = ap (λ b. provided b (fault.UnknownKey section.Link c.args.index)) (sym c.if-not-has_only.ensures.known) in
     let one = subst (λ p. required p (sections.port_text c.args.bridges.now) table ≡ Ok c.in-Ok.one) c.of_link.ensures c.in-Ok.ensures.reads in
     let other = subst (λ p. required p (sections.port_text c.args.bridges.now) table ≡ Ok c.in-Ok-required.other) c.of_link-2.ensures c.in-Ok-required.ensures.reads in
     let delay = subst (λ p. default_to 0 p (between 0 (10 ^ 9)) table ≡ Ok c.in-Ok-default_to.delay) c.of_link-3.ensures c.in-Ok-default_to.ensures.reads in

@@ -10,15 +10,15 @@ use Rattle.net_file.specs.Sections as sections
 use Rattle.net_file.proofs.Passing.{fails_here, fails_behind, gives_behind}
 use Rattle.net_file.proofs.streams.stream_of.Goals as goal
 
-pub returns-then-not-are_known-clause-reads : goal.returns-then-not-are_known-clause-reads
+pub returns-then-not-has_only-clause-reads : goal.returns-then-not-has_only-clause-reads
 unfolding sections.stream_at
-returns-then-not-are_known-clause-reads g c = rw (sym c.if-not-are_known.ensures.known) refl
+returns-then-not-has_only-clause-reads g c = rw (sym c.if-not-has_only.ensures.known) refl
 
 pub returns-in-Err-clause-reads : goal.returns-in-Err-clause-reads
 unfolding sections.stream_at
 returns-in-Err-clause-reads g c =
     let table = table_view c.args.table.now in
-    let known = ap (λ b. provided b (fault.UnknownKey section.Stream c.args.index)) (sym c.if-not-are_known.ensures.known) in
+    let known = ap (λ b. provided b (fault.UnknownKey section.Stream c.args.index)) (sym c.if-not-has_only.ensures.known) in
     let name = subst (λ p. Fails c.in-Err.fault (required p name_text table)) c.of_stream.ensures c.in-Err.ensures.reads in
     fails_behind _ _ _ _ known (fails_here _ _ _ name)
 
@@ -26,7 +26,7 @@ pub returns-in-Err-hops_in-clause-reads : goal.returns-in-Err-hops_in-clause-rea
 unfolding sections.stream_at
 returns-in-Err-hops_in-clause-reads g c =
     let table = table_view c.args.table.now in
-    let known = ap (λ b. provided b (fault.UnknownKey section.Stream c.args.index)) (sym c.if-not-are_known.ensures.known) in
+    let known = ap (λ b. provided b (fault.UnknownKey section.Stream c.args.index)) (sym c.if-not-has_only.ensures.known) in
     let name = subst (λ p. required p name_text table ≡ Ok c.in-Ok.name.now) c.of_stream.ensures c.in-Ok.ensures.reads in
     let hops : Fails c.in-Err-hops_in.fault (sections.hops_in (record { section = section.Stream; index = c.args.index; field = field.Hops }) c.args.bridges.now (get_member (key_of field.Hops) table))
     = search (rules, c.in-Err-hops_in.ensures.reads, c.of_stream-2.ensures, c.value_at-value.ensures.value, c.key.ensures.spelling) in
@@ -36,7 +36,7 @@ pub returns-in-Err-talker_in-clause-reads : goal.returns-in-Err-talker_in-clause
 unfolding sections.stream_at
 returns-in-Err-talker_in-clause-reads g c =
     let table = table_view c.args.table.now in
-    let known = ap (λ b. provided b (fault.UnknownKey section.Stream c.args.index)) (sym c.if-not-are_known.ensures.known) in
+    let known = ap (λ b. provided b (fault.UnknownKey section.Stream c.args.index)) (sym c.if-not-has_only.ensures.known) in
     let name = subst (λ p. required p name_text table ≡ Ok c.in-Ok.name.now) c.of_stream.ensures c.in-Ok.ensures.reads in
     let hops : sections.hops_in (record { section = section.Stream; index = c.args.index; field = field.Hops }) c.args.bridges.now (get_member (key_of field.Hops) table) ≡ Ok c.in-Ok-hops_in.hops.items
     = search (rules, c.in-Ok-hops_in.ensures.reads, c.of_stream-2.ensures, c.value_at-value.ensures.value, c.key.ensures.spelling) in
@@ -46,7 +46,7 @@ pub returns-in-Err-deadline_in-clause-reads : goal.returns-in-Err-deadline_in-cl
 unfolding sections.stream_at
 returns-in-Err-deadline_in-clause-reads g c =
     let table = table_view c.args.table.now in
-    let known = ap (λ b. provided b (fault.UnknownKey section.Stream c.args.index)) (sym c.if-not-are_known.ensures.known) in
+    let known = ap (λ b. provided b (fault.UnknownKey section.Stream c.args.index)) (sym c.if-not-has_only.ensures.known) in
     let name = subst (λ p. required p name_text table ≡ Ok c.in-Ok.name.now) c.of_stream.ensures c.in-Ok.ensures.reads in
     let hops : sections.hops_in (record { section = section.Stream; index = c.args.index; field = field.Hops }) c.args.bridges.now (get_member (key_of field.Hops) table) ≡ Ok c.in-Ok-hops_in.hops.items
     = search (rules, c.in-Ok-hops_in.ensures.reads, c.of_stream-2.ensures, c.value_at-value.ensures.value, c.key.ensures.spelling) in
@@ -56,7 +56,7 @@ pub returns-then-has_stream-clause-reads : goal.returns-then-has_stream-clause-r
 unfolding sections.stream_at
 returns-then-has_stream-clause-reads g c =
     let table = table_view c.args.table.now in
-    let known = ap (λ b. provided b (fault.UnknownKey section.Stream c.args.index)) (sym c.if-not-are_known.ensures.known) in
+    let known = ap (λ b. provided b (fault.UnknownKey section.Stream c.args.index)) (sym c.if-not-has_only.ensures.known) in
     let name = subst (λ p. required p name_text table ≡ Ok c.in-Ok.name.now) c.of_stream.ensures c.in-Ok.ensures.reads in
     let hops : sections.hops_in (record { section = section.Stream; index = c.args.index; field = field.Hops }) c.args.bridges.now (get_member (key_of field.Hops) table) ≡ Ok c.in-Ok-hops_in.hops.items
     = search (rules, c.in-Ok-hops_in.ensures.reads, c.of_stream-2.ensures, c.value_at-value.ensures.value, c.key.ensures.spelling) in
@@ -67,7 +67,7 @@ pub returns-clause-reads : goal.returns-clause-reads
 unfolding sections.stream_at
 returns-clause-reads g c =
     let table = table_view c.args.table.now in
-    let known = ap (λ b. provided b (fault.UnknownKey section.Stream c.args.index)) (sym c.if-not-are_known.ensures.known) in
+    let known = ap (λ b. provided b (fault.UnknownKey section.Stream c.args.index)) (sym c.if-not-has_only.ensures.known) in
     let name = subst (λ p. required p name_text table ≡ Ok c.in-Ok.name.now) c.of_stream.ensures c.in-Ok.ensures.reads in
     let hops : sections.hops_in (record { section = section.Stream; index = c.args.index; field = field.Hops }) c.args.bridges.now (get_member (key_of field.Hops) table) ≡ Ok c.in-Ok-hops_in.hops.items
     = search (rules, c.in-Ok-hops_in.ensures.reads, c.of_stream-2.ensures, c.value_at-value.ensures.value, c.key.ensures.spelling) in
