@@ -1,4 +1,3 @@
 pub mod Memberships
-mod KeyNumbers
 mod Entries
 mod Reserved

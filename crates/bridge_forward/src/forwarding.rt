@@ -5,10 +5,9 @@ ghost use Rattle.bridge_forward.specs.Ports.{has};
 ghost use Rattle.bridge_forward.specs.Database.{members_at, entry_at};
 ghost use Rattle.bridge_forward.specs.Forward.{is_reserved, goes_to, forward};
 
-use crate::index::{
-    Entries, entries_of, hint_of, hints_of, key_of, members_of, ports_at, ports_by_hash,
-};
+use crate::index::{Entries, entries_of, hint_of, hints_of, members_of, ports_at, ports_by_hash};
 use crate::{PortSet, StaticEntry, Vlan};
+use bridge_frame::address_key;
 use bridge_limits::NoMemory;
 use std::alloc::Allocator;
 use std::marker::Model;
@@ -146,7 +145,7 @@ impl<A: Allocator + Copy> Forwarding<A> {
     fn entry_at(&self, vid: u16, da: &[u8; 6]) -> Option<PortSet>
         ensures { result ≡ entry_at self.now.statics vid da.now }
     {
-        let key = key_of(vid, *da);
+        let key = address_key(vid, *da);
         match ports_at(&self.entries, self.place_of(key), key) {
             Some(ports) => Some(ports),
             None => ports_by_hash(&self.entries, key),

@@ -3,11 +3,13 @@
 ghost use Rattle.std.specs.Prelude.{◌≡◌, ◌<◌, ℕ, List, [], ◌∷◌, All, IfOk, IfSome, OnOk, Some, None, nat_eq, length, if◌then◌else◌};
 ghost use Rattle.std.specs.Option.{option_or};
 ghost use Rattle.indexmap.specs.IndexMap.{get};
+ghost use Rattle.bridge_frame.specs.Addresses.{IsKey, address_key};
 ghost use Rattle.bridge_forward.specs.declared.Vlan.{Vlan};
 ghost use Rattle.bridge_forward.specs.Database.{members_at, entry_at};
-ghost use Rattle.bridge_forward.specs.Kept.{set_at, IsKey, key_of};
+ghost use Rattle.bridge_forward.specs.Kept.{set_at};
 
 use crate::{PortSet, StaticEntry, Vlan};
+use bridge_frame::address_key;
 use indexmap::IndexMap;
 use std::alloc::{AllocError, Allocator};
 use std::hash::{BuildHasherDefault, FoldHasher};
@@ -55,18 +57,6 @@ pub(crate) fn members_of<A: Allocator + Copy>(
     Ok(members)
 }
 
-/// The number by which a static entry is found: the octets of the VLAN identifier and then those of the address, the
-/// first the highest.
-#[tactic(auto, unfolding(crate::specs::Kept::key_of))]
-pub(crate) fn key_of(vid: u16, address: [u8; 6]) -> u64
-    ensures number { result ≡ key_of vid address }
-    ensures is_key { IsKey vid address }
-{
-    let [high, low] = vid.to_be_bytes();
-    let [a, b, c, d, e, f] = address;
-    u64::from_be_bytes([high, low, a, b, c, d, e, f])
-}
-
 /// Keeps a set of ports at a key, unless there is one already.
 fn keep_first<A: Allocator + Copy>(
     entries: &mut Entries<A>,
@@ -85,17 +75,17 @@ fn keep_first<A: Allocator + Copy>(
 }
 
 /// Keeps the ports of a static entry, unless there are some already for its VLAN identifier and address.
-#[tactic(auto, using(crate::proofs::KeyNumbers::same_key))]
+#[tactic(auto, using(bridge_frame::proofs::Addresses::same_key))]
 fn keep_entry<A: Allocator + Copy>(
     entries: &mut Entries<A>,
     entry: StaticEntry,
 ) -> Result<(), AllocError>
     ensures { OnOk result ((vid : ℕ) (address : List ℕ)
         → IsKey vid address
-        → get nat_eq entries.new (key_of vid address)
-        ≡ option_or (get nat_eq entries.old (key_of vid address)) (entry_at (entry ∷ []) vid address)) }
+        → get nat_eq entries.new (address_key vid address)
+        ≡ option_or (get nat_eq entries.old (address_key vid address)) (entry_at (entry ∷ []) vid address)) }
 {
-    keep_first(entries, key_of(entry.vid, entry.address), entry.ports)
+    keep_first(entries, address_key(entry.vid, entry.address), entry.ports)
 }
 
 /// How many hints there are for each static entry.
@@ -158,7 +148,7 @@ pub(crate) fn entries_of<A: Allocator + Copy>(
 ) -> Result<Entries<A>, AllocError>
     ensures { IfOk result (λ m. (vid : ℕ) (address : List ℕ)
         → IsKey vid address
-        → get nat_eq m (key_of vid address) ≡ entry_at statics.now vid address) }
+        → get nat_eq m (address_key vid address) ≡ entry_at statics.now vid address) }
 {
     let Ok(mut entries) = IndexMap::with_capacity(alloc, statics.len()) else {
         return Err(AllocError);

@@ -2,6 +2,9 @@
 //! Where a bridge sends a frame: the filtering database with ingress filtering always on (IEEE 802.1Q-2018, 8.6.2
 //! to 8.6.4, with the static filtering entries of 8.8.1).
 
+ghost use Rattle.std.specs.Prelude.{◌≡◌};
+ghost use Rattle.bridge_forward.specs.Database.{members_at};
+
 mod forwarding;
 mod index;
 pub mod laws;
@@ -29,4 +32,16 @@ pub struct StaticEntry {
     pub address: [u8; 6],
     /// The ports. Those that aren't members of the VLAN get no frame by it.
     pub ports: PortSet,
+}
+
+/// Returns the member ports of a VLAN: those of the first entry with this identifier; `None` if there is none.
+pub fn find_members(vlans: &[Vlan], vid: u16) -> Option<PortSet>
+    ensures { result ≡ members_at vlans.now vid }
+{
+    for vlan in vlans {
+        if vlan.vid == vid {
+            return Some(vlan.members);
+        }
+    }
+    None
 }

@@ -1,3 +1,4 @@
 pub mod Heads
 pub mod Marking
 pub mod Times
+pub mod Addresses

@@ -2,12 +2,13 @@
 //! Ethernet frames as a time-aware bridge sees them: their heads (IEEE 802.1Q-2018, clause 9), the time for which
 //! they occupy a link, and the drop eligible indication. Nothing here takes memory.
 
-ghost use Rattle.std.specs.Prelude.{◌≡◌, ◌≤◌, ◌<◌, ℕ, List, length, Ok, Err, OnOk, IfOk};
+ghost use Rattle.std.specs.Prelude.{◌≡◌, ◌*◌, ◌^◌, ◌≤◌, ◌<◌, ℕ, List, length, Ok, Err, OnOk, IfOk};
 ghost use Rattle.std.specs.Option.{ForSome};
 ghost use Rattle.bridge_frame.specs.declared.FrameFault.{FrameFault};
 ghost use Rattle.bridge_frame.specs.declared.Head.{Head};
+ghost use Rattle.bridge_frame.specs.Addresses.{IsKey, address_key};
 ghost use Rattle.bridge_frame.specs.Frames.{drop_eligible, has_tag, head, is_tagged, marked, number_of, tag_in};
-ghost use Rattle.bridge_frame.specs.Link.{occupied, speed_of};
+ghost use Rattle.bridge_frame.specs.Link.{bits_per_second, occupied, speed_of};
 
 use bridge_limits::{LONGEST_FRAME, MOST_CAPTURED};
 use thiserror::Error;
@@ -75,6 +76,19 @@ impl Speed {
             2500 => Some(Speed::Mbps2500),
             10000 => Some(Speed::Mbps10000),
             _ => None,
+        }
+    }
+
+    /// The speed in Mb/s, 10 to 10,000.
+    pub fn megabits(self) -> u64
+        ensures { result * 10 ^ 6 ≡ bits_per_second self }
+    {
+        match self {
+            Speed::Mbps10 => 10,
+            Speed::Mbps100 => 100,
+            Speed::Mbps1000 => 1_000,
+            Speed::Mbps2500 => 2_500,
+            Speed::Mbps10000 => 10_000,
         }
     }
 }
@@ -173,6 +187,17 @@ pub fn marked_head()
     ensures fault { (octets : List ℕ) (len : ℕ) (e : FrameFault) → head octets len ≡ Err e
         → head (drop_eligible octets) len ≡ Err e }
 {}
+
+/// Key of a VLAN identifier and an address: their eight octets as one number, the first the highest.
+#[tactic(auto, unfolding(crate::specs::Addresses::address_key))]
+pub fn address_key(vid: u16, address: [u8; 6]) -> u64
+    ensures number { result ≡ address_key vid address }
+    ensures is_key { IsKey vid address }
+{
+    let [high, low] = vid.to_be_bytes();
+    let [a, b, c, d, e, f] = address;
+    u64::from_be_bytes([high, low, a, b, c, d, e, f])
+}
 
 /// How long a frame of this length occupies a link, in nanoseconds, rounded up: padded to 60 octets, with frame check
 /// sequence (4 octets), preamble and delimiter (8) and gap (12).

@@ -1,31 +1,19 @@
 -- One number for a port, a VLAN identifier and an address: different ones have different numbers.
-use Rattle.std.proofs.Common.{◌≡◌, ℕ, ◌+◌, ◌*◌, ◌^◌, ◌<◌, ◌&&◌, nat_eq, List, take, drop, refl, sym, ap, ◌∙◌, arith}
-use Rattle.std.specs.Int.{w16, from_be_bytes}
+use Rattle.std.proofs.Common.{◌≡◌, ℕ, ◌+◌, ◌*◌, ◌^◌, ◌<◌, ◌&&◌, nat_eq, List, refl, arith}
 use Rattle.std.specs.Str.{bytes_eq}
-use Rattle.std.proofs.lemmas.Nat.{be_bytes_8, from_be_bytes-to_be_bytes_2}
 use Rattle.std.proofs.lemmas.Bool.Decides.{same_from_decides, Decides-like, Decides-eqb, Decides-and}
 use Rattle.std.proofs.lemmas.Slice.Eq.{bytes_eq-Decides}
-use Rattle.bridge_limits.proofs.Octets.{octets_of, octet_below, eight}
-use Rattle.bridge_ident.specs.Firsts.{IsKey, octets_number, key_of}
-
--- equal numbers come of equal octets
-same_octets : (v w : ℕ) (a b : List ℕ) → IsKey v a → IsKey w b → octets_number v a ≡ octets_number w b → octets_of v a ≡ octets_of w b
-unfolding octets_number
-same_octets v w a b k l e = sym (be_bytes_8 (octets_of v a) (octets_number v a) (eight v a k.six) (octet_below v a k.octets) refl) ∙ be_bytes_8 (octets_of w b) (octets_number v a) (eight w b l.six) (octet_below w b l.octets) e
-
-same_address : (v w : ℕ) (a b : List ℕ) → IsKey v a → IsKey w b → octets_number v a ≡ octets_number w b → a ≡ b
-same_address v w a b k l e = ap (drop 2) (same_octets v w a b k l e)
-
-same_vid : (v w : ℕ) (a b : List ℕ) → IsKey v a → IsKey w b → octets_number v a ≡ octets_number w b → v ≡ w
-same_vid v w a b k l e = sym (from_be_bytes-to_be_bytes_2 v k.short) ∙ (ap (λ (xs : List ℕ). from_be_bytes w16 (take 2 xs)) (same_octets v w a b k l e) ∙ from_be_bytes-to_be_bytes_2 w l.short)
+use Rattle.bridge_frame.specs.Addresses.{IsKey, address_key}
+use Rattle.bridge_frame.proofs.Addresses.{same_address, same_vid}
+use Rattle.bridge_ident.specs.Firsts.{key_of}
 
 -- two numbers of two parts each, of which the lower ones are small
 same_parts : (p q x y : ℕ) → x < 2 ^ 64 → y < 2 ^ 64 → p * 2 ^ 64 + x ≡ q * 2 ^ 64 + y → (p ≡ q) × (x ≡ y)
 same_parts p q x y k l e = (omega arith, omega arith)
 
-key_parts : (p q v w : ℕ) (a b : List ℕ) → IsKey v a → IsKey w b → key_of p v a ≡ key_of q w b → (p ≡ q) × (octets_number v a ≡ octets_number w b)
+key_parts : (p q v w : ℕ) (a b : List ℕ) → IsKey v a → IsKey w b → key_of p v a ≡ key_of q w b → (p ≡ q) × (address_key v a ≡ address_key w b)
 unfolding key_of
-key_parts p q v w a b k l e = same_parts p q (octets_number v a) (octets_number w b) k.fits l.fits e
+key_parts p q v w a b k l e = same_parts p q (address_key v a) (address_key w b) k.fits l.fits e
 
 -- two keys have one number where the port, the identifier and the address are the same
 pub same_key : (p q v w : ℕ) (a b : List ℕ) → IsKey v a → IsKey w b → nat_eq (key_of p v a) (key_of q w b) ≡ (nat_eq p q && nat_eq v w && bytes_eq a b)

@@ -1,8 +1,8 @@
 -- What the index of a stream identification table keeps. No public clause speaks of it.
-use Rattle.std.specs.Prelude.{◌≡◌, ◌<◌, ◌+◌, ◌*◌, ◌%◌, ◌^◌, ℕ, Bool, true, false, not, ◌&&◌, nat_eq, nat_lt, Option, Some, None, List, [], ◌∷◌, ◌++◌, length, slice_get, slice_index, if◌then◌else◌}
-use Rattle.std.specs.Int.{w16, w64, to_be_bytes, from_be_bytes}
+use Rattle.std.specs.Prelude.{◌≡◌, ◌+◌, ◌*◌, ◌%◌, ◌^◌, ℕ, Bool, true, false, not, ◌&&◌, nat_eq, nat_lt, Option, Some, None, List, [], ◌∷◌, slice_get, if◌then◌else◌}
 use Rattle.std.specs.Str.{bytes_eq}
 use Rattle.indexmap.specs.IndexMap.{IndexMap, get}
+use Rattle.bridge_frame.specs.Addresses.{IsKey, address_key}
 use Rattle.bridge_ident.specs.declared.Kind.{Kind}
 use Rattle.bridge_ident.specs.declared.Kind.TheVariants.{Null, Source}
 use Rattle.bridge_ident.specs.declared.TagKind.{TagKind}
@@ -42,20 +42,9 @@ lesser None source = source
 lesser (Some d) None = Some d
 lesser (Some d) (Some s) = if nat_lt s.place d.place then Some s else Some d
 
--- a VLAN identifier and an address as one number: the two octets of the one and the six of the other, the first the highest
-unfoldable pub octets_number : ℕ → List ℕ → ℕ
-octets_number vid address = from_be_bytes w64 (to_be_bytes w16 vid ++ address)
-
--- a VLAN identifier of 16 bits and an address of six octets
-pub record IsKey (vid : ℕ) (address : List ℕ) : Type 0 where
-  pub short : vid < 2 ^ 16
-  pub six : length address ≡ 6
-  pub octets : (i : ℕ) → slice_index address i < 256
-  pub fits : octets_number vid address < 2 ^ 64
-
 -- a port, a VLAN identifier and an address as one number
 unfoldable pub key_of : ℕ → ℕ → List ℕ → ℕ
-key_of port vid address = port * 2 ^ 64 + octets_number vid address
+key_of port vid address = port * 2 ^ 64 + address_key vid address
 
 -- a table finds the first entry of a kind for such frames
 pub record AreFirst {T : Type 0} (kind : Kind) (tagged : Bool) (entries : List StreamEntry) (firsts : IndexMap ℕ First T) : Type 0 where

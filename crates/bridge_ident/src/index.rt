@@ -3,13 +3,14 @@
 ghost use Rattle.std.specs.Prelude.{◌≡◌, ℕ, Bool, ◌<◌, ◌%◌, List, [], ◌∷◌, IfOk, IfSome, OnOk, Some, None, true, false, nat_eq, if◌then◌else◌};
 ghost use Rattle.std.specs.Option.{option_map, option_or};
 ghost use Rattle.indexmap.specs.IndexMap.{get};
+ghost use Rattle.bridge_frame.specs.Addresses.{IsKey};
 ghost use Rattle.bridge_ident.specs.declared.Kind.TheVariants.{Null, Source};
 ghost use Rattle.bridge_ident.specs.declared.StreamEntry.{StreamEntry};
-ghost use Rattle.bridge_ident.specs.Firsts.{AreByAddress, AreFirst, AreMarked, IsKey, first_from, is_for, key_of, lesser, octets_number};
+ghost use Rattle.bridge_ident.specs.Firsts.{AreByAddress, AreFirst, AreMarked, first_from, is_for, key_of, lesser};
 ghost use Rattle.bridge_ident.specs.Identification.{handle_in, names_vlan};
 
 use crate::{Kind, StreamEntry, TagKind, names_vlan};
-use bridge_frame::Head;
+use bridge_frame::{Head, address_key};
 use indexmap::IndexMap;
 use std::alloc::{AllocError, Allocator};
 use std::hash::{BuildHasherDefault, FoldHasher};
@@ -69,23 +70,13 @@ impl StreamEntry {
 /// One more than the greatest number of 64 bits.
 const PAST_64_BITS: u128 = 1 << 64;
 
-/// The number of a VLAN identifier and an address: their octets, the first the highest.
-#[tactic(auto, unfolding(crate::specs::Firsts::octets_number))]
-fn octets_number(vid: u16, address: [u8; 6]) -> u64
-    ensures { result ≡ octets_number vid address }
-{
-    let [high, low] = vid.to_be_bytes();
-    let [a, b, c, d, e, f] = address;
-    u64::from_be_bytes([high, low, a, b, c, d, e, f])
-}
-
 /// The number by which entries of a port, a VLAN identifier and an address are found.
 #[tactic(auto, unfolding(crate::specs::Firsts::key_of))]
 fn key_of(port: u8, vid: u16, address: [u8; 6]) -> u128
     ensures number { result ≡ key_of port vid address }
     ensures is_key { IsKey vid address }
 {
-    port as u128 * PAST_64_BITS + octets_number(vid, address) as u128
+    port as u128 * PAST_64_BITS + address_key(vid, address) as u128
 }
 
 /// The last octet of the address of a key.

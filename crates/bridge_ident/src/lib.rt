@@ -71,8 +71,8 @@ impl StreamEntry {
     }
 }
 
-/// Whether there is a tag with a VLAN identifier other than 0.
-fn names_vlan(tag: Option<Tag>) -> bool
+/// Whether a frame's tag names a VLAN: there is a tag, and its VLAN identifier isn't 0.
+pub fn names_vlan(tag: Option<Tag>) -> bool
     ensures { result ≡ names_vlan tag }
 {
     match tag {

@@ -1,7 +1,8 @@
 use Rattle.std.proofs.Common.{◌≡◌, ℕ, List, drop, nat_eq}
 use Rattle.std.specs.Option.{option_or}
 use Rattle.indexmap.specs.IndexMap.{get}
-use Rattle.bridge_ident.specs.Firsts.{AreMarked, IsKey, first_from, key_of}
+use Rattle.bridge_frame.specs.Addresses.{IsKey}
+use Rattle.bridge_ident.specs.Firsts.{AreMarked, first_from, key_of}
 use Rattle.bridge_ident.proofs.index.firsts_of.Given as goal
 
 -- what is there, or else in the entries that are left, is what all entries give; and what is there is marked

@@ -7,10 +7,10 @@ pub returns-in-Some : goal.returns-in-Some
 returns-in-Some g c =
     let vid = c.args.vid in
     let da = c.args.da.now in
-    sym c.in-Some.ensures ∙ (ap (get nat_eq c.self.inside.entries) c.key_of-key.ensures.number ∙ (c.self.invariant.entry_found vid da c.key_of-key.ensures.is_key ∙ ap (λ (db : Database). entry_at db.statics vid da) c.self.view_is))
+    sym c.in-Some.ensures ∙ (ap (get nat_eq c.self.inside.entries) c.address_key-key.ensures.number ∙ (c.self.invariant.entry_found vid da c.address_key-key.ensures.is_key ∙ ap (λ (db : Database). entry_at db.statics vid da) c.self.view_is))
 
 pub returns-in-None : goal.returns-in-None
 returns-in-None g c =
     let vid = c.args.vid in
     let da = c.args.da.now in
-    c.ports_by_hash.ensures ∙ (ap (get nat_eq c.self.inside.entries) c.key_of-key.ensures.number ∙ (c.self.invariant.entry_found vid da c.key_of-key.ensures.is_key ∙ ap (λ (db : Database). entry_at db.statics vid da) c.self.view_is))
+    c.ports_by_hash.ensures ∙ (ap (get nat_eq c.self.inside.entries) c.address_key-key.ensures.number ∙ (c.self.invariant.entry_found vid da c.address_key-key.ensures.is_key ∙ ap (λ (db : Database). entry_at db.statics vid da) c.self.view_is))
