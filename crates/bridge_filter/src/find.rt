@@ -43,7 +43,7 @@ pub(crate) fn lesser(route: Route, other: Option<Route>) -> Option<Route>
 }
 
 /// Whether a filter that asks for this handle, or for any, takes frames with this one.
-fn takes_handle(asked: Option<u32>, handle: Option<u32>) -> bool
+pub fn takes_handle(asked: Option<u32>, handle: Option<u32>) -> bool
     ensures { result ≡ verdicts.takes_handle asked handle }
 {
     match (asked, handle) {
@@ -54,7 +54,7 @@ fn takes_handle(asked: Option<u32>, handle: Option<u32>) -> bool
 }
 
 /// Whether a filter that asks for this priority, or for any, takes frames with this one.
-pub(crate) fn takes_priority(asked: Option<u8>, priority: u8) -> bool
+pub fn takes_priority(asked: Option<u8>, priority: u8) -> bool
     ensures { result ≡ verdicts.takes_priority asked priority }
 {
     match asked {

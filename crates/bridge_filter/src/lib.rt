@@ -13,7 +13,7 @@ mod police;
 mod rows;
 
 pub use bridge_cycle::NoMemory;
-pub use find::Route;
+pub use find::{Route, takes_handle, takes_priority};
 pub use police::Police;
 
 /// Settings of a stream filter (IEEE 802.1Q-2018, 8.6.5.1.1).
