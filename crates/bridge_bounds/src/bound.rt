@@ -1,5 +1,5 @@
 //! The bounds of the queues of a plan.
-ghost use Rattle.std.specs.Prelude.{◌≡◌, ◌+◌, ◌≤◌, ◌<◌, ℕ, MatchOption, nat_eq, None, option_map, Some, true};
+ghost use Rattle.std.specs.Prelude.{◌≡◌, ◌+◌, ◌≤◌, ◌<◌, ℕ, MatchOption, nat_eq, None, Some, true};
 ghost use Rattle.std.specs.Map.{lookup};
 ghost use Rattle.bridge_frame.specs.Link.{occupied};
 ghost use Rattle.bridge_port.specs.Opening.{ever_of};
@@ -14,32 +14,16 @@ use bridge_check::{Accepted, may_wait};
 use bridge_config::{Plan, PortPlan};
 use bridge_filter::FilterPlan;
 use bridge_frame::occupation;
-use bridge_gate::GatePlan;
 use bridge_limits::LONGEST_FRAME;
 use std::alloc::Allocator;
 
-/// The filter of a number, where there is one.
-pub fn filter_at(filters: &[(u32, FilterPlan)], number: u32) -> Option<FilterPlan>
+/// Returns the stream filter of a number; `None` if no filter has this number.
+pub fn find_filter(filters: &[(u32, FilterPlan)], number: u32) -> Option<FilterPlan>
     ensures { result ≡ lookup (nat_eq number) filters.now }
 {
     for filter in filters {
         if filter.0 == number {
             return Some(filter.1);
-        }
-    }
-    None
-}
-
-/// The gate of a number, where there is one.
-pub fn gate_at<A: Allocator + Copy>(
-    gates: &[(u32, GatePlan<A>)],
-    number: u32,
-) -> Option<&GatePlan<A>>
-    ensures { option_map (λ g. g.now) result ≡ lookup (nat_eq number) gates.now }
-{
-    for gate in gates {
-        if gate.0 == number {
-            return Some(&gate.1);
         }
     }
     None
@@ -95,7 +79,7 @@ pub fn bound_of<A: Allocator + Copy>(
     ensures { MatchOption result (HasNoBound accepted.now number port class) (IsBound accepted.now number port class) }
 {
     let plan = accepted.plan();
-    let filter = filter_at(plan.filters(), number)?;
+    let filter = find_filter(plan.filters(), number)?;
     if !filter.protected {
         return None;
     }

@@ -8,5 +8,5 @@ mod longest;
 mod passing;
 mod tight;
 
-pub use bound::{bound_of, filter_at, gate_at};
+pub use bound::{bound_of, find_filter};
 pub use tight::tight_bound_of;

@@ -10,10 +10,10 @@ ghost use Rattle.bridge_check.specs.Reach.{reaches};
 ghost use Rattle.bridge_check.specs.Windows.{longest_frame};
 ghost use Rattle.bridge_bounds.specs.Bounds.{HasNoBound, IsLesser, IsTightBound, IsTightened};
 
-use crate::bound::{bound_at, filter_at, gate_at};
+use crate::bound::{bound_at, find_filter};
 use crate::longest::longest_of;
 use crate::passing::{are_apart, fewer};
-use bridge_check::{Accepted, may_wait};
+use bridge_check::{Accepted, find_gate, may_wait};
 use bridge_config::{Plan, PortPlan};
 use bridge_cycle::CyclicList;
 use bridge_filter::FilterPlan;
@@ -87,7 +87,7 @@ fn tight_bound_in<A: Allocator + Copy>(
 {
     let sdu = filter.max_sdu?;
     let out = plan.port(port)?;
-    let gate = gate_at(plan.gates(), filter.gate)?;
+    let gate = find_gate(plan.gates(), filter.gate)?;
     let bound = bound_at(out, class, sdu);
     Some(tightened(&gate.schedule, out, class, sdu, bound))
 }
@@ -109,7 +109,7 @@ pub fn tight_bound_of<A: Allocator + Copy>(
         (IsTightBound accepted.now number port class) }
 {
     let plan = accepted.plan();
-    let filter = filter_at(plan.filters(), number)?;
+    let filter = find_filter(plan.filters(), number)?;
     if !filter.protected {
         return None;
     }

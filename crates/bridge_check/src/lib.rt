@@ -14,4 +14,4 @@ mod windows;
 pub use accepted::{Accepted, Refused, check};
 pub use failing::faults_of;
 pub use fault::CheckFault;
-pub use reach::{Reach, may_wait, may_wait_at, reach_of};
+pub use reach::{Reach, find_gate, may_wait, may_wait_at, reach_of};

@@ -114,8 +114,11 @@ fn let_through<A: Allocator + Copy>(schedule: &Schedule<A>, priority: Option<u8>
     priorities
 }
 
-/// The gate of a number.
-fn gate_at<A: Allocator + Copy>(gates: &[(u32, GatePlan<A>)], number: u32) -> Option<&GatePlan<A>>
+/// Returns the stream gate of a number; `None` if no gate has this number.
+pub fn find_gate<A: Allocator + Copy>(
+    gates: &[(u32, GatePlan<A>)],
+    number: u32,
+) -> Option<&GatePlan<A>>
     ensures { option_map (λ g. g.now) result ≡ lookup (nat_eq number) gates.now }
 {
     for gate in gates {
@@ -150,7 +153,7 @@ fn ports_of<A: Allocator + Copy>(plan: &Plan<A>, handle: Option<u32>) -> [bool; 
 fn priorities_of<A: Allocator + Copy>(plan: &Plan<A>, filter: &FilterPlan) -> [bool; 8]
     ensures { result ≡ reached.told_below 8 (spec.reaches_priority plan.now filter.now) }
 {
-    match gate_at(plan.gates(), filter.gate) {
+    match find_gate(plan.gates(), filter.gate) {
         Some(gate) => let_through(&gate.schedule, filter.priority),
         None => [false; 8],
     }

@@ -4,5 +4,6 @@ pub mod Growth
 pub mod Words
 pub mod Section
 pub mod Losses
+pub mod Figures
 pub mod Numbers
 pub mod Examples

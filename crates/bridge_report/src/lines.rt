@@ -1,14 +1,14 @@
 //! The lines of a section, each written once, for any text.
-ghost use Rattle.std.specs.Prelude.{◌≡◌, Some};
+ghost use Rattle.std.specs.Prelude.{Some};
 ghost use Rattle.bridge_report.specs.Growth.{HasGrown};
-ghost use Rattle.bridge_report.specs.Section.{bucket_line, counter_lines, delay_line, drop_line, each_flag, flag_named, flags_line, frame_line, full_in, header_line, matching_line, never_in, out_line, queued_line, red_line, tested_line};
+ghost use Rattle.bridge_report.specs.Section.{bucket_line, counter_lines, delay_line, drop_line, each_flag, flag_named, flags_line, frame_line, header_line, matching_line, out_line, queued_line, red_line, tested_line};
 
 use crate::line::Line;
+use crate::losses::{count_full, count_never_fitting};
 use crate::text::{Growing, put_wide};
 use crate::word::{flag_word, kind_word, refusal_word, verdict_word};
 use bridge_filter::{Counters, Flags, Verdict};
 use bridge_meter::Buckets;
-use bridge_port::Refusal;
 use bridge_semantics::{Departure, Dropped};
 
 /// Puts the filter's number, and whether it is protected.
@@ -106,33 +106,13 @@ pub fn put_bucket<T: Growing>(text: &mut T, buckets: Option<Buckets>)
     }
 }
 
-/// How many copies were dropped at a full queue.
-fn full_in(drops: &[Dropped]) -> usize
-    ensures { result ≡ full_in drops.now }
-{
-    drops
-        .iter()
-        .filter(|d| matches!(d.refusal, Refusal::Full))
-        .count()
-}
-
-/// How many copies were dropped since no moment fits them.
-fn never_in(drops: &[Dropped]) -> usize
-    ensures { result ≡ never_in drops.now }
-{
-    drops
-        .iter()
-        .filter(|d| matches!(d.refusal, Refusal::NeverFits))
-        .count()
-}
-
 /// Puts how many copies of a filter's frames were queued, and how many were dropped.
 pub fn put_queued<T: Growing>(text: &mut T, departures: &[Departure], drops: &[Dropped])
     ensures { HasGrown T.contents text.old (queued_line departures.now drops.now) text.new }
 {
     text.put_number("queued ", departures.len() as u64);
-    text.put_number(" full ", full_in(drops) as u64);
-    text.put_number(" never ", never_in(drops) as u64);
+    text.put_number(" full ", count_full(drops) as u64);
+    text.put_number(" never ", count_never_fitting(drops) as u64);
     text.put("\n");
 }
 

@@ -13,7 +13,7 @@ use std::alloc::Allocator;
 
 /// Why a filter refuses a frame.
 #[derive(Clone, Copy)]
-enum Reason {
+pub enum Reason {
     Blocked,
     Oversize,
     GateClosed,
@@ -56,30 +56,30 @@ fn is_for(reason: Reason, verdict: Verdict) -> bool
 }
 
 /// Counts the frames that were refused for this reason.
-fn refused_for(reason: Reason, verdicts: &[Verdict]) -> u64
+pub fn count_refused(reason: Reason, verdicts: &[Verdict]) -> u64
     ensures { result ≡ spec.refused_for reason verdicts.now }
 {
     verdicts.iter().filter(|v| is_for(reason, **v)).count() as u64
 }
 
 /// Counts the copies that a full queue dropped.
-fn full_in(drops: &[Dropped]) -> u64
+pub fn count_full(drops: &[Dropped]) -> usize
     ensures { result ≡ full_in drops.now }
 {
     drops
         .iter()
         .filter(|d| matches!(d.refusal, Refusal::Full))
-        .count() as u64
+        .count()
 }
 
 /// Counts the copies that fit no window of their queue.
-fn never_in(drops: &[Dropped]) -> u64
+pub fn count_never_fitting(drops: &[Dropped]) -> usize
     ensures { result ≡ never_in drops.now }
 {
     drops
         .iter()
         .filter(|d| matches!(d.refusal, Refusal::NeverFits))
-        .count() as u64
+        .count()
 }
 
 /// Counts the refused frames and the dropped copies of a filter.
@@ -87,16 +87,16 @@ fn losses_of(verdicts: &[Verdict], drops: &[Dropped]) -> Losses
     ensures { result ≡ spec.losses_of verdicts.now drops.now }
 {
     Losses {
-        blocked: refused_for(Reason::Blocked, verdicts),
-        oversize: refused_for(Reason::Oversize, verdicts),
-        gate_closed: refused_for(Reason::GateClosed, verdicts),
-        shut_rx: refused_for(Reason::ShutByRx, verdicts),
-        shut_octets: refused_for(Reason::ShutByOctets, verdicts),
-        octets_exceeded: refused_for(Reason::OctetsExceeded, verdicts),
-        red: refused_for(Reason::Red, verdicts),
-        yellow_dropped: refused_for(Reason::YellowDropped, verdicts),
-        full: full_in(drops),
-        never: never_in(drops),
+        blocked: count_refused(Reason::Blocked, verdicts),
+        oversize: count_refused(Reason::Oversize, verdicts),
+        gate_closed: count_refused(Reason::GateClosed, verdicts),
+        shut_rx: count_refused(Reason::ShutByRx, verdicts),
+        shut_octets: count_refused(Reason::ShutByOctets, verdicts),
+        octets_exceeded: count_refused(Reason::OctetsExceeded, verdicts),
+        red: count_refused(Reason::Red, verdicts),
+        yellow_dropped: count_refused(Reason::YellowDropped, verdicts),
+        full: count_full(drops) as u64,
+        never: count_never_fitting(drops) as u64,
     }
 }
 

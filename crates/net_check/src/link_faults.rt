@@ -1,7 +1,6 @@
 //! Why a link of a network is refused.
 
 use bridge_check::Accepted;
-use bridge_frame::Speed;
 use bridge_text::Text;
 use net_file::{NetField, NetSection};
 use net_latency::{NetworkText, put_numbers};
@@ -106,24 +105,13 @@ fn put_twice(
     said.put("and so is `one`.\nA link joins two ports: correct one of its ends.\n");
 }
 
-/// A speed in Mb/s.
-fn megabits(speed: Speed) -> u64 {
-    match speed {
-        Speed::Mbps10 => 10,
-        Speed::Mbps100 => 100,
-        Speed::Mbps1000 => 1_000,
-        Speed::Mbps2500 => 2_500,
-        Speed::Mbps10000 => 10_000,
-    }
-}
-
 /// The speed of the port of an end, in Mb/s; 0 if its plan has no such port.
 fn speed_at(plans: &[Accepted<Global>], end: End) -> u64 {
     let Some(accepted) = plans.get(end.bridge as usize) else {
         return 0;
     };
     match accepted.plan().port(end.port) {
-        Some(port) => megabits(port.speed),
+        Some(port) => port.speed.megabits(),
         None => 0,
     }
 }

@@ -2,7 +2,7 @@
 
 use crate::refusing::name_of;
 use crate::telling::address_words;
-use bridge_bounds::filter_at;
+use bridge_bounds::find_filter;
 use bridge_check::{Accepted, reach_of};
 use bridge_config::Plan;
 use bridge_filter::FilterPlan;
@@ -106,7 +106,7 @@ fn is_fed<A: Allocator + Copy>(
     };
     for hop in hops {
         if hop.bridge == end.bridge {
-            if let Some(filter) = filter_at(feeder.plan().filters(), hop.filter) {
+            if let Some(filter) = find_filter(feeder.plan().filters(), hop.filter) {
                 if leads_to(feeder.plan(), &filter, end.port) {
                     return true;
                 }
@@ -124,7 +124,7 @@ fn is_of_stream<A: Allocator + Copy>(
 ) -> bool {
     for hop in hops {
         if let Some(bridge) = plans.get(hop.bridge as usize) {
-            if let Some(filter) = filter_at(bridge.plan().filters(), hop.filter) {
+            if let Some(filter) = find_filter(bridge.plan().filters(), hop.filter) {
                 if filter.handle == handle {
                     return true;
                 }
@@ -150,7 +150,7 @@ fn is_left_out(refused: &RefusedNetwork<Global>, hops: &[StreamHop], end: End, o
     let (Some(number), Some(sender)) = (open.filter, plans.get(end.bridge as usize)) else {
         return false;
     };
-    let Some(filter) = filter_at(sender.plan().filters(), number) else {
+    let Some(filter) = find_filter(sender.plan().filters(), number) else {
         return false;
     };
     if !filter.protected || is_hop(refused.streams.as_slice(), end.bridge, number) {
@@ -268,7 +268,7 @@ fn hop_filter_at<A: Allocator + Copy>(
 ) -> Option<FilterPlan> {
     for hop in hops {
         if hop.bridge == bridge {
-            return filter_at(sender.filters(), hop.filter);
+            return find_filter(sender.filters(), hop.filter);
         }
     }
     None

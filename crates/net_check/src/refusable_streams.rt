@@ -9,7 +9,7 @@ ghost use Rattle.net_latency.specs.Bounds.{IsPlaced};
 use crate::network::{read_network, read_plans, tested};
 use crate::refusing::name_of;
 use app_files::CommandFiles;
-use bridge_bounds::filter_at;
+use bridge_bounds::find_filter;
 use bridge_config::Plan;
 use bridge_filter::FilterPlan;
 use bridge_limits::{END_OF_TIME, LONGEST_FRAME};
@@ -260,7 +260,7 @@ fn put_hop(
             "the earliest and the latest arrival lie in different periods of the talker.\n",
         );
     };
-    if let Some(filter) = filter_at(plan.filters(), hop.filter) {
+    if let Some(filter) = find_filter(plan.filters(), hop.filter) {
         put_condition(said, plan, &filter, &traffic, class, course.is_some());
     }
 }

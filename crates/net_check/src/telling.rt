@@ -1,5 +1,5 @@
 //! What is told of a network that is accepted, and not refused: frames that may go round, and what is of no use.
-ghost use Rattle.std.specs.Prelude.{◌≡◌, ◌<◌, ◌≤◌, ◌+◌, ◌++◌, All, IfOk, OnOk, flat_map, length, option_map, slice_get, string_bytes};
+ghost use Rattle.std.specs.Prelude.{◌≡◌, ◌<◌, ◌≤◌, ◌+◌, ◌++◌, All, IfOk, OnOk, flat_map, length, slice_get, string_bytes};
 ghost use Rattle.net_file.specs.Model as file;
 ghost use Rattle.net_check.specs.Telling as spec;
 ghost use Rattle.net_check.specs.Telling.{AreTold, address_text, destination_text, fall_line, fall_text, falls_from, falls_of, left_from, left_of, left_text, left_words, round_line, round_words, vlan_text};
@@ -12,7 +12,7 @@ use bridge_ident::StreamEntry;
 use bridge_limits::NoMemory;
 use net_file::{BridgeRow, LinkRow, NetworkFile, StreamRow};
 use net_loops::{Circulation, circulations_in};
-use net_model::Network;
+use net_model::{Network, find_plan};
 use std::alloc::{AllocError, Allocator, Global};
 
 /// A VLAN that a tag may name.
@@ -240,26 +240,11 @@ fn sdu_in<A: Allocator + Copy>(plan: &Plan<A>, number: u32) -> Option<u32>
     None
 }
 
-/// The plan of a bridge, where it is there.
-pub(crate) fn plan_at<'a, A: Allocator + Copy>(
-    plans: &'a [Accepted<A>],
-    bridge: u16,
-) -> Option<&'a Plan<A>>
-    ensures { option_map (λ p. p.now) result ≡ slice_get plans.now bridge }
-{
-    let place = bridge as usize;
-    if place < plans.len() {
-        Some(plans[place].plan())
-    } else {
-        None
-    }
-}
-
 /// The greatest service data unit of a hop.
 fn hop_sdu<A: Allocator + Copy>(plans: &[Accepted<A>], hop: (u16, u32)) -> Option<u32>
     ensures { result ≡ spec.hop_sdu plans.now hop }
 {
-    match plan_at(plans, hop.0) {
+    match find_plan(plans, hop.0) {
         Some(plan) => sdu_in(plan, hop.1),
         None => None,
     }

@@ -5,12 +5,12 @@ ghost use Rattle.net_check.specs.Warnings as spec;
 ghost use Rattle.net_check.specs.Warnings.{AreWarnings, entering_line, nowhere_line};
 
 use crate::refusing::name_of;
-use crate::telling::{plan_at, told_of};
+use crate::telling::told_of;
 use bridge_config::{Plan, PortPlan};
 use bridge_limits::NoMemory;
 use net_file::{NetworkFile, StreamRow};
 use net_latency::{QueueBound, hops_of, may_come_in, rows_at};
-use net_model::{Network, StreamHop};
+use net_model::{Network, StreamHop, find_plan};
 use std::alloc::{AllocError, Allocator, Global};
 
 /// Adds the warning that frames of other talkers may come to a hop by a port.
@@ -111,7 +111,7 @@ impl<'a, A: Allocator + Copy> Named<'a, A> {
         ensures { OnOk result (string_bytes text.new ≡ string_bytes text.old
             ++ spec.entering_if self.now.file.now self.now.network.now i true k hop) }
     {
-        match plan_at(self.network.plans(), hop.bridge) {
+        match find_plan(self.network.plans(), hop.bridge) {
             None => Ok(()),
             Some(plan) => self.push_entering_at(text, i, k, hop, plan),
         }

@@ -5,8 +5,8 @@ use crate::hop_faults::put_protected;
 use crate::texts::{NetworkText, text_of};
 use crate::traffic::{comes_to, row_fault};
 use app_failure::planned;
-use bridge_bounds::{filter_at, gate_at};
-use bridge_check::{Accepted, reach_of};
+use bridge_bounds::find_filter;
+use bridge_check::{Accepted, find_gate, reach_of};
 use bridge_config::Plan;
 use bridge_cycle::{Egress, Timeline};
 use bridge_filter::FilterPlan;
@@ -110,7 +110,7 @@ fn said_of_filter(
     index: u32,
     number: u32,
 ) -> Option<String> {
-    let (template, remedy) = match filter_at(plan.filters(), number) {
+    let (template, remedy) = match find_filter(plan.filters(), number) {
         Some(_) => (
             "`filter` of `traffic` {0} is {1}, but the plan {a} doesn't protect this filter, so it has no delay bound.\n",
             "Correct the number, or set `protected = true` in the filter.\n",
@@ -171,7 +171,7 @@ impl<'a> Cycles<'a> {
 
     /// Adds the cycles of a gate.
     fn put_gate(&mut self, said: &mut Text<Global>, plan: &Plan<Global>, number: u32) {
-        let Some(gate) = gate_at(plan.gates(), number) else {
+        let Some(gate) = find_gate(plan.gates(), number) else {
             return;
         };
         match &gate.schedule {
@@ -214,7 +214,7 @@ impl<'a> Cycles<'a> {
 
     /// Adds the cycles on the route of the frames of a filter.
     fn put_route(&mut self, said: &mut Text<Global>, plan: &Plan<Global>, number: u32) {
-        if let Some(filter) = filter_at(plan.filters(), number) {
+        if let Some(filter) = find_filter(plan.filters(), number) {
             self.put_gate(said, plan, filter.gate);
             self.put_ports(said, plan, &filter);
         }

@@ -1,5 +1,5 @@
 //! Where frames can come in that have the handle of a hop, and whether each hop hands all of its frames to the next one.
-ghost use Rattle.std.specs.Prelude.{◌≡◌, ◌≤◌, All, length, option_map, slice_get, true};
+ghost use Rattle.std.specs.Prelude.{◌≡◌, ◌≤◌, All, length, slice_get, true};
 ghost use Rattle.net_model.specs.Refusing.{enters};
 ghost use Rattle.net_periods.specs.Traffic.{IsTraffic};
 ghost use Rattle.net_latency.specs.Courses.{IsQueue};
@@ -11,7 +11,7 @@ use crate::leading::{far_end, hop_at};
 use crate::trees::HopQueue;
 use bridge_check::Accepted;
 use bridge_config::{Plan, PortPlan};
-use net_model::{Link, StreamHop, handle_of, hands_over, has_entry, peer_of};
+use net_model::{Link, StreamHop, find_plan, handle_of, hands_over, has_entry, peer_of};
 use net_periods::Traffic;
 use std::alloc::Allocator;
 
@@ -84,18 +84,6 @@ pub fn may_come_in<A: Allocator + Copy>(
     }
 }
 
-/// The plan of a bridge, where it is there.
-fn plan_at<'a, A: Allocator + Copy>(plans: &'a [Accepted<A>], bridge: u16) -> Option<&'a Plan<A>>
-    ensures { option_map (λ p. p.now) result ≡ slice_get plans.now bridge }
-{
-    let place = bridge as usize;
-    if place < plans.len() {
-        Some(plans[place].plan())
-    } else {
-        None
-    }
-}
-
 /// Whether only frames of the stream get the handle of a hop, whose bridge has this plan.
 fn comes_in_at<A: Allocator + Copy>(
     links: &[Link],
@@ -122,7 +110,7 @@ fn comes_in_once<A: Allocator + Copy>(
 ) -> bool
     ensures { result ≡ spec.comes_in_once links.now is_first hop (slice_get plans.now hop.bridge) }
 {
-    match plan_at(plans, hop.bridge) {
+    match find_plan(plans, hop.bridge) {
         None => true,
         Some(plan) => comes_in_at(links, is_first, hop, plan),
     }

@@ -1,7 +1,7 @@
 //! Why a hop of a stream of a network is refused.
 
 use crate::texts::{NetworkText, put_numbers};
-use bridge_bounds::filter_at;
+use bridge_bounds::find_filter;
 use bridge_check::Accepted;
 use bridge_config::Plan;
 use bridge_filter::FilterPlan;
@@ -79,7 +79,7 @@ fn put_hop(said: &mut Text<Global>, asked: NetworkText<'_>, found: RefusedHop<'_
 
 /// Adds that a plan has no protected filter of the number of a hop, and which protected filters it has.
 fn put_filters(alloc: Global, said: &mut Text<Global>, plan: &Plan<Global>, found: RefusedHop<'_>) {
-    let (template, remedy) = match filter_at(plan.filters(), found.hop.filter) {
+    let (template, remedy) = match find_filter(plan.filters(), found.hop.filter) {
         Some(_) => (
             "but the plan of {a} ({b}) doesn't protect filter {0}.\n",
             "Correct the hop, or set `protected = true` in this filter.\n",
@@ -155,7 +155,7 @@ fn put_twice(
 
 /// Adds that no open port of a bridge has an entry for the filter of a talker's hop.
 fn put_no_entry(said: &mut Text<Global>, accepted: &Accepted<Global>, found: RefusedHop<'_>) {
-    let handle = match filter_at(accepted.plan().filters(), found.hop.filter) {
+    let handle = match find_filter(accepted.plan().filters(), found.hop.filter) {
         Some(filter) => filter.handle,
         None => None,
     };

@@ -1,11 +1,10 @@
 //! Where the ports of a network lead.
 ghost use Rattle.std.specs.Prelude.{◌≡◌, map, option_map};
-ghost use Rattle.net_model.specs.Networks as networks;
 ghost use Rattle.net_model.specs.Networks.{sender};
-ghost use Rattle.net_model.specs.Wiring.{end_of, link_of};
+ghost use Rattle.net_model.specs.Wiring.{link_of};
 ghost use Rattle.net_latency.specs.Leading.{far_of, hop_at, leads_to};
 
-use net_model::{End, Link, StreamHop};
+use net_model::{End, Link, StreamHop, is_bridge_port};
 
 /// The other end of a port's link.
 #[derive(Clone, Copy)]
@@ -24,25 +23,18 @@ pub(crate) struct Onward {
     pub delay: u64,
 }
 
-/// Whether an end is a port of a bridge.
-fn is_end(end: End, bridge: u16, port: u8) -> bool
-    ensures { result ≡ networks.is_at (end_of end) bridge port }
-{
-    end.bridge == bridge && end.port == port
-}
-
 /// The other end of the first link that a port of a bridge has, if it has one.
 pub(crate) fn far_end(links: &[Link], bridge: u16, port: u8) -> Option<Far>
     ensures { option_map far_of result ≡ sender (map link_of links.now) bridge port }
 {
     for link in links {
-        if is_end(link.one, bridge, port) {
+        if is_bridge_port(link.one, bridge, port) {
             return Some(Far {
                 end: link.other,
                 delay: link.delay,
             });
         }
-        if is_end(link.other, bridge, port) {
+        if is_bridge_port(link.other, bridge, port) {
             return Some(Far {
                 end: link.one,
                 delay: link.delay,

@@ -7,7 +7,7 @@ ghost use Rattle.net_file.specs.TrafficRows.{IsRow};
 use crate::reporting::rows_from;
 use crate::timings::{QueueTiming, TrafficFigures, timings_of};
 use app_failure::planned;
-use bridge_bounds::filter_at;
+use bridge_bounds::find_filter;
 use bridge_check::Accepted;
 use bridge_config::Plan;
 use bridge_filter::FilterPlan;
@@ -81,7 +81,7 @@ fn put_row(
 fn put_queue(said: &mut Text<Global>, plan: &Plan<Global>, row: &TrafficRow, queue: &QueueTiming)
     requires row { IsRow row.now }
 {
-    let Some(filter) = filter_at(plan.filters(), row.filter) else {
+    let Some(filter) = find_filter(plan.filters(), row.filter) else {
         return;
     };
     said.fill(

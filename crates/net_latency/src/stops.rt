@@ -7,7 +7,7 @@ ghost use Rattle.net_latency.specs.Courses.{HasRoom, HopPasses, IsQueue, IsStop,
 use crate::courses::Course;
 use crate::leading::{Onward, leads_to};
 use crate::trees::HopQueue;
-use bridge_bounds::filter_at;
+use bridge_bounds::find_filter;
 use bridge_check::Accepted;
 use net_model::{Link, StreamHop};
 use net_periods::{Phases, Timing, Traffic, passes, timing_of};
@@ -71,7 +71,7 @@ pub(crate) fn hop_passes<A: Allocator + Copy>(
         return false;
     };
     let plan = accepted.plan();
-    match filter_at(plan.filters(), hop.filter) {
+    match find_filter(plan.filters(), hop.filter) {
         None => false,
         Some(filter) => passes(plan, &filter, traffic),
     }

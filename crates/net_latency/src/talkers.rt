@@ -19,7 +19,7 @@ use crate::hops::hops_of;
 use crate::streams::rows_at;
 use crate::traffic::suits;
 use crate::trees::HopQueue;
-use bridge_bounds::filter_at;
+use bridge_bounds::find_filter;
 use bridge_check::Accepted;
 use bridge_config::Plan;
 use bridge_limits::NoMemory;
@@ -32,7 +32,7 @@ use std::alloc::Allocator;
 fn suits_filter<A: Allocator + Copy>(plan: &Plan<A>, filter: u32, period: u64) -> bool
     ensures { result ≡ spec.suits_filter plan.now period (lookup (nat_eq filter) plan.now.filters) }
 {
-    match filter_at(plan.filters(), filter) {
+    match find_filter(plan.filters(), filter) {
         None => true,
         Some(filter) => suits(plan, &filter, period),
     }

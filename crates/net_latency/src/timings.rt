@@ -10,7 +10,7 @@ ghost use Rattle.net_latency.specs.Traffic.{AreRowTimings, AreTimings, RowPasses
 ghost use Rattle.net_latency.specs.TrafficText as printing;
 
 use crate::bounds::{QueueBound, bounds_of};
-use bridge_bounds::filter_at;
+use bridge_bounds::find_filter;
 use bridge_check::Accepted;
 use bridge_limits::NoMemory;
 use bridge_text::Text;
@@ -57,7 +57,7 @@ fn row_passes<A: Allocator + Copy>(accepted: &Accepted<A>, row: &TrafficRow) -> 
     ensures { (result ≡ true) ↔ RowPasses accepted.now row.now }
 {
     let plan = accepted.plan();
-    match filter_at(plan.filters(), row.filter) {
+    match find_filter(plan.filters(), row.filter) {
         None => false,
         Some(filter) => passes(plan, &filter, &row.traffic),
     }

@@ -6,8 +6,8 @@ ghost use Rattle.bridge_check.specs.Reached.{reach_of};
 ghost use Rattle.net_latency.specs.Traffic as spec;
 
 use crate::bounds::is_reached;
-use bridge_bounds::{filter_at, gate_at};
-use bridge_check::{Reach, reach_of};
+use bridge_bounds::find_filter;
+use bridge_check::{Reach, find_gate, reach_of};
 use bridge_config::{Plan, PortPlan};
 use bridge_cycle::{Egress, Timeline};
 use bridge_filter::FilterPlan;
@@ -47,7 +47,7 @@ fn suits_lists<A: Allocator + Copy>(period: u64, lists: &Option<Egress<A>>) -> b
 fn suits_gate<A: Allocator + Copy>(plan: &Plan<A>, gate: u32, period: u64) -> bool
     ensures { result ≡ spec.suits_gate period (lookup (nat_eq gate) plan.now.gates) }
 {
-    match gate_at(plan.gates(), gate) {
+    match find_gate(plan.gates(), gate) {
         None => true,
         Some(gate) => suits_schedule(period, &gate.schedule),
     }
@@ -145,7 +145,7 @@ pub(crate) fn row_fault<A: Allocator + Copy>(
 ) -> Option<TrafficFault>
     ensures { result ≡ spec.row_fault plan.now index row.now }
 {
-    let Some(filter) = filter_at(plan.filters(), row.filter) else {
+    let Some(filter) = find_filter(plan.filters(), row.filter) else {
         return Some(TrafficFault::Text(NetFault::Unresolved(NetPlace {
             section: NetSection::Traffic,
             index,

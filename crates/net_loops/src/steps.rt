@@ -1,6 +1,5 @@
 //! The steps that frames of a group take in a network.
 ghost use Rattle.std.specs.Prelude.{◌≡◌, ◌≤◌, ◌++◌, IfOk, OnOk, length};
-ghost use Rattle.bridge_forward.specs.Database.{members_at};
 ghost use Rattle.bridge_forward.specs.Forward.{goes_to};
 ghost use Rattle.bridge_forward.specs.Ports as ports;
 ghost use Rattle.bridge_config.specs.Rules.{port_at};
@@ -11,7 +10,7 @@ use crate::groups::Group;
 use crate::places::{Place, Step};
 use bridge_check::Accepted;
 use bridge_config::{Plan, PortPlan};
-use bridge_forward::{PortSet, Vlan};
+use bridge_forward::{PortSet, find_members};
 use bridge_limits::NoMemory;
 use net_model::{Link, peer_of};
 use std::alloc::Allocator;
@@ -24,18 +23,6 @@ fn vlan_on<A: Allocator + Copy>(group: &Group, on: &PortPlan<A>) -> u16
         Some(vid) => vid,
         None => on.vid,
     }
-}
-
-/// The members of a VLAN, where it is there.
-fn members_in(vlans: &[Vlan], vid: u16) -> Option<PortSet>
-    ensures { result ≡ members_at vlans.now vid }
-{
-    for vlan in vlans {
-        if vlan.vid == vid {
-            return Some(vlan.members);
-        }
-    }
-    None
 }
 
 /// A set with a port, 1 to 16, taken away.
@@ -73,7 +60,7 @@ fn outs_of<A: Allocator + Copy>(
     let vid = vlan_on(group, on);
     match group.destination {
         Some(address) => plan.forward(port, vid, &address),
-        None => flooded(members_in(plan.vlans(), vid), port),
+        None => flooded(find_members(plan.vlans(), vid), port),
     }
 }
 

@@ -11,7 +11,7 @@ ghost use Rattle.net_model.specs.Handed.{IsHanding, hands_entry, hands_tag};
 ghost use Rattle.net_model.specs.Wiring.{end_of};
 
 use crate::links::{End, StreamHop};
-use crate::rules::plan_at;
+use crate::rules::find_plan;
 use crate::sending::{flow_for, gives_to, is_kind, may_go, may_match, priority_of, vid_of};
 use bridge_check::Accepted;
 use bridge_config::{Plan, PortPlan};
@@ -222,7 +222,7 @@ pub fn hands_over<A: Allocator + Copy>(
     requires to { port ≤ 16 }
     ensures { result ≡ spec.hands_over plans.now hop.bridge hop.filter port (end_of end) taker }
 {
-    match (plan_at(plans, hop.bridge), plan_at(plans, end.bridge)) {
+    match (find_plan(plans, hop.bridge), find_plan(plans, end.bridge)) {
         (Some(plan), Some(next)) => hands_to(plan, hop.filter, port, next, end.port, taker),
         _ => false,
     }

@@ -29,8 +29,8 @@ pub struct StreamHop {
     pub filter: u32,
 }
 
-/// Whether an end is a port of a bridge.
-fn is_at(end: End, bridge: u16, port: u8) -> bool
+/// Whether an end is this port of this bridge.
+pub fn is_bridge_port(end: End, bridge: u16, port: u8) -> bool
     ensures { result ≡ networks.is_at (end_of end) bridge port }
 {
     end.bridge == bridge && end.port == port
@@ -41,10 +41,10 @@ pub fn peer_of(links: &[Link], bridge: u16, port: u8) -> Option<End>
     ensures { option_map end_of result ≡ peer links.now bridge port }
 {
     for link in links {
-        if is_at(link.one, bridge, port) {
+        if is_bridge_port(link.one, bridge, port) {
             return Some(link.other);
         }
-        if is_at(link.other, bridge, port) {
+        if is_bridge_port(link.other, bridge, port) {
             return Some(link.one);
         }
     }

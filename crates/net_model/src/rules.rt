@@ -50,8 +50,8 @@ pub(crate) struct Case<'a, A: Allocator + Copy> {
     pub streams: &'a [Vec<StreamHop, A>],
 }
 
-/// The plan of a bridge, where it is there.
-pub(crate) fn plan_at<'a, A: Allocator + Copy>(
+/// Returns the plan of the bridge at a place, counted from 0; `None` if the network has no such bridge.
+pub fn find_plan<'a, A: Allocator + Copy>(
     plans: &'a [Accepted<A>],
     place: u16,
 ) -> Option<&'a Plan<A>>
@@ -70,7 +70,7 @@ pub(crate) fn plan_at<'a, A: Allocator + Copy>(
 fn end_port<'a, A: Allocator + Copy>(plans: &'a [Accepted<A>], end: End) -> Option<&'a PortPlan<A>>
     ensures { option_map (λ p. p.now) result ≡ spec.end_port plans.now end }
 {
-    match plan_at(plans, end.bridge) {
+    match find_plan(plans, end.bridge) {
         Some(plan) => plan.port(end.port),
         None => None,
     }
@@ -83,13 +83,6 @@ fn is_linked(links: &[Link], end: End) -> bool
     peer_of(links, end.bridge, end.port).is_some()
 }
 
-/// Whether two ends are one port.
-fn is_one_end(a: End, b: End) -> bool
-    ensures { result ≡ spec.is_one_end a b }
-{
-    a.bridge == b.bridge && a.port == b.port
-}
-
 /// The first end of a link whose port has an earlier link, or is that of its other end.
 fn end_twice(before: &[Link], link: &Link) -> Option<End>
     ensures { result ≡ spec.end_twice before.now link.now }
@@ -97,7 +90,7 @@ fn end_twice(before: &[Link], link: &Link) -> Option<End>
     if is_linked(before, link.one) {
         return Some(link.one);
     }
-    if is_linked(before, link.other) || is_one_end(link.one, link.other) {
+    if is_linked(before, link.other) || link.one == link.other {
         return Some(link.other);
     }
     None
@@ -140,7 +133,7 @@ fn is_protected<A: Allocator + Copy>(plan: &Plan<A>, number: u32) -> bool
 fn has_protected<A: Allocator + Copy>(plans: &[Accepted<A>], hop: &StreamHop) -> bool
     ensures { result ≡ spec.has_protected (slice_get plans.now hop.now.bridge) hop.now.filter }
 {
-    match plan_at(plans, hop.bridge) {
+    match find_plan(plans, hop.bridge) {
         Some(plan) => is_protected(plan, hop.filter),
         None => false,
     }
@@ -235,7 +228,7 @@ impl<'a, A: Allocator + Copy> HopCase<'a, A> {
         requires { IsHopCase self.now }
         ensures { result ≡ taken_end self.now question on.now (end_of end) }
     {
-        match plan_at(self.case.plans, end.bridge) {
+        match find_plan(self.case.plans, end.bridge) {
             Some(plan) => self.first_from(question, on, end, plan),
             None => None,
         }
@@ -477,7 +470,7 @@ impl<'a, A: Allocator + Copy> Case<'a, A> {
         ensures { result ≡ spec.told_by (parts_of self.now) test i stream.now k hop
             (slice_get self.now.plans.now hop.bridge) }
     {
-        match plan_at(self.plans, hop.bridge) {
+        match find_plan(self.plans, hop.bridge) {
             Some(next) => self.tell_at(test, i, stream, k, hop, next),
             None => None,
         }

@@ -10,7 +10,7 @@ ghost use Rattle.net_model.specs.Straying.{IsSample, IsStray, IsStrayAt, IsStray
 ghost use Rattle.net_model.specs.Straying.{has_stray_at, has_stray_in, has_stray_on};
 
 use crate::links::{End, Link, StreamHop, peer_of};
-use crate::rules::{handle_of, plan_at};
+use crate::rules::{find_plan, handle_of};
 use crate::sending::{Question, Sending};
 use crate::taking::Taking;
 use bridge_check::Accepted;
@@ -150,7 +150,7 @@ fn stray_over<A: Allocator + Copy>(
     ensures found { is_some result ≡ is_some (taken_over Strays (slice_get plans.now end.bridge) (stream_of stream.now)
         (end_of end) next.now on.now hop.filter) }
 {
-    match plan_at(plans, end.bridge) {
+    match find_plan(plans, end.bridge) {
         Some(plan) => stray_from(stream, hop, next, on, handle, end, plan),
         None => None,
     }
@@ -226,7 +226,7 @@ pub fn stray_at<A: Allocator + Copy>(
     ensures stray { IfSome result (IsStray plans.now links.now stream.now hop port) }
     ensures found { is_some result ≡ has_stray_at plans.now links.now stream.now hop port }
 {
-    match plan_at(plans, hop.bridge) {
+    match find_plan(plans, hop.bridge) {
         Some(next) => stray_by(plans, links, stream, hop, next, port),
         None => None,
     }

@@ -1,7 +1,6 @@
 //! What a bridge may send over a link, of the frames of a sort.
 ghost use Rattle.std.specs.Prelude.{◌≡◌, ◌≤◌, ◌||◌, Some, false};
 ghost use Rattle.bridge_ident.specs.Identification as ident;
-ghost use Rattle.bridge_filter.specs.Verdicts as verdicts;
 ghost use Rattle.bridge_filter.specs.Verdicts.{call, flow};
 ghost use Rattle.bridge_config.specs.Rules.{port_at};
 ghost use Rattle.bridge_check.specs.Faults.{first_of};
@@ -16,9 +15,9 @@ ghost use Rattle.net_model.specs.Walking.{IsSending, found_at, found_on, hops, l
 use crate::links::{End, StreamHop, is_listed};
 use bridge_check::{Reach, may_wait_at, reach_of};
 use bridge_config::{Plan, PortPlan};
-use bridge_filter::FilterPlan;
+use bridge_filter::{FilterPlan, takes_handle, takes_priority};
 use bridge_frame::Tag;
-use bridge_ident::{Kind, StreamEntry, TagKind};
+use bridge_ident::{Kind, StreamEntry, TagKind, names_vlan};
 use std::alloc::Allocator;
 
 /// Which of the frames that a hop may take are asked for.
@@ -47,16 +46,6 @@ pub(crate) struct Sending<'a, A: Allocator + Copy> {
     /// The stream, of which the frames may be.
     pub stream: &'a [StreamHop],
     pub question: Question,
-}
-
-/// Whether there is a tag with a VLAN identifier other than 0.
-fn names_vlan(tag: Option<Tag>) -> bool
-    ensures { result ≡ ident.names_vlan tag }
-{
-    match tag {
-        Some(tag) => tag.vid != 0,
-        None => false,
-    }
 }
 
 /// Whether an entry of that tag kind takes a frame with this tag or none.
@@ -115,27 +104,6 @@ pub(crate) fn may_match(
         return false;
     }
     !is_kind(entry.kind, named.kind) || entry.address == named.address
-}
-
-/// Whether a filter takes frames with a handle or none.
-fn takes_handle(asked: Option<u32>, handle: Option<u32>) -> bool
-    ensures { result ≡ verdicts.takes_handle asked handle }
-{
-    match (asked, handle) {
-        (None, _) => true,
-        (Some(_), None) => false,
-        (Some(asked), Some(handle)) => asked == handle,
-    }
-}
-
-/// Whether a filter takes frames with a priority.
-fn takes_priority(asked: Option<u8>, priority: u8) -> bool
-    ensures { result ≡ verdicts.takes_priority asked priority }
-{
-    match asked {
-        None => true,
-        Some(asked) => asked == priority,
-    }
 }
 
 /// The one of two filters that has the lesser number, where the first may be none; of equal numbers the first.

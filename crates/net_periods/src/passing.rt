@@ -8,7 +8,7 @@ ghost use Rattle.net_periods.specs.Passing.{AreLet, LetsEach, LetsInTurn, Passes
 ghost use Rattle.net_periods.specs.Traffic.{IsTraffic};
 
 use crate::traffic::Traffic;
-use bridge_bounds::gate_at;
+use bridge_check::find_gate;
 use bridge_config::Plan;
 use bridge_cycle::{CyclicList, Timeline};
 use bridge_filter::FilterPlan;
@@ -152,7 +152,7 @@ pub fn passes<A: Allocator + Copy>(plan: &Plan<A>, filter: &FilterPlan, traffic:
     if is_above(filter.max_sdu, octets) || filter.meter.is_some() {
         return false;
     }
-    match gate_at(plan.gates(), filter.gate) {
+    match find_gate(plan.gates(), filter.gate) {
         None => false,
         Some(gate) => lets_each(&gate.schedule, traffic, octets),
     }

@@ -13,7 +13,7 @@ ghost use Rattle.net_periods.specs.Traffic.{IsTraffic};
 
 use crate::traffic::Traffic;
 use crate::wait::waits_of;
-use bridge_bounds::{bound_of, filter_at};
+use bridge_bounds::{bound_of, find_filter};
 use bridge_check::Accepted;
 use bridge_config::{Plan, PortPlan};
 use bridge_cycle::Egress;
@@ -130,7 +130,7 @@ fn timing_in<A: Allocator + Copy>(
     requires traffic { IsTraffic traffic.now }
     ensures { (x : Timing) × (result ≡ Some x) × IsTiming plan.now number port class traffic.now x }
 {
-    let sdu = filter_at(plan.filters(), number)?.max_sdu?;
+    let sdu = find_filter(plan.filters(), number)?.max_sdu?;
     let out = plan.port(port)?;
     Some(timing_at(out, class, sdu, bound, traffic))
 }

@@ -1,14 +1,7 @@
 -- The least, the mean and the greatest of some delays.
-use Rattle.std.specs.Prelude.{ℕ, ◌-◌, ◌/◌, ◌^◌, max, min, Option, Some, None, List, [], ◌∷◌, fold, length, sum}
+use Rattle.std.specs.Prelude.{ℕ, ◌-◌, ◌/◌, Option, Some, None, List, [], ◌∷◌, length, sum}
+use Rattle.bridge_report.specs.Figures.{greatest_of, least_of}
 use Rattle.net_report.specs.declared.figures.Figures.{Figures}
-
--- the least of some times
-abbrev pub least_of : List ℕ → ℕ
-least_of delays = fold min (2 ^ 64 - 1) delays
-
--- the greatest of them
-abbrev pub greatest_of : List ℕ → ℕ
-greatest_of delays = fold max 0 delays
 
 -- the figures of some delays; none of none
 abbrev pub figures_of : List ℕ → Option Figures

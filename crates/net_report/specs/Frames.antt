@@ -1,9 +1,10 @@
 -- The lines of the table of frames, each with its line feed.
-use Rattle.std.specs.Prelude.{◌≡◌, ℕ, ◌+◌, ◌-◌, Bool, true, false, nat_eq, Option, Some, None, List, [], ◌∷◌, ◌++◌, flat_map, slice_get, codes, decimal, if◌then◌else◌}
+use Rattle.std.specs.Prelude.{◌≡◌, ℕ, ◌+◌, ◌-◌, Bool, true, false, Option, Some, None, List, [], ◌∷◌, ◌++◌, flat_map, codes, decimal, if◌then◌else◌}
 use Rattle.bridge_filter.specs.declared.Verdict.{Verdict}
 use Rattle.bridge_semantics.specs.declared.outcome.Departure.{Departure}
 use Rattle.bridge_semantics.specs.declared.outcome.Dropped.{Dropped}
 use Rattle.bridge_semantics.specs.declared.outcome.Origin.{Origin}
+use Rattle.bridge_report.specs.Figures.{at_of}
 use Rattle.bridge_report.specs.Words.{verdict_word, refusal_word}
 use Rattle.bridge_semantics.specs.declared.outcome.View.{View}
 use Rattle.net_model.specs.declared.links.Link.{Link}
@@ -12,15 +13,6 @@ use Rattle.net_report.specs.declared.tracing.Root.{Root}
 use Rattle.net_report.specs.Hops.{AreWays, is_on}
 use Rattle.net_report.specs.Tallies.{passes}
 use Rattle.net_report.specs.Tracing.{root_at}
-
--- the moment at which a frame of a hop came, by its number there, from 1; 0 of one that isn't there
-abbrev pub at_if : Option Origin → ℕ
-at_if None = 0
-at_if (Some o) = o.at
-
--- when a frame of a hop came, by its number there, from 1
-abbrev pub at_of : List Origin → ℕ → ℕ
-at_of origins own = if nat_eq own 0 then 0 else at_if (slice_get origins (own - 1))
 
 -- the number of the frame at the first hop and the moment at which it came there, where they are known
 abbrev pub root_words : Option Root → List ℕ

@@ -4,7 +4,7 @@ use Rattle.bridge_report.specs.declared.losses.Losses.{Losses}
 use Rattle.bridge_report.specs.Losses.{loss_words, reason_words}
 use Rattle.net_report.specs.declared.losing.HopLosses.{HopLosses}
 use Rattle.net_report.specs.declared.tallies.HopCounts.{HopCounts}
-use Rattle.net_report.specs.Figures.{greatest_of}
+use Rattle.bridge_report.specs.Figures.{greatest_of}
 use Rattle.net_report.specs.Streams.{delivered_of}
 use Rattle.net_report.specs.declared.tally.Tally.{Tally}
 use Rattle.net_report.specs.Delivered.{astray}

@@ -10,7 +10,7 @@ use crate::tallies::passes;
 use crate::tracing::{Root, root_at};
 use bridge_filter::Verdict;
 use bridge_limits::NoMemory;
-use bridge_report::{refusal_word, verdict_word};
+use bridge_report::{arrival_time, refusal_word, verdict_word};
 use bridge_semantics::{Departure, Dropped, Origin, View};
 use bridge_text::Text;
 use net_model::Link;
@@ -20,19 +20,6 @@ use std::alloc::Allocator;
 /// the moment at which it came to this hop, what became of it or of a copy of it here, the port of the copy, when that
 /// started and was done, and how long it took from the first hop on. Moments in ns.
 pub const FRAMES_HEADER: &str = "stream,hop,frame,came,at,fate,port,start,done,delay\n";
-
-/// The moment at which a frame of a hop came, by its number there.
-fn at_of(origins: &[Origin], own: u64) -> u64
-    ensures { result ≡ spec.at_of origins.now own }
-{
-    if own == 0 {
-        return 0;
-    }
-    match origins.get((own - 1) as usize) {
-        Some(origin) => origin.at,
-        None => 0,
-    }
-}
 
 /// Puts the number of a frame at the first hop and the moment at which it came there, where they are known.
 fn put_root<A: Allocator>(text: &mut Text<A>, root: Option<Root>)
@@ -165,7 +152,7 @@ fn put_verdicts<A: Allocator>(
             stream,
             hop,
             root_at(roots, own),
-            at_of(origins, own),
+            arrival_time(origins, own),
             *first,
         );
         own += 1;
@@ -190,7 +177,7 @@ fn put_drops<A: Allocator>(
             stream,
             hop,
             root_at(roots, dropped.own),
-            at_of(origins, dropped.own),
+            arrival_time(origins, dropped.own),
             dropped,
         );
     }
@@ -215,7 +202,7 @@ fn put_departures<A: Allocator>(
             stream,
             hop,
             root_at(roots, departure.own),
-            at_of(origins, departure.own),
+            arrival_time(origins, departure.own),
             departure,
             is_on(ways, departure.port),
         );

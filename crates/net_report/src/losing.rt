@@ -3,11 +3,10 @@ ghost use Rattle.std.specs.Prelude.{◌≡◌, count_by, flat_map};
 ghost use Rattle.net_report.specs.Losing as spec;
 ghost use Rattle.bridge_text.specs.Growth.{HasGrown};
 
-use crate::figures::greatest_of;
 use crate::lines::{astray_of, delivered_of};
 use crate::tallies::HopCounts;
 use crate::tally::Tally;
-use bridge_report::{Losses, put_losses, put_reason};
+use bridge_report::{Losses, greatest_delay, put_losses, put_reason};
 use bridge_text::Text;
 use std::alloc::Allocator;
 
@@ -131,7 +130,7 @@ fn put_late<A: Allocator>(text: &mut Text<A>, stream: &str, delays: &[u64], dead
     text.put(" of ");
     text.put_number(delays.len() as u64);
     text.put(" delivered copies, worst delay ");
-    text.put_number(greatest_of(delays));
+    text.put_number(greatest_delay(delays));
     text.put(" ns, deadline ");
     text.put_number(deadline);
     text.put(" ns\n");

@@ -66,16 +66,6 @@ fn bridge_names<'a>(alloc: Global, said: &mut Said, document: Document<'a>) -> V
     names
 }
 
-/// Whether a name is one of some names.
-fn is_named(names: &[&str], name: &str) -> bool {
-    for other in names {
-        if *other == name {
-            return true;
-        }
-    }
-    false
-}
-
 /// The bridge that a text names: what stands before its first dot.
 fn bridge_in(text: &str) -> &str {
     match text.split_once('.') {
@@ -103,7 +93,7 @@ pub(crate) fn put_unknown_bridge(
         number = number.saturating_add(1);
         if let Value::String(text) = item {
             let text = text.as_str();
-            if !is_named(&names, bridge_in(text)) {
+            if !names.contains(&bridge_in(text)) {
                 fill_one(said, "Item {0} of `{a}` is ", number, key);
                 return put_unknown(alloc, said, text, &names);
             }

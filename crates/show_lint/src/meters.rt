@@ -2,9 +2,10 @@
 use crate::advice::{Advice, Burst, Rate, Stage};
 use crate::finding::add;
 use crate::turns::{
-    Feed, count_in, feed_of, gate_at, gate_list, is_changed, longest_of, openings_of, stages_of,
+    Feed, count_in, feed_of, gate_list, is_changed, longest_of, openings_of, stages_of,
 };
 use crate::useless::SHORTEST;
+use bridge_check::find_gate;
 use bridge_config::Plan;
 use bridge_cycle::{CyclicList, Timeline};
 use bridge_filter::FilterPlan;
@@ -97,7 +98,7 @@ fn find_rates<A: Allocator + Copy>(
     let (Some(handle), Some(sdu)) = (filter.handle, filter.max_sdu) else {
         return Ok(());
     };
-    let Some(gate) = gate_at(plan.gates(), filter.gate) else {
+    let Some(gate) = find_gate(plan.gates(), filter.gate) else {
         return Ok(());
     };
     let feed = feed_of(plan, handle, sdu);

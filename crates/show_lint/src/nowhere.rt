@@ -1,13 +1,13 @@
 //! Streams of protected filters whose frames leave nowhere, not by each port of their static entries, or by all ports of their VLAN.
 ghost use Rattle.std.specs.Prelude.{◌≡◌, ◌≤◌, ◌↔◌, IsTrue};
-ghost use Rattle.bridge_forward.specs.Database.{members_at, entry_at};
+ghost use Rattle.bridge_forward.specs.Database.{entry_at};
 ghost use Rattle.show_lint.specs.Streams.{LeadsNowhere};
 
 use crate::advice::{Advice, Flooded, Nowhere, Outside, Stuck};
 use crate::finding::add;
 use bridge_config::{Plan, PortSet};
 use bridge_filter::FilterPlan;
-use bridge_forward::{StaticEntry, Vlan};
+use bridge_forward::{StaticEntry, find_members};
 use bridge_ident::{Kind, StreamEntry};
 use std::alloc::{AllocError, Allocator};
 
@@ -22,18 +22,6 @@ pub fn leads_nowhere<A: Allocator + Copy>(plan: &Plan<A>, stream: &StreamEntry) 
 {
     plan.forward(stream.port, stream.vid, &stream.address)
         .is_empty()
-}
-
-/// The members of a VLAN, where it is there.
-fn members_of(vlans: &[Vlan], vid: u16) -> Option<PortSet>
-    ensures { result ≡ members_at vlans.now vid }
-{
-    for vlan in vlans {
-        if vlan.vid == vid {
-            return Some(vlan.members);
-        }
-    }
-    None
 }
 
 /// The ports of the static entry of a VLAN and an address, where there is one.
@@ -99,7 +87,7 @@ fn why<A: Allocator + Copy>(plan: &Plan<A>, stream: &StreamEntry) -> Nowhere
     if is_reserved(stream.address) {
         return Nowhere::Reserved;
     }
-    match by_vlan(members_of(plan.vlans(), stream.vid), stream.port) {
+    match by_vlan(find_members(plan.vlans(), stream.vid), stream.port) {
         Some(reason) => reason,
         None => {
             let entry = ports_of(plan.statics(), stream.vid, stream.address);
@@ -114,7 +102,7 @@ fn reason_of<A: Allocator + Copy>(plan: &Plan<A>, stream: &StreamEntry) -> Optio
     requires to { stream.now.port ≤ 16 }
 {
     match stream.kind {
-        Kind::Source => by_vlan(members_of(plan.vlans(), stream.vid), stream.port),
+        Kind::Source => by_vlan(find_members(plan.vlans(), stream.vid), stream.port),
         Kind::Null => {
             if leads_nowhere(plan, stream) {
                 Some(why(plan, stream))
@@ -135,7 +123,7 @@ fn find_outside<A: Allocator + Copy>(
 ) -> Result<(), AllocError> {
     let vid = stream.vid;
     let entry = ports_of(plan.statics(), vid, stream.address);
-    let (Some(ports), Some(members)) = (entry, members_of(plan.vlans(), vid)) else {
+    let (Some(ports), Some(members)) = (entry, find_members(plan.vlans(), vid)) else {
         return Ok(());
     };
     for port in 1..17u8 {

@@ -6,10 +6,9 @@ use crate::finding::add;
 use crate::hypercycle::hypercycle_of;
 use crate::lost::{Queue, find_flood, find_pause, find_rooms};
 use crate::turns::{
-    Feed, Opening, feed_of, gate_at, gate_list, is_changed, is_changed_at, openings_of, port_list,
-    stages_of,
+    Feed, Opening, feed_of, gate_list, is_changed, is_changed_at, openings_of, port_list, stages_of,
 };
-use bridge_check::{may_wait, reach_of};
+use bridge_check::{find_gate, may_wait, reach_of};
 use bridge_config::{Plan, PortPlan};
 use bridge_cycle::Timeline;
 use bridge_filter::FilterPlan;
@@ -38,7 +37,7 @@ pub(crate) fn find_queues<A: Allocator + Copy>(
     let (Some(handle), Some(sdu)) = (filter.handle, filter.max_sdu) else {
         return Ok(());
     };
-    let Some(gate) = gate_at(plan.gates(), filter.gate) else {
+    let Some(gate) = find_gate(plan.gates(), filter.gate) else {
         return Ok(());
     };
     let case = Case {

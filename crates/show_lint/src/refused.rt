@@ -6,6 +6,7 @@ ghost use Rattle.bridge_text.specs.Named.{BeginsWith};
 use crate::saying::Said;
 use crate::ways::{put_other_way, put_way};
 use crate::windows::{longest_at, put_open, run_of};
+use bridge_bounds::find_filter;
 use bridge_check::{CheckFault, faults_of};
 use bridge_config::{Plan, PortPlan};
 use bridge_cycle::{Egress, Run, is_open};
@@ -114,7 +115,7 @@ fn put_finding<A: Allocator + Copy>(
 ) {
     let number = fault.filter().unwrap_or(0);
     put_position(said, position_of(text, plan.filters(), number));
-    if let Some(filter) = filter_at(plan.filters(), number) {
+    if let Some(filter) = find_filter(plan.filters(), number) {
         put_check(said, text, plan, number, &filter, fault);
     }
 }
@@ -169,16 +170,6 @@ fn put_check<A: Allocator + Copy>(
     }
 }
 
-/// The plan of a filter by its number.
-fn filter_at(filters: &[(u32, FilterPlan)], number: u32) -> Option<FilterPlan> {
-    for filter in filters {
-        if filter.0 == number {
-            return Some(filter.1);
-        }
-    }
-    None
-}
-
 /// The number of the first other filter that has a gate.
 fn other_with_gate(filters: &[(u32, FilterPlan)], number: u32, gate: u32) -> Option<u32>
     ensures { result ≡ spec.other_with (λ f. nat_eq f.gate gate) number filters.now }
@@ -224,7 +215,7 @@ fn last_of(filters: &[(u32, FilterPlan)]) -> u32 {
 
 /// Whether the filter of a number is protected, as a word.
 fn guard_of(filters: &[(u32, FilterPlan)], number: u32) -> &'static str {
-    match filter_at(filters, number) {
+    match find_filter(filters, number) {
         Some(filter) if filter.protected => "protected",
         _ => "unprotected",
     }
@@ -275,7 +266,7 @@ fn put_queue<A: Allocator + Copy>(
     let guard = guard_of(plan.filters(), other);
     said.fill(QUEUE_SHARED, &numbers, &[guard]);
     put_way(said, plan, number, filter, port);
-    if let Some(found) = filter_at(plan.filters(), other) {
+    if let Some(found) = find_filter(plan.filters(), other) {
         put_way(said, plan, other, &found, port);
     }
     said.put(PART_THEM);

@@ -1,29 +1,12 @@
 //! The lists that hold before and after a change of schedules, and what a gate lets through in each of its turns.
-ghost use Rattle.std.specs.Prelude.{◌≡◌, option_map, nat_eq};
-ghost use Rattle.std.specs.Map.{lookup};
 
 use crate::advice::Stage;
 use bridge_config::{Plan, PortPlan};
 use bridge_cycle::{CyclicList, Egress, Timeline};
 use bridge_frame::occupation;
-use bridge_gate::{GateEntry, GatePlan, Schedule};
+use bridge_gate::{GateEntry, Schedule};
 use bridge_limits::LONGEST_FRAME;
 use std::alloc::{AllocError, Allocator, Global};
-
-/// The gate of a number.
-pub(crate) fn gate_at<A: Allocator + Copy>(
-    gates: &[(u32, GatePlan<A>)],
-    number: u32,
-) -> Option<&GatePlan<A>>
-    ensures { option_map (λ g. g.now) result ≡ lookup (nat_eq number) gates.now }
-{
-    for gate in gates {
-        if gate.0 == number {
-            return Some(&gate.1);
-        }
-    }
-    None
-}
 
 /// The list of a gate at a stage, where it has lists.
 pub(crate) fn gate_list<A: Allocator + Copy>(

@@ -3,12 +3,10 @@ ghost use Rattle.std.specs.Prelude.{◌<◌};
 
 use crate::picture::Picture;
 use crate::time::Part;
-use bridge_bounds::gate_at;
-use bridge_check::may_wait;
+use bridge_check::{find_gate, may_wait};
 use bridge_config::{Plan, PortPlan};
 use bridge_cycle::{END_OF_TURNS, Egress, Timeline, is_open};
 use bridge_filter::FilterPlan;
-use bridge_frame::Speed;
 use bridge_gate::Schedule;
 use bridge_ident::StreamEntry;
 use show_svg::{ACROSS, LEFT, either};
@@ -42,17 +40,6 @@ pub(crate) struct Window {
     from: u64,
     to: u64,
     open: Option<(bool, Option<u8>)>,
-}
-
-/// The speed of a link in Mb/s.
-fn megabits(speed: Speed) -> u64 {
-    match speed {
-        Speed::Mbps10 => 10,
-        Speed::Mbps100 => 100,
-        Speed::Mbps1000 => 1_000,
-        Speed::Mbps2500 => 2_500,
-        Speed::Mbps10000 => 10_000,
-    }
 }
 
 /// How many digits a number has.
@@ -272,7 +259,7 @@ impl Picture {
 
     /// Draws the head and the lanes of a port, class 7 on top, or one lane where it is always open.
     pub(crate) fn put_port<A: Allocator + Copy>(&mut self, plan: &Plan<A>, port: &PortPlan<A>) {
-        let (number, speed) = (port.number, megabits(port.speed));
+        let (number, speed) = (port.number, port.speed.megabits());
         self.page.go_down(250);
         self.page.say("h", 100, 0, "port {0}", &[u64::from(number)]);
         self.page.say("s", LEFT, 0, "{0} Mb/s", &[speed]);
@@ -295,7 +282,7 @@ impl Picture {
             if at == port && room == 0 {
                 further = further.saturating_add(1);
             } else if at == port {
-                if let Some(gate) = gate_at(plan.gates(), number) {
+                if let Some(gate) = find_gate(plan.gates(), number) {
                     room = room.saturating_sub(1);
                     self.put_lane(plan, Lane::Gate(number), &Times::Gate(&gate.schedule));
                 }

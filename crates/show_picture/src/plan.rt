@@ -6,7 +6,7 @@ use crate::lanes::MOST_GATES;
 use crate::legend::{GATES, RUN};
 use crate::picture::Picture;
 use crate::time::{Part, shown_of, span_of};
-use bridge_bounds::filter_at;
+use bridge_bounds::find_filter;
 use bridge_check::{Accepted, CheckFault, Refused};
 use bridge_config::Plan;
 use bridge_limits::NoMemory;
@@ -91,7 +91,7 @@ impl Picture {
             is_first = false;
         }
         for number in part.filters {
-            let is_there = filter_at(plan.filters(), *number).is_some();
+            let is_there = find_filter(plan.filters(), *number).is_some();
             self.put_asked("{a}filter {0}", *number, is_first, is_there);
             is_first = false;
         }

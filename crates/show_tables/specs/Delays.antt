@@ -1,10 +1,11 @@
 -- The table of delays: a row for each filter and each port out of which its frames left, each with its line feed.
-use Rattle.std.specs.Prelude.{◌≡◌, ℕ, ◌-◌, ◌/◌, ◌^◌, max, min, nat_eq, Option, None, Some, List, [], ◌∷◌, ◌++◌, flat_map, fold, length, slice_get, sum, codes, if◌then◌else◌}
+use Rattle.std.specs.Prelude.{◌≡◌, ℕ, ◌-◌, ◌/◌, nat_eq, Option, None, Some, List, [], ◌∷◌, ◌++◌, flat_map, length, sum, codes, if◌then◌else◌}
 use Rattle.std.specs.List.{range_with_len}
 use Rattle.bridge_config.specs.Model.{Plan}
 use Rattle.bridge_semantics.specs.declared.outcome.Departure.{Departure}
 use Rattle.bridge_semantics.specs.declared.outcome.Origin.{Origin}
 use Rattle.bridge_semantics.specs.declared.outcome.View.{View}
+use Rattle.bridge_report.specs.Figures.{at_of, greatest_of, least_of}
 use Rattle.bridge_report.specs.Section.{full_in, never_in}
 use Rattle.show_tables.specs.Frames.{field}
 use Rattle.show_tables.specs.Losses.{full_at, loss_fields, never_at}
@@ -14,15 +15,6 @@ use Rattle.show_tables.specs.PortBounds.{ArePortBounds, bound_at}
 abbrev pub delays_header : List ℕ
 delays_header = codes "filter,port,frames,least,mean,greatest,jitter,bound,blocked,oversize,gate-closed,shut-rx,shut-octets,octets-exceeded,red,yellow-dropped,full,never\n"
 
--- the moment at which a frame came; 0 of one that isn't there
-abbrev pub at_if : Option Origin → ℕ
-at_if None = 0
-at_if (Some o) = o.at
-
--- the moment at which a frame came, by its number from 1
-abbrev pub at_of : List Origin → ℕ → ℕ
-at_of origins own = if nat_eq own 0 then 0 else at_if (slice_get origins (own - 1))
-
 -- how long a copy took, if it left by a port; a list of one time, or of none
 abbrev pub delay_at : List Origin → ℕ → Departure → List ℕ
 delay_at origins port d = if nat_eq d.port port then (d.done - at_of origins d.own) ∷ [] else []
@@ -30,14 +22,6 @@ delay_at origins port d = if nat_eq d.port port then (d.done - at_of origins d.o
 -- how long the copies took that left by a port, from when their frames came until they were done
 abbrev pub delays_at : List Origin → ℕ → List Departure → List ℕ
 delays_at origins port departures = flat_map (delay_at origins port) departures
-
--- the least of some times
-abbrev pub least_of : List ℕ → ℕ
-least_of delays = fold min (2 ^ 64 - 1) delays
-
--- the greatest of them
-abbrev pub greatest_of : List ℕ → ℕ
-greatest_of delays = fold max 0 delays
 
 -- the least, the mean rounded down, the greatest, and how far the greatest is above the least; empty where there are no times
 abbrev pub figure_fields : List ℕ → List ℕ

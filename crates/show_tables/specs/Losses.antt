@@ -1,28 +1,11 @@
 -- How many frames of a filter were refused, and how many copies of them were dropped, by each reason.
-use Rattle.std.specs.Prelude.{ℕ, Bool, true, false, ◌&&◌, nat_eq, List, ◌++◌, count_by, codes, decimal}
+use Rattle.std.specs.Prelude.{ℕ, Bool, ◌&&◌, nat_eq, List, ◌++◌, count_by, codes, decimal}
 use Rattle.bridge_filter.specs.declared.Verdict.{Verdict}
-use Rattle.bridge_filter.specs.declared.Verdict.TheVariants as verdict
 use Rattle.bridge_semantics.specs.declared.outcome.Dropped.{Dropped}
 use Rattle.bridge_report.specs.Section.{is_full, never_fits}
-use Rattle.show_tables.specs.declared.losses.Reason.{Reason}
-use Rattle.show_tables.specs.declared.losses.Reason.TheVariants as reason
+use Rattle.bridge_report.specs.declared.losses.Reason.TheVariants as reason
+use Rattle.bridge_report.specs.Losses.{refused_for}
 use Rattle.show_tables.specs.Frames.{field}
-
--- whether a frame was refused for a reason
-abbrev pub is_for : Reason → Verdict → Bool
-is_for reason.Blocked verdict.Blocked = true
-is_for reason.Oversize verdict.Oversize = true
-is_for reason.GateClosed verdict.GateClosed = true
-is_for reason.ShutByRx verdict.ShutByRx = true
-is_for reason.ShutByOctets verdict.ShutByOctets = true
-is_for reason.OctetsExceeded verdict.OctetsExceeded = true
-is_for reason.Red verdict.Red = true
-is_for reason.YellowDropped verdict.YellowDropped = true
-is_for r v = false
-
--- how many frames were refused for a reason
-abbrev pub refused_for : Reason → List Verdict → ℕ
-refused_for r verdicts = count_by (is_for r) verdicts
 
 -- whether a copy was dropped at a port since its queue was full
 abbrev pub is_full_at : ℕ → Dropped → Bool

@@ -5,10 +5,11 @@ ghost use Rattle.show_tables.specs.Delays as spec;
 
 use crate::bounds::{bound_at, port_bounds};
 use crate::figures::{delays_at, put_figures};
-use crate::losses::{full_at, full_in, never_at, never_in, put_losses};
+use crate::losses::{full_at, never_at, put_losses};
 use crate::rows::put_field;
 use bridge_check::Accepted;
 use bridge_limits::NoMemory;
+use bridge_report::{count_full, count_never_fitting};
 use bridge_semantics::{Outcome, View};
 use bridge_text::Text;
 use std::alloc::Allocator;
@@ -62,7 +63,12 @@ fn put_unsent<A: Allocator>(text: &mut Text<A>, filter: u32, view: &View<A>)
     put_field(text, u64::from(filter));
     text.put(",0,,,,,,");
     let drops = &view.drops;
-    put_losses(text, &view.verdicts, full_in(drops), never_in(drops));
+    put_losses(
+        text,
+        &view.verdicts,
+        count_full(drops),
+        count_never_fitting(drops),
+    );
 }
 
 /// Puts the row of a filter and a port, if copies left there.

@@ -1,52 +1,17 @@
 //! How many frames of a filter were refused, and how many copies of them were dropped.
 ghost use Rattle.std.specs.Prelude.{◌≡◌};
 ghost use Rattle.bridge_text.specs.Growth.{HasGrown};
-ghost use Rattle.bridge_report.specs.Section.{full_in, never_in};
+ghost use Rattle.bridge_report.specs.Losses.{refused_for};
 ghost use Rattle.show_tables.specs.Frames.{field};
 ghost use Rattle.show_tables.specs.Losses as spec;
 
 use crate::rows::{put_field, put_last};
 use bridge_filter::Verdict;
 use bridge_port::Refusal;
+use bridge_report::{Reason, count_refused};
 use bridge_semantics::Dropped;
 use bridge_text::Text;
 use std::alloc::Allocator;
-
-/// Why a frame is refused.
-#[derive(Clone, Copy)]
-pub(crate) enum Reason {
-    Blocked,
-    Oversize,
-    GateClosed,
-    ShutByRx,
-    ShutByOctets,
-    OctetsExceeded,
-    Red,
-    YellowDropped,
-}
-
-/// Whether a frame was refused for a reason.
-fn is_for(reason: Reason, verdict: Verdict) -> bool
-    ensures { result ≡ spec.is_for reason verdict }
-{
-    match reason {
-        Reason::Blocked => matches!(verdict, Verdict::Blocked),
-        Reason::Oversize => matches!(verdict, Verdict::Oversize),
-        Reason::GateClosed => matches!(verdict, Verdict::GateClosed),
-        Reason::ShutByRx => matches!(verdict, Verdict::ShutByRx),
-        Reason::ShutByOctets => matches!(verdict, Verdict::ShutByOctets),
-        Reason::OctetsExceeded => matches!(verdict, Verdict::OctetsExceeded),
-        Reason::Red => matches!(verdict, Verdict::Red),
-        Reason::YellowDropped => matches!(verdict, Verdict::YellowDropped),
-    }
-}
-
-/// How many frames were refused for a reason.
-fn refused_for(reason: Reason, verdicts: &[Verdict]) -> usize
-    ensures { result ≡ spec.refused_for reason verdicts.now }
-{
-    verdicts.iter().filter(|v| is_for(reason, **v)).count()
-}
 
 /// How many copies were dropped at a port since their queues were full.
 pub(crate) fn full_at(port: u8, drops: &[Dropped]) -> usize
@@ -68,31 +33,11 @@ pub(crate) fn never_at(port: u8, drops: &[Dropped]) -> usize
         .count()
 }
 
-/// How many copies were dropped at full queues.
-pub(crate) fn full_in(drops: &[Dropped]) -> usize
-    ensures { result ≡ full_in drops.now }
-{
-    drops
-        .iter()
-        .filter(|d| matches!(d.refusal, Refusal::Full))
-        .count()
-}
-
-/// How many copies were dropped since no moment fits them.
-pub(crate) fn never_in(drops: &[Dropped]) -> usize
-    ensures { result ≡ never_in drops.now }
-{
-    drops
-        .iter()
-        .filter(|d| matches!(d.refusal, Refusal::NeverFits))
-        .count()
-}
-
 /// Puts how many frames were refused for a reason.
 fn put_refused<A: Allocator>(text: &mut Text<A>, reason: Reason, verdicts: &[Verdict])
-    ensures { HasGrown text.old (field (spec.refused_for reason verdicts.now)) text.new }
+    ensures { HasGrown text.old (field (refused_for reason verdicts.now)) text.new }
 {
-    put_field(text, refused_for(reason, verdicts) as u64);
+    put_field(text, count_refused(reason, verdicts));
 }
 
 /// Puts how many frames the filter itself refused, by each reason.

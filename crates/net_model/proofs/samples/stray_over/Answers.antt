@@ -5,8 +5,8 @@ use Rattle.net_model.proofs.samples.stray_over.Goals as goal
 pub returns-in-Some-clause-stray : goal.returns-in-Some-clause-stray
 returns-in-Some-clause-stray g c = if_some c.stray_from.result (λ s h. rw (sym c.in-Some.ensures.plan) h) c.stray_from.ensures.stray
 
-pub plan_at-requires : goal.plan_at-requires
-plan_at-requires g c κs h = h
+pub find_plan-requires : goal.find_plan-requires
+find_plan-requires g c κs h = h
 
 pub stray_from-requires : goal.stray_from-requires
 stray_from-requires g c = c.requires

@@ -15,14 +15,14 @@ use Rattle.net_periods.proofs.timing.timing_in.Goals as goal
 
 pub timing_at-requires-clause-sdu : goal.timing_at-requires-clause-sdu
 timing_at-requires-clause-sdu g c =
-    let f : FilterPlan = c.in_ok-filter_at.field-0 in
-    let found : lookup (nat_eq c.args.number) c.args.plan.now.filters ≡ Some f = subst (λ (xs : List (ℕ × FilterPlan)). lookup (nat_eq c.args.number) xs ≡ Some f) c.filters.ensures.filters (sym c.in_ok-filter_at.ensures) in
+    let f : FilterPlan = c.in_ok-find_filter.field-0 in
+    let found : lookup (nat_eq c.args.number) c.args.plan.now.filters ≡ Some f = subst (λ (xs : List (ℕ × FilterPlan)). lookup (nat_eq c.args.number) xs ≡ Some f) c.filters.ensures.filters (sym c.in_ok-find_filter.ensures) in
     sdu_few c.args.plan.now c.args.number f c.requires.rules (found_in c.args.plan.now.filters c.args.number f found) c.in_ok-sdu.sdu c.in_ok-sdu.was
 
 pub timing_at-requires-clause-bound : goal.timing_at-requires-clause-bound
 timing_at-requires-clause-bound g c =
-    let f : FilterPlan = c.in_ok-filter_at.field-0 in
-    let found : lookup (nat_eq c.args.number) c.args.plan.now.filters ≡ Some f = subst (λ (xs : List (ℕ × FilterPlan)). lookup (nat_eq c.args.number) xs ≡ Some f) c.filters.ensures.filters (sym c.in_ok-filter_at.ensures) in
+    let f : FilterPlan = c.in_ok-find_filter.field-0 in
+    let found : lookup (nat_eq c.args.number) c.args.plan.now.filters ≡ Some f = subst (λ (xs : List (ℕ × FilterPlan)). lookup (nat_eq c.args.number) xs ≡ Some f) c.filters.ensures.filters (sym c.in_ok-find_filter.ensures) in
     let same : c.requires.bound.filter ≡ f = same_Some c.requires.bound.filter f (sym c.requires.bound.found ∙ found) in
     let at : port_at c.args.plan.now.ports c.args.port ≡ Some c.in_ok-out.out.now = sym c.in_ok-out.ensures.port in
     let size : c.requires.bound.max_sdu ≡ c.in_ok-sdu.sdu = same_Some c.requires.bound.max_sdu c.in_ok-sdu.sdu (sym (subst (λ (h : FilterPlan). h.max_sdu ≡ Some c.requires.bound.max_sdu) same c.requires.bound.size) ∙ c.in_ok-sdu.was) in
@@ -43,8 +43,8 @@ timing_at-requires-clause-made g c =
 
 pub timing_at-requires-clause-ever : goal.timing_at-requires-clause-ever
 timing_at-requires-clause-ever g c =
-    let f : FilterPlan = c.in_ok-filter_at.field-0 in
-    let found : lookup (nat_eq c.args.number) c.args.plan.now.filters ≡ Some f = subst (λ (xs : List (ℕ × FilterPlan)). lookup (nat_eq c.args.number) xs ≡ Some f) c.filters.ensures.filters (sym c.in_ok-filter_at.ensures) in
+    let f : FilterPlan = c.in_ok-find_filter.field-0 in
+    let found : lookup (nat_eq c.args.number) c.args.plan.now.filters ≡ Some f = subst (λ (xs : List (ℕ × FilterPlan)). lookup (nat_eq c.args.number) xs ≡ Some f) c.filters.ensures.filters (sym c.in_ok-find_filter.ensures) in
     let same : c.requires.bound.filter ≡ f = same_Some c.requires.bound.filter f (sym c.requires.bound.found ∙ found) in
     let at : port_at c.args.plan.now.ports c.args.port ≡ Some c.in_ok-out.out.now = sym c.in_ok-out.ensures.port in
     let reach : reaches c.args.plan.now f c.args.port c.args.class ≡ true = subst (λ (h : FilterPlan). reaches c.args.plan.now h c.args.port c.args.class ≡ true) same c.requires.bound.reach in
@@ -53,8 +53,8 @@ timing_at-requires-clause-ever g c =
 
 pub returns : goal.returns
 returns g c =
-    let f : FilterPlan = c.in_ok-filter_at.field-0 in
-    let found : lookup (nat_eq c.args.number) c.args.plan.now.filters ≡ Some f = subst (λ (xs : List (ℕ × FilterPlan)). lookup (nat_eq c.args.number) xs ≡ Some f) c.filters.ensures.filters (sym c.in_ok-filter_at.ensures) in
+    let f : FilterPlan = c.in_ok-find_filter.field-0 in
+    let found : lookup (nat_eq c.args.number) c.args.plan.now.filters ≡ Some f = subst (λ (xs : List (ℕ × FilterPlan)). lookup (nat_eq c.args.number) xs ≡ Some f) c.filters.ensures.filters (sym c.in_ok-find_filter.ensures) in
     let same : c.requires.bound.filter ≡ f = same_Some c.requires.bound.filter f (sym c.requires.bound.found ∙ found) in
     let at : port_at c.args.plan.now.ports c.args.port ≡ Some c.in_ok-out.out.now = sym c.in_ok-out.ensures.port in
     let size : c.in_ok-sdu.sdu ≡ c.requires.bound.max_sdu = same_Some c.in_ok-sdu.sdu c.requires.bound.max_sdu (sym c.in_ok-sdu.was ∙ subst (λ (h : FilterPlan). h.max_sdu ≡ Some c.requires.bound.max_sdu) same c.requires.bound.size) in

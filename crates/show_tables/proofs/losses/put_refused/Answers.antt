@@ -4,4 +4,4 @@ use Rattle.bridge_text.proofs.Puts.{put_as}
 use Rattle.show_tables.proofs.losses.put_refused.Goals as goal
 
 pub returns : goal.returns
-returns g c = put_as _ _ _ _ c.put_field.ensures (ap field c.refused_for.ensures)
+returns g c = put_as _ _ _ _ c.put_field.ensures (ap field c.count_refused.ensures)

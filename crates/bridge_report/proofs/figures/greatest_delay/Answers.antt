@@ -1,6 +1,6 @@
 use Rattle.std.proofs.Common.{get_or, max, ap, sym, ◌∙◌}
 use Rattle.std.proofs.lemmas.List.Sums.{fold_more}
-use Rattle.net_report.proofs.figures.greatest_of.Goals as goal
+use Rattle.bridge_report.proofs.figures.greatest_delay.Goals as goal
 
 pub loop-delay-preserved : goal.loop-delay-preserved
 loop-delay-preserved c =

@@ -1,6 +1,6 @@
 use Rattle.std.proofs.Common.{◌≡◌, ◌≤◌, ◌*◌, take}
 use Rattle.std.specs.Prelude.{sum, ◌^◌}
-use Rattle.net_report.proofs.figures.sum_of.Given as goal
+use Rattle.bridge_report.proofs.figures.total_delay.Given as goal
 
 abbrev pub invariant-loop-delay : goal.invariant-loop-delay
 invariant-loop-delay l = record {

@@ -2,7 +2,7 @@ use Rattle.std.proofs.Common.{Some, arith, sym, ap, subst, ◌∙◌}
 use Rattle.std.proofs.lemmas.Option.{slice_get-get_or}
 use Rattle.bridge_config.specs.Model.{Plan}
 use Rattle.bridge_config.specs.Rules.{IsPlan}
-use Rattle.net_model.proofs.rules.plan_at.Goals as goal
+use Rattle.net_model.proofs.rules.find_plan.Goals as goal
 
 pub returns-then-place-plans-clause-plan : goal.returns-then-place-plans-clause-plan
 returns-then-place-plans-clause-plan g c =

@@ -1,0 +1,51 @@
+//! Arrival times of frames, and the least, the greatest and the sum of some delays.
+ghost use Rattle.std.specs.Prelude.{◌≡◌, sum};
+ghost use Rattle.bridge_report.specs.Figures as spec;
+
+use bridge_semantics::Origin;
+
+/// Returns the arrival time in ns of a frame by its number, counted from 1; 0 if no frame has this number.
+pub fn arrival_time(origins: &[Origin], own: u64) -> u64
+    ensures { result ≡ spec.at_of origins.now own }
+{
+    if own == 0 {
+        return 0;
+    }
+    match origins.get((own - 1) as usize) {
+        Some(origin) => origin.at,
+        None => 0,
+    }
+}
+
+/// Returns the least of some delays in ns; the greatest number of 64 bits if there are none.
+pub fn least_delay(delays: &[u64]) -> u64
+    ensures { result ≡ spec.least_of delays.now }
+{
+    let mut least = u64::MAX;
+    for delay in delays {
+        least = least.min(*delay);
+    }
+    least
+}
+
+/// Returns the greatest of some delays in ns; 0 if there are none.
+pub fn greatest_delay(delays: &[u64]) -> u64
+    ensures { result ≡ spec.greatest_of delays.now }
+{
+    let mut greatest = 0u64;
+    for delay in delays {
+        greatest = greatest.max(*delay);
+    }
+    greatest
+}
+
+/// Returns the sum of some delays in ns.
+pub fn total_delay(delays: &[u64]) -> u128
+    ensures { result ≡ sum delays.now }
+{
+    let mut sum = 0u128;
+    for delay in delays {
+        sum += *delay as u128;
+    }
+    sum
+}

@@ -1,9 +1,0 @@
-use Rattle.std.proofs.Common.{◌≡◌, ◌≤◌, ◌*◌, take}
-use Rattle.std.specs.Prelude.{sum, ◌^◌}
-use Rattle.show_tables.proofs.figures.sum_of.Given as goal
-
-abbrev pub invariant-loop-delay : goal.invariant-loop-delay
-invariant-loop-delay l = record {
-  counted : l.sum ≡ sum (take l.delay-index l.delays);
-  low : l.sum ≤ l.delay-index * 2 ^ 64;
-}
