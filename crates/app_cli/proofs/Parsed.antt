@@ -1,4 +1,4 @@
--- What `clap` makes of the words.
+-- The result of `clap` for the arguments.
 use Rattle.std.proofs.Common.{◌≡◌, ◌≢◌, List, None, [], ◌∷◌, Result, Ok, Err, IfOk, IfErr, refl, subst, true, inl, inr, rules}
 use Rattle.clap.specs.Words.{App, FailsBy, HasMatchesOf, Kinds, Text, fault_of, is_simple, is_simple_and_free, kind_of, subcommand_of, subcommand_rows_of}
 use Rattle.clap.specs.declared.error.Error.{Error}
@@ -6,14 +6,14 @@ use Rattle.clap.specs.declared.error.kind.ErrorKind.TheVariants as kind
 use Rattle.clap.specs.declared.parser.matches.ArgMatches.{ArgMatches}
 use Rattle.app_cli.specs.CommandLine.{commands}
 
--- the commands are of the kind of which `clap` says exactly what it makes of the words
+-- The commands are simple, so the definition of `clap` gives their results exactly.
 are_simple : is_simple commands ≡ true
 are_simple = refl
 
 are_simple_and_free : is_simple_and_free commands ≡ true
 are_simple_and_free = refl
 
--- so what it says of the command that it was given it says of the commands
+-- A result for a command equal to `commands` is a result for `commands`.
 pub fails_by : {T : Type 0} (app : App) (words : List Text) (r : Result T Error) → app ≡ commands → (is_simple_and_free app ≡ true → FailsBy (fault_of app words) r) → FailsBy (fault_of commands words) r
 fails_by app words r is fails = subst (λ a. is_simple_and_free a ≡ true → FailsBy (fault_of a words) r) is fails are_simple_and_free
 
@@ -31,6 +31,6 @@ pub its_values : (app : App) (words : List Text) (r : Result ArgMatches Error) �
 its_values app words (Ok m) is has = (subst (λ a. HasMatchesOf a words m) is has are_simple).1
 its_values app words (Err e) is has = tt
 
--- no words name no command
+-- The empty list of arguments names no command.
 pub none_named : subcommand_of commands [] ≡ None
 none_named = refl

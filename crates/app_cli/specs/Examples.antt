@@ -1,4 +1,4 @@
--- Words of the command line, computed.
+-- Computed examples of arguments.
 use Rattle.std.specs.Prelude.{◌≡◌, [], ◌∷◌, List, None, Some, codes, false, option_map, refl, true}
 use Rattle.clap.specs.Words.{Text, fault_of, first_of, subcommand_of}
 use Rattle.clap.specs.declared.error.kind.ErrorKind.TheVariants.{ArgumentConflict, DisplayHelp, DisplayVersion, MissingRequiredArgument, UnknownArgument}
@@ -6,21 +6,21 @@ use Rattle.clap.proofs.OnLiterals.{clap_on_literals}
 use Rattle.app_cli.specs.CommandLine.{commands}
 use Rattle.app_cli.specs.Helping.{explains, is_strict}
 
--- `wire 1000 4 a.pcap b.pcap`
+-- The arguments `wire 1000 4 a.pcap b.pcap`.
 abbrev wire_words : List Text
 wire_words = codes "wire" ∷ codes "1000" ∷ codes "4" ∷ codes "a.pcap" ∷ codes "b.pcap" ∷ []
 
--- nothing is wrong with these words
+-- These arguments are valid.
 pub wire_faultless : fault_of commands wire_words ≡ []
 unfolding clap_on_literals
 wire_faultless = refl
 
--- they name `wire`
+-- They name `wire`.
 pub wire_named : option_map (λ p. p.0) (subcommand_of commands wire_words) ≡ Some (codes "wire")
 unfolding clap_on_literals
 wire_named = refl
 
--- each value goes by its name
+-- Each value has its name.
 pub wire_mbps : option_map (λ p. first_of (codes "mbps") p.1) (subcommand_of commands wire_words) ≡ Some (Some (codes "1000"))
 unfolding clap_on_literals
 wire_mbps = refl
@@ -37,40 +37,40 @@ pub wire_output : option_map (λ p. first_of (codes "output") p.1) (subcommand_o
 unfolding clap_on_literals
 wire_output = refl
 
--- `check plan.toml`
+-- The arguments `check plan.toml`.
 abbrev check_words : List Text
 check_words = codes "check" ∷ codes "plan.toml" ∷ []
 
--- nothing is wrong with these words
+-- These arguments are valid.
 pub check_faultless : fault_of commands check_words ≡ []
 unfolding clap_on_literals
 check_faultless = refl
 
--- they name `check`
+-- They name `check`.
 pub check_named : option_map (λ p. p.0) (subcommand_of commands check_words) ≡ Some (codes "check")
 unfolding clap_on_literals
 check_named = refl
 
--- the value goes by its name
+-- The value has its name.
 pub check_plan : option_map (λ p. first_of (codes "plan") p.1) (subcommand_of commands check_words) ≡ Some (Some (codes "plan.toml"))
 unfolding clap_on_literals
 check_plan = refl
 
--- `run plan.toml in out`
+-- The arguments `run plan.toml in out`.
 abbrev run_words : List Text
 run_words = codes "run" ∷ codes "plan.toml" ∷ codes "in" ∷ codes "out" ∷ []
 
--- nothing is wrong with these words
+-- These arguments are valid.
 pub run_faultless : fault_of commands run_words ≡ []
 unfolding clap_on_literals
 run_faultless = refl
 
--- they name `run`
+-- They name `run`.
 pub run_named : option_map (λ p. p.0) (subcommand_of commands run_words) ≡ Some (codes "run")
 unfolding clap_on_literals
 run_named = refl
 
--- each value goes by its name
+-- Each value has its name.
 pub run_plan : option_map (λ p. first_of (codes "plan") p.1) (subcommand_of commands run_words) ≡ Some (Some (codes "plan.toml"))
 unfolding clap_on_literals
 run_plan = refl
@@ -83,21 +83,21 @@ pub run_output : option_map (λ p. first_of (codes "output") p.1) (subcommand_of
 unfolding clap_on_literals
 run_output = refl
 
--- without the option it has no value
+-- A missing option has no value.
 pub run_no_commands : option_map (λ p. first_of (codes "commands") p.1) (subcommand_of commands run_words) ≡ Some None
 unfolding clap_on_literals
 run_no_commands = refl
 
--- `run plan.toml --commands clear.toml in out`
+-- The arguments `run plan.toml --commands clear.toml in out`.
 abbrev commanded_words : List Text
 commanded_words = codes "run" ∷ codes "plan.toml" ∷ codes "--commands" ∷ codes "clear.toml" ∷ codes "in" ∷ codes "out" ∷ []
 
--- nothing is wrong with these words
+-- These arguments are valid.
 pub commanded_faultless : fault_of commands commanded_words ≡ []
 unfolding clap_on_literals
 commanded_faultless = refl
 
--- the option has its value, and the words around it theirs
+-- The option has its value, and the other arguments have theirs.
 pub commanded_commands : option_map (λ p. first_of (codes "commands") p.1) (subcommand_of commands commanded_words) ≡ Some (Some (codes "clear.toml"))
 unfolding clap_on_literals
 commanded_commands = refl
@@ -106,21 +106,21 @@ pub commanded_output : option_map (λ p. first_of (codes "output") p.1) (subcomm
 unfolding clap_on_literals
 commanded_output = refl
 
--- the option twice
+-- A repeated option is refused.
 pub commands_twice : fault_of commands (codes "run" ∷ codes "p" ∷ codes "i" ∷ codes "o" ∷ codes "--commands" ∷ codes "a" ∷ codes "--commands" ∷ codes "b" ∷ []) ≡ ArgumentConflict ∷ []
 unfolding clap_on_literals
 commands_twice = refl
 
--- `run plan.toml in out --delays delays.csv --frames=frames.csv`
+-- The arguments `run plan.toml in out --delays delays.csv --frames=frames.csv`.
 abbrev tabled_words : List Text
 tabled_words = codes "run" ∷ codes "plan.toml" ∷ codes "in" ∷ codes "out" ∷ codes "--delays" ∷ codes "delays.csv" ∷ codes "--frames=frames.csv" ∷ []
 
--- nothing is wrong with these words
+-- These arguments are valid.
 pub tabled_faultless : fault_of commands tabled_words ≡ []
 unfolding clap_on_literals
 tabled_faultless = refl
 
--- both options have their values
+-- Both options have their values.
 pub tabled_delays : option_map (λ p. first_of (codes "delays") p.1) (subcommand_of commands tabled_words) ≡ Some (Some (codes "delays.csv"))
 unfolding clap_on_literals
 tabled_delays = refl
@@ -129,26 +129,26 @@ pub tabled_frames : option_map (λ p. first_of (codes "frames") p.1) (subcommand
 unfolding clap_on_literals
 tabled_frames = refl
 
--- a table of no run
+-- A table of a command other than `run` is refused.
 pub table_of_check : fault_of commands (codes "check" ∷ codes "p" ∷ codes "--delays" ∷ codes "d" ∷ []) ≡ UnknownArgument ∷ []
 unfolding clap_on_literals
 table_of_check = refl
 
--- `check --explain plan.toml`
+-- The arguments `check --explain plan.toml`.
 abbrev explained_words : List Text
 explained_words = codes "check" ∷ codes "--explain" ∷ codes "plan.toml" ∷ []
 
--- nothing is wrong with these words
+-- These arguments are valid.
 pub explained_faultless : fault_of commands explained_words ≡ []
 unfolding clap_on_literals
 explained_faultless = refl
 
--- the value goes by its name, as without the flag
+-- The value has its name, with or without the flag.
 pub explained_plan : option_map (λ p. first_of (codes "plan") p.1) (subcommand_of commands explained_words) ≡ Some (Some (codes "plan.toml"))
 unfolding clap_on_literals
 explained_plan = refl
 
--- `clap` has the flag, and among the words it is
+-- The flag is found by `clap` and among the arguments.
 pub explained_flag : option_map (λ p. first_of (codes "explain") p.1) (subcommand_of commands explained_words) ≡ Some (Some (codes "true"))
 unfolding clap_on_literals
 explained_flag = refl
@@ -156,7 +156,7 @@ explained_flag = refl
 pub explained_explains : explains explained_words ≡ true
 explained_explains = refl
 
--- `check -- --explain` has a path, and no flag
+-- The arguments `check -- --explain` have a path, and no flag.
 abbrev path_words : List Text
 path_words = codes "check" ∷ codes "--" ∷ codes "--explain" ∷ []
 
@@ -171,25 +171,25 @@ path_flag = refl
 pub path_explains : explains path_words ≡ false
 path_explains = refl
 
--- `bounds plan.toml --traffic talkers.toml`
+-- The arguments `bounds plan.toml --traffic talkers.toml`.
 abbrev traffic_words : List Text
 traffic_words = codes "bounds" ∷ codes "plan.toml" ∷ codes "--traffic" ∷ codes "talkers.toml" ∷ []
 
--- nothing is wrong with these words
+-- These arguments are valid.
 pub traffic_faultless : fault_of commands traffic_words ≡ []
 unfolding clap_on_literals
 traffic_faultless = refl
 
--- the option has its value
+-- The option has its value.
 pub traffic_file : option_map (λ p. first_of (codes "traffic") p.1) (subcommand_of commands traffic_words) ≡ Some (Some (codes "talkers.toml"))
 unfolding clap_on_literals
 traffic_file = refl
 
--- `net check net.toml --strict`
+-- The arguments `net check net.toml --strict`.
 abbrev net_check_words : List Text
 net_check_words = codes "net" ∷ codes "check" ∷ codes "net.toml" ∷ codes "--strict" ∷ []
 
--- nothing is wrong with these words, though the third place is empty
+-- These arguments are valid without a third one.
 pub net_check_faultless : fault_of commands net_check_words ≡ []
 unfolding clap_on_literals
 net_check_faultless = refl
@@ -205,16 +205,16 @@ net_check_output = refl
 pub net_check_strict : is_strict net_check_words ≡ true
 net_check_strict = refl
 
--- `net net.toml in --picture run.svg out`
+-- The arguments `net net.toml in --picture run.svg out`.
 abbrev net_words : List Text
 net_words = codes "net" ∷ codes "net.toml" ∷ codes "in" ∷ codes "--picture" ∷ codes "run.svg" ∷ codes "out" ∷ []
 
--- nothing is wrong with these words
+-- These arguments are valid.
 pub net_faultless : fault_of commands net_words ≡ []
 unfolding clap_on_literals
 net_faultless = refl
 
--- each value goes by its name
+-- Each value has its name.
 pub net_input : option_map (λ p. first_of (codes "second") p.1) (subcommand_of commands net_words) ≡ Some (Some (codes "in"))
 unfolding clap_on_literals
 net_input = refl
@@ -230,7 +230,7 @@ net_picture = refl
 pub net_strict : is_strict net_words ≡ false
 net_strict = refl
 
--- a network alone, and four words
+-- Only a network, and four arguments, are refused.
 pub net_missing : fault_of commands (codes "net" ∷ codes "net.toml" ∷ []) ≡ MissingRequiredArgument ∷ []
 unfolding clap_on_literals
 net_missing = refl
@@ -239,7 +239,7 @@ pub net_too_many : fault_of commands (codes "net" ∷ codes "a" ∷ codes "b" �
 unfolding clap_on_literals
 net_too_many = refl
 
--- a missing word, a word too many, a request for help or for a version
+-- A missing argument, an argument too many, and requests for help and version.
 pub one_missing : fault_of commands (codes "wire" ∷ codes "1000" ∷ codes "4" ∷ codes "a.pcap" ∷ []) ≡ MissingRequiredArgument ∷ []
 unfolding clap_on_literals
 one_missing = refl
@@ -256,7 +256,7 @@ pub version_asked : fault_of commands (codes "--version" ∷ []) ≡ DisplayVers
 unfolding clap_on_literals
 version_asked = refl
 
--- behind a command
+-- Requests for help and version of a command.
 pub wire_help_asked : fault_of commands (codes "wire" ∷ codes "--help" ∷ []) ≡ DisplayHelp ∷ []
 unfolding clap_on_literals
 wire_help_asked = refl

@@ -1,4 +1,4 @@
-//! The commands and their words: one table, by which `clap` reads the words and writes the help.
+//! The commands and their arguments in one table, from which `clap` reads arguments and writes the help.
 ghost use Rattle.std.specs.Prelude.{◌≡◌, ◌≢◌, [], IfOk, IfErr, false, map, string_bytes, fold};
 ghost use Rattle.clap.specs.Words.{FailsBy, app_of, fault_of, kind_of, rule_of, subcommand_of, subcommand_rows_of, with_subcommand};
 ghost use Rattle.clap.specs.declared.builder.command.Command.TheViews.{out-Command as fields_of};
@@ -8,74 +8,74 @@ use clap::error::ErrorKind;
 use clap::{Arg, ArgAction, ArgMatches, Command, Error};
 use std::alloc::{AllocError, Global};
 
-/// How a word of a command is written.
+/// How an argument of a command is written.
 #[derive(Clone, Copy)]
 pub enum Form {
-    /// In its place, where it has to be.
+    /// Required, by its position.
     Place,
-    /// In its place behind those that have to be there, which need not be there.
+    /// Optional, by its position after the required arguments.
     Extra,
-    /// Behind its name as an option, which need not be there.
+    /// Optional, as the value after an option's name.
     Choice,
-    /// As the name of an option alone, which need not be there.
+    /// Optional, as the name of an option without a value.
     Flag,
 }
 
-/// A word of a command.
+/// Argument or option of a command.
 #[derive(Clone, Copy)]
-pub struct Word {
-    /// The name by which the value is read; an option is written by it, behind `--`.
+pub struct Argument {
+    /// Name by which the value is read; an option is written as `--` and this name.
     pub id: &'static str,
-    /// What the help calls the value.
+    /// Name of the value in the help.
     pub value: &'static str,
-    /// How the word is written.
+    /// How the argument is written.
     pub form: Form,
-    /// What it is, and its range.
+    /// Meaning and range, for the help.
     pub help: &'static str,
 }
 
-/// A command.
+/// Command of the program, as one row of the table of commands. `clap`'s command, the usage and the help are made from it.
 #[derive(Clone, Copy)]
 pub struct Description {
-    /// The word by which it is called.
+    /// Name of the command.
     pub name: &'static str,
-    /// How it is called: its words and its options, but for `--explain`.
+    /// Usage: the command's arguments and options, except `--explain`.
     pub call: &'static str,
-    /// What it does.
+    /// Purpose of the command, for the help.
     pub about: &'static str,
-    /// Its words.
-    pub words: &'static [Word],
-    /// What may be wrong with its words where as many stand behind it as have to.
+    /// Arguments and options of the command.
+    pub words: &'static [Argument],
+    /// Sentences about possible faults of the arguments if their number is right, for explanations.
     pub reason: &'static str,
-    /// An example, and the statuses.
+    /// End of the help: example and exit statuses.
     pub after: &'static str,
 }
 
-/// The plan of a bridge.
-const PLAN: Word = Word {
+/// The argument `PLAN`, which several commands have: the plan of a bridge.
+const PLAN: Argument = Argument {
     id: "plan",
     value: "PLAN",
     form: Form::Place,
     help: "file of the plan (TOML, at most 1,048,576 octets)",
 };
 
-/// Whether more is to be said than a line; it stands with each command.
-const EXPLAIN: Word = Word {
+/// The option `--explain`, which each command has.
+const EXPLAIN: Argument = Argument {
     id: "explain",
     value: "",
     form: Form::Flag,
     help: "explain a fault on standard error; check and run also describe an accepted plan",
 };
 
-/// Whether a plan is refused too where something is told of it that is accepted.
-const STRICT: Word = Word {
+/// The option `--strict`, which makes warnings errors.
+const STRICT: Argument = Argument {
     id: "strict",
     value: "",
     form: Form::Flag,
     help: "treat warnings as errors (status 1)",
 };
 
-/// What may be wrong with the words of a command that has none of which more is to be said.
+/// Reason of commands whose arguments can be wrong only in their options.
 const OPTIONS_ALONE: &str = "An option is unknown here, repeated, or lacks its value.\n";
 
 const WIRE: Description = Description {
@@ -83,25 +83,25 @@ const WIRE: Description = Description {
     call: "wire MBPS ROOM IN OUT",
     about: "Send a capture through one queue",
     words: &[
-        Word {
+        Argument {
             id: "mbps",
             value: "MBPS",
             form: Form::Place,
             help: "speed of the link in Mb/s: 10, 100, 1000, 2500 or 10000",
         },
-        Word {
+        Argument {
             id: "room",
             value: "ROOM",
             form: Form::Place,
             help: "capacity of the queue in frames: 1 to 4096",
         },
-        Word {
+        Argument {
             id: "input",
             value: "IN",
             form: Form::Place,
             help: "input capture (classic pcap, not pcapng), or - for standard input",
         },
-        Word {
+        Argument {
             id: "output",
             value: "OUT",
             form: Form::Place,
@@ -126,7 +126,7 @@ const CHECK: Description = Description {
     call: "check PLAN [--strict]",
     about: "Check whether a plan protects its streams",
     words: &[
-        Word {
+        Argument {
             id: "plan",
             value: "PLAN",
             form: Form::Place,
@@ -153,67 +153,67 @@ const RUN: Description = Description {
     about: "Run captures through the bridge of a plan",
     words: &[
         PLAN,
-        Word {
+        Argument {
             id: "input",
             value: "IN",
             form: Form::Place,
             help: "input folder with <port>.pcap for each port of the plan",
         },
-        Word {
+        Argument {
             id: "output",
             value: "OUT",
             form: Form::Place,
             help: "output folder for <port>.pcap and report.txt; must exist and differ from IN",
         },
-        Word {
+        Argument {
             id: "commands",
             value: "FILE",
             form: Form::Choice,
             help: "file of commands that clear flags (TOML, at most 1,048,576 octets)",
         },
-        Word {
+        Argument {
             id: "delays",
             value: "FILE",
             form: Form::Choice,
             help: "also write delays and losses by filter and port (CSV)",
         },
-        Word {
+        Argument {
             id: "frames",
             value: "FILE",
             form: Form::Choice,
             help: "also write a row for each copy of each frame (CSV)",
         },
-        Word {
+        Argument {
             id: "picture",
             value: "FILE",
             form: Form::Choice,
             help: "also draw the run (SVG)",
         },
-        Word {
+        Argument {
             id: "from",
             value: "NS",
             form: Form::Choice,
             help: "start of the picture in ns (default: first event)",
         },
-        Word {
+        Argument {
             id: "to",
             value: "NS",
             form: Form::Choice,
             help: "end of the picture in ns (default: last event)",
         },
-        Word {
+        Argument {
             id: "ports",
             value: "LIST",
             form: Form::Choice,
             help: "ports in the picture, for example 1,3 (default: all)",
         },
-        Word {
+        Argument {
             id: "filters",
             value: "LIST",
             form: Form::Choice,
             help: "filters whose frames the picture shows, for example 10,20 (default: all)",
         },
-        Word {
+        Argument {
             id: "strict",
             value: "",
             form: Form::Flag,
@@ -241,31 +241,31 @@ const PICTURE: Description = Description {
     call: "picture PLAN FILE [--from NS] [--to NS] [--ports LIST]",
     about: "Draw the windows and the stream gates of a plan, or the streams of a network",
     words: &[
-        Word {
+        Argument {
             id: "plan",
             value: "PLAN",
             form: Form::Place,
             help: "file of the plan, or of a network (TOML, at most 1,048,576 octets)",
         },
-        Word {
+        Argument {
             id: "file",
             value: "FILE",
             form: Form::Place,
             help: "output file (SVG), or - for standard output",
         },
-        Word {
+        Argument {
             id: "from",
             value: "NS",
             form: Form::Choice,
             help: "for plans, start of the picture in ns (default: start of the hypercycle)",
         },
-        Word {
+        Argument {
             id: "to",
             value: "NS",
             form: Form::Choice,
             help: "for plans, end of the picture in ns (default: end of the hypercycle)",
         },
-        Word {
+        Argument {
             id: "ports",
             value: "LIST",
             form: Form::Choice,
@@ -291,7 +291,7 @@ const BOUNDS: Description = Description {
     about: "Print the delay bounds of protected streams",
     words: &[
         PLAN,
-        Word {
+        Argument {
             id: "traffic",
             value: "FILE",
             form: Form::Choice,
@@ -322,31 +322,31 @@ const NET: Description = Description {
     call: "net check NET [--strict], or tsnbridge net NET IN OUT [--picture FILE] [--strict]",
     about: "Check or run a network of bridges",
     words: &[
-        Word {
+        Argument {
             id: "first",
             value: "check|NET",
             form: Form::Place,
             help: "check, or the file of the network to run (TOML, at most 1,048,576 octets)",
         },
-        Word {
+        Argument {
             id: "second",
             value: "NET|IN",
             form: Form::Place,
             help: "after check: the file of the network; else: input folder with BRIDGE/PORT.pcap for each open port",
         },
-        Word {
+        Argument {
             id: "output",
             value: "OUT",
             form: Form::Extra,
             help: "output folder for captures, reports and tables",
         },
-        Word {
+        Argument {
             id: "picture",
             value: "FILE",
             form: Form::Choice,
             help: "also draw the run (SVG)",
         },
-        Word {
+        Argument {
             id: "strict",
             value: "",
             form: Form::Flag,
@@ -397,73 +397,74 @@ Statuses:
   4  bad arguments; also after --help and --version",
 };
 
-/// The options of all commands, with what has them.
+/// Options and the commands that have them. The explanation of an unknown option shows this text if no option has a similar name.
 pub const OPTIONS: &str =
     "The options are:\n  --explain for all commands\n  --strict for check, run, bounds and net\n  --picture FILE for run and net\n  --from NS, --to NS and --ports LIST for run and picture\n  --commands FILE, --delays FILE, --frames FILE and --filters LIST for run\n  --traffic FILE for bounds\n";
 
-/// The version of the program.
+/// Version of the program.
 const VERSION: &str = "1.0.0";
 
-/// How many commands there are.
+/// Number of commands.
 pub const COMMANDS: usize = 6;
 
-/// The command of a place among all, in the order of the help; none behind the last.
-pub fn description_at(place: usize) -> Option<&'static Description> {
+/// Returns the command at index `place`, in the order of the help; `None` after the last.
+pub fn command_description(place: usize) -> Option<&'static Description> {
     match place {
-        0 => Some(wire()),
-        1 => Some(check()),
-        2 => Some(run()),
-        3 => Some(picture()),
-        4 => Some(bounds()),
-        5 => Some(net()),
+        0 => Some(wire_description()),
+        1 => Some(check_description()),
+        2 => Some(run_description()),
+        3 => Some(picture_description()),
+        4 => Some(bounds_description()),
+        5 => Some(net_description()),
         _ => None,
     }
 }
 
-/// The command of one queue.
-fn wire() -> &'static Description
+/// Returns the command `wire`: arguments, usage, help texts. The contract states that it is the definition `wire_command`.
+fn wire_description() -> &'static Description
     ensures { described result.now ≡ wire_command }
 {
     &WIRE
 }
 
-/// The command that checks a plan.
-fn check() -> &'static Description
+/// Returns the command `check`: arguments, usage, help texts. The contract states that it is the definition `check_command`.
+fn check_description() -> &'static Description
     ensures { described result.now ≡ check_command }
 {
     &CHECK
 }
 
-/// The command of a run.
-fn run() -> &'static Description
+/// Returns the command `run`: arguments, usage, help texts. The contract states that it is the definition `run_command`.
+fn run_description() -> &'static Description
     ensures { described result.now ≡ run_command }
 {
     &RUN
 }
 
-/// The command that draws a plan.
-fn picture() -> &'static Description
+/// Returns the command `picture`: arguments, usage, help texts. The contract states that it is the definition `picture_command`.
+fn picture_description() -> &'static Description
     ensures { described result.now ≡ picture_command }
 {
     &PICTURE
 }
 
-/// The command of bounds.
-fn bounds() -> &'static Description
+/// Returns the command `bounds`: arguments, usage, help texts. The contract states that it is the definition `bounds_command`.
+fn bounds_description() -> &'static Description
     ensures { described result.now ≡ bounds_command }
 {
     &BOUNDS
 }
 
-/// The command of a network.
-fn net() -> &'static Description
+/// Returns the command `net`: arguments, usage, help texts. The contract states that it is the definition `net_command`.
+fn net_description() -> &'static Description
     ensures { described result.now ≡ net_command }
 {
     &NET
 }
 
-/// What the words after the program's name are to `clap`: a command with its values, or what is wrong with them.
-pub fn matches_of<'a>(alloc: Global, words: &'a [String]) -> Result<ArgMatches<'a>, Error>
+/// Parses the arguments after the program's name by `clap`. Returns a command with its values. The error says whether `clap` refuses them,
+/// shows help, or memory ran out.
+pub fn parse_arguments<'a>(alloc: Global, words: &'a [String]) -> Result<ArgMatches<'a>, Error>
     ensures taken { IfOk result (λ _. fault_of commands (map string_bytes words.entry.now) ≡ []) }
     ensures kinds { FailsBy (fault_of commands (map string_bytes words.entry.now)) result }
     ensures values { IfOk result (λ m. subcommand_rows_of m
@@ -475,16 +476,23 @@ pub fn matches_of<'a>(alloc: Global, words: &'a [String]) -> Result<ArgMatches<'
     command.try_get_matches_from(words)
 }
 
-/// The program with its commands.
+/// Builds the `clap` program with its commands, in the order of the help. The definition `commands` states the result.
 fn commands_of<'a>(alloc: Global) -> Result<Command<'a>, AllocError>
     ensures { IfOk result (λ c. app_of c ≡ commands) }
 {
-    let program = program_of(alloc)?;
-    let in_help = [wire(), check(), run(), picture(), bounds(), net()];
+    let program = build_bare_program(alloc)?;
+    let in_help = [
+        wire_description(),
+        check_description(),
+        run_description(),
+        picture_description(),
+        bounds_description(),
+        net_description(),
+    ];
     with_commands(alloc, program, &in_help)
 }
 
-/// The program with the commands of descriptions behind those that it has.
+/// Returns the `clap` program with the commands of `descriptions` added, in order.
 fn with_commands<'a>(
     alloc: Global,
     program: Command<'a>,
@@ -500,7 +508,7 @@ fn with_commands<'a>(
     Ok(grown)
 }
 
-/// The program with the command of a description behind those that it has.
+/// Returns the `clap` program with the command of `description` added.
 fn with_command<'a>(
     alloc: Global,
     program: Command<'a>,
@@ -508,7 +516,7 @@ fn with_command<'a>(
 ) -> Result<Command<'a>, AllocError>
     ensures { IfOk result (λ c. app_of c ≡ with_subcommand (app_of program.entry) (described description.now).top) }
 {
-    match command_of(alloc, description) {
+    match build_command(alloc, description) {
         Ok(command) => program.subcommand(command),
         Err(error) => {
             drop(program);
@@ -517,11 +525,11 @@ fn with_command<'a>(
     }
 }
 
-/// The program without its commands.
-fn program_of<'a>(alloc: Global) -> Result<Command<'a>, AllocError>
+/// Builds the `clap` program without commands. Its arguments don't begin with its name.
+fn build_bare_program<'a>(alloc: Global) -> Result<Command<'a>, AllocError>
     ensures { IfOk result (λ c. app_of c ≡ program) }
 {
-    let program = command_of(alloc, &PROGRAM)?;
+    let program = build_command(alloc, &PROGRAM)?;
     program
         .no_binary_name(true)
         .version(VERSION)
@@ -529,8 +537,8 @@ fn program_of<'a>(alloc: Global) -> Result<Command<'a>, AllocError>
         .bin_name(PROGRAM.name)
 }
 
-/// The command of a description.
-fn command_of<'a>(alloc: Global, description: &Description) -> Result<Command<'a>, AllocError>
+/// Builds the `clap` command of a description: name, help texts and arguments.
+fn build_command<'a>(alloc: Global, description: &Description) -> Result<Command<'a>, AllocError>
     ensures command { IfOk result (λ c. app_of c ≡ described description.now) }
     ensures local { IfOk result (λ c. (fields_of c).has_globals ≡ false) }
 {
@@ -540,11 +548,11 @@ fn command_of<'a>(alloc: Global, description: &Description) -> Result<Command<'a
     with_words(alloc, command, description.words)
 }
 
-/// The command with these words.
+/// Returns the `clap` command with these arguments added, in order.
 fn with_words<'a>(
     alloc: Global,
     command: Command<'a>,
-    words: &[Word],
+    words: &[Argument],
 ) -> Result<Command<'a>, AllocError>
     ensures command { IfOk result (λ c. app_of c ≡ fold with_word (app_of command.entry) words.now) }
     ensures local { (fields_of command.entry).has_globals ≡ false
@@ -552,13 +560,13 @@ fn with_words<'a>(
 {
     let mut grown = command;
     for word in words {
-        grown = grown.arg(word_of(alloc, *word))?;
+        grown = grown.arg(clap_arg(alloc, *word))?;
     }
     Ok(grown)
 }
 
-/// What `clap` is to read of a word.
-fn word_of<'a>(alloc: Global, word: Word) -> Arg<'a>
+/// Builds the `clap` argument of an argument, by its form.
+fn clap_arg<'a>(alloc: Global, word: Argument) -> Arg<'a>
     ensures rule { rule_of result ≡ rule_in word.form word.id.now }
     ensures local { result.global ≡ false }
 {

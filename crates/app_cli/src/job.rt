@@ -1,135 +1,131 @@
-//! The job that the words of the command line ask for.
+//! Finds the command that the arguments request.
 ghost use Rattle.std.specs.Prelude.{◌≡◌, ◌≢◌, [], Err, IfOk, IfErr, None, Option, Some, ℕ, codes, map, option_map, string_bytes};
 ghost use Rattle.bridge_frame.specs.declared.Speed.{Speed};
 ghost use Rattle.clap.specs.Words.{Text, fault_of, first_of, found_of, kind_of, rows_of, subcommand_of, subcommand_rows_of};
-ghost use Rattle.app_cli.specs.declared.job.Job.{Job};
+ghost use Rattle.app_cli.specs.declared.job.Command.{Command};
 ghost use Rattle.app_cli.specs.CommandLine.{AsksFor, AsksForBounds, AsksForCheck, AsksForNetwork, AsksForNetworkRun, AsksForPicture, AsksForRun, AsksForWire, HasRoom, IsBoundsJob, IsCheckJob, IsNetworkJob, IsPictureJob, IsRunJob, IsWireJob, commands, fault_of_kind};
 
-use crate::command::matches_of;
-use crate::number::{room_of, speed_of};
-use crate::words_fault::WordsFault;
+use crate::command::parse_arguments;
+use crate::number::{parse_room, parse_speed};
+use crate::words_fault::ArgumentsFault;
 use bridge_frame::Speed;
 use clap::error::ErrorKind;
 use clap::{ArgMatches, Error};
 use std::alloc::Global;
 
-/// What the program is to do.
+/// Command that the arguments request, with the values of its arguments.
 #[derive(Debug, Drop)]
-pub enum Job {
-    /// The hexadecimal text of a capture, from standard input, through one queue.
+pub enum Command {
+    /// Send a capture through one queue, from hexadecimal text on standard input.
     Text,
-    /// A capture file through one queue into another one.
+    /// Send a capture file through one queue into another file.
     Wire {
-        /// The speed of the link.
+        /// Speed of the link.
         speed: Speed,
-        /// The room of the queue, 1 to 4096 frames.
+        /// Queue capacity, 1 to 4,096 frames.
         room: u16,
-        /// The path of the capture that is read.
+        /// Path of the input capture.
         input: String,
-        /// The path of the capture that is written.
+        /// Path of the output capture.
         output: String,
     },
-    /// Whether a plan isolates its protected filters.
+    /// Check whether a plan isolates its protected filters.
     Check {
-        /// The path of the plan.
+        /// Path of the plan.
         plan: String,
     },
-    /// A folder of captures through the bridge of a plan into another folder.
+    /// Run captures of a folder through the bridge of a plan, into another folder.
     Run {
-        /// The path of the plan.
+        /// Path of the plan.
         plan: String,
-        /// The path of the folder of the captures that are read.
+        /// Path of the input folder.
         input: String,
-        /// The path of the folder of the captures that are written.
+        /// Path of the output folder.
         output: String,
-        /// The path of the commands that come to the bridge, if any do.
+        /// Path of the bridge's commands; `None` for a run without commands.
         commands: Option<String>,
     },
-    /// How long the frames of a plan's protected filters may take.
+    /// Compute delay bounds of a plan's protected filters.
     Bounds {
-        /// The path of the plan.
+        /// Path of the plan.
         plan: String,
-        /// The path of the traffic that their talkers send, if it is told.
+        /// Path of the traffic of its talkers; `None` without `--traffic`.
         traffic: Option<String>,
     },
-    /// Whether a network of bridges isolates its streams.
+    /// Check whether a network isolates its streams.
     Network {
-        /// The path of the network.
+        /// Path of the network.
         network: String,
     },
-    /// Folders of captures through a network of bridges into other folders.
+    /// Run captures of folders through a network, into other folders.
     RunNetwork {
-        /// The path of the network.
+        /// Path of the network.
         network: String,
-        /// The path of the folder in which each bridge has that of its captures that are read.
+        /// Path of the folder that contains each bridge's input folder.
         input: String,
-        /// The path of the folder in which each bridge gets that of its captures that are written.
+        /// Path of the folder for each bridge's output folder.
         output: String,
-        /// The path of a picture of the run, if one is made.
+        /// Path of the picture of the run; `None` without `--picture`.
         picture: Option<String>,
     },
-    /// A picture of a plan.
+    /// Draw a plan.
     Picture {
-        /// The path of the plan.
+        /// Path of the plan.
         plan: String,
-        /// The path of the picture that is made.
+        /// Path of the picture.
         file: String,
     },
 }
 
-/// The job that the words after the program's name ask for: `Text` without words, `Wire` for `wire MBPS ROOM IN OUT`,
-/// `Check` for `check PLAN`, `Run` for `run PLAN IN OUT`, also with `--commands FILE` (once, wherever `clap` takes options),
-/// `Picture` for `picture PLAN FILE`, `Bounds` for `bounds PLAN`, also with `--traffic FILE`, `Network` for `net check NET`, and
-/// `RunNetwork` for `net NET IN OUT`, also with `--picture FILE`, whatever the name of NET is.
-///
-/// MBPS is 10, 100, 1000, 2500 or 10000 and ROOM is 1 to 4096, both as decimal digits alone. `Words` for all other words,
-/// also for a request for help or for a version, and `Run` with `NoMemory` where a growth was refused.
-pub fn job_of(alloc: Global, words: &[String]) -> Result<Job, WordsFault>
+/// Returns the command that the arguments after the program's name request; `Text` without arguments. Fails with `Words` for all other
+/// arguments, including requests for help or the version.
+pub fn parse_job(alloc: Global, words: &[String]) -> Result<Command, ArgumentsFault>
     ensures ok { IfOk result (AsksFor (map string_bytes words.now)) }
     ensures room { IfOk result HasRoom }
-    ensures words { result ≡ Err WordsFault.Words → (job : Job) → ¬ AsksFor (map string_bytes words.now) job }
+    ensures words { result ≡ Err ArgumentsFault.Words → (job : Command) → ¬ AsksFor (map string_bytes words.now) job }
 {
     if words.is_empty() {
-        return Ok(Job::Text);
+        return Ok(Command::Text);
     }
-    match matches_of(alloc, words) {
-        Ok(matches) => job_in(alloc, words, &matches),
-        Err(error) => Err(fault_of(&error)),
+    match parse_arguments(alloc, words) {
+        Ok(matches) => job_by_matches(alloc, words, &matches),
+        Err(error) => Err(argument_fault(&error)),
     }
 }
 
-/// The job that words ask for, some at least, by what they are to `clap`.
-pub(crate) fn job_in(
+/// Returns the command that `matches` names, with its values from `clap`. At least one argument is required.
+pub(crate) fn job_by_matches(
     alloc: Global,
     words: &[String],
     matches: &ArgMatches,
-) -> Result<Job, WordsFault>
+) -> Result<Command, ArgumentsFault>
     requires some { words.now ≢ [] }
     requires taken { fault_of commands (map string_bytes words.now) ≡ [] }
     requires values { subcommand_rows_of matches.now ≡ subcommand_of commands (map string_bytes words.now) }
     ensures ok { IfOk result (AsksFor (map string_bytes words.now)) }
     ensures room { IfOk result HasRoom }
-    ensures words { result ≡ Err WordsFault.Words → (job : Job) → ¬ AsksFor (map string_bytes words.now) job }
+    ensures words { result ≡ Err ArgumentsFault.Words → (job : Command) → ¬ AsksFor (map string_bytes words.now) job }
 {
     match matches.subcommand() {
-        Some((name, values)) => job_named(alloc, words, name, values),
-        None => Err(WordsFault::Words),
+        Some((name, values)) => job_by_command(alloc, words, name, values),
+        None => Err(ArgumentsFault::Words),
     }
 }
 
-/// The job that words ask for, some at least, by the name of their command and its values.
-fn job_named(
+/// Returns the requested command, by its name and its values.
+fn job_by_command(
     alloc: Global,
     words: &[String],
     name: &str,
     values: &ArgMatches,
-) -> Result<Job, WordsFault>
+) -> Result<Command, ArgumentsFault>
     requires some { map string_bytes words.now ≢ [] }
     requires taken { fault_of commands (map string_bytes words.now) ≡ [] }
-    requires named { subcommand_of commands (map string_bytes words.now) ≡ Some (name.now, rows_of (found_of values.now)) }
+    requires named { subcommand_of commands (map string_bytes words.now)
+        ≡ Some (name.now, rows_of (found_of values.now)) }
     ensures ok { IfOk result (AsksFor (map string_bytes words.now)) }
     ensures room { IfOk result HasRoom }
-    ensures words { result ≡ Err WordsFault.Words → (job : Job) → ¬ AsksFor (map string_bytes words.now) job }
+    ensures words { result ≡ Err ArgumentsFault.Words → (job : Command) → ¬ AsksFor (map string_bytes words.now) job }
 {
     match name {
         "wire" => wire_job(alloc, values),
@@ -138,38 +134,38 @@ fn job_named(
         "picture" => picture_job(alloc, values),
         "bounds" => bounds_job(alloc, values),
         "net" => network_job(alloc, values),
-        _ => Err(WordsFault::Words),
+        _ => Err(ArgumentsFault::Words),
     }
 }
 
-/// The job of a `wire` command with these values.
-fn wire_job(alloc: Global, values: &ArgMatches) -> Result<Job, WordsFault>
+/// Returns the command `wire` with the values that `clap` found. Fails with `Words` for a wrong speed or capacity.
+fn wire_job(alloc: Global, values: &ArgMatches) -> Result<Command, ArgumentsFault>
     ensures ok { IfOk result (IsWireJob (rows_of (found_of values.now))) }
     ensures room { IfOk result HasRoom }
-    ensures words { result ≡ Err WordsFault.Words → (speed : Speed) (room : ℕ) (input output : Text)
+    ensures words { result ≡ Err ArgumentsFault.Words → (speed : Speed) (room : ℕ) (input output : Text)
         → ¬ AsksForWire (rows_of (found_of values.now)) speed room input output }
 {
-    let Some(mbps) = value_of(values, "mbps") else {
-        return Err(WordsFault::Words);
+    let Some(mbps) = argument_value(values, "mbps") else {
+        return Err(ArgumentsFault::Words);
     };
-    let Some(speed) = speed_of(mbps) else {
-        return Err(WordsFault::Words);
+    let Some(speed) = parse_speed(mbps) else {
+        return Err(ArgumentsFault::Words);
     };
-    let Some(places) = value_of(values, "room") else {
-        return Err(WordsFault::Words);
+    let Some(places) = argument_value(values, "room") else {
+        return Err(ArgumentsFault::Words);
     };
-    let Some(room) = room_of(places) else {
-        return Err(WordsFault::Words);
+    let Some(room) = parse_room(places) else {
+        return Err(ArgumentsFault::Words);
     };
-    let input = match text_of(alloc, values, "input") {
+    let input = match required_text(alloc, values, "input") {
         Ok(input) => input,
         Err(fault) => return Err(fault),
     };
-    let output = match text_of(alloc, values, "output") {
+    let output = match required_text(alloc, values, "output") {
         Ok(output) => output,
         Err(fault) => return Err(fault),
     };
-    Ok(Job::Wire {
+    Ok(Command::Wire {
         speed,
         room,
         input,
@@ -177,42 +173,43 @@ fn wire_job(alloc: Global, values: &ArgMatches) -> Result<Job, WordsFault>
     })
 }
 
-/// The job of a `check` command with these values.
-fn check_job(alloc: Global, values: &ArgMatches) -> Result<Job, WordsFault>
+/// Returns the command `check` with the values that `clap` found.
+fn check_job(alloc: Global, values: &ArgMatches) -> Result<Command, ArgumentsFault>
     ensures ok { IfOk result (IsCheckJob (rows_of (found_of values.now))) }
     ensures room { IfOk result HasRoom }
-    ensures words { result ≡ Err WordsFault.Words → (plan : Text) → ¬ AsksForCheck (rows_of (found_of values.now)) plan }
+    ensures words { result ≡ Err ArgumentsFault.Words → (plan : Text)
+        → ¬ AsksForCheck (rows_of (found_of values.now)) plan }
 {
-    match text_of(alloc, values, "plan") {
-        Ok(plan) => Ok(Job::Check { plan }),
+    match required_text(alloc, values, "plan") {
+        Ok(plan) => Ok(Command::Check { plan }),
         Err(fault) => Err(fault),
     }
 }
 
-/// The job of a `run` command with these values.
-fn run_job(alloc: Global, values: &ArgMatches) -> Result<Job, WordsFault>
+/// Returns the command `run` with the values that `clap` found.
+fn run_job(alloc: Global, values: &ArgMatches) -> Result<Command, ArgumentsFault>
     ensures ok { IfOk result (IsRunJob (rows_of (found_of values.now))) }
     ensures room { IfOk result HasRoom }
-    ensures words { result ≡ Err WordsFault.Words → (plan input output : Text) (commands : Option Text)
+    ensures words { result ≡ Err ArgumentsFault.Words → (plan input output : Text) (commands : Option Text)
         → ¬ AsksForRun (rows_of (found_of values.now)) plan input output commands }
 {
-    let plan = match text_of(alloc, values, "plan") {
+    let plan = match required_text(alloc, values, "plan") {
         Ok(plan) => plan,
         Err(fault) => return Err(fault),
     };
-    let input = match text_of(alloc, values, "input") {
+    let input = match required_text(alloc, values, "input") {
         Ok(input) => input,
         Err(fault) => return Err(fault),
     };
-    let output = match text_of(alloc, values, "output") {
+    let output = match required_text(alloc, values, "output") {
         Ok(output) => output,
         Err(fault) => return Err(fault),
     };
-    let commands = match option_of(alloc, values, "commands") {
+    let commands = match optional_text(alloc, values, "commands") {
         Ok(commands) => commands,
         Err(fault) => return Err(fault),
     };
-    Ok(Job::Run {
+    Ok(Command::Run {
         plan,
         input,
         output,
@@ -220,104 +217,109 @@ fn run_job(alloc: Global, values: &ArgMatches) -> Result<Job, WordsFault>
     })
 }
 
-/// The job of a `picture` command with these values.
-fn picture_job(alloc: Global, values: &ArgMatches) -> Result<Job, WordsFault>
+/// Returns the command `picture` with the values that `clap` found.
+fn picture_job(alloc: Global, values: &ArgMatches) -> Result<Command, ArgumentsFault>
     ensures ok { IfOk result (IsPictureJob (rows_of (found_of values.now))) }
     ensures room { IfOk result HasRoom }
-    ensures words { result ≡ Err WordsFault.Words → (plan file : Text)
+    ensures words { result ≡ Err ArgumentsFault.Words → (plan file : Text)
         → ¬ AsksForPicture (rows_of (found_of values.now)) plan file }
 {
-    let plan = match text_of(alloc, values, "plan") {
+    let plan = match required_text(alloc, values, "plan") {
         Ok(plan) => plan,
         Err(fault) => return Err(fault),
     };
-    let file = match text_of(alloc, values, "file") {
+    let file = match required_text(alloc, values, "file") {
         Ok(file) => file,
         Err(fault) => return Err(fault),
     };
-    Ok(Job::Picture { plan, file })
+    Ok(Command::Picture { plan, file })
 }
 
-/// The job of a `bounds` command with these values.
-fn bounds_job(alloc: Global, values: &ArgMatches) -> Result<Job, WordsFault>
+/// Returns the command `bounds` with the values that `clap` found.
+fn bounds_job(alloc: Global, values: &ArgMatches) -> Result<Command, ArgumentsFault>
     ensures ok { IfOk result (IsBoundsJob (rows_of (found_of values.now))) }
     ensures room { IfOk result HasRoom }
-    ensures words { result ≡ Err WordsFault.Words → (plan : Text) (traffic : Option Text)
+    ensures words { result ≡ Err ArgumentsFault.Words → (plan : Text) (traffic : Option Text)
         → ¬ AsksForBounds (rows_of (found_of values.now)) plan traffic }
 {
-    let plan = match text_of(alloc, values, "plan") {
+    let plan = match required_text(alloc, values, "plan") {
         Ok(plan) => plan,
         Err(fault) => return Err(fault),
     };
-    let traffic = match option_of(alloc, values, "traffic") {
+    let traffic = match optional_text(alloc, values, "traffic") {
         Ok(traffic) => traffic,
         Err(fault) => return Err(fault),
     };
-    Ok(Job::Bounds { plan, traffic })
+    Ok(Command::Bounds { plan, traffic })
 }
 
-/// The job of a `net` command with these values: the check of a network, or with a third word its run.
-fn network_job(alloc: Global, values: &ArgMatches) -> Result<Job, WordsFault>
+/// Returns the command `net` with the values that `clap` found: a network run if there are three arguments, otherwise a check.
+fn network_job(alloc: Global, values: &ArgMatches) -> Result<Command, ArgumentsFault>
     ensures ok { IfOk result (IsNetworkJob (rows_of (found_of values.now))) }
     ensures room { IfOk result HasRoom }
-    ensures checks { result ≡ Err WordsFault.Words → (network : Text)
+    ensures checks { result ≡ Err ArgumentsFault.Words → (network : Text)
         → ¬ AsksForNetwork (rows_of (found_of values.now)) network }
-    ensures runs { result ≡ Err WordsFault.Words → (network input output : Text) (picture : Option Text)
+    ensures runs { result ≡ Err ArgumentsFault.Words → (network input output : Text) (picture : Option Text)
         → ¬ AsksForNetworkRun (rows_of (found_of values.now)) network input output picture }
 {
-    match value_of(values, "output") {
+    match argument_value(values, "output") {
         Some(to_folder) => network_run_job(alloc, values, to_folder),
         None => network_check_job(alloc, values),
     }
 }
 
-/// The job of a `net` command with these values, which have no third word.
-fn network_check_job(alloc: Global, values: &ArgMatches) -> Result<Job, WordsFault>
+/// Returns the command `net check` with these values, which lack an output folder. Fails with `Words` if the first argument isn't `check`,
+/// or for a picture.
+fn network_check_job(alloc: Global, values: &ArgMatches) -> Result<Command, ArgumentsFault>
     requires { first_of (codes "output") (rows_of (found_of values.now)) ≡ None }
     ensures ok { IfOk result (IsNetworkJob (rows_of (found_of values.now))) }
     ensures room { IfOk result HasRoom }
-    ensures words { result ≡ Err WordsFault.Words → (network : Text)
+    ensures words { result ≡ Err ArgumentsFault.Words → (network : Text)
         → ¬ AsksForNetwork (rows_of (found_of values.now)) network }
 {
-    let Some(task) = value_of(values, "first") else {
-        return Err(WordsFault::Words);
+    let Some(task) = argument_value(values, "first") else {
+        return Err(ArgumentsFault::Words);
     };
     if task != "check" {
-        return Err(WordsFault::Words);
+        return Err(ArgumentsFault::Words);
     }
-    if value_of(values, "picture").is_some() {
-        return Err(WordsFault::Words);
+    if argument_value(values, "picture").is_some() {
+        return Err(ArgumentsFault::Words);
     }
-    match text_of(alloc, values, "second") {
-        Ok(network) => Ok(Job::Network { network }),
+    match required_text(alloc, values, "second") {
+        Ok(network) => Ok(Command::Network { network }),
         Err(fault) => Err(fault),
     }
 }
 
-/// The job of a `net` command with these values, the third of which is the folder that is written.
-fn network_run_job(alloc: Global, values: &ArgMatches, to_folder: &str) -> Result<Job, WordsFault>
+/// Returns the command `net` with these values: a network run into the folder `to_folder`.
+fn network_run_job(
+    alloc: Global,
+    values: &ArgMatches,
+    to_folder: &str,
+) -> Result<Command, ArgumentsFault>
     requires { first_of (codes "output") (rows_of (found_of values.now)) ≡ Some to_folder.now }
     ensures ok { IfOk result (IsNetworkJob (rows_of (found_of values.now))) }
     ensures room { IfOk result HasRoom }
-    ensures words { result ≡ Err WordsFault.Words → (network input output : Text) (picture : Option Text)
+    ensures words { result ≡ Err ArgumentsFault.Words → (network input output : Text) (picture : Option Text)
         → ¬ AsksForNetworkRun (rows_of (found_of values.now)) network input output picture }
 {
-    let network = match text_of(alloc, values, "first") {
+    let network = match required_text(alloc, values, "first") {
         Ok(network) => network,
         Err(fault) => return Err(fault),
     };
-    let input = match text_of(alloc, values, "second") {
+    let input = match required_text(alloc, values, "second") {
         Ok(input) => input,
         Err(fault) => return Err(fault),
     };
-    let picture = match option_of(alloc, values, "picture") {
+    let picture = match optional_text(alloc, values, "picture") {
         Ok(picture) => picture,
         Err(fault) => return Err(fault),
     };
     let Ok(output) = String::from_str(alloc, to_folder) else {
-        return Err(WordsFault::NoMemory);
+        return Err(ArgumentsFault::NoMemory);
     };
-    Ok(Job::RunNetwork {
+    Ok(Command::RunNetwork {
         network,
         input,
         output,
@@ -325,51 +327,51 @@ fn network_run_job(alloc: Global, values: &ArgMatches, to_folder: &str) -> Resul
     })
 }
 
-/// The value of a command by its name.
-pub(crate) fn value_of<'a>(values: &ArgMatches<'a>, name: &str) -> Option<&'a str>
+/// Returns the value that `clap` found for argument or option `name`, or `None` if it is absent.
+pub(crate) fn argument_value<'a>(values: &ArgMatches<'a>, name: &str) -> Option<&'a str>
     ensures { option_map (λ s. s.now) result ≡ first_of name.now (rows_of (found_of values.now)) }
 {
     values.get_str(name)
 }
 
-/// The value of a command by its name, with memory of its own; `Words` where there is none.
-fn text_of(alloc: Global, values: &ArgMatches, name: &str) -> Result<String, WordsFault>
+/// Copies the value of argument `name`. Fails with `Words` if it is missing.
+fn required_text(alloc: Global, values: &ArgMatches, name: &str) -> Result<String, ArgumentsFault>
     ensures value { IfOk result (λ t. first_of name.now (rows_of (found_of values.now)) ≡ Some (string_bytes t)) }
-    ensures none { result ≡ Err WordsFault.Words → first_of name.now (rows_of (found_of values.now)) ≡ None }
+    ensures none { result ≡ Err ArgumentsFault.Words → first_of name.now (rows_of (found_of values.now)) ≡ None }
 {
-    let Some(word) = value_of(values, name) else {
-        return Err(WordsFault::Words);
+    let Some(word) = argument_value(values, name) else {
+        return Err(ArgumentsFault::Words);
     };
     match String::from_str(alloc, word) {
         Ok(text) => Ok(text),
-        Err(_) => Err(WordsFault::NoMemory),
+        Err(_) => Err(ArgumentsFault::NoMemory),
     }
 }
 
-/// The value of an option, with memory of its own, where it stands there.
-pub(crate) fn option_of(
+/// Copies the value of argument `name`. Returns `None` if it is absent.
+pub(crate) fn optional_text(
     alloc: Global,
     values: &ArgMatches,
     name: &str,
-) -> Result<Option<String>, WordsFault>
+) -> Result<Option<String>, ArgumentsFault>
     ensures value { IfOk result (λ t. first_of name.now (rows_of (found_of values.now)) ≡ option_map string_bytes t) }
-    ensures memory { IfErr result (λ fault. fault ≡ WordsFault.NoMemory) }
+    ensures memory { IfErr result (λ fault. fault ≡ ArgumentsFault.NoMemory) }
 {
-    let Some(word) = value_of(values, name) else {
+    let Some(word) = argument_value(values, name) else {
         return Ok(None);
     };
     match String::from_str(alloc, word) {
         Ok(text) => Ok(Some(text)),
-        Err(_) => Err(WordsFault::NoMemory),
+        Err(_) => Err(ArgumentsFault::NoMemory),
     }
 }
 
-/// The fault of words that `clap` refuses.
-pub(crate) fn fault_of(error: &Error) -> WordsFault
+/// Returns the fault of arguments that `clap` refuses: `NoMemory` if memory ran out, otherwise `Words`.
+pub(crate) fn argument_fault(error: &Error) -> ArgumentsFault
     ensures { result ≡ fault_of_kind (kind_of error.now) }
 {
     match error.kind() {
-        ErrorKind::OutOfMemory => WordsFault::NoMemory,
-        _ => WordsFault::Words,
+        ErrorKind::OutOfMemory => ArgumentsFault::NoMemory,
+        _ => ArgumentsFault::Words,
     }
 }

@@ -1,11 +1,7 @@
 #![tactic(auto)]
-//! The arguments of the command line: the job that they ask for, what they ask for in addition, how each command is called, and the
-//! help of all commands.
+//! Reads the arguments: the requested command, its options, the usage of each command, and the help.
 
-mod arguments;
-mod calls;
 mod command;
-mod explaining;
 mod helping;
 mod job;
 mod manual;
@@ -13,17 +9,16 @@ mod number;
 mod picture_request;
 mod request;
 mod table_request;
+mod usage;
 mod words_fault;
 
-pub use arguments::words_of;
-pub use calls::{Call, call_of, command_names, has_value, option_names};
-pub use command::{COMMANDS, Description, Form, OPTIONS, Word, description_at};
-pub use explaining::{wants_explanation, wants_strictness};
-pub use helping::help_of;
-pub use job::{Job, job_of};
-pub use manual::manual_of;
-pub use number::numbers_of;
-pub use picture_request::{PictureRequest, picture_request_of};
-pub use request::{Request, request_of};
-pub use table_request::{TableRequest, table_request_of};
-pub use words_fault::WordsFault;
+pub use command::{COMMANDS, Form, OPTIONS};
+pub use helping::requested_help;
+pub use job::{Command, parse_job};
+pub use manual::help_text;
+pub use number::parse_number_list;
+pub use picture_request::{PictureRequest, parse_picture_request};
+pub use request::{Request, parse_request, read_arguments, wants_explanation, wants_strictness};
+pub use table_request::{TableRequest, parse_table_request};
+pub use usage::{Usage, command_names, find_usage, has_value, option_names};
+pub use words_fault::ArgumentsFault;

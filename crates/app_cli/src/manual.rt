@@ -1,27 +1,27 @@
-//! The help of the program and of all its commands as one text.
+//! The help of the program and all its commands as one text. A test prints it, and `tools/commands` makes the page Commands from that.
 ghost use Rattle.std.specs.Prelude.{◌≡◌, IfErr, IfOk, map, string_bytes};
 
-use crate::command::{COMMANDS, description_at};
-use crate::helping::help_of;
-use crate::words_fault::WordsFault;
+use crate::command::{COMMANDS, command_description};
+use crate::helping::requested_help;
+use crate::words_fault::ArgumentsFault;
 use std::alloc::{AllocError, Global};
 
-/// The help of the program, and of each of its commands, behind the line that asks for it.
-pub fn manual_of(alloc: Global) -> Result<String, WordsFault>
-    ensures { IfErr result (λ fault. fault ≡ WordsFault.NoMemory) }
+/// Returns the help of the program and of each command, each after the line that requests it.
+pub fn help_text(alloc: Global) -> Result<String, ArgumentsFault>
+    ensures { IfErr result (λ fault. fault ≡ ArgumentsFault.NoMemory) }
 {
     let mut manual = String::new(alloc);
     push_help(alloc, &mut manual, &["--help"])?;
-    push_each(alloc, &mut manual)?;
+    push_command_help(alloc, &mut manual)?;
     Ok(manual)
 }
 
-/// Adds the help of each command, behind an empty line.
-fn push_each(alloc: Global, manual: &mut String) -> Result<(), WordsFault>
-    ensures { IfErr result (λ fault. fault ≡ WordsFault.NoMemory) }
+/// Appends the help of each command to `manual`, each after an empty line.
+fn push_command_help(alloc: Global, manual: &mut String) -> Result<(), ArgumentsFault>
+    ensures { IfErr result (λ fault. fault ≡ ArgumentsFault.NoMemory) }
 {
     for place in 0..COMMANDS {
-        if let Some(command) = description_at(place) {
+        if let Some(command) = command_description(place) {
             manual.push_str("\n")?;
             push_help(alloc, manual, &[command.name, "--help"])?;
         }
@@ -29,19 +29,19 @@ fn push_each(alloc: Global, manual: &mut String) -> Result<(), WordsFault>
     Ok(())
 }
 
-/// Adds the line of these words, and the text that they ask for.
-fn push_help(alloc: Global, manual: &mut String, line: &[&str]) -> Result<(), WordsFault>
-    ensures { IfErr result (λ fault. fault ≡ WordsFault.NoMemory) }
+/// Appends the line of a call, such as `$ tsnbridge check --help`, and the help that it requests.
+fn push_help(alloc: Global, manual: &mut String, line: &[&str]) -> Result<(), ArgumentsFault>
+    ensures { IfErr result (λ fault. fault ≡ ArgumentsFault.NoMemory) }
 {
-    let words = owned_of(alloc, line)?;
+    let words = copy_words(alloc, line)?;
     push_line(manual, &words)?;
-    if let Some(text) = help_of(alloc, &words)? {
+    if let Some(text) = requested_help(alloc, &words)? {
         manual.push_str(text.as_str())?;
     }
     Ok(())
 }
 
-/// Adds the line of a call with these words.
+/// Appends the line of a call with these arguments, as a user types it.
 fn push_line(manual: &mut String, words: &[String]) -> Result<(), AllocError> {
     manual.push_str("$ tsnbridge")?;
     for word in words {
@@ -50,8 +50,8 @@ fn push_line(manual: &mut String, words: &[String]) -> Result<(), AllocError> {
     manual.push_str("\n")
 }
 
-/// The same words, each with memory of its own.
-fn owned_of(alloc: Global, line: &[&str]) -> Result<Vec<String>, AllocError>
+/// Returns owned copies of these arguments: `requested_help` takes arguments as the program gets them.
+fn copy_words(alloc: Global, line: &[&str]) -> Result<Vec<String>, AllocError>
     ensures { IfOk result (λ words. map string_bytes words.items ≡ map (λ word. word.now) line.now) }
 {
     let mut words = Vec::new(alloc);

@@ -1,4 +1,4 @@
-//! Words of the command line that stand for a number.
+//! Reads numbers from arguments.
 ghost use Rattle.std.specs.Prelude.{◌<◌, ◌^◌, MatchOption};
 ghost use Rattle.std.specs.Option.{SomeIff};
 ghost use Rattle.std.specs.Str.Parse.{IsNumeral, digits_value};
@@ -10,8 +10,8 @@ use bridge_limits::END_OF_TIME;
 use bridge_port::LARGEST_ROOM;
 use std::alloc::{AllocError, Global};
 
-/// The number of a word of decimal digits alone, one or more, where it is below 2^32.
-fn number_of(word: &str) -> Option<u32>
+/// Reads a number below 2^32 from one or more decimal digits. Returns `None` for a sign, other characters, or a larger number.
+fn parse_number(word: &str) -> Option<u32>
     ensures { SomeIff result (IsNumeral 10 word.now × (digits_value 10 word.now < 2 ^ 32)) (digits_value 10 word.now) }
 {
     if word.as_bytes().first() == Some(&b'+') {
@@ -23,11 +23,11 @@ fn number_of(word: &str) -> Option<u32>
     }
 }
 
-/// The room of a queue that a word gives: decimal digits alone, 1 to 4096 frames.
-pub fn room_of(word: &str) -> Option<u16>
+/// Reads a queue capacity from decimal digits: 1 to 4,096 frames. Returns `None` for other arguments.
+pub fn parse_room(word: &str) -> Option<u16>
     ensures { SomeIff result (IsRoom word.now) (digits_value 10 word.now) }
 {
-    let number = number_of(word)?;
+    let number = parse_number(word)?;
     if number == 0 {
         return None;
     }
@@ -37,18 +37,18 @@ pub fn room_of(word: &str) -> Option<u16>
     Some(number as u16)
 }
 
-/// The speed that a word gives: decimal digits alone, 10, 100, 1000, 2500 or 10000 megabits a second.
-pub fn speed_of(word: &str) -> Option<Speed>
+/// Reads a link speed from decimal digits: 10, 100, 1000, 2500 or 10000 Mb/s. Returns `None` for other arguments.
+pub fn parse_speed(word: &str) -> Option<Speed>
     ensures { MatchOption result ((speed : Speed) → ¬ IsSpeed word.now speed) (IsSpeed word.now) }
 {
-    match number_of(word) {
+    match parse_number(word) {
         Some(number) => Speed::of(number),
         None => None,
     }
 }
 
-/// The moment that a word gives, in ns: decimal digits alone, below 4 * 10^18.
-pub fn moment_of(word: &str) -> Option<u64>
+/// Reads a time in ns from decimal digits: below 4 * 10^18. Returns `None` for other arguments.
+pub fn parse_time(word: &str) -> Option<u64>
     ensures { SomeIff result (IsMoment word.now) (digits_value 10 word.now) }
 {
     if word.as_bytes().first() == Some(&b'+') {
@@ -60,21 +60,21 @@ pub fn moment_of(word: &str) -> Option<u64>
     }
 }
 
-/// Whether a word is a list of numbers: decimal digits alone, one or more, each number below 2^32, with a comma between two.
-pub(crate) fn is_list(word: &str) -> bool {
+/// Whether an argument is a list of numbers below 2^32, separated by commas.
+pub(crate) fn is_number_list(word: &str) -> bool {
     for part in word.split(',') {
-        if number_of(part).is_none() {
+        if parse_number(part).is_none() {
             return false;
         }
     }
     true
 }
 
-/// The numbers of a list with a comma between two, each of decimal digits alone and below 2^32; of other words nothing.
-pub fn numbers_of(alloc: Global, list: &str) -> Result<Vec<u32>, AllocError> {
+/// Returns the numbers of a list separated by commas. Skips parts that aren't numbers below 2^32.
+pub fn parse_number_list(alloc: Global, list: &str) -> Result<Vec<u32>, AllocError> {
     let mut numbers = Vec::new(alloc);
     for part in list.split(',') {
-        if let Some(number) = number_of(part) {
+        if let Some(number) = parse_number(part) {
             numbers.push(number)?;
         }
     }

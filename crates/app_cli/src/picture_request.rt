@@ -1,62 +1,60 @@
-//! The picture of a run, or the part of a plan, that the words of the command line ask for.
+//! Finds the picture of a run, or of part of a plan, that the arguments request.
 ghost use Rattle.std.specs.Prelude.{◌≡◌, ◌≢◌, ◌↔◌, Err, None, Some, IfOk, IfErr, IsTrue, List, codes, false, map, option_map, string_bytes};
 ghost use Rattle.clap.specs.Words.{Row, first_of, found_of, rows_of, subcommand_of, subcommand_rows_of};
-ghost use Rattle.app_cli.specs.declared.job.Job.{Job};
+ghost use Rattle.app_cli.specs.declared.job.Command.{Command};
 ghost use Rattle.app_cli.specs.CommandLine.{AsksFor, commands};
 ghost use Rattle.app_cli.specs.Sketching.{AreInOrder, AsksForPart, AsksForSketch, HasNoPart, IsBound, IsSketch, NamesPart};
 
-use crate::command::matches_of;
-use crate::job::{fault_of, option_of, value_of};
-use crate::number::{is_list, moment_of};
-use crate::words_fault::WordsFault;
+use crate::command::parse_arguments;
+use crate::job::{argument_fault, argument_value, optional_text};
+use crate::number::{is_number_list, parse_time};
+use crate::words_fault::ArgumentsFault;
 use clap::ArgMatches;
 use std::alloc::Global;
 
-/// A picture that is asked for of a run, or of a part of a plan.
+/// Requested picture of a run, or of part of a plan.
 #[derive(Debug, Drop)]
 pub struct PictureRequest {
-    /// The path of its file.
+    /// Path of the picture's file.
     pub file: String,
-    /// The moment from which on it shows the run or the plan, in ns; without it from the first thing on that there is to show.
+    /// Start of the picture in ns; by default the first event.
     pub from: Option<u64>,
-    /// The moment up to which it does, in ns; without it up to the last such thing.
+    /// End of the picture in ns; by default the last event.
     pub to: Option<u64>,
-    /// The numbers of the ports that it shows, with commas between them (`numbers_of`); without them all.
+    /// Numbers of the ports in the picture, separated by commas (`parse_number_list`); by default all ports.
     pub ports: Option<String>,
-    /// The numbers of the filters of which it shows the frames; without them all.
+    /// Numbers of the filters whose frames the picture shows, separated by commas; by default all filters.
     pub filters: Option<String>,
 }
 
-/// The picture that the words after the program's name ask for beside a run, by `--picture FILE`, `--from NS`, `--to NS`,
-/// `--ports LIST` and `--filters LIST`, and the one of a plan, where `--from NS`, `--to NS` or `--ports LIST` asks for a part of
-/// it; none for every other job.
+/// Returns the picture that the arguments request with a run, or the requested part of a plan's picture; `None` for other commands.
 ///
-/// `Words` for a moment or a list that isn't one, for moments that aren't in order, and for either without a picture; `Run` with
-/// `NoMemory` where a growth was refused.
-pub fn picture_request_of(
+/// Fails with `Words` for an invalid time, list or order of times.
+pub fn parse_picture_request(
     alloc: Global,
     words: &[String],
-) -> Result<Option<PictureRequest>, WordsFault>
+) -> Result<Option<PictureRequest>, ArgumentsFault>
     ensures ok { IfOk result (λ sketch. (values : List Row)
         → subcommand_of commands (map string_bytes words.now) ≡ Some (codes "run", values)
         → AsksForSketch values sketch) }
     ensures part { IfOk result (λ sketch. (values : List Row)
         → subcommand_of commands (map string_bytes words.now) ≡ Some (codes "picture", values)
         → AsksForPart values sketch) }
-    ensures words { result ≡ Err WordsFault.Words → (job : Job) → AsksFor (map string_bytes words.now) job → NamesPart (map string_bytes words.now) }
+    ensures words { result ≡ Err ArgumentsFault.Words → (job : Command) → AsksFor (map string_bytes words.now) job
+        → NamesPart (map string_bytes words.now) }
 {
-    match matches_of(alloc, words) {
-        Ok(matches) => picture_in(alloc, words, &matches),
-        Err(error) => Err(fault_of(&error)),
+    match parse_arguments(alloc, words) {
+        Ok(matches) => picture_by_matches(alloc, words, &matches),
+        Err(error) => Err(argument_fault(&error)),
     }
 }
 
-/// The same by what the words are to `clap`.
-pub(crate) fn picture_in(
+/// Returns the requested picture, by the values that `clap` found. Returns `None` for commands without picture options.
+pub(crate) fn picture_by_matches(
     alloc: Global,
     words: &[String],
     matches: &ArgMatches,
-) -> Result<Option<PictureRequest>, WordsFault>
+) -> Result<Option<PictureRequest>, ArgumentsFault>
     requires values { subcommand_rows_of matches.now ≡ subcommand_of commands (map string_bytes words.now) }
     ensures ok { IfOk result (λ sketch. (values : List Row)
         → subcommand_of commands (map string_bytes words.now) ≡ Some (codes "run", values)
@@ -64,98 +62,101 @@ pub(crate) fn picture_in(
     ensures part { IfOk result (λ sketch. (values : List Row)
         → subcommand_of commands (map string_bytes words.now) ≡ Some (codes "picture", values)
         → AsksForPart values sketch) }
-    ensures words { result ≡ Err WordsFault.Words → NamesPart (map string_bytes words.now) }
+    ensures words { result ≡ Err ArgumentsFault.Words → NamesPart (map string_bytes words.now) }
 {
     if let Some(values) = matches.subcommand_matches("run") {
-        return sketch_in(alloc, values);
+        return run_picture(alloc, values);
     }
     if let Some(values) = matches.subcommand_matches("picture") {
-        return part_in(alloc, values);
+        return plan_picture(alloc, values);
     }
     Ok(None)
 }
 
-/// Whether these values name no part of a run or of a plan.
-fn has_no_part(values: &ArgMatches) -> bool
+/// Whether the values name no part of a run or plan: no time, port or filter.
+fn has_no_selection(values: &ArgMatches) -> bool
     ensures { IsTrue result ↔ HasNoPart (rows_of (found_of values.now)) }
 {
-    let from = value_of(values, "from");
-    let to = value_of(values, "to");
-    let ports = value_of(values, "ports");
-    let filters = value_of(values, "filters");
+    let from = argument_value(values, "from");
+    let to = argument_value(values, "to");
+    let ports = argument_value(values, "ports");
+    let filters = argument_value(values, "filters");
     match (from, to, ports, filters) {
         (None, None, None, None) => true,
         _ => false,
     }
 }
 
-/// The picture of a run that these values ask for.
-fn sketch_in(alloc: Global, values: &ArgMatches) -> Result<Option<PictureRequest>, WordsFault>
+/// Returns the requested picture of a run, or `None` without `--picture`. Fails with `Words` if a part but no picture is requested.
+fn run_picture(alloc: Global, values: &ArgMatches) -> Result<Option<PictureRequest>, ArgumentsFault>
     ensures ok { IfOk result (AsksForSketch (rows_of (found_of values.now))) }
-    ensures words { result ≡ Err WordsFault.Words → ¬ HasNoPart (rows_of (found_of values.now)) }
+    ensures words { result ≡ Err ArgumentsFault.Words → ¬ HasNoPart (rows_of (found_of values.now)) }
 {
-    let Some(path) = value_of(values, "picture") else {
-        if has_no_part(values) {
+    let Some(path) = argument_value(values, "picture") else {
+        if has_no_selection(values) {
             return Ok(None);
         }
-        return Err(WordsFault::Words);
+        return Err(ArgumentsFault::Words);
     };
-    match sketch_into(alloc, values, "picture", path) {
+    match read_picture_options(alloc, values, "picture", path) {
         Ok(sketch) => Ok(Some(sketch)),
         Err(fault) => Err(fault),
     }
 }
 
-/// The picture of a part of a plan that these values ask for, where they ask for a part.
-fn part_in(alloc: Global, values: &ArgMatches) -> Result<Option<PictureRequest>, WordsFault>
+/// Returns the requested part of a plan's picture, or `None` for the whole plan.
+fn plan_picture(
+    alloc: Global,
+    values: &ArgMatches,
+) -> Result<Option<PictureRequest>, ArgumentsFault>
     ensures ok { IfOk result (AsksForPart (rows_of (found_of values.now))) }
-    ensures words { result ≡ Err WordsFault.Words → ¬ HasNoPart (rows_of (found_of values.now)) }
+    ensures words { result ≡ Err ArgumentsFault.Words → ¬ HasNoPart (rows_of (found_of values.now)) }
 {
-    if has_no_part(values) {
+    if has_no_selection(values) {
         return Ok(None);
     }
-    let Some(path) = value_of(values, "file") else {
-        return Err(WordsFault::Words);
+    let Some(path) = argument_value(values, "file") else {
+        return Err(ArgumentsFault::Words);
     };
-    match sketch_into(alloc, values, "file", path) {
+    match read_picture_options(alloc, values, "file", path) {
         Ok(sketch) => Ok(Some(sketch)),
         Err(fault) => Err(fault),
     }
 }
 
-/// The picture that these values ask for, into the file of a path, which stands by this name.
-fn sketch_into(
+/// Returns the picture with the options that `clap` found. `path` is the value of argument `name`, the picture's file.
+fn read_picture_options(
     alloc: Global,
     values: &ArgMatches,
     name: &str,
     path: &str,
-) -> Result<PictureRequest, WordsFault>
+) -> Result<PictureRequest, ArgumentsFault>
     requires { first_of name.now (rows_of (found_of values.now)) ≡ Some path.now }
     ensures ok { IfOk result (IsSketch name.now (rows_of (found_of values.now))) }
-    ensures words { result ≡ Err WordsFault.Words → ¬ HasNoPart (rows_of (found_of values.now)) }
+    ensures words { result ≡ Err ArgumentsFault.Words → ¬ HasNoPart (rows_of (found_of values.now)) }
 {
-    let Some(from) = bound_of(values, "from") else {
-        return Err(WordsFault::Words);
+    let Some(from) = optional_time(values, "from") else {
+        return Err(ArgumentsFault::Words);
     };
-    let Some(to) = bound_of(values, "to") else {
-        return Err(WordsFault::Words);
+    let Some(to) = optional_time(values, "to") else {
+        return Err(ArgumentsFault::Words);
     };
     if !are_in_order(from, to) {
-        return Err(WordsFault::Words);
+        return Err(ArgumentsFault::Words);
     }
-    if !has_list(values, "ports") || !has_list(values, "filters") {
-        return Err(WordsFault::Words);
+    if !has_valid_list(values, "ports") || !has_valid_list(values, "filters") {
+        return Err(ArgumentsFault::Words);
     }
-    let ports = match option_of(alloc, values, "ports") {
+    let ports = match optional_text(alloc, values, "ports") {
         Ok(ports) => ports,
         Err(fault) => return Err(fault),
     };
-    let filters = match option_of(alloc, values, "filters") {
+    let filters = match optional_text(alloc, values, "filters") {
         Ok(filters) => filters,
         Err(fault) => return Err(fault),
     };
     let Ok(file) = String::from_str(alloc, path) else {
-        return Err(WordsFault::NoMemory);
+        return Err(ArgumentsFault::NoMemory);
     };
     Ok(PictureRequest {
         file,
@@ -166,31 +167,32 @@ fn sketch_into(
     })
 }
 
-/// Whether an option, where it stands there, is a list of numbers.
-fn has_list(values: &ArgMatches, name: &str) -> bool
+/// Whether option `name` is absent or a list of numbers.
+fn has_valid_list(values: &ArgMatches, name: &str) -> bool
     ensures { result ≡ false → first_of name.now (rows_of (found_of values.now)) ≢ None }
 {
-    match value_of(values, name) {
+    match argument_value(values, name) {
         None => true,
-        Some(word) => is_list(word),
+        Some(word) => is_number_list(word),
     }
 }
 
-/// The moment of an option, where it stands there; `None` where it isn't one.
-fn bound_of(values: &ArgMatches, name: &str) -> Option<Option<u64>>
-    ensures bound { (bound : _) → result ≡ Some bound → IsBound (first_of name.now (rows_of (found_of values.now))) bound }
+/// Returns the time of option `name`: `Some(None)` if the option is absent, `None` if its value is no time.
+fn optional_time(values: &ArgMatches, name: &str) -> Option<Option<u64>>
+    ensures bound { (bound : _) → result ≡ Some bound
+        → IsBound (first_of name.now (rows_of (found_of values.now))) bound }
     ensures none { result ≡ None → first_of name.now (rows_of (found_of values.now)) ≢ None }
 {
-    match value_of(values, name) {
+    match argument_value(values, name) {
         None => Some(None),
-        Some(word) => match moment_of(word) {
+        Some(word) => match parse_time(word) {
             Some(moment) => Some(Some(moment)),
             None => None,
         },
     }
 }
 
-/// Whether the first of two moments comes before the other one, where both are given.
+/// Whether `from` is before `to`. Returns true if one of them is absent.
 fn are_in_order(from: Option<u64>, to: Option<u64>) -> bool
     ensures order { IsTrue result → AreInOrder from to }
     ensures given { result ≡ false → from ≢ None }

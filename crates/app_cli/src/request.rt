@@ -1,42 +1,42 @@
-//! All that the words of the command line ask for, by one parse.
+//! Parses the arguments once, into everything that they request.
 ghost use Rattle.std.specs.Prelude.{◌≡◌, ◌≢◌, [], Err, IfOk, IfErr, List, Some, codes, map, string_bytes};
 ghost use Rattle.clap.specs.Words.{Row, fault_of, subcommand_of, subcommand_rows_of};
-ghost use Rattle.app_cli.specs.declared.job.Job.{Job};
+ghost use Rattle.app_cli.specs.declared.job.Command.{Command};
 ghost use Rattle.app_cli.specs.CommandLine.{AsksFor, HasRoom, commands};
-ghost use Rattle.app_cli.specs.Helping.{explains, is_strict};
+ghost use Rattle.app_cli.specs.Helping.{explains, is_strict, has_flag};
 ghost use Rattle.app_cli.specs.Sketching.{AsksForPart, AsksForSketch, NamesPart};
 ghost use Rattle.app_cli.specs.Tabling.{AsksForTables};
 
-use crate::command::matches_of;
-use crate::explaining::{wants_explanation, wants_strictness};
-use crate::job::{Job, fault_of, job_in};
-use crate::picture_request::{PictureRequest, picture_in};
-use crate::table_request::{TableRequest, tables_in};
-use crate::words_fault::WordsFault;
+use crate::command::parse_arguments;
+use crate::job::{Command, argument_fault, job_by_matches};
+use crate::picture_request::{PictureRequest, picture_by_matches};
+use crate::table_request::{TableRequest, tables_by_matches};
+use crate::words_fault::ArgumentsFault;
 use clap::ArgMatches;
 use std::alloc::Global;
+use std::env;
+use std::io::ErrorKind;
+use std::rt::Env;
 
-/// What words ask for.
+/// Everything that the arguments request.
 #[derive(Drop)]
 pub struct Request {
-    /// What is to be done.
-    pub job: Job,
-    /// The picture of a run, or of a part of a plan, if one is asked for.
+    /// Requested command.
+    pub job: Command,
+    /// Requested picture of a run, or of part of a plan; otherwise `None`.
     pub picture: Option<PictureRequest>,
-    /// The tables of a run that are asked for.
+    /// Requested tables of a run.
     pub tables: TableRequest,
-    /// Whether more is to be told than a line.
+    /// Whether explanations are requested: `--explain`.
     pub is_explained: bool,
-    /// Whether a warning is a fault.
+    /// Whether warnings are errors: `--strict`.
     pub is_strict: bool,
 }
 
-/// What the words after the program's name ask for: their job as `job_of` has it, the picture as `picture_request_of` and the tables
-/// as `table_request_of` have them, and what is told as `wants_explanation` and `wants_strictness`.
-///
-/// `Words` where one of these answers it; `Run` with `NoMemory` where a growth was refused.
+/// Parses the arguments after the program's name once: the requested command, picture, tables and flags. Fails with `Words` if one of them
+/// is invalid.
 #[tactic(auto, using(crate::proofs::Parsed::none_named))]
-pub fn request_of(alloc: Global, words: &[String]) -> Result<Request, WordsFault>
+pub fn parse_request(alloc: Global, words: &[String]) -> Result<Request, ArgumentsFault>
     ensures job { IfOk result (λ r. AsksFor (map string_bytes words.now) r.job) }
     ensures room { IfOk result (λ r. HasRoom r.job) }
     ensures sketch { IfOk result (λ r. (values : List Row)
@@ -50,11 +50,12 @@ pub fn request_of(alloc: Global, words: &[String]) -> Result<Request, WordsFault
         → AsksForTables values r.tables) }
     ensures explained { IfOk result (λ r. r.is_explained ≡ explains (map string_bytes words.now)) }
     ensures strict { IfOk result (λ r. r.is_strict ≡ is_strict (map string_bytes words.now)) }
-    ensures words { result ≡ Err WordsFault.Words → (job : Job) → AsksFor (map string_bytes words.now) job → NamesPart (map string_bytes words.now) }
+    ensures words { result ≡ Err ArgumentsFault.Words → (job : Command) → AsksFor (map string_bytes words.now) job
+        → NamesPart (map string_bytes words.now) }
 {
     if words.is_empty() {
         return Ok(Request {
-            job: Job::Text,
+            job: Command::Text,
             picture: None,
             tables: TableRequest {
                 delays: None,
@@ -64,14 +65,18 @@ pub fn request_of(alloc: Global, words: &[String]) -> Result<Request, WordsFault
             is_strict: false,
         });
     }
-    match matches_of(alloc, words) {
-        Ok(matches) => request_in(alloc, words, &matches),
-        Err(error) => Err(fault_of(&error)),
+    match parse_arguments(alloc, words) {
+        Ok(matches) => request_by_matches(alloc, words, &matches),
+        Err(error) => Err(argument_fault(&error)),
     }
 }
 
-/// The same of words, some at least, by what they are to `clap`.
-fn request_in(alloc: Global, words: &[String], matches: &ArgMatches) -> Result<Request, WordsFault>
+/// Returns the request with everything that `clap` found. At least one argument is required.
+fn request_by_matches(
+    alloc: Global,
+    words: &[String],
+    matches: &ArgMatches,
+) -> Result<Request, ArgumentsFault>
     requires some { words.now ≢ [] }
     requires taken { fault_of commands (map string_bytes words.now) ≡ [] }
     requires values { subcommand_rows_of matches.now ≡ subcommand_of commands (map string_bytes words.now) }
@@ -88,20 +93,21 @@ fn request_in(alloc: Global, words: &[String], matches: &ArgMatches) -> Result<R
         → AsksForTables values r.tables) }
     ensures explained { IfOk result (λ r. r.is_explained ≡ explains (map string_bytes words.now)) }
     ensures strict { IfOk result (λ r. r.is_strict ≡ is_strict (map string_bytes words.now)) }
-    ensures words { result ≡ Err WordsFault.Words → (job : Job) → AsksFor (map string_bytes words.now) job → NamesPart (map string_bytes words.now) }
+    ensures words { result ≡ Err ArgumentsFault.Words → (job : Command) → AsksFor (map string_bytes words.now) job
+        → NamesPart (map string_bytes words.now) }
 {
-    let job = match job_in(alloc, words, matches) {
+    let job = match job_by_matches(alloc, words, matches) {
         Ok(job) => job,
         Err(fault) => return Err(fault),
     };
-    let picture = match picture_in(alloc, words, matches) {
+    let picture = match picture_by_matches(alloc, words, matches) {
         Ok(picture) => picture,
         Err(fault) => {
             drop(job);
             return Err(fault);
         }
     };
-    match tables_in(alloc, words, matches) {
+    match tables_by_matches(alloc, words, matches) {
         Ok(tables) => Ok(Request {
             job,
             picture,
@@ -115,4 +121,51 @@ fn request_in(alloc: Global, words: &[String], matches: &ArgMatches) -> Result<R
             Err(fault)
         }
     }
+}
+
+/// Whether `--explain` is among the arguments before the first `--`. After `--`, `clap` accepts no options.
+pub fn wants_explanation(words: &[String]) -> bool
+    ensures { result ≡ explains (map string_bytes words.now) }
+{
+    has_flag(words, "--explain")
+}
+
+/// Whether `--strict` is among the arguments before the first `--`. It makes warnings about accepted plans and networks errors.
+pub fn wants_strictness(words: &[String]) -> bool
+    ensures { result ≡ is_strict (map string_bytes words.now) }
+{
+    has_flag(words, "--strict")
+}
+
+/// Whether `flag` is among the arguments before the first `--`. It also finds flags in arguments that `clap` refuses.
+fn has_flag(words: &[String], flag: &str) -> bool
+    ensures { result ≡ has_flag flag.now (map string_bytes words.now) }
+{
+    for word in words {
+        if word.as_str() == "--" {
+            return false;
+        }
+        if word.as_str() == flag {
+            return true;
+        }
+    }
+    false
+}
+
+/// Returns the arguments after the program's name. Refuses an argument that isn't UTF-8 with `Words`, because no command has it.
+pub fn read_arguments(rt: &(impl AllocGlobal + Env)) -> Result<Vec<String>, ArgumentsFault> {
+    let words = match env::args(rt) {
+        Ok(words) => words,
+        Err(error) if error.kind() == ErrorKind::OutOfMemory => return Err(
+            ArgumentsFault::NoMemory,
+        ),
+        Err(_) => return Err(ArgumentsFault::Words),
+    };
+    let mut after = Vec::new(rt.alloc());
+    for word in words.skip(1) {
+        let Ok(()) = after.push(word) else {
+            return Err(ArgumentsFault::NoMemory);
+        };
+    }
+    Ok(after)
 }

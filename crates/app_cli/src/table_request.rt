@@ -1,55 +1,54 @@
-//! The tables of a run that the words of the command line ask for.
+//! Finds the tables of a run that the arguments request.
 ghost use Rattle.std.specs.Prelude.{◌≡◌, Err, Some, IfOk, IfErr, List, codes, map, option_map, string_bytes};
 ghost use Rattle.clap.specs.Words.{Row, first_of, found_of, rows_of, subcommand_of, subcommand_rows_of};
-ghost use Rattle.app_cli.specs.declared.job.Job.{Job};
+ghost use Rattle.app_cli.specs.declared.job.Command.{Command};
 ghost use Rattle.app_cli.specs.CommandLine.{AsksFor, commands};
 ghost use Rattle.app_cli.specs.Tabling.{AsksForTables};
 
-use crate::command::matches_of;
-use crate::job::{fault_of, option_of};
-use crate::words_fault::WordsFault;
+use crate::command::parse_arguments;
+use crate::job::{argument_fault, optional_text};
+use crate::words_fault::ArgumentsFault;
 use clap::ArgMatches;
 use std::alloc::Global;
 
-/// The tables that are asked for of a run.
+/// Requested tables of a run.
 #[derive(Debug, Drop)]
 pub struct TableRequest {
-    /// The path of the table of delays, if one is made.
+    /// Path of the table of delays, or `None` if it isn't requested.
     pub delays: Option<String>,
-    /// The path of the table of frames, if one is made.
+    /// Path of the table of frames, or `None` if it isn't requested.
     pub frames: Option<String>,
 }
 
-/// The tables that the words after the program's name ask for beside a run, by `--delays FILE` and `--frames FILE`; none for
-/// every other job.
+/// Returns the tables that the arguments request with a run, by `--delays FILE` and `--frames FILE`; no tables for other commands.
 ///
-/// `Words` for words that `clap` refuses; `Run` with `NoMemory` where a growth was refused.
-pub fn table_request_of(alloc: Global, words: &[String]) -> Result<TableRequest, WordsFault>
+/// Fails with `Words` for arguments that `clap` refuses.
+pub fn parse_table_request(alloc: Global, words: &[String]) -> Result<TableRequest, ArgumentsFault>
     ensures ok { IfOk result (λ tables. (values : List Row)
         → subcommand_of commands (map string_bytes words.now) ≡ Some (codes "run", values)
         → AsksForTables values tables) }
-    ensures words { result ≡ Err WordsFault.Words → (job : Job) → ¬ AsksFor (map string_bytes words.now) job }
+    ensures words { result ≡ Err ArgumentsFault.Words → (job : Command) → ¬ AsksFor (map string_bytes words.now) job }
 {
-    match matches_of(alloc, words) {
-        Ok(matches) => tables_in(alloc, words, &matches),
-        Err(error) => Err(fault_of(&error)),
+    match parse_arguments(alloc, words) {
+        Ok(matches) => tables_by_matches(alloc, words, &matches),
+        Err(error) => Err(argument_fault(&error)),
     }
 }
 
-/// The same by what the words are to `clap`.
-pub(crate) fn tables_in(
+/// Returns the requested tables of a run, by the values that `clap` found. Other commands have no tables.
+pub(crate) fn tables_by_matches(
     alloc: Global,
     words: &[String],
     matches: &ArgMatches,
-) -> Result<TableRequest, WordsFault>
+) -> Result<TableRequest, ArgumentsFault>
     requires values { subcommand_rows_of matches.now ≡ subcommand_of commands (map string_bytes words.now) }
     ensures ok { IfOk result (λ tables. (values : List Row)
         → subcommand_of commands (map string_bytes words.now) ≡ Some (codes "run", values)
         → AsksForTables values tables) }
-    ensures memory { IfErr result (λ fault. fault ≡ WordsFault.NoMemory) }
+    ensures memory { IfErr result (λ fault. fault ≡ ArgumentsFault.NoMemory) }
 {
     match matches.subcommand_matches("run") {
-        Some(values) => tables_of(alloc, values),
+        Some(values) => read_table_options(alloc, values),
         None => Ok(TableRequest {
             delays: None,
             frames: None,
@@ -57,16 +56,16 @@ pub(crate) fn tables_in(
     }
 }
 
-/// The tables that these values ask for.
-fn tables_of(alloc: Global, values: &ArgMatches) -> Result<TableRequest, WordsFault>
+/// Returns the tables that the options `--delays` and `--frames` request.
+fn read_table_options(alloc: Global, values: &ArgMatches) -> Result<TableRequest, ArgumentsFault>
     ensures ok { IfOk result (AsksForTables (rows_of (found_of values.now))) }
-    ensures memory { IfErr result (λ fault. fault ≡ WordsFault.NoMemory) }
+    ensures memory { IfErr result (λ fault. fault ≡ ArgumentsFault.NoMemory) }
 {
-    let delays = match option_of(alloc, values, "delays") {
+    let delays = match optional_text(alloc, values, "delays") {
         Ok(delays) => delays,
         Err(fault) => return Err(fault),
     };
-    let frames = match option_of(alloc, values, "frames") {
+    let frames = match optional_text(alloc, values, "frames") {
         Ok(frames) => frames,
         Err(fault) => return Err(fault),
     };

@@ -1,4 +1,4 @@
--- The output of a run, by what the run says.
+-- The output of a run.
 use Rattle.std.proofs.Common.{◌≡◌, ◌⊎◌, ◌++◌, ℕ, Bool, true, false, List, [], None, Option, Some, String, Global, inl, inr, refl, string_bytes, subst, sym, ap, ◌∙◌}
 use Rattle.std.specs.Option.{IfSome}
 use Rattle.std.proofs.lemmas.List.{append-nil}
@@ -27,7 +27,7 @@ ran_by input folder strict explained false lossy None told lost output prints na
 ran_by input folder strict explained true lossy None told lost output prints named warned left none notes loses is =
     inr ((left refl).1, (told, notes, (is.0, is.1 ∙ ap (λ (x : List ℕ). told ++ x) (none refl) ∙ append-nil told, is.2)))
 
--- the output of a run, by the clauses of the run
+-- The clauses of the run determine its output.
 pub ran : (input folder : List ℕ) (strict explained : Bool) (r : StrictRun) (output : Output)
     → IfSome r.line (λ line. PrintsRun Global (string_bytes line)) → IfSome r.line (λ _. HavePaths input folder)
     → (r.is_warned ≡ true → r.line ≡ None)

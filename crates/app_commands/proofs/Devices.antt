@@ -1,17 +1,17 @@
--- Readers and writers before and behind what is held back of them.
+-- Readers and writers with buffers.
 use Rattle.std.proofs.Common.{ℕ, Bool, Option, List}
-use Rattle.bridge_capture.specs.Buffered.{ahead_remaining, behind_contents}
+use Rattle.bridge_capture.specs.Buffers.{read_ahead_remaining, write_behind_contents}
 use Rattle.bridge_capture.specs.declared.read_ahead.ReadAhead.{ReadAhead}
 use Rattle.bridge_capture.specs.declared.write_behind.WriteBehind.{WriteBehind}
 
--- what a source has left of its reader
+-- The octets that a buffered source has left.
 abbrev pub asked : {R A : Type 0} → (R → Option (List ℕ)) → ReadAhead R A → Option (List ℕ)
-asked remaining s = ahead_remaining remaining s
+asked remaining s = read_ahead_remaining remaining s
 
--- what a sink took for its writer
+-- The octets that a buffered sink has received.
 abbrev pub sunk : {W A : Type 0} → (W → Option (List ℕ)) → WriteBehind W A → Option (List ℕ)
-sunk contents s = behind_contents contents s
+sunk contents s = write_behind_contents contents s
 
--- its writer failed
+-- True if the sink's writer failed.
 abbrev pub broken : {W A : Type 0} → WriteBehind W A → Bool
 broken s = s.sink.is_broken

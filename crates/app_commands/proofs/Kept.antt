@@ -1,4 +1,4 @@
--- Devices, place by place.
+-- Devices, index by index.
 use Rattle.std.proofs.Common.{◌≡◌, ℕ, zero, suc, ◌<◌, ◌≤◌, map, take, Bool, false, Option, Some, List, [], ◌∷◌, ◌++◌, length, slice_get, refl, sym, ap, subst, ◌∙◌, arith}
 use Rattle.std.specs.Io.KnownBytes.{Keeps}
 use Rattle.std.proofs.KnownBytes.{Keeps-refl, Keeps-trans}
@@ -6,7 +6,7 @@ use Rattle.std.proofs.lemmas.List.{length-map, length-take, map-id}
 use Rattle.std.proofs.lemmas.Option.{same_Some}
 use Rattle.app_commands.specs.Flushed.{AllKept, NoneFailed}
 
--- one device more
+-- The lists with one device more.
 pub kept_push : {V W : Type 0} (f : V → Option (List ℕ)) (g : W → Option (List ℕ)) (vs : List V) (ws : List W) (v : V) (w : W) → AllKept f g vs ws → Keeps (f v) (g w) → AllKept f g (vs ++ v ∷ []) (ws ++ w ∷ [])
 kept_push f g [] [] v w h k = (k, tt)
 kept_push f g [] (y ∷ ws) v w h k = absurd h
@@ -46,7 +46,7 @@ none_at failed [] i v h e = absurd (cc)
 none_at failed (x ∷ vs) zero v h e = ap failed (sym (same_Some x v e)) ∙ h.0
 none_at failed (x ∷ vs) (suc i) v h e = none_at failed vs i v h.1 e
 
--- what a loop over a list has yielded is a front of it
+-- The items that a loop has yielded are a prefix of the list.
 pub front_of : {X : Type 0} (xs yielded : List X) (n : ℕ) → map (λ y. y) yielded ≡ take (length yielded) xs → n ≡ length yielded → yielded ≡ take n xs
 front_of xs yielded n so_far count = sym (map-id yielded) ∙ so_far ∙ ap (λ k. take k xs) (sym count)
 

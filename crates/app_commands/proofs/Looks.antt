@@ -1,31 +1,31 @@
--- What is looked at of a text decides as the whole of it.
+-- The octets that the program reads decide as the whole text does.
 use Rattle.std.proofs.Common.{◌≡◌, ℕ, ◌<◌, ◌⊎◌, inl, inr, refl, sym, ap, subst, ◌∙◌, List, length, take, Result, Ok, Err, IfErr}
 use Rattle.std.proofs.lemmas.Bool.{lt-ltb}
-use Rattle.bridge_capture.specs.Hex.{octets_spelled}
+use Rattle.bridge_capture.specs.Hex.{spelled_octets}
 use Rattle.bridge_capture.specs.declared.hex_fault.HexFault.TheVariants as hex
-use Rattle.bridge_capture.specs.declared.run_fault.RunFault.{RunFault}
-use Rattle.bridge_capture.specs.declared.run_fault.RunFault.TheVariants as run
+use Rattle.bridge_capture.specs.declared.fault.RunFault.{RunFault}
+use Rattle.bridge_capture.specs.declared.fault.RunFault.TheVariants as run
 use Rattle.app_failure.specs.declared.fault.TextFault.{TextFault}
 use Rattle.app_failure.specs.declared.fault.TextFault.TheVariants as text
-use Rattle.app_failure.specs.declared.fault.Fault.{Fault}
-use Rattle.app_failure.specs.declared.fault.Fault.TheVariants as fault
-use Rattle.app_failure.specs.Reading.{IsOfStandardFile}
+use Rattle.app_failure.specs.declared.fault.Failure.{Failure}
+use Rattle.app_failure.specs.declared.fault.Failure.TheVariants as fault
+use Rattle.app_failure.specs.Reading.{IsStandardStreamFault}
 use Rattle.app_failure.proofs.Looks.{front_as_whole}
 use Rattle.app_commands.specs.Text.{StopsText}
 use Rattle.app_commands.specs.Jobs.{PrintsText, RefusesText, EndsText}
 
-spelled_long : (input : List ℕ) → 4194304 < length input → octets_spelled input ≡ Err hex.TooLong
+spelled_long : (input : List ℕ) → 4194304 < length input → spelled_octets input ≡ Err hex.TooLong
 spelled_long input long = rw (lt-ltb 4194304 (length input) long) refl
 
-pub spelled_front : (input : List ℕ) → octets_spelled (take 4194305 input) ≡ octets_spelled input
-spelled_front input = front_as_whole octets_spelled (Err hex.TooLong) 4194304 spelled_long input
+pub spelled_front : (input : List ℕ) → spelled_octets (take 4194305 input) ≡ spelled_octets input
+spelled_front input = front_as_whole spelled_octets (Err hex.TooLong) 4194304 spelled_long input
 
 pub text_printed : (looked input lines : List ℕ) → looked ≡ take 4194305 input → PrintsText looked lines → PrintsText input lines
-text_printed looked input lines e (octets, spelled, ran) = (octets, sym (spelled_front input) ∙ ap octets_spelled (sym e) ∙ spelled, ran)
+text_printed looked input lines e (octets, spelled, ran) = (octets, sym (spelled_front input) ∙ ap spelled_octets (sym e) ∙ spelled, ran)
 
--- why a text is not run, by what is said of it fault by fault
-pub refuses : {X : Type 0} (input : List ℕ) (r : Result X TextFault) → (r ≡ Err text.NotHex → octets_spelled input ≡ Err hex.NotHex) → (r ≡ Err text.TooLong → octets_spelled input ≡ Err hex.TooLong)
-    → ((f : RunFault) (octets : List ℕ) → r ≡ Err (text.Run f) → octets_spelled input ≡ Ok octets → StopsText octets f) → ((f : RunFault) → r ≡ Err (text.Run f) → (f ≡ run.NoMemory) ⊎ ((octets : List ℕ) × (octets_spelled input ≡ Ok octets)))
+-- The clauses for each fault give the reason why a text isn't run.
+pub refuses : {X : Type 0} (input : List ℕ) (r : Result X TextFault) → (r ≡ Err text.NotHex → spelled_octets input ≡ Err hex.NotHex) → (r ≡ Err text.TooLong → spelled_octets input ≡ Err hex.TooLong)
+    → ((f : RunFault) (octets : List ℕ) → r ≡ Err (text.Run f) → spelled_octets input ≡ Ok octets → StopsText octets f) → ((f : RunFault) → r ≡ Err (text.Run f) → (f ≡ run.NoMemory) ⊎ ((octets : List ℕ) × (spelled_octets input ≡ Ok octets)))
     → IfErr r (RefusesText input)
 refuses input (Ok x) not_hex too_long ran spelled = tt
 refuses input (Err text.NotHex) not_hex too_long ran spelled = not_hex refl
@@ -38,14 +38,14 @@ refused_front input text.TooLong h = sym (spelled_front input) ∙ h
 refused_front input (text.Run f) h = elim h [ inl none ↦ inl none | inr (octets, is, ran) ↦ inr (octets, sym (spelled_front input) ∙ is, ran) ]
 
 pub text_refused : {X : Type 0} (looked input : List ℕ) (f : TextFault) (r : Result X TextFault) → looked ≡ take 4194305 input → r ≡ Err f
-    → (r ≡ Err text.NotHex → octets_spelled looked ≡ Err hex.NotHex) → (r ≡ Err text.TooLong → octets_spelled looked ≡ Err hex.TooLong)
-    → ((g : RunFault) (octets : List ℕ) → r ≡ Err (text.Run g) → octets_spelled looked ≡ Ok octets → StopsText octets g) → ((g : RunFault) → r ≡ Err (text.Run g) → (g ≡ run.NoMemory) ⊎ ((octets : List ℕ) × (octets_spelled looked ≡ Ok octets)))
+    → (r ≡ Err text.NotHex → spelled_octets looked ≡ Err hex.NotHex) → (r ≡ Err text.TooLong → spelled_octets looked ≡ Err hex.TooLong)
+    → ((g : RunFault) (octets : List ℕ) → r ≡ Err (text.Run g) → spelled_octets looked ≡ Ok octets → StopsText octets g) → ((g : RunFault) → r ≡ Err (text.Run g) → (g ≡ run.NoMemory) ⊎ ((octets : List ℕ) × (spelled_octets looked ≡ Ok octets)))
     → RefusesText input f
 text_refused {X} looked input f r e is not_hex too_long ran spelled =
     let told = subst (λ (z : Result X TextFault). IfErr z (RefusesText looked)) is (refuses looked r not_hex too_long ran spelled) in
     refused_front input f (subst (λ (z : List ℕ). RefusesText z f) e told)
 
--- a fault of standard input ends the job over a text
-pub input_ends : (input : List ℕ) (f : Fault) → IsOfStandardFile f → EndsText input f
+-- A fault of standard input ends the job over a text.
+pub input_ends : (input : List ℕ) (f : Failure) → IsStandardStreamFault f → EndsText input f
 input_ends input (fault.Text f) h = absurd h
 input_ends input f h = h

@@ -1,55 +1,55 @@
--- The jobs over one queue: what each prints, and which fault ends it.
+-- Jobs over one queue: the printed text, and the fault that ends each job.
 use Rattle.std.specs.Prelude.{◌≡◌, ◌⊎◌, ◌+◌, ℕ, List, Option, Ok, Err}
 use Rattle.bridge_frame.specs.declared.Speed.{Speed}
-use Rattle.bridge_capture.specs.Hex.{octets_spelled}
+use Rattle.bridge_capture.specs.Hex.{spelled_octets}
 use Rattle.bridge_capture.specs.declared.hex_fault.HexFault.TheVariants as hex
-use Rattle.bridge_wire.specs.declared.count.WireCount.{WireCount}
-use Rattle.bridge_capture.specs.declared.run_fault.RunFault.TheVariants as run
-use Rattle.bridge_wire.specs.Wire.{IsOfPortOne, Wires}
+use Rattle.bridge_wire.specs.declared.wire_count.WireCount.{WireCount}
+use Rattle.bridge_capture.specs.declared.fault.RunFault.TheVariants as run
+use Rattle.bridge_wire.specs.Wire.{NamesPortOne, WiresText}
 use Rattle.app_failure.specs.declared.fault.TextFault.{TextFault}
 use Rattle.app_failure.specs.declared.fault.TextFault.TheVariants as text
-use Rattle.app_failure.specs.declared.fault.Fault.{Fault}
-use Rattle.app_failure.specs.declared.fault.Fault.TheVariants as fault
-use Rattle.app_failure.specs.Reading.{IsOfStandardFile}
+use Rattle.app_failure.specs.declared.fault.Failure.{Failure}
+use Rattle.app_failure.specs.declared.fault.Failure.TheVariants as fault
+use Rattle.app_failure.specs.Reading.{IsStandardStreamFault}
 use Rattle.app_commands.specs.Counts.{counts_line}
 use Rattle.app_commands.specs.Text.{IsTextRun, StopsText}
 
--- ---- hexadecimal text
+-- HEXADECIMAL TEXT
 
--- the text spells a capture, and the lines are those of what left in a run over it
+-- Holds if the text encodes a capture, and `lines` is the output capture of its run as text.
 abbrev pub PrintsText : List ℕ → List ℕ → Type 0
-PrintsText input lines = (octets : List ℕ) × (octets_spelled input ≡ Ok octets) × IsTextRun octets lines
+PrintsText input lines = (octets : List ℕ) × (spelled_octets input ≡ Ok octets) × IsTextRun octets lines
 
--- why a text is not run to its end
+-- Holds if the fault ends the run of this text: a fault of the text, or of the run over its octets.
 abbrev pub RefusesText : List ℕ → TextFault → Type 0
-RefusesText input text.NotHex = octets_spelled input ≡ Err hex.NotHex
-RefusesText input text.TooLong = octets_spelled input ≡ Err hex.TooLong
-RefusesText input (text.Run f) = (f ≡ run.NoMemory) ⊎ ((octets : List ℕ) × (octets_spelled input ≡ Ok octets) × StopsText octets f)
+RefusesText input text.NotHex = spelled_octets input ≡ Err hex.NotHex
+RefusesText input text.TooLong = spelled_octets input ≡ Err hex.TooLong
+RefusesText input (text.Run f) = (f ≡ run.NoMemory) ⊎ ((octets : List ℕ) × (spelled_octets input ≡ Ok octets) × StopsText octets f)
 
--- which fault ends the job over the text of standard input
-abbrev pub EndsText : List ℕ → Fault → Type 0
+-- Holds if the fault ends the job over this text of standard input.
+abbrev pub EndsText : List ℕ → Failure → Type 0
 EndsText input (fault.Text f) = RefusesText input f
-EndsText input f = IsOfStandardFile f
+EndsText input f = IsStandardStreamFault f
 
--- ---- a capture through one queue
+-- A CAPTURE THROUGH ONE QUEUE
 
--- the text is a capture, the writer has the capture of what left, and the line is that of the run
+-- Holds if the text is a capture, the writer received the output capture, and `line` has the counts of the run.
 abbrev pub PrintsCounts : Speed → ℕ → List ℕ → Option (List ℕ) → Option (List ℕ) → List ℕ → Type 0
-PrintsCounts speed room input old new line = (count : WireCount) × Wires speed room input old new count × (line ≡ counts_line count)
+PrintsCounts speed room input old new line = (count : WireCount) × WiresText speed room input old new count × (line ≡ counts_line count)
 
--- the line of some run through one queue, whose counts add up
+-- Holds if `line` has the counts of some run through one queue, and they add up.
 abbrev pub IsCountsLine : List ℕ → Type 0
 IsCountsLine line = (count : WireCount) × (count.malformed + count.sent + count.full ≡ count.frames) × (line ≡ counts_line count)
 
--- which fault ends a run over the text of a capture: its own, or the writer failed
-abbrev pub EndsWire : List ℕ → Fault → Type 0
+-- Holds if the fault ends a run over the text of a capture: its own fault, or a failed writer.
+abbrev pub EndsWire : List ℕ → Failure → Type 0
 EndsWire input (fault.Run (run.Write port)) = port ≡ 1
 EndsWire input (fault.Run f) = StopsText input f
 EndsWire input fault.NoMemory = Unit {0}
 EndsWire input f = ⊥
 
--- a fault of the one capture that is read, or of the one that is written
-abbrev pub IsOfRun : Fault → Type 0
-IsOfRun (fault.Run f) = IsOfPortOne f
+-- Holds if the fault concerns the one input or output capture, or memory ran out.
+abbrev pub IsOfRun : Failure → Type 0
+IsOfRun (fault.Run f) = NamesPortOne f
 IsOfRun fault.NoMemory = Unit {0}
 IsOfRun f = ⊥

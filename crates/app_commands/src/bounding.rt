@@ -1,22 +1,21 @@
-//! The warning of a plan that bounds no delay.
+//! Finds the warning of a plan without delay bounds.
 ghost use Rattle.std.specs.Prelude.{IfOk};
 ghost use Rattle.app_commands.specs.Notes.{WarnsOfBounds, WarnsOfNone};
 
-use app_failure::{NoMemory, accepted_of};
+use app_failure::{NoMemory, accepted_plan};
 use bridge_check::Accepted;
-use bridge_text::Text;
-use show_lint::{Advice, put_advice};
+use bridge_text::TextBuilder;
+use show_lint::{Warning, put_warning};
 use std::alloc::Global;
 
-/// Returns the warning of a plan without a protected filter, which has no delay bound. None for any other plan.
-///
-/// `text` is that of an accepted plan: it is read again here, so `NoMemory` is the answer to each fault.
+/// Returns the warning of a plan without a protected filter, which has no delay bound. Returns `None` for other plans. Reads the text of an
+/// accepted plan again, so every fault becomes `NoMemory`.
 pub fn bounds_warning(alloc: Global, text: &[u8]) -> Result<Option<String>, NoMemory>
     ensures { IfOk result (WarnsOfBounds text.now) }
 {
-    match accepted_of(alloc, alloc, text) {
+    match accepted_plan(alloc, alloc, text) {
         Ok(accepted) => {
-            let warning = warning_of(alloc, &accepted);
+            let warning = unprotected_warning(alloc, &accepted);
             drop(accepted);
             warning
         }
@@ -24,8 +23,11 @@ pub fn bounds_warning(alloc: Global, text: &[u8]) -> Result<Option<String>, NoMe
     }
 }
 
-/// Returns the warning of an accepted plan without a protected filter.
-fn warning_of(alloc: Global, accepted: &Accepted<Global>) -> Result<Option<String>, NoMemory>
+/// Returns the warning if no filter of an accepted plan is protected, otherwise `None`.
+fn unprotected_warning(
+    alloc: Global,
+    accepted: &Accepted<Global>,
+) -> Result<Option<String>, NoMemory>
     ensures { IfOk result (WarnsOfNone accepted.now.filters) }
 {
     let protected = accepted
@@ -37,8 +39,8 @@ fn warning_of(alloc: Global, accepted: &Accepted<Global>) -> Result<Option<Strin
     if protected > 0 {
         return Ok(None);
     }
-    let mut said = Text::new(alloc);
-    put_advice(&mut said, &Advice::NoneProtected);
-    let warning = said.done()?;
+    let mut said = TextBuilder::new(alloc);
+    put_warning(&mut said, &Warning::NoneProtected);
+    let warning = said.finish()?;
     Ok(Some(warning))
 }

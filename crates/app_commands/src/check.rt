@@ -8,41 +8,40 @@ ghost use Rattle.app_commands.specs.Notes.{AreNotes};
 ghost use Rattle.app_commands.specs.Outputs.{status_if};
 ghost use Rattle.app_commands.specs.CommandOutputs.{IsCheckOutput};
 
-use crate::flags::Flags;
-use crate::notes::{idle_line, notes_of};
+use crate::context::{Flags, Texts};
+use crate::notes::{idle_line, plan_notes};
 use crate::output::Output;
-use crate::plan::plan_text;
-use crate::texts::Texts;
-use app_failure::{Fault, NoMemory, check_line, planned};
+use crate::plan::read_plan_text;
+use app_failure::{Failure, NoMemory, check_line, read_accepted_plan};
 use app_files::CommandFiles;
 use bridge_check::Accepted;
 use std::alloc::Global;
 use std::rt::Files;
 
-/// The check of an accepted plan, as the program prints it.
+/// Result of an accepted plan's check, from which the output of `check` is made.
 #[derive(Drop)]
 pub struct CheckedPlan {
     /// The line that counts the protected filters.
     pub line: String,
-    /// Lines on standard error: a complete explanation if one is asked for, else the plan's warnings if a warning is a fault.
+    /// Text for standard error: the explanation if requested, otherwise the warnings if warnings are errors.
     pub notes: String,
-    /// Whether the plan has a warning. It is looked for only if a warning is a fault or an explanation is asked for.
+    /// Whether the plan has a warning; false if warnings aren't errors and no explanation is requested.
     pub is_warned: bool,
 }
 
-/// Checks the plan at a path, or of standard input if the path is `-`. The status is 1 if a warning is a fault and the plan has one.
+/// Checks the plan at path `plan`, or on standard input for `-`. The status is 1 if warnings are errors and the plan has one.
 ///
-/// The plan is read once, so it may be a pipe. Faults in this order: the file opened and read, its text, the check of the plan.
+/// Reads the plan once, so it may be a pipe. Keeps its text in `texts`.
 pub fn check_plan<H: Input + AllocGlobal + Files>(
     files: &mut CommandFiles<'_, H>,
     plan: &str,
     flags: Flags,
     texts: &mut Texts,
-) -> Result<Output, Fault>
+) -> Result<Output, Failure>
     ensures ok { IfOk result (IsCheckOutput flags.is_strict flags.is_explained) }
     ensures fails { IfErr result (EndsChecked Global plan.now) }
 {
-    let text = match plan_text(files, plan) {
+    let text = match read_plan_text(files, plan) {
         Ok(text) => text,
         Err(fault) => return Err(fault),
     };
@@ -64,13 +63,14 @@ pub fn check_plan<H: Input + AllocGlobal + Files>(
     }
 }
 
-/// Checks the plan of a text, by the path of its file.
-fn check_text(alloc: Global, path: &str, text: &[u8], flags: Flags) -> Result<CheckedPlan, Fault>
+/// Checks the plan in `text`, and returns its line and notes. A refused plan is a fault; a fault of reading names `path`.
+fn check_text(alloc: Global, path: &str, text: &[u8], flags: Flags) -> Result<CheckedPlan, Failure>
     ensures ok { IfOk result (λ checked. PrintsAccepted Global text.now (string_bytes checked.line)) }
-    ensures notes { IfOk result (λ checked. AreNotes flags.is_strict flags.is_explained (string_bytes checked.notes) checked.is_warned) }
+    ensures notes { IfOk result (λ checked. AreNotes flags.is_strict flags.is_explained (string_bytes checked.notes)
+        checked.is_warned) }
     ensures err { IfErr result (EndsCheck Global path.now text.now) }
 {
-    let accepted = match planned(alloc, alloc, path, text) {
+    let accepted = match read_accepted_plan(alloc, alloc, path, text) {
         Ok(accepted) => accepted,
         Err(fault) => return Err(fault),
     };
@@ -78,11 +78,11 @@ fn check_text(alloc: Global, path: &str, text: &[u8], flags: Flags) -> Result<Ch
     drop(accepted);
     match checked {
         Ok(checked) => Ok(checked),
-        Err(NoMemory) => Err(Fault::NoMemory),
+        Err(NoMemory) => Err(Failure::NoMemory),
     }
 }
 
-/// Returns the check of an accepted plan, as the program prints it.
+/// Returns the line and the notes of an accepted plan. `text` is the plan's text, in which positions for warnings are found.
 fn check_of_accepted(
     alloc: Global,
     accepted: &Accepted<Global>,
@@ -90,11 +90,12 @@ fn check_of_accepted(
     flags: Flags,
 ) -> Result<CheckedPlan, NoMemory>
     ensures line { IfOk result (λ checked. string_bytes checked.line ≡ accepted_line accepted.now.filters) }
-    ensures notes { IfOk result (λ checked. AreNotes flags.is_strict flags.is_explained (string_bytes checked.notes) checked.is_warned) }
+    ensures notes { IfOk result (λ checked. AreNotes flags.is_strict flags.is_explained (string_bytes checked.notes)
+        checked.is_warned) }
 {
     let line = check_line(alloc, accepted)?;
     let idle = idle_line(text, accepted, flags);
-    let (notes, is_warned) = notes_of(alloc, accepted, idle, flags)?;
+    let (notes, is_warned) = plan_notes(alloc, accepted, idle, flags)?;
     Ok(CheckedPlan {
         line,
         notes,
@@ -102,7 +103,7 @@ fn check_of_accepted(
     })
 }
 
-/// Returns the exit status of a command that is done: 0 if all is well, else 1.
+/// Returns the exit status of a successful command: 0 if `is_well`, otherwise 1: a warning or loss is an error.
 pub fn status_if(is_well: bool) -> u8
     ensures { result ≡ status_if is_well }
 {

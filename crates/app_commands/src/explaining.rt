@@ -1,61 +1,72 @@
-//! The explanations of failures, and the warnings of a run that is done.
+//! Explains failures, and finds the warnings of a run.
 //!
-//! Nothing here can fail: if memory runs out, the explanation is left out.
-
+//! These functions never fail: if memory runs out, the explanation is left out.
+use crate::context::{RunRequest, Texts};
 use crate::late::{Last, put_late};
-use crate::run_job::RunJob;
-use crate::texts::Texts;
-use app_failure::Fault;
-use app_files::{Cause, FileError, capture_path, is_standard, is_there, read_at_most};
+use app_failure::Failure;
+use app_files::{Cause, FileError, capture_path, is_file, is_standard, read_at_most};
 use bridge_capture::{Capture, CaptureFault, MAX_RECORDS, ReadAhead, RunFault};
 use bridge_check::{Accepted, CheckFault};
 use bridge_config::{Command, plan_of};
-use bridge_text::{Text, escape_text};
+use bridge_text::{TextBuilder, escape_text};
 use show_explain::{
-    explain_commands, explain_file, explain_plan, explain_run, explain_text, explain_words,
-    put_unread,
+    explain_arguments, explain_commands, explain_file, explain_plan, explain_run, explain_text,
+    warn_unread_capture,
 };
-use show_lint::{explain_check, warn_of_plan};
+use show_lint::{describe_plan, explain_check};
 use std::alloc::Global;
 use std::fs;
 use std::rt::Files;
 
-/// The octets of a capture that are looked at.
+/// Number of a capture's first octets that an explanation reads: enough for the header.
 const FRONT: u64 = 64;
 
-/// Explains a fault of arguments, of a text of standard input, or of standard input and output.
-pub fn explain_words_fault(alloc: Global, words: &[String], fault: &Fault) -> Option<String> {
+/// Explains why arguments, hexadecimal text, or standard input and output failed. Returns `None` for other faults without a file, or if
+/// memory runs out.
+pub fn explain_words_fault(alloc: Global, words: &[String], fault: &Failure) -> Option<String> {
     match fault {
-        Fault::Words => explain_words(alloc, words).ok(),
-        Fault::Text(fault) => explain_text(alloc, fault).ok(),
+        Failure::Words => explain_arguments(alloc, words).ok(),
+        Failure::Text(fault) => explain_text(alloc, fault).ok(),
         fault => explain_file_fault(alloc, fault),
     }
 }
 
-/// Explains a file that failed, by its cause. None for a fault of another kind.
-pub fn explain_file_fault(alloc: Global, fault: &Fault) -> Option<String> {
+/// Explains why a file failed, by its path and cause. Returns `None` for other faults, or if memory runs out.
+pub fn explain_file_fault(alloc: Global, fault: &Failure) -> Option<String> {
     match fault {
-        Fault::File(FileError { path, cause }) => explain_file_at(alloc, path.as_str(), *cause),
+        Failure::File(FileError { path, cause }) => explain_file_cause(
+            alloc,
+            path.as_str(),
+            *cause,
+        ),
         _ => None,
     }
 }
 
-/// Explains why the file at a path failed. Control characters of the path are escaped, so that it stays on one line.
-pub fn explain_file_at(alloc: Global, path: &str, cause: Cause) -> Option<String> {
+/// Explains why the file at `path` failed. Escapes control characters in the path, so that it has one line. Returns `None` if memory runs
+/// out.
+pub fn explain_file_cause(alloc: Global, path: &str, cause: Cause) -> Option<String> {
     let shown = escape_text(alloc, path).ok()?;
     explain_file(alloc, shown.as_str(), cause).ok()
 }
 
-/// Explains a fault of a plan, by the path of its file and its text, or of a file.
-pub fn explain_plan_fault(alloc: Global, path: &str, text: &[u8], fault: &Fault) -> Option<String> {
+/// Explains why a plan is refused, by its path and its text, or why its file failed. Returns `None` for other faults, or if memory runs
+/// out.
+pub fn explain_plan_fault(
+    alloc: Global,
+    path: &str,
+    text: &[u8],
+    fault: &Failure,
+) -> Option<String> {
     match fault {
-        Fault::Plan(fault) => explain_plan(alloc, path, text, fault).ok(),
-        Fault::Check(fault) => explain_check_fault(alloc, path, text, fault),
+        Failure::Plan(fault) => explain_plan(alloc, path, text, fault).ok(),
+        Failure::Check(fault) => explain_check_fault(alloc, path, text, fault),
         fault => explain_file_fault(alloc, fault),
     }
 }
 
-/// Explains a plan that doesn't isolate a protected filter.
+/// Explains why a plan doesn't isolate a protected filter. Reads the plan's text again, because the fault has no plan. Returns `None` if
+/// memory runs out.
 fn explain_check_fault(
     alloc: Global,
     path: &str,
@@ -70,17 +81,18 @@ fn explain_check_fault(
     said.ok()
 }
 
-/// Explains a fault of the command `run`, by the texts that it has read.
+/// Explains why the command `run` failed, by the texts that it has read. Returns `None` if memory runs out or a capture can't be read
+/// again.
 pub fn explain_run_fault(
     rt: &(impl AllocGlobal + Files),
-    job: &RunJob<'_>,
+    job: &RunRequest<'_>,
     texts: &Texts,
-    fault: &Fault,
+    fault: &Failure,
 ) -> Option<String> {
     match fault {
-        Fault::NoMemory => explain_stopped_run(rt, job, &RunFault::NoMemory),
-        Fault::Run(fault) => explain_stopped_run(rt, job, fault),
-        Fault::Commands(fault) => {
+        Failure::NoMemory => explain_stopped_run(rt, job, &RunFault::NoMemory),
+        Failure::Run(fault) => explain_stopped_run(rt, job, fault),
+        Failure::Commands(fault) => {
             let path = match job.commands {
                 Some(path) => path.as_str(),
                 None => "",
@@ -91,10 +103,10 @@ pub fn explain_run_fault(
     }
 }
 
-/// Explains a run that stopped, by the captures that it reads and writes.
+/// Explains why a run stopped, by the paths of the input and output capture of the port at fault. Without a port, port 1 serves as example.
 fn explain_stopped_run(
     rt: &(impl AllocGlobal + Files),
-    job: &RunJob<'_>,
+    job: &RunRequest<'_>,
     fault: &RunFault,
 ) -> Option<String> {
     let port = match fault {
@@ -106,21 +118,21 @@ fn explain_stopped_run(
     explain_captures(rt, read.as_str(), written.as_str(), fault)
 }
 
-/// Explains a fault of the command `wire`, by the paths of its captures.
+/// Explains why the command `wire` failed, by the paths of its captures.
 pub fn explain_wire_fault(
     rt: &(impl AllocGlobal + Files),
     read: &str,
     written: &str,
-    fault: &Fault,
+    fault: &Failure,
 ) -> Option<String> {
     match fault {
-        Fault::NoMemory => explain_captures(rt, read, written, &RunFault::NoMemory),
-        Fault::Run(fault) => explain_captures(rt, read, written, fault),
+        Failure::NoMemory => explain_captures(rt, read, written, &RunFault::NoMemory),
+        Failure::Run(fault) => explain_captures(rt, read, written, fault),
         fault => explain_file_fault(rt.alloc(), fault),
     }
 }
 
-/// Explains a run that stopped, by the paths of a capture that it reads and of one that it writes.
+/// Explains why a run stopped, by the paths of an input and an output capture: which of them is named depends on the fault.
 fn explain_captures(
     rt: &(impl AllocGlobal + Files),
     read: &str,
@@ -134,13 +146,14 @@ fn explain_captures(
     }
 }
 
-/// Returns why the capture of a file is refused, found by reading the file again. None if it isn't refused then, or is no regular file.
-pub fn explain_capture_at(rt: &(impl AllocGlobal + Files), path: &str) -> Option<String> {
+/// Explains why the capture at `path` is refused, by reading it again. Returns `None` if it isn't refused then, or isn't a regular file.
+pub fn explain_capture_file(rt: &(impl AllocGlobal + Files), path: &str) -> Option<String> {
     let fault = capture_fault(rt, path)?;
     explain_capture(rt, path, &RunFault::Capture { port: 1, fault })
 }
 
-/// Returns the fault of the capture of a file.
+/// Returns the fault of the capture at `path`, found by reading it whole. Returns `None` if it has none, isn't a regular file, or can't be
+/// read.
 fn capture_fault<H: AllocGlobal + Files>(rt: &H, path: &str) -> Option<CaptureFault> {
     if !fs::metadata(rt, path).ok()?.is_file() {
         return None;
@@ -153,7 +166,7 @@ fn capture_fault<H: AllocGlobal + Files>(rt: &H, path: &str) -> Option<CaptureFa
     };
     let mut octets = Vec::new(rt.alloc());
     for _record in 0..=MAX_RECORDS {
-        match capture.read_into(&mut octets, &mut source) {
+        match capture.read_packet(&mut octets, &mut source) {
             Ok(Some(_)) => {}
             Ok(None) => return None,
             Err(fault) => return Some(fault),
@@ -162,7 +175,7 @@ fn capture_fault<H: AllocGlobal + Files>(rt: &H, path: &str) -> Option<CaptureFa
     None
 }
 
-/// Explains a capture that is refused or can't be read, by its first octets. None if they can't be read again.
+/// Explains a refused or unreadable capture, by its first octets. Returns `None` if they can't be read again.
 fn explain_capture(
     rt: &(impl AllocGlobal + Files),
     path: &str,
@@ -183,8 +196,8 @@ fn explain_capture(
     explain_run(rt.alloc(), path, &front, fault).ok()
 }
 
-/// Returns the warnings of an accepted plan, of the folder of its captures, and of a schedule change and commands that come after the
-/// last frame. `idle` is the line of a schedule change that changes nothing. None if memory runs out.
+/// Returns warnings about an accepted plan, its capture folder, and changes and commands after the last frame. `idle` is the line of a
+/// schedule change without effect. `None` if memory runs out.
 pub(crate) fn warnings_of_run<H: AllocGlobal + Files>(
     rt: &H,
     accepted: &Accepted<Global>,
@@ -193,25 +206,30 @@ pub(crate) fn warnings_of_run<H: AllocGlobal + Files>(
     idle: Option<usize>,
     last: Option<Last>,
 ) -> Option<String> {
-    let warned = warn_of_plan(rt.alloc(), accepted, idle).ok()?;
-    let mut said = Text::new(rt.alloc());
+    let warned = describe_plan(rt.alloc(), accepted, idle).ok()?;
+    let mut said = TextBuilder::new(rt.alloc());
     said.put(warned.as_str());
     for port in 1..=16u8 {
         if accepted.plan().port(port).is_none() {
-            put_capture(rt, &mut said, folder, port);
+            warn_if_capture_unread(rt, &mut said, folder, port);
         }
     }
     if let Some(last) = last {
         put_late(&mut said, accepted.plan(), orders, last);
     }
-    said.done().ok()
+    said.finish().ok()
 }
 
-/// Adds a warning of the capture of a port that the plan doesn't have, where the folder holds one.
-fn put_capture<H: AllocGlobal + Files>(rt: &H, said: &mut Text<Global>, folder: &str, port: u8) {
+/// Writes a warning if the folder has a capture for `port`, which the plan lacks: the run doesn't read it.
+fn warn_if_capture_unread<H: AllocGlobal + Files>(
+    rt: &H,
+    said: &mut TextBuilder<Global>,
+    folder: &str,
+    port: u8,
+) {
     match capture_path(rt.alloc(), folder, port) {
-        Ok(path) if is_there(rt, path.as_str()) => put_unread(said, path.as_str(), port),
+        Ok(path) if is_file(rt, path.as_str()) => warn_unread_capture(said, path.as_str(), port),
         Ok(_) => {}
-        Err(_) => said.give_up(),
+        Err(_) => said.discard(),
     }
 }

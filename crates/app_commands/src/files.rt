@@ -1,14 +1,14 @@
-//! One capture from a file or standard input into another file or standard output.
+//! Sends one capture from a file or standard input to a file or standard output.
 ghost use Rattle.std.specs.Prelude.{◌≡◌, ◌≤◌, ◌↔◌, ℕ, List, Some, IfOk, IfErr, IsTrue, string_bytes};
 ghost use Rattle.app_files.specs.Said.{IsStandard, is_noted, line_of};
 ghost use Rattle.app_commands.specs.WireFiles.{EndsInto, EndsOver, EndsWiring, SaysCounts};
 ghost use Rattle.app_commands.specs.Jobs.{EndsWire, IsOfRun, PrintsCounts};
 
 use crate::jobs::wire_job;
-use app_failure::{Fault, file_failure};
+use app_failure::{Failure, file_failure};
 use app_files::{
-    Cause, FileId, Said, are_same, create_at, failed_at, file_at, file_of, is_standard,
-    open_capture,
+    Cause, FileId, Said, create_output, file_fault, is_same_file, is_standard, open_capture,
+    open_file_id, path_file_id,
 };
 use bridge_frame::Speed;
 use bridge_port::LARGEST_ROOM;
@@ -18,84 +18,83 @@ use std::io;
 use std::io::{Read, Write};
 use std::rt::Files;
 
-/// Standard input, as the system names it among its files.
+/// Path of standard input's file. Its identity shows whether the output would overwrite the input.
 const STANDARD_INPUT: &str = "/dev/stdin";
 
-/// Sends one capture through one queue of `room` frames (1 to 4096). IN and OUT are each the path of a file, or `-` for standard input
-/// and output.
+/// Sends one capture through one queue of `room` frames (1 to 4,096). `-` stands for standard input or output.
 ///
-/// Faults in this order: IN opened, OUT opened or made, `File` of OUT if it is the file IN, the run. What OUT held stays until the first
-/// look at IN succeeded. If OUT is `-`, the counts are for standard error, and standard output that fails is `File` of `-`.
-pub fn wire_between<H: Input + AllocGlobal + Print + Files>(
+/// Refuses an output that is the input file. The output keeps its contents until the first read succeeds.
+pub fn wire_files<H: Input + AllocGlobal + Print + Files>(
     rt: &H,
     speed: Speed,
     room: u16,
     input: &str,
     output: &str,
-) -> Result<Said, Fault>
+) -> Result<Said, Failure>
     requires room { (1 ≤ room) × (room ≤ LARGEST_ROOM) }
     ensures ok { IfOk result (SaysCounts output.now) }
     ensures err { IfErr result (EndsWiring input.now output.now) }
 {
     if is_standard(input) {
-        let file = file_at(rt, STANDARD_INPUT);
-        return wire_into(rt, speed, room, rt.reader(), file, output);
+        let file = path_file_id(rt, STANDARD_INPUT);
+        return wire_to_output(rt, speed, room, rt.reader(), file, output);
     }
     let reader = match open_capture(rt, input, Cause::NotFound) {
         Ok(reader) => reader,
         Err(fault) => return Err(file_failure(fault)),
     };
-    let file = file_of(&reader);
-    wire_into(rt, speed, room, reader, file, output)
+    let file = open_file_id(&reader);
+    wire_to_output(rt, speed, room, reader, file, output)
 }
 
-/// Sends the capture of a reader into a file or standard output. `file` is the file that the reader reads, if the system says so.
-fn wire_into<R: Read + Drop, H: AllocGlobal + Print + Files>(
+/// Sends a reader's capture to the file at `output` or to standard output. `file` is the reader's file, if the system identifies it; it is
+/// refused as output.
+fn wire_to_output<R: Read + Drop, H: AllocGlobal + Print + Files>(
     rt: &H,
     speed: Speed,
     room: u16,
     reader: R,
     file: Option<FileId>,
     output: &str,
-) -> Result<Said, Fault>
+) -> Result<Said, Failure>
     requires room { (1 ≤ room) × (room ≤ LARGEST_ROOM) }
     ensures ok { IfOk result (SaysCounts output.now) }
     ensures err { IfErr result (EndsInto output.now) }
 {
     if is_standard(output) {
-        return match wire_over(rt.alloc(), speed, room, reader, io::writer(rt), output) {
+        return match wire_streams(rt.alloc(), speed, room, reader, io::writer(rt), output) {
             Ok((said, _)) => Ok(said),
             Err(fault) => Err(fault),
         };
     }
-    let writer = match create_at(rt, output) {
+    let writer = match create_output(rt, output) {
         Ok(writer) => writer,
         Err(fault) => {
             drop(reader);
             return Err(file_failure(fault));
         }
     };
-    if are_same(file, writer.id()) {
+    if is_same_file(file, writer.id()) {
         drop(reader);
         drop(writer);
-        return Err(file_failure(failed_at(rt.alloc(), output, Cause::InUse)));
+        return Err(file_failure(file_fault(rt.alloc(), output, Cause::InUse)));
     }
-    match wire_over(rt.alloc(), speed, room, reader, writer, output) {
+    match wire_streams(rt.alloc(), speed, room, reader, writer, output) {
         Ok((said, _)) => Ok(said),
         Err(fault) => Err(fault),
     }
 }
 
-/// What is said for the capture of a reader that went through one queue of a room of frames (1 to 4096) into the writer of
-/// a path, and the writer with all of it.
-pub fn wire_over<R: Read + Drop, W: Write + Drop>(
+/// Sends a reader's capture through one queue of `room` frames (1 to 4,096) into a writer. Returns the line of counts as a message, and the
+/// writer.
+pub fn wire_streams<R: Read + Drop, W: Write + Drop>(
     alloc: Global,
     speed: Speed,
     room: u16,
     reader: R,
     writer: W,
     output: &str,
-) -> Result<(Said, W), Fault>
+) -> Result<(Said, W), Failure>
     requires room { (1 ≤ room) × (room ≤ LARGEST_ROOM) }
     ensures ok { (input : List ℕ) → R.remaining reader ≡ Some input →
         IfOk result (λ done. PrintsCounts speed room input (W.contents writer) (W.contents done.1) (line_of done.0)) }
@@ -105,13 +104,13 @@ pub fn wire_over<R: Read + Drop, W: Write + Drop>(
     ensures only { IfErr result (EndsInto output.now) }
 {
     match wire_job(alloc, speed, room, reader, writer) {
-        Ok((line, writer)) => Ok((said_beside(line, output), writer)),
-        Err(fault) => Err(fault_into(alloc, fault, output)),
+        Ok((line, writer)) => Ok((summary_output(line, output), writer)),
+        Err(fault) => Err(output_fault(alloc, fault, output)),
     }
 }
 
-/// A line as it is said beside what goes to a path: on standard error where that is standard output.
-fn said_beside(line: String, output: &str) -> Said
+/// Returns the line of counts as a message. It goes to standard error if the capture goes to standard output.
+fn summary_output(line: String, output: &str) -> Said
     ensures line { line_of result ≡ string_bytes line }
     ensures place { IsTrue (is_noted result) ↔ IsStandard output.now }
 {
@@ -122,14 +121,14 @@ fn said_beside(line: String, output: &str) -> Said
     }
 }
 
-/// The fault of a run into the writer of a path. If that is standard output and fails, it is the file `-`.
-fn fault_into(alloc: Global, fault: Fault, output: &str) -> Fault
+/// Returns the program's fault after a run. A failed write to standard output becomes a fault of the file `-`, because it has no port.
+fn output_fault(alloc: Global, fault: Failure, output: &str) -> Failure
     ensures over { (input : List ℕ) → EndsWire input fault → EndsOver output.now input result }
     ensures only { IsOfRun fault → EndsInto output.now result }
 {
     match fault {
-        Fault::Run(RunFault::Write { .. }) if is_standard(output) => {
-            file_failure(failed_at(alloc, output, Cause::Standard))
+        Failure::Run(RunFault::Write { .. }) if is_standard(output) => {
+            file_failure(file_fault(alloc, output, Cause::Standard))
         }
         fault => fault,
     }

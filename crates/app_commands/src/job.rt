@@ -1,4 +1,4 @@
-//! A run over a folder of captures, with the tables and the picture that are asked for beside it.
+//! Runs a folder of captures, and writes the requested tables and picture.
 ghost use Rattle.std.specs.Prelude.{◌≡◌, ◌⊎◌, IfOk, IfErr, option_map, string_bytes};
 ghost use Rattle.bridge_config.specs.Commands.{AreCommands};
 ghost use Rattle.app_files.specs.Folders.{HavePaths};
@@ -7,14 +7,13 @@ ghost use Rattle.app_commands.specs.RunJobs.{FailsRunUnder};
 ghost use Rattle.app_commands.specs.ShownFiles.{IsOfShowing, IsOfTables};
 ghost use Rattle.app_commands.specs.Losing.{TellsLost, lost_if};
 
-use crate::flags::Flags;
-use crate::late::{Last, last_of};
+use crate::context::{Flags, RunRequest};
+use crate::late::{Last, last_frame};
 use crate::picturing::put_run_picture;
-use crate::run_files::send;
-use crate::run_job::RunJob;
-use crate::sparing::spare_files;
-use crate::tables::put_tables;
-use app_failure::Fault;
+use crate::run_files::run_folder;
+use crate::sparing::check_run_outputs_unused;
+use crate::tables::write_tables;
+use app_failure::Failure;
 use app_files::CommandFiles;
 use bridge_check::Accepted;
 use bridge_config::Command;
@@ -24,81 +23,85 @@ use bridge_semantics::Outcome;
 use std::alloc::Global;
 use std::rt::Files;
 
-/// Lines of a run that is done.
+/// Lines of a complete run, from which the output of `run` is made.
 #[derive(Drop)]
 pub(crate) struct RunLines {
-    /// The line that sums the run up.
+    /// Line of counts of the run.
     pub(crate) line: String,
-    /// One line for each protected filter that lost a frame or a copy, if a loss is a fault.
+    /// One line for each protected filter that lost a frame or a copy, if losses are errors.
     pub(crate) lost: String,
-    /// Whether a loss is a fault and a protected filter lost a frame or a copy.
+    /// Whether losses are errors and a protected filter lost a frame or a copy.
     pub(crate) is_lossy: bool,
-    /// When the last frame arrived and had left. It is looked for only if an explanation is asked for.
+    /// Times of the last arrival and departure. `None` unless an explanation is requested and the times are known.
     pub(crate) last: Option<Last>,
 }
 
-/// Runs captures under an accepted plan from one folder into another, and makes the report, the tables and the picture that are asked
-/// for. No output is a file in use. Returns the lines of the run, with those of lost frames if a loss is a fault.
+/// Runs captures under an accepted plan between two folders, and writes report, requested tables and picture. Refuses outputs that are
+/// files in use. Returns the run's lines.
 #[tactic(auto, using(crate::proofs::ShownEnded::memory_ends))]
-pub(crate) fn send_told<H: AllocGlobal + Files>(
+pub(crate) fn run_with_outputs<H: AllocGlobal + Files>(
     files: &mut CommandFiles<'_, H>,
     accepted: &Accepted<Global>,
     orders: &[Command],
-    job: &RunJob<'_>,
+    job: &RunRequest<'_>,
     flags: Flags,
-) -> Result<RunLines, Fault>
+) -> Result<RunLines, Failure>
     requires commands { AreCommands accepted.now orders.now }
     ensures named { IfOk result (λ _. HavePaths job.now.input.now job.now.output.now) }
     ensures ok { IfOk result (λ lines. PrintsRun Global (string_bytes lines.line)) }
-    ensures lost { IfOk result (λ lines. TellsLost Global flags.is_strict (string_bytes lines.line) (string_bytes lines.lost)
+    ensures lost { IfOk result (λ lines. TellsLost Global flags.is_strict (string_bytes lines.line)
+        (string_bytes lines.lost)
         lines.is_lossy) }
     ensures err { IfErr result (FailsRunUnder accepted.now job.now) }
 {
     if files.note_standard_output().is_err() {
-        return Err(Fault::NoMemory);
+        return Err(Failure::NoMemory);
     }
-    if let Err(fault) = spare_files(files, accepted, job) {
+    if let Err(fault) = check_run_outputs_unused(files, accepted, job) {
         return Err(fault);
     }
-    let sent = match send(files, accepted, orders, job.input, job.output) {
+    let sent = match run_folder(files, accepted, orders, job.input, job.output) {
         Ok(sent) => sent,
         Err(fault) => return Err(fault),
     };
-    let told = tell(files, accepted, &sent.outcome, job, flags);
+    let told = write_outputs(files, accepted, &sent.outcome, job, flags);
     drop(sent);
     told
 }
 
-/// Makes the tables and the picture of a run that are asked for, and returns the lines of the run.
-fn tell<H: AllocGlobal + Files>(
+/// Writes the requested tables, then the requested picture of a run, and returns the run's lines.
+fn write_outputs<H: AllocGlobal + Files>(
     files: &mut CommandFiles<'_, H>,
     accepted: &Accepted<Global>,
     outcome: &Outcome<Global>,
-    job: &RunJob<'_>,
+    job: &RunRequest<'_>,
     flags: Flags,
-) -> Result<RunLines, Fault>
+) -> Result<RunLines, Failure>
     ensures ok { IfOk result (λ lines. PrintsRun Global (string_bytes lines.line)) }
-    ensures lost { IfOk result (λ lines. TellsLost Global flags.is_strict (string_bytes lines.line) (string_bytes lines.lost)
+    ensures lost { IfOk result (λ lines. TellsLost Global flags.is_strict (string_bytes lines.line)
+        (string_bytes lines.lost)
         lines.is_lossy) }
     ensures err { IfErr result (λ f. IsOfShowing (option_map (λ s. string_bytes s.file) job.now.picture.now) f
-        ⊎ IsOfTables (option_map string_bytes job.now.tables.now.delays) (option_map string_bytes job.now.tables.now.frames) f) }
+        ⊎ IsOfTables (option_map string_bytes job.now.tables.now.delays)
+        (option_map string_bytes job.now.tables.now.frames) f) }
 {
-    if let Err(fault) = put_tables(files, accepted, outcome, job.tables) {
+    if let Err(fault) = write_tables(files, accepted, outcome, job.tables) {
         return Err(fault);
     }
-    show(files, accepted, outcome, job, flags)
+    write_run_picture(files, accepted, outcome, job, flags)
 }
 
-/// Makes the picture of a run that is asked for, and returns the lines of the run.
-fn show<H: AllocGlobal + Files>(
+/// Writes the requested picture of a run, if any, and returns the run's lines.
+fn write_run_picture<H: AllocGlobal + Files>(
     files: &mut CommandFiles<'_, H>,
     accepted: &Accepted<Global>,
     outcome: &Outcome<Global>,
-    job: &RunJob<'_>,
+    job: &RunRequest<'_>,
     flags: Flags,
-) -> Result<RunLines, Fault>
+) -> Result<RunLines, Failure>
     ensures ok { IfOk result (λ lines. PrintsRun Global (string_bytes lines.line)) }
-    ensures lost { IfOk result (λ lines. TellsLost Global flags.is_strict (string_bytes lines.line) (string_bytes lines.lost)
+    ensures lost { IfOk result (λ lines. TellsLost Global flags.is_strict (string_bytes lines.line)
+        (string_bytes lines.lost)
         lines.is_lossy) }
     ensures err { IfErr result (IsOfShowing (option_map (λ s. string_bytes s.file) job.now.picture.now)) }
 {
@@ -108,14 +111,14 @@ fn show<H: AllocGlobal + Files>(
         }
     }
     let Ok(line) = summary(files.alloc(), outcome) else {
-        return Err(Fault::NoMemory);
+        return Err(Failure::NoMemory);
     };
     let Ok(lost) = lost_if(files.alloc(), outcome, flags.is_strict) else {
-        return Err(Fault::NoMemory);
+        return Err(Failure::NoMemory);
     };
     let is_lossy = !lost.as_str().is_empty();
     let last = if flags.is_explained {
-        last_of(outcome)
+        last_frame(outcome)
     } else {
         None
     };
@@ -127,7 +130,7 @@ fn show<H: AllocGlobal + Files>(
     })
 }
 
-/// Returns one line for each protected filter that lost a frame or a copy, if a loss is a fault. The text is empty otherwise.
+/// Returns one line for each protected filter that lost a frame or a copy, if losses are errors; otherwise the empty text.
 fn lost_if(alloc: Global, outcome: &Outcome<Global>, is_strict: bool) -> Result<String, NoMemory>
     ensures { IfOk result (λ lost. string_bytes lost ≡ lost_if is_strict outcome.now.filters.items) }
 {

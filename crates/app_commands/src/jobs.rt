@@ -1,23 +1,23 @@
-//! The jobs over one queue, from what is read to what is printed.
+//! Runs captures through one queue, and returns the text to print.
 ghost use Rattle.std.specs.Prelude.{◌≡◌, ◌≤◌, ℕ, List, Some, IfOk, IfErr, string_bytes};
 ghost use Rattle.app_commands.specs.Jobs.{EndsText, EndsWire, IsCountsLine, IsOfRun, PrintsCounts, PrintsText};
 
-use crate::captures::through;
-use crate::counts::wire_line;
+use crate::captures::wire_capture;
 use crate::hexadecimal::wire_text;
-use crate::plan::fault_of_input;
-use app_failure::Fault;
+use crate::plan::input_fault;
+use crate::wire::wire_line;
+use app_failure::Failure;
 use app_files::read_at_most;
 use bridge_frame::Speed;
 use bridge_port::LARGEST_ROOM;
 use std::alloc::Global;
 use std::io::{Read, Write};
 
-/// The most octets of standard input that are looked at: one more than a text may have.
+/// Largest number of octets read from standard input: one more than a text may have.
 const MOST_INPUT: u64 = 4_194_305;
 
-/// What is printed for the hexadecimal text of standard input: the lines of what left one queue.
-pub fn text_job<R: Read + Drop>(alloc: Global, reader: R) -> Result<String, Fault>
+/// Reads hexadecimal text from a reader, sends its capture through one queue, and returns the output capture as text.
+pub fn text_job<R: Read + Drop>(alloc: Global, reader: R) -> Result<String, Failure>
     ensures ok { (input : List ℕ) → R.remaining reader ≡ Some input
         → IfOk result (λ lines. PrintsText input (string_bytes lines)) }
     ensures err { (input : List ℕ) → R.remaining reader ≡ Some input → IfErr result (EndsText input) }
@@ -26,23 +26,22 @@ pub fn text_job<R: Read + Drop>(alloc: Global, reader: R) -> Result<String, Faul
 {
     let text = match read_at_most(alloc, reader, MOST_INPUT) {
         Ok(text) => text,
-        Err(fault) => return Err(fault_of_input(alloc, fault)),
+        Err(fault) => return Err(input_fault(alloc, fault)),
     };
     match wire_text(alloc, &text) {
         Ok(lines) => Ok(lines),
-        Err(fault) => Err(Fault::Text(fault)),
+        Err(fault) => Err(Failure::Text(fault)),
     }
 }
 
-/// What is printed for the capture of a reader that went through one queue of a room of frames (1 to 4096) into a
-/// writer, and the writer with all of it.
+/// Sends a reader's capture through one queue of `room` frames (1 to 4,096) into a writer. Returns the line of counts and the writer.
 pub fn wire_job<R: Read + Drop, W: Write + Drop>(
     alloc: Global,
     speed: Speed,
     room: u16,
     reader: R,
     writer: W,
-) -> Result<(String, W), Fault>
+) -> Result<(String, W), Failure>
     requires room { (1 ≤ room) × (room ≤ LARGEST_ROOM) }
     ensures ok { (input : List ℕ) → R.remaining reader ≡ Some input →
         IfOk result (λ done. PrintsCounts speed room input (W.contents writer) (W.contents done.1)
@@ -51,11 +50,11 @@ pub fn wire_job<R: Read + Drop, W: Write + Drop>(
     ensures err { (input : List ℕ) → R.remaining reader ≡ Some input → IfErr result (EndsWire input) }
     ensures one { IfErr result IsOfRun }
 {
-    match through(alloc, speed, room, reader, writer) {
+    match wire_capture(alloc, speed, room, reader, writer) {
         Ok((count, writer)) => match wire_line(alloc, &count) {
             Ok(line) => Ok((line, writer)),
-            Err(_) => Err(Fault::NoMemory),
+            Err(_) => Err(Failure::NoMemory),
         },
-        Err(halted) => Err(Fault::Run(halted.fault)),
+        Err(halted) => Err(Failure::Run(halted.fault)),
     }
 }

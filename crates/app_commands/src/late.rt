@@ -1,8 +1,8 @@
-//! Changes of schedules and commands that come after the last frame of a run, so that no frame meets what they change.
+//! Finds schedule changes and commands after the last frame of a run, which affect no frame.
 
 use bridge_config::{Command, Plan};
 use bridge_semantics::Outcome;
-use bridge_text::Text;
+use bridge_text::TextBuilder;
 use show_lint::Hypercycle;
 use std::alloc::Global;
 
@@ -12,15 +12,15 @@ const LATE_CHANGE: &str =
 const LATE_COMMAND: &str =
     "Warning: `command` {0} at {1} ns comes after the last frame, which arrives at {2} ns. It changes the verdict of no frame. Move its `at`, or use longer captures.\n";
 
-/// When the last frame of a run came, and when the last one came or had left, in ns.
+/// Times in ns of a run: `came` of the last arrival, `left` of the last arrival or end of transmission.
 #[derive(Clone, Copy)]
 pub(crate) struct Last {
     pub came: u64,
     pub left: u64,
 }
 
-/// How many frames came to a run.
-fn frames_in(outcome: &Outcome<Global>) -> u64 {
+/// Returns the number of frames that arrived in a run.
+fn count_frames(outcome: &Outcome<Global>) -> u64 {
     let mut frames = 0u64;
     for port in &outcome.ports {
         frames = frames.saturating_add(port.1.frames);
@@ -28,8 +28,8 @@ fn frames_in(outcome: &Outcome<Global>) -> u64 {
     frames
 }
 
-/// When the last frame of a run came and had left, if the time of each frame is known: a frame without a filter leaves no record.
-pub(crate) fn last_of(outcome: &Outcome<Global>) -> Option<Last> {
+/// Returns the times of the last arrival and departure; `None` if a frame's time is unknown, because unfiltered frames have no record.
+pub(crate) fn last_frame(outcome: &Outcome<Global>) -> Option<Last> {
     let mut last = Last { came: 0, left: 0 };
     let mut frames = 0u64;
     for filter in &outcome.filters {
@@ -42,29 +42,29 @@ pub(crate) fn last_of(outcome: &Outcome<Global>) -> Option<Last> {
         }
     }
     last.left = last.left.max(last.came);
-    if frames == 0 || frames != frames_in(outcome) {
+    if frames == 0 || frames != count_frames(outcome) {
         return None;
     }
     Some(last)
 }
 
-/// Adds a warning of the change of schedules of a plan, and of each command, that comes after the last frame.
+/// Writes a warning for the schedule change and each command after the last frame: they affect no frame, which is likely a mistake.
 pub(crate) fn put_late(
-    said: &mut Text<Global>,
+    said: &mut TextBuilder<Global>,
     plan: &Plan<Global>,
     orders: &[Command],
     last: Last,
 ) {
-    if let Some(at) = Hypercycle::of(plan).change {
+    if let Some(at) = Hypercycle::from_plan(plan).change {
         if at > last.left {
-            said.fill(LATE_CHANGE, &[at, last.left], &[]);
+            said.put_template(LATE_CHANGE, &[at, last.left], &[]);
         }
     }
     let mut place = 0u64;
     for order in orders {
         place = place.saturating_add(1);
         if order.at > last.came {
-            said.fill(LATE_COMMAND, &[place, order.at, last.came], &[]);
+            said.put_template(LATE_COMMAND, &[place, order.at, last.came], &[]);
         }
     }
 }

@@ -1,28 +1,28 @@
 //! The output of the program: two texts and an exit status.
 ghost use Rattle.std.specs.Prelude.{[], ◌≡◌, IfOk, string_bytes};
-ghost use Rattle.app_failure.specs.Lines.{line_of};
+ghost use Rattle.app_failure.specs.Lines.{fault_line};
 ghost use Rattle.app_commands.specs.Outputs.{HasLine, ReportsFault};
 
-use app_failure::{Fault, NoMemory, fault_line};
+use app_failure::{Failure, NoMemory, fault_line};
 use std::alloc::Global;
 
-/// What the program prints, and its exit status.
+/// Texts that the program prints, and its exit status.
 #[derive(Drop)]
 pub struct Output {
-    /// The text for standard output.
+    /// Text for standard output.
     pub stdout: String,
-    /// The text for standard error, which is printed after the one for standard output.
+    /// Text for standard error, printed after the text for standard output.
     pub stderr: String,
-    /// The exit status.
+    /// Exit status.
     pub status: u8,
 }
 
-/// Returns the output of a failure: its line on standard error, the explanation behind the line, and the failure's status.
+/// Returns the output of a failure: its fault line and the explanation for standard error, and its exit status.
 ///
-/// If memory runs out for the explanation, the output has none.
+/// If memory for the explanation runs out, the output has none.
 pub fn report_fault(
     alloc: Global,
-    fault: &Fault,
+    fault: &Failure,
     explanation: Option<String>,
 ) -> Result<Output, NoMemory>
     ensures { IfOk result (ReportsFault fault.now explanation) }
@@ -37,7 +37,7 @@ pub fn report_fault(
     })
 }
 
-/// Returns a line with its line feed, and the explanation behind it.
+/// Returns a line with its line feed, followed by the explanation if there is one. If memory for the explanation runs out, it is left out.
 fn with_explanation(line: String, explanation: Option<String>) -> Result<String, NoMemory>
     ensures { IfOk result (λ text. HasLine (string_bytes line) explanation (string_bytes text)) }
 {
@@ -51,7 +51,7 @@ fn with_explanation(line: String, explanation: Option<String>) -> Result<String,
     Ok(text)
 }
 
-/// Returns the output of a command that prints a text on standard output and nothing on standard error.
+/// Returns an output with this text for standard output and nothing for standard error.
 pub fn print_text(alloc: Global, text: String, status: u8) -> Output
     ensures text { result.stdout ≡ text }
     ensures none { string_bytes result.stderr ≡ [] }

@@ -4,24 +4,23 @@ ghost use Rattle.std.specs.declared.alloc.Global.{Global};
 ghost use Rattle.app_commands.specs.ShownFiles.{EndsPicture};
 ghost use Rattle.app_commands.specs.CommandOutputs.{IsPictureOutput};
 
+use crate::context::Texts;
 use crate::output::{Output, print_text};
-use crate::picturing::{picture_apart, plan_picture, put_picture};
-use crate::texts::Texts;
+use crate::picturing::{picture_apart, plan_picture, write_picture_file};
 use app_cli::PictureRequest;
-use app_failure::Fault;
+use app_failure::Failure;
 use app_files::{CommandFiles, is_standard};
 use std::rt::Files;
 
-/// Draws the plan of a file, or the part of it that is asked for, into another file, or for standard output if that path is `-`.
-///
-/// Faults in this order: PLAN opened and read, its text; `File` of FILE if it can't be opened, made or written, or is the file PLAN.
+/// Draws a plan, or a requested part of it, into `file`, or to standard output for `-`. Refuses the plan's own file as output. Returns the
+/// output of `picture`.
 pub fn draw_plan<H: AllocGlobal + Files>(
     files: &mut CommandFiles<'_, H>,
     plan: &str,
     file: &str,
     part: Option<&PictureRequest>,
     texts: &mut Texts,
-) -> Result<Output, Fault>
+) -> Result<Output, Failure>
     ensures ok { IfOk result (IsPictureOutput file.now) }
     ensures fails { IfErr result (EndsPicture Global plan.now file.now) }
 {
@@ -35,7 +34,7 @@ pub fn draw_plan<H: AllocGlobal + Files>(
             Err(fault) => Err(fault),
         };
     }
-    match put_picture(files, file, text.as_str()) {
+    match write_picture_file(files, file, text.as_str()) {
         Ok(_) => Ok(print_text(files.alloc(), String::new(files.alloc()), 0)),
         Err(fault) => Err(fault),
     }

@@ -1,32 +1,30 @@
-//! Pictures as files.
+//! Draws pictures, and writes them to files.
 ghost use Rattle.std.specs.Prelude.{ℕ, IfErr, IfOk, List, codes, string_bytes};
 ghost use Rattle.std.specs.declared.alloc.Global.{Global};
 ghost use Rattle.app_commands.specs.ShownFiles.{EndsPicture, IsOfPicture, IsWritten};
 
-use crate::texts::Texts;
-use app_cli::{PictureRequest, numbers_of};
-use app_failure::{Fault, file_failure, plan_from};
-use app_files::{Cause, CommandFiles, Output, failed_at, write_file};
+use crate::context::Texts;
+use app_cli::{PictureRequest, parse_number_list};
+use app_failure::{Failure, file_failure, read_plan};
+use app_files::{Cause, CommandFiles, Output, file_fault, write_file};
 use bridge_check::{Accepted, CheckFault, Refused, check};
 use bridge_semantics::Outcome;
-use show_picture::{NoMemory, Part, draw_plan, draw_run};
+use show_picture::{NoMemory, Selection, draw_plan, draw_run};
 use std::alloc::Global;
 use std::io::Write;
 use std::rt::Files;
 
-/// Standard output, as the system names it among its files.
+/// Path of standard output's file. It shows whether a picture would overwrite a file in use.
 const STANDARD_OUTPUT: &str = "/dev/stdout";
 
-/// Draws the plan of a file, or a part of it, and returns the picture. The file is in use then. The plan may isolate its protected
-/// filters or not.
-///
-/// Faults in this order: the file opened and read, its text.
+/// Returns the picture of a plan, or of a requested part, whether or not the plan isolates its protected filters. Adds the plan to the
+/// files in use.
 pub(crate) fn plan_picture<H: AllocGlobal + Files>(
     files: &mut CommandFiles<'_, H>,
     plan: &str,
     part: Option<&PictureRequest>,
     texts: &mut Texts,
-) -> Result<String, Fault>
+) -> Result<String, Failure>
     ensures { (file : List ℕ) → IfErr result (EndsPicture Global plan.now file) }
 {
     let text = match files.read_text(plan) {
@@ -34,22 +32,22 @@ pub(crate) fn plan_picture<H: AllocGlobal + Files>(
         Err(fault) => return Err(file_failure(fault)),
     };
     texts.plan = text;
-    let read = match plan_from(files.alloc(), files.alloc(), plan, texts.plan.as_slice()) {
+    let read = match read_plan(files.alloc(), files.alloc(), plan, texts.plan.as_slice()) {
         Ok(read) => read,
         Err(fault) => return Err(fault),
     };
     let checked = check(files.alloc(), read);
-    let drawn = drawn_of(files.alloc(), &checked, part);
+    let drawn = draw_checked(files.alloc(), &checked, part);
     drop(checked);
     match drawn {
         Some(text) => Ok(text),
-        None => Err(Fault::NoMemory),
+        None => Err(Failure::NoMemory),
     }
 }
 
-/// The picture of a plan by what its check answered, or of the part of it that is asked for; none where memory was refused to
-/// the check or to the picture.
-fn drawn_of(
+/// Returns the picture of a checked plan, or of a requested part. Draws refused plans too. Returns `None` if memory runs out, also in the
+/// check.
+fn draw_checked(
     alloc: Global,
     checked: &Result<Accepted<Global>, Refused<Global>>,
     part: Option<&PictureRequest>,
@@ -60,7 +58,7 @@ fn drawn_of(
         }
     }
     let drawn = match part {
-        Some(part) => part_drawn(alloc, checked, part),
+        Some(part) => draw_selected_plan(alloc, checked, part),
         None => draw_plan(alloc, checked, &WHOLE),
     };
     match drawn {
@@ -69,22 +67,22 @@ fn drawn_of(
     }
 }
 
-/// All of a plan.
-const WHOLE: Part<'static> = Part {
+/// Selection of a whole plan: no requested time, ports or filters.
+const WHOLE: Selection<'static> = Selection {
     from: None,
     to: None,
     ports: &[],
     filters: &[],
 };
 
-/// The picture of the part of a plan that is asked for.
-fn part_drawn(
+/// Returns the picture of a requested part of a plan: a time, and ports.
+fn draw_selected_plan(
     alloc: Global,
     checked: &Result<Accepted<Global>, Refused<Global>>,
     request: &PictureRequest,
 ) -> Result<String, NoMemory> {
-    let ports = listed(alloc, &request.ports)?;
-    let part = Part {
+    let ports = parse_numbers(alloc, &request.ports)?;
+    let part = Selection {
         from: request.from,
         to: request.to,
         ports: &ports,
@@ -93,16 +91,16 @@ fn part_drawn(
     draw_plan(alloc, checked, &part)
 }
 
-/// The picture of the part of a run that is asked for.
-fn run_drawn(
+/// Returns the picture of a requested part of a run: a time, ports and filters.
+fn draw_selected_run(
     alloc: Global,
     accepted: &Accepted<Global>,
     outcome: &Outcome<Global>,
     request: &PictureRequest,
 ) -> Result<String, NoMemory> {
-    let ports = listed(alloc, &request.ports)?;
-    let filters = listed(alloc, &request.filters)?;
-    let part = Part {
+    let ports = parse_numbers(alloc, &request.ports)?;
+    let filters = parse_numbers(alloc, &request.filters)?;
+    let part = Selection {
         from: request.from,
         to: request.to,
         ports: &ports,
@@ -111,51 +109,51 @@ fn run_drawn(
     draw_run(alloc, accepted, outcome, &part)
 }
 
-/// The numbers of a list, where there is one.
-fn listed(alloc: Global, list: &Option<String>) -> Result<Vec<u32>, NoMemory> {
+/// Returns the numbers of an optional list. An absent list gives no numbers, which stand for all.
+fn parse_numbers(alloc: Global, list: &Option<String>) -> Result<Vec<u32>, NoMemory> {
     match list {
-        Some(list) => Ok(numbers_of(alloc, list.as_str())?),
+        Some(list) => Ok(parse_number_list(alloc, list.as_str())?),
         None => Ok(Vec::new(alloc)),
     }
 }
 
-/// Returns a picture for standard output. If standard output goes into a file in use, it is the file `-` that fails.
+/// Returns a picture's text unchanged, to be printed. Fails for the file `-` if standard output goes to a file in use.
 pub fn picture_apart<H: AllocGlobal + Files>(
     files: &CommandFiles<'_, H>,
     text: String,
-) -> Result<String, Fault>
+) -> Result<String, Failure>
     ensures { IfErr result (IsOfPicture (codes "-")) }
 {
     if files.is_in_use(STANDARD_OUTPUT) {
-        return Err(file_failure(failed_at(files.alloc(), "-", Cause::InUse)));
+        return Err(file_failure(file_fault(files.alloc(), "-", Cause::InUse)));
     }
     Ok(text)
 }
 
-/// Draws a run into the file that is asked for, which isn't in use.
+/// Draws a run into the requested file, which must not be in use. A fault names the file's path.
 pub(crate) fn put_run_picture<H: AllocGlobal + Files>(
     files: &CommandFiles<'_, H>,
     accepted: &Accepted<Global>,
     outcome: &Outcome<Global>,
     request: &PictureRequest,
-) -> Result<(), Fault>
+) -> Result<(), Failure>
     ensures { IfErr result (IsOfPicture (string_bytes request.now.file)) }
 {
-    let Ok(text) = run_drawn(files.alloc(), accepted, outcome, request) else {
-        return Err(Fault::NoMemory);
+    let Ok(text) = draw_selected_run(files.alloc(), accepted, outcome, request) else {
+        return Err(Failure::NoMemory);
     };
-    match put_picture(files, request.file.as_str(), text.as_str()) {
+    match write_picture_file(files, request.file.as_str(), text.as_str()) {
         Ok(_) => Ok(()),
         Err(fault) => Err(fault),
     }
 }
 
-/// Writes a picture into the file at a path, which isn't in use, and returns the file.
-pub fn put_picture<H: AllocGlobal + Files>(
+/// Writes a picture to the file at `path`, which must not be in use, and returns the file.
+pub fn write_picture_file<H: AllocGlobal + Files>(
     files: &CommandFiles<'_, H>,
     path: &str,
     text: &str,
-) -> Result<Output<H::File>, Fault>
+) -> Result<Output<H::File>, Failure>
     ensures written { IfOk result (IsWritten ⟦<Output<H::File> as Write>⟧.contents text.now) }
     ensures fails { IfErr result (IsOfPicture path.now) }
 {

@@ -1,17 +1,22 @@
-//! Standard output of the program.
-ghost use Rattle.std.specs.Prelude.{◌≡◌, ◌⊎◌, IfOk, map, string_bytes};
+//! Prints to standard output.
+ghost use Rattle.std.specs.Prelude.{◌≡◌, ◌⊎◌, IfOk, map, string_bytes, IfErr};
 ghost use Rattle.app_cli.specs.Helping.{explains};
 ghost use Rattle.std.specs.Io.KnownBytes.{Appends};
 ghost use Rattle.app_commands.specs.CommandOutputs.{IsPut, IsStandardFailure};
+ghost use Rattle.app_commands.specs.Outputs.{Reports, of_words_fault};
+ghost use Rattle.std.specs.Process.{exit_status};
 
-use crate::output::Output;
-use crate::reporting::report_words;
-use app_failure::{NoMemory, standard_file};
+use crate::explaining::explain_words_fault;
+use crate::output::{Output, report_fault};
+use app_cli::{ArgumentsFault, wants_explanation};
+use app_failure::{Failure, NoMemory, standard_stream_fault};
 use std::alloc::Global;
 use std::io;
 use std::io::Write;
+use std::process::ExitCode;
 
-/// Prints the text for standard output. If standard output fails, which is the file `-`, the output is that of the failure.
+/// Prints the output's text for standard output. If this fails, returns the output of that failure instead, so that its fault reaches
+/// standard error.
 pub fn put_stdout(
     rt: &(impl AllocGlobal + Print),
     words: &[String],
@@ -19,32 +24,32 @@ pub fn put_stdout(
 ) -> Result<Output, NoMemory>
     ensures { IfOk result (λ o. (o ≡ output) ⊎ IsStandardFailure (explains (map string_bytes words.now)) o) }
 {
-    match put_into(rt.alloc(), io::writer(rt), words, output) {
+    match write_stdout_text(rt.alloc(), io::writer(rt), words, output) {
         Ok((output, _)) => Ok(output),
         Err(NoMemory) => Err(NoMemory),
     }
 }
 
-/// Writes the text for standard output into a writer, and returns the writer with it. If the writer fails, the output is that of the
-/// failure, and there is no writer.
-fn put_into<W: Write + Drop>(
+/// Writes the text for standard output to a writer. If the writer fails, returns the output of that failure and `None`.
+fn write_stdout_text<W: Write + Drop>(
     alloc: Global,
     writer: W,
     words: &[String],
     output: Output,
 ) -> Result<(Output, Option<W>), NoMemory>
-    ensures { IfOk result (λ done. IsPut W.contents writer (explains (map string_bytes words.now)) output done.0 done.1) }
+    ensures { IfOk result (λ done. IsPut W.contents writer (explains
+        (map string_bytes words.now)) output done.0 done.1) }
 {
     match write_text(writer, output.stdout.as_str()) {
         Ok(writer) => Ok((output, Some(writer))),
         Err(_) => {
-            let report = report_words(alloc, words, &standard_file(alloc))?;
+            let report = report_words(alloc, words, &standard_stream_fault(alloc))?;
             Ok((report, None))
         }
     }
 }
 
-/// Writes a text behind what the writer holds, and returns the writer flushed.
+/// Writes a text to a writer, and returns the flushed writer.
 fn write_text<W: Write + Drop>(writer: W, text: &str) -> io::Result<W>
     ensures { IfOk result (λ done. Appends (W.contents writer) (W.contents done) text.now) }
 {
@@ -52,4 +57,43 @@ fn write_text<W: Write + Drop>(writer: W, text: &str) -> io::Result<W>
     writer.write_all(text.as_bytes())?;
     writer.flush()?;
     Ok(writer)
+}
+
+/// Returns the output for refused arguments, or for a standard output that failed. The arguments say whether an explanation is requested.
+pub fn report_words(alloc: Global, words: &[String], fault: &Failure) -> Result<Output, NoMemory>
+    ensures { IfOk result (Reports (explains (map string_bytes words.now)) fault.now) }
+{
+    let explanation = if wants_explanation(words) {
+        explain_words_fault(alloc, words, fault)
+    } else {
+        None
+    };
+    report_fault(alloc, fault, explanation)
+}
+
+/// Prints the text for standard error, and returns the exit status. If memory for the output ran out, prints `no memory` and returns 3.
+pub fn tell(rt: &impl Eprint, output: Result<Output, NoMemory>) -> ExitCode
+    ensures status { IfOk output (λ o. exit_status result ≡ o.status) }
+    ensures memory { IfErr output (λ _. exit_status result ≡ 3) }
+{
+    match output {
+        Ok(output) => {
+            let _ = rt.eprint(output.stderr.as_str());
+            ExitCode::from(output.status)
+        }
+        Err(NoMemory) => {
+            let _ = eprintln!(rt; "no memory");
+            ExitCode::from(3)
+        }
+    }
+}
+
+/// Returns the program's fault for refused arguments, or for memory that ran out while they were read.
+pub fn words_failure(fault: ArgumentsFault) -> Failure
+    ensures { result ≡ of_words_fault fault }
+{
+    match fault {
+        ArgumentsFault::Words => Failure::Words,
+        ArgumentsFault::NoMemory => Failure::NoMemory,
+    }
 }

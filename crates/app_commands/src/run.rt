@@ -3,38 +3,36 @@ ghost use Rattle.std.specs.Prelude.{◌≡◌, IfErr, IfOk, string_bytes};
 ghost use Rattle.app_commands.specs.CommandOutputs.{IsOutputOf, IsRunOutput, line_if};
 ghost use Rattle.app_commands.specs.RunJobs.{FailsRun};
 
-use crate::flags::Flags;
+use crate::context::{Flags, RunRequest, Texts};
 use crate::output::Output;
-use crate::run_job::RunJob;
 use crate::strict::{StrictRun, run_job};
-use crate::texts::Texts;
-use app_failure::{Fault, NoMemory};
+use app_failure::{Failure, NoMemory};
 use app_files::CommandFiles;
 use std::alloc::Global;
 use std::rt::Files;
 
-/// Runs captures through the bridge of a plan. The status is 1 if a warning is a fault and the plan has one, and nothing ran then; it
-/// is also 1 if a loss is a fault and a protected filter lost a frame.
+/// Runs captures through the bridge of a plan, and returns the output of `run`. If a warning is an error, nothing runs. The status is 1
+/// then, and if a loss is an error.
 pub fn run_bridge<H: AllocGlobal + Files>(
     files: &mut CommandFiles<'_, H>,
-    job: &RunJob<'_>,
+    job: &RunRequest<'_>,
     flags: Flags,
     texts: &mut Texts,
-) -> Result<Output, Fault>
+) -> Result<Output, Failure>
     ensures ok { IfOk result (IsRunOutput job.now.input.now job.now.output.now flags.is_strict flags.is_explained) }
     ensures fails { IfErr result (FailsRun job.now) }
 {
     match run_job(files, job, flags, texts) {
-        Ok(run) => match output_of(files.alloc(), run) {
+        Ok(run) => match run_output(files.alloc(), run) {
             Ok(output) => Ok(output),
-            Err(NoMemory) => Err(Fault::NoMemory),
+            Err(NoMemory) => Err(Failure::NoMemory),
         },
         Err(fault) => Err(fault),
     }
 }
 
-/// Returns the output of a run: its line, the lines about the plan, and the lines of lost frames.
-fn output_of(alloc: Global, run: StrictRun) -> Result<Output, NoMemory>
+/// Returns the output of a run: its line on standard output; lines about the plan and about lost frames on standard error.
+fn run_output(alloc: Global, run: StrictRun) -> Result<Output, NoMemory>
     ensures { IfOk result (IsOutputOf run) }
 {
     let status = run.status();
@@ -57,7 +55,7 @@ fn output_of(alloc: Global, run: StrictRun) -> Result<Output, NoMemory>
     })
 }
 
-/// Returns a line, or an empty text if there is none.
+/// Returns a line, or the empty text if there is none.
 pub fn line_or_nothing(alloc: Global, line: Option<String>) -> String
     ensures { string_bytes result ≡ line_if line }
 {

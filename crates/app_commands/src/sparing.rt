@@ -1,16 +1,16 @@
-//! Tables and pictures that a run would write over one of its own files.
+//! Refuses tables and pictures that would overwrite a run's own files, before the run.
 ghost use Rattle.std.specs.Prelude.{◌⊎◌, IfErr, Some, option_map, string_bytes};
 ghost use Rattle.app_commands.specs.ShownFiles.{IsOfShowing, IsOfTable, IsOfTables};
 
-use crate::run_job::RunJob;
+use crate::context::RunRequest;
 use app_cli::PictureRequest;
-use app_failure::{Fault, NoMemory, file_failure};
+use app_failure::{Failure, NoMemory, file_failure};
 use app_files::{CommandFiles, capture_path, report_path};
 use bridge_check::Accepted;
 use std::alloc::Global;
 use std::rt::Files;
 
-/// Notes that the captures of a folder at the ports of a plan are in use, if they exist.
+/// Adds a folder's existing captures at the plan's ports to the files in use. Missing files and pipes are ignored.
 fn note_captures<H: AllocGlobal + Files>(
     files: &mut CommandFiles<'_, H>,
     accepted: &Accepted<Global>,
@@ -23,11 +23,11 @@ fn note_captures<H: AllocGlobal + Files>(
     Ok(())
 }
 
-/// Returns the files in use, together with the captures that a run reads and writes and its report, if they exist.
+/// Returns the files in use together with the run's existing captures and report. The run opens these later, so they aren't in use yet.
 fn files_of_run<'a, H: AllocGlobal + Files>(
     files: &CommandFiles<'a, H>,
     accepted: &Accepted<Global>,
-    job: &RunJob<'_>,
+    job: &RunRequest<'_>,
 ) -> Result<CommandFiles<'a, H>, NoMemory> {
     let mut all = files.copy()?;
     note_captures(&mut all, accepted, job.input)?;
@@ -37,8 +37,11 @@ fn files_of_run<'a, H: AllocGlobal + Files>(
     Ok(all)
 }
 
-/// Refuses the path of an output that leads to one of these files.
-fn spare<H: AllocGlobal + Files>(files: &CommandFiles<'_, H>, path: &str) -> Result<(), Fault>
+/// Refuses an output path that leads to a regular file in use. A fault names the path.
+fn check_path_unused<H: AllocGlobal + Files>(
+    files: &CommandFiles<'_, H>,
+    path: &str,
+) -> Result<(), Failure>
     ensures { IfErr result (IsOfTable (Some path.now)) }
 {
     match files.spare(path) {
@@ -47,64 +50,65 @@ fn spare<H: AllocGlobal + Files>(files: &CommandFiles<'_, H>, path: &str) -> Res
     }
 }
 
-/// Refuses a table that is asked for and would be one of these files.
-fn spare_table<H: AllocGlobal + Files>(
+/// Refuses a requested table that is a file in use. Accepts a table that isn't requested (`None`).
+fn check_table_unused<H: AllocGlobal + Files>(
     files: &CommandFiles<'_, H>,
     path: &Option<String>,
-) -> Result<(), Fault>
+) -> Result<(), Failure>
     ensures { IfErr result (IsOfTable (option_map string_bytes path.now)) }
 {
     match path {
-        Some(path) => spare(files, path.as_str()),
+        Some(path) => check_path_unused(files, path.as_str()),
         None => Ok(()),
     }
 }
 
-/// Refuses a picture that is asked for and would be one of these files.
-fn spare_picture<H: AllocGlobal + Files>(
+/// Refuses a requested picture that is a file in use. Accepts a picture that isn't requested (`None`).
+fn check_picture_unused<H: AllocGlobal + Files>(
     files: &CommandFiles<'_, H>,
     picture: &Option<PictureRequest>,
-) -> Result<(), Fault>
+) -> Result<(), Failure>
     ensures { IfErr result (IsOfShowing (option_map (λ s. string_bytes s.file) picture.now)) }
 {
     match picture {
-        Some(picture) => spare(files, picture.file.as_str()),
+        Some(picture) => check_path_unused(files, picture.file.as_str()),
         None => Ok(()),
     }
 }
 
-/// Refuses the first table, or else the picture, that is asked for beside a run and would be one of these files.
-fn spare_each<H: AllocGlobal + Files>(
+/// Refuses the first requested table, or otherwise the picture, that is a file in use.
+fn check_outputs_unused<H: AllocGlobal + Files>(
     files: &CommandFiles<'_, H>,
-    job: &RunJob<'_>,
-) -> Result<(), Fault>
+    job: &RunRequest<'_>,
+) -> Result<(), Failure>
     ensures { IfErr result (λ f. IsOfShowing (option_map (λ s. string_bytes s.file) job.now.picture.now) f
-        ⊎ IsOfTables (option_map string_bytes job.now.tables.now.delays) (option_map string_bytes job.now.tables.now.frames) f) }
+        ⊎ IsOfTables (option_map string_bytes job.now.tables.now.delays)
+        (option_map string_bytes job.now.tables.now.frames) f) }
 {
-    if let Err(fault) = spare_table(files, &job.tables.delays) {
+    if let Err(fault) = check_table_unused(files, &job.tables.delays) {
         return Err(fault);
     }
-    if let Err(fault) = spare_table(files, &job.tables.frames) {
+    if let Err(fault) = check_table_unused(files, &job.tables.frames) {
         return Err(fault);
     }
-    spare_picture(files, job.picture)
+    check_picture_unused(files, job.picture)
 }
 
-/// Refuses the first table, or else the picture, that is asked for beside a run and would be a file in use or a file of the run, as far
-/// as these exist.
-pub(crate) fn spare_files<H: AllocGlobal + Files>(
+/// Refuses the first requested table, or otherwise the picture, that is a file in use or an existing file of the run.
+pub(crate) fn check_run_outputs_unused<H: AllocGlobal + Files>(
     files: &CommandFiles<'_, H>,
     accepted: &Accepted<Global>,
-    job: &RunJob<'_>,
-) -> Result<(), Fault>
+    job: &RunRequest<'_>,
+) -> Result<(), Failure>
     ensures { IfErr result (λ f. IsOfShowing (option_map (λ s. string_bytes s.file) job.now.picture.now) f
-        ⊎ IsOfTables (option_map string_bytes job.now.tables.now.delays) (option_map string_bytes job.now.tables.now.frames) f) }
+        ⊎ IsOfTables (option_map string_bytes job.now.tables.now.delays)
+        (option_map string_bytes job.now.tables.now.frames) f) }
 {
     if job.tables.delays.is_none() && job.tables.frames.is_none() && job.picture.is_none() {
         return Ok(());
     }
     let Ok(files) = files_of_run(files, accepted, job) else {
-        return Err(Fault::NoMemory);
+        return Err(Failure::NoMemory);
     };
-    spare_each(&files, job)
+    check_outputs_unused(&files, job)
 }

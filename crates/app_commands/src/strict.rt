@@ -1,4 +1,4 @@
-//! A run under a plan of which more is told than its line: the warnings of the plan, and the lines of lost frames.
+//! A run with the warnings of its plan and the lines of lost frames.
 ghost use Rattle.std.specs.Prelude.{◌≡◌, [], IfOk, IfErr, IfSome, None, false, string_bytes, true};
 ghost use Rattle.bridge_config.specs.Commands.{AreCommands};
 ghost use Rattle.app_files.specs.Folders.{HavePaths};
@@ -7,33 +7,31 @@ ghost use Rattle.app_commands.specs.RunJobs.{FailsRun, FailsRunUnder};
 ghost use Rattle.app_commands.specs.Losing.{TellsLost};
 ghost use Rattle.app_commands.specs.Notes.{AreNotes};
 
+use crate::context::{Flags, RunRequest, Texts};
 use crate::explaining::warnings_of_run;
-use crate::flags::Flags;
-use crate::job::send_told;
+use crate::job::run_with_outputs;
 use crate::late::Last;
-use crate::notes::{idle_line, notes_of};
-use crate::run_files::read_job;
-use crate::run_job::RunJob;
-use crate::texts::Texts;
-use app_failure::Fault;
+use crate::notes::{idle_line, plan_notes};
+use crate::run_files::read_plan_and_commands;
+use app_failure::Failure;
 use app_files::CommandFiles;
 use bridge_check::Accepted;
 use bridge_config::Command;
 use std::alloc::Global;
 use std::rt::Files;
 
-/// A run for which a warning or a loss can be a fault.
+/// Result of the command `run`, from which its output is made. Warnings and losses may be errors.
 #[derive(Drop)]
 pub struct StrictRun {
-    /// The line that the run prints, if it ran.
+    /// Line of the run. `None` if a warning kept it from running.
     pub line: Option<String>,
-    /// Lines on standard error about the plan: its warnings, or a complete explanation.
+    /// Text for standard error about the plan: its warnings or an explanation.
     pub told: String,
-    /// Whether a warning is a fault and the plan has one.
+    /// Whether warnings are errors and the plan has one.
     pub is_warned: bool,
-    /// Lines on standard error about the run: one for each protected filter that lost a frame or a copy, if a loss is a fault.
+    /// Text for standard error about the run: one line for each protected filter with losses, if losses are errors.
     pub lost: String,
-    /// Whether there is such a line.
+    /// Whether `lost` has a line.
     pub is_lossy: bool,
 }
 
@@ -41,7 +39,7 @@ impl StrictRun {
     ghost use Rattle.std.specs.Prelude.{◌≡◌};
     ghost use Rattle.app_commands.specs.Losing.{status_of};
 
-    /// Returns the exit status of the run: 1 if a warning or a loss is a fault, else 0.
+    /// Returns the run's exit status: 1 if a warning or a loss is an error, otherwise 0.
     pub fn status(&self) -> u8
         ensures { result ≡ status_of self.now.is_warned self.now.is_lossy }
     {
@@ -53,73 +51,75 @@ impl StrictRun {
     }
 }
 
-/// Runs captures through the bridge of a plan, and writes the tables and the picture that are asked for. If a warning is a fault and the
-/// plan has one, nothing runs, and no file is opened except the plan's and the commands'.
+/// Runs captures through the bridge of a plan, and writes the requested tables and picture. If warnings are errors and the plan has one,
+/// nothing runs, and only plan and commands are opened.
 ///
-/// The plan and the commands are read once, so both may be pipes.
-///
-/// Faults in this order: PLAN opened and read, its text; the commands opened and read, their text; the check of the plan; each capture
-/// of IN opened by rising port; the outputs opened or made; the run; the report, the table of delays, that of frames, and the picture.
+/// Reads plan and commands once, so both may be pipes.
 pub(crate) fn run_job<H: AllocGlobal + Files>(
     files: &mut CommandFiles<'_, H>,
-    job: &RunJob<'_>,
+    job: &RunRequest<'_>,
     flags: Flags,
     texts: &mut Texts,
-) -> Result<StrictRun, Fault>
+) -> Result<StrictRun, Failure>
     ensures ok { IfOk result (λ strict. IfSome strict.line (λ line. PrintsRun Global (string_bytes line))) }
     ensures named { IfOk result (λ strict. IfSome strict.line (λ _. HavePaths job.now.input.now job.now.output.now)) }
     ensures warned { IfOk result (λ strict. strict.is_warned ≡ true → strict.line ≡ None) }
     ensures left { IfOk result (λ strict. strict.line ≡ None → (strict.is_warned ≡ true) × (flags.is_strict ≡ true)) }
     ensures none { IfOk result (λ strict. strict.line ≡ None → string_bytes strict.lost ≡ []) }
-    ensures notes { IfOk result (λ strict. AreNotes flags.is_strict flags.is_explained (string_bytes strict.told) strict.is_warned) }
-    ensures lost { IfOk result (λ strict. IfSome strict.line (λ line. TellsLost Global flags.is_strict (string_bytes line)
+    ensures notes { IfOk result (λ strict. AreNotes flags.is_strict flags.is_explained (string_bytes strict.told)
+        strict.is_warned) }
+    ensures lost { IfOk result (λ strict. IfSome strict.line
+        (λ line. TellsLost Global flags.is_strict (string_bytes line)
         (string_bytes strict.lost) strict.is_lossy)) }
     ensures err { IfErr result (FailsRun job.now) }
 {
-    let (accepted, orders) = match read_job(files, job, texts) {
+    let (accepted, orders) = match read_plan_and_commands(files, job, texts) {
         Ok(read) => read,
         Err(fault) => return Err(fault),
     };
     let idle = idle_line(&texts.plan, &accepted, flags);
     texts.plan = Vec::new(files.alloc());
     texts.commands = Vec::new(files.alloc());
-    let told = send_by(files, &accepted, &orders, job, flags, idle);
+    let told = run_accepted_captures(files, &accepted, &orders, job, flags, idle);
     drop(accepted);
     told
 }
 
-/// Runs captures under an accepted plan. `idle` is the line of a schedule change of the plan that changes nothing.
-fn send_by<H: AllocGlobal + Files>(
+/// Runs captures under an accepted plan. If warnings are errors, a plan with a warning doesn't run. `idle` is the line of a schedule change
+/// without effect.
+fn run_accepted_captures<H: AllocGlobal + Files>(
     files: &mut CommandFiles<'_, H>,
     accepted: &Accepted<Global>,
     orders: &[Command],
-    job: &RunJob<'_>,
+    job: &RunRequest<'_>,
     flags: Flags,
     idle: Option<usize>,
-) -> Result<StrictRun, Fault>
+) -> Result<StrictRun, Failure>
     requires commands { AreCommands accepted.now orders.now }
     ensures ok { IfOk result (λ strict. IfSome strict.line (λ line. PrintsRun Global (string_bytes line))) }
     ensures named { IfOk result (λ strict. IfSome strict.line (λ _. HavePaths job.now.input.now job.now.output.now)) }
     ensures warned { IfOk result (λ strict. strict.is_warned ≡ true → strict.line ≡ None) }
     ensures left { IfOk result (λ strict. strict.line ≡ None → (strict.is_warned ≡ true) × (flags.is_strict ≡ true)) }
     ensures none { IfOk result (λ strict. strict.line ≡ None → string_bytes strict.lost ≡ []) }
-    ensures notes { IfOk result (λ strict. AreNotes flags.is_strict flags.is_explained (string_bytes strict.told) strict.is_warned) }
-    ensures lost { IfOk result (λ strict. IfSome strict.line (λ line. TellsLost Global flags.is_strict (string_bytes line)
+    ensures notes { IfOk result (λ strict. AreNotes flags.is_strict flags.is_explained (string_bytes strict.told)
+        strict.is_warned) }
+    ensures lost { IfOk result (λ strict. IfSome strict.line
+        (λ line. TellsLost Global flags.is_strict (string_bytes line)
         (string_bytes strict.lost) strict.is_lossy)) }
     ensures err { IfErr result (FailsRunUnder accepted.now job.now) }
 {
     if flags.is_strict {
         return send_strictly(files, accepted, orders, job, flags, idle);
     }
-    match send_told(files, accepted, orders, job, flags) {
+    match run_with_outputs(files, accepted, orders, job, flags) {
         Ok(lines) => {
-            let behind = Behind {
+            let behind = ExplanationData {
                 idle,
                 last: lines.last,
             };
             Ok(StrictRun {
                 line: Some(lines.line),
-                told: notes_behind(files.rt, accepted, orders, job, flags, behind),
+                told: run_warnings(files.rt, accepted, orders, job, flags, behind),
                 is_warned: false,
                 lost: lines.lost,
                 is_lossy: lines.is_lossy,
@@ -129,23 +129,23 @@ fn send_by<H: AllocGlobal + Files>(
     }
 }
 
-/// What an explanation needs of a run that is done.
+/// Facts of a complete run that its explanation needs.
 #[derive(Clone, Copy)]
-struct Behind {
-    /// The line of a schedule change of the plan that changes nothing.
+struct ExplanationData {
+    /// Line in the plan of a schedule change without effect, or `None`.
     idle: Option<usize>,
-    /// When the last frame arrived and had left.
+    /// Times of the last arrival and departure, or `None` if unknown.
     last: Option<Last>,
 }
 
-/// Returns the warnings of a plan and of its run, if an explanation is asked for. The text is empty otherwise, and if memory runs out.
-fn notes_behind<H: AllocGlobal + Files>(
+/// Returns the warnings of a plan and its run, if an explanation is requested. The text is empty otherwise, and if memory runs out.
+fn run_warnings<H: AllocGlobal + Files>(
     rt: &H,
     accepted: &Accepted<Global>,
     orders: &[Command],
-    job: &RunJob<'_>,
+    job: &RunRequest<'_>,
     flags: Flags,
-    behind: Behind,
+    behind: ExplanationData,
 ) -> String
     ensures { AreNotes false flags.is_explained (string_bytes result) false }
 {
@@ -159,16 +159,16 @@ fn notes_behind<H: AllocGlobal + Files>(
     }
 }
 
-/// Runs captures under an accepted plan, if the plan has no warning.
+/// Runs captures under an accepted plan if the plan has no warning; otherwise returns the warnings. Called if warnings are errors.
 #[tactic(auto, using(crate::proofs::ShownEnded::memory_ends))]
 fn send_strictly<H: AllocGlobal + Files>(
     files: &mut CommandFiles<'_, H>,
     accepted: &Accepted<Global>,
     orders: &[Command],
-    job: &RunJob<'_>,
+    job: &RunRequest<'_>,
     flags: Flags,
     idle: Option<usize>,
-) -> Result<StrictRun, Fault>
+) -> Result<StrictRun, Failure>
     requires commands { AreCommands accepted.now orders.now }
     requires strict { flags.is_strict ≡ true }
     ensures ok { IfOk result (λ strict. IfSome strict.line (λ line. PrintsRun Global (string_bytes line))) }
@@ -176,13 +176,15 @@ fn send_strictly<H: AllocGlobal + Files>(
     ensures warned { IfOk result (λ strict. strict.is_warned ≡ true → strict.line ≡ None) }
     ensures left { IfOk result (λ strict. strict.line ≡ None → (strict.is_warned ≡ true) × (flags.is_strict ≡ true)) }
     ensures none { IfOk result (λ strict. strict.line ≡ None → string_bytes strict.lost ≡ []) }
-    ensures notes { IfOk result (λ strict. AreNotes flags.is_strict flags.is_explained (string_bytes strict.told) strict.is_warned) }
-    ensures lost { IfOk result (λ strict. IfSome strict.line (λ line. TellsLost Global flags.is_strict (string_bytes line)
+    ensures notes { IfOk result (λ strict. AreNotes flags.is_strict flags.is_explained (string_bytes strict.told)
+        strict.is_warned) }
+    ensures lost { IfOk result (λ strict. IfSome strict.line
+        (λ line. TellsLost Global flags.is_strict (string_bytes line)
         (string_bytes strict.lost) strict.is_lossy)) }
     ensures err { IfErr result (FailsRunUnder accepted.now job.now) }
 {
-    let Ok((told, is_warned)) = notes_of(files.alloc(), accepted, idle, flags) else {
-        return Err(Fault::NoMemory);
+    let Ok((told, is_warned)) = plan_notes(files.alloc(), accepted, idle, flags) else {
+        return Err(Failure::NoMemory);
     };
     if is_warned {
         return Ok(StrictRun {
@@ -193,7 +195,7 @@ fn send_strictly<H: AllocGlobal + Files>(
             is_lossy: false,
         });
     }
-    match send_told(files, accepted, orders, job, flags) {
+    match run_with_outputs(files, accepted, orders, job, flags) {
         Ok(lines) => Ok(StrictRun {
             line: Some(lines.line),
             told,

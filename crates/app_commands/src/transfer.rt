@@ -1,4 +1,4 @@
-//! Readers and writers before and behind what is held back of them.
+//! Buffers for readers and writers.
 ghost use Rattle.std.specs.Prelude.{◌≡◌, ◌<◌, ◌≤◌, [], length, map, take, vec_capacity, IfOk};
 ghost use Rattle.app_commands.specs.Flushed.{AllKept, NoneFailed};
 
@@ -7,24 +7,24 @@ use bridge_capture::{ByteSink, ByteSource, ReadAhead, WriteBehind};
 use std::alloc::Allocator;
 use std::io::{Read, Write};
 
-/// The octets that are asked of each of so many readers, or given to each of so many writers, at once: whole pages of a file, and
-/// no more than stays with those of all others in the caches that are at hand.
-fn block_of(count: usize) -> usize
+/// Returns the block size in octets for each of `count` readers or writers. Blocks are whole pages of a file, and together stay in the
+/// processor's caches.
+fn block_size(count: usize) -> usize
     ensures some { 0 < result }
     ensures most { result ≤ 65536 }
 {
     if count <= 8 { 65_536 } else { 32_768 }
 }
 
-/// Sources of what readers give, in their order.
-pub fn sources_of<R: Read + Drop, A: Allocator + Copy>(
+/// Returns a buffered source over each reader, in list order. Whole blocks are read at once.
+pub fn buffered_sources<R: Read + Drop, A: Allocator + Copy>(
     alloc: A,
     readers: Vec<R, A>,
 ) -> Result<Vec<ReadAhead<R, A>, A>, NoMemory>
     ensures { IfOk result (λ sources. map ⟦<ReadAhead<R, A> as ByteSource>⟧.remaining sources.items
         ≡ map R.remaining readers.items) }
 {
-    let block = block_of(readers.len());
+    let block = block_size(readers.len());
     let mut sources = Vec::with_capacity(alloc, readers.len())?;
     for reader in readers {
         let source = ReadAhead::with_width(alloc, reader, block)?;
@@ -35,15 +35,15 @@ pub fn sources_of<R: Read + Drop, A: Allocator + Copy>(
     Ok(sources)
 }
 
-/// Sinks into writers, in their order.
-pub fn sinks_of<W: Write + Drop, A: Allocator + Copy>(
+/// Returns a buffered sink over each writer, in list order. Whole blocks are written at once.
+pub fn buffered_sinks<W: Write + Drop, A: Allocator + Copy>(
     alloc: A,
     writers: Vec<W, A>,
 ) -> Result<Vec<WriteBehind<W, A>, A>, NoMemory>
     ensures { IfOk result (λ sinks. AllKept W.contents ⟦<WriteBehind<W, A> as ByteSink>⟧.contents writers.items
         sinks.items) }
 {
-    let block = block_of(writers.len());
+    let block = block_size(writers.len());
     let mut sinks = Vec::with_capacity(alloc, writers.len())?;
     for writer in writers {
         let sink = WriteBehind::with_block(alloc, writer, block)?;
@@ -54,8 +54,9 @@ pub fn sinks_of<W: Write + Drop, A: Allocator + Copy>(
     Ok(sinks)
 }
 
-/// Flushes the writers behind sinks, one after the other, and hands back those before the first that fails.
-pub fn finish_all<W: Write + Drop, A: Allocator + Copy>(
+/// Flushes the sinks in list order, and returns the writers before the first that fails. Later sinks are dropped, which writes their
+/// buffers too. `flushed` is empty, with room for all writers.
+pub fn finish_sinks<W: Write + Drop, A: Allocator + Copy>(
     sinks: Vec<WriteBehind<W, A>, A>,
     flushed: Vec<W, A>,
 ) -> Vec<W, A>

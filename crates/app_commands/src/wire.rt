@@ -1,18 +1,21 @@
 //! The command `wire`: one capture through one queue.
-ghost use Rattle.std.specs.Prelude.{◌≤◌, ℕ, IfErr, IfOk, List};
+ghost use Rattle.std.specs.Prelude.{◌≤◌, ℕ, IfErr, IfOk, List, ◌≡◌, string_bytes};
 ghost use Rattle.app_commands.specs.WireFiles.{EndsWiring, SaysCounts};
 ghost use Rattle.app_commands.specs.CommandOutputs.{IsWireOutput};
+ghost use Rattle.app_commands.specs.Counts.{counts_line};
 
-use crate::files::wire_between;
+use crate::files::wire_files;
 use crate::output::{Output, print_text};
-use app_failure::Fault;
+use app_failure::Failure;
 use app_files::Said;
 use bridge_frame::Speed;
+use bridge_limits::NoMemory;
 use bridge_port::LARGEST_ROOM;
-use std::alloc::Global;
+use bridge_wire::WireCount;
+use std::alloc::{Allocator, Global};
 use std::rt::Files;
 
-/// Sends one capture through one queue of `room` frames (1 to 4096). The counts are printed on standard output, or on standard error if
+/// Sends one capture through one queue of `room` frames (1 to 4,096), and returns the output of `wire`. The counts go to standard error if
 /// the capture goes to standard output.
 pub fn send_capture<H: Input + AllocGlobal + Print + Files>(
     rt: &H,
@@ -20,19 +23,19 @@ pub fn send_capture<H: Input + AllocGlobal + Print + Files>(
     room: u16,
     input: &str,
     output: &str,
-) -> Result<Output, Fault>
+) -> Result<Output, Failure>
     requires room { (1 ≤ room) × (room ≤ LARGEST_ROOM) }
     ensures ok { IfOk result (IsWireOutput output.now) }
     ensures fails { IfErr result (EndsWiring input.now output.now) }
 {
-    match wire_between(rt, speed, room, input, output) {
-        Ok(said) => Ok(output_of(rt.alloc(), said)),
+    match wire_files(rt, speed, room, input, output) {
+        Ok(said) => Ok(wire_output(rt.alloc(), said)),
         Err(fault) => Err(fault),
     }
 }
 
-/// Returns the output of a capture that went through one queue, by its counts.
-fn output_of(alloc: Global, said: Said) -> Output
+/// Returns the output of `wire` by its message: on standard output, or on standard error.
+fn wire_output(alloc: Global, said: Said) -> Output
     ensures { (output : List ℕ) → SaysCounts output said → IsWireOutput output result }
 {
     match said {
@@ -43,4 +46,18 @@ fn output_of(alloc: Global, said: Said) -> Output
             status: 0,
         },
     }
+}
+
+/// Returns the line of counts, with its line feed: frames that arrived, malformed frames, copies that left, and copies dropped by the full
+/// queue.
+pub fn wire_line<A: Allocator + Copy>(alloc: A, count: &WireCount) -> Result<String<A>, NoMemory>
+    ensures { IfOk result (λ line. string_bytes line ≡ counts_line count.now) }
+{
+    let WireCount {
+        frames,
+        malformed,
+        sent,
+        full,
+    } = *count;
+    Ok(format!(in alloc; "frames {frames} malformed {malformed} sent {sent} full {full}\n")?)
 }

@@ -1,10 +1,10 @@
--- The numbers of the faults of a text.
+-- Numbers of the faults of a text.
 use Rattle.std.specs.Prelude.{ℕ}
 use Rattle.app_failure.specs.declared.fault.TextFault.{TextFault}
 use Rattle.app_failure.specs.declared.fault.TextFault.TheVariants.{NotHex, TooLong, Run}
 
--- the number of a fault
-abbrev pub number_of : TextFault → ℕ
-number_of NotHex = 1
-number_of TooLong = 2
-number_of (Run fault) = 3
+-- The number of a fault, 1 to 3.
+abbrev pub fault_code : TextFault → ℕ
+fault_code NotHex = 1
+fault_code TooLong = 2
+fault_code (Run fault) = 3

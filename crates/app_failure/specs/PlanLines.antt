@@ -1,54 +1,54 @@
--- What the program says of a plan that is refused.
+-- Fault lines of refused plans.
 use Rattle.std.specs.Prelude.{ℕ, List, ◌++◌, ◌==◌, if◌then◌else◌, codes, decimal}
-use Rattle.bridge_cycle.specs.declared.cyclic.ListFault.{ListFault}
-use Rattle.bridge_cycle.specs.declared.cyclic.ListFault.TheVariants as list
-use Rattle.bridge_schema.specs.declared.fault.Section.{Section}
-use Rattle.bridge_schema.specs.declared.fault.Place.{Place}
-use Rattle.bridge_schema.specs.declared.fault.PlanFault.{PlanFault}
-use Rattle.bridge_schema.specs.declared.fault.PlanFault.TheVariants as plan
-use Rattle.bridge_schema.specs.Keys.{key_of, name_of}
+use Rattle.bridge_cycle.specs.declared.cyclic_list.ListFault.{ListFault}
+use Rattle.bridge_cycle.specs.declared.cyclic_list.ListFault.TheVariants as list
+use Rattle.bridge_schema.specs.declared.plan_fault.Section.{Section}
+use Rattle.bridge_schema.specs.declared.plan_fault.KeyLocation.{KeyLocation}
+use Rattle.bridge_schema.specs.declared.plan_fault.PlanFault.{PlanFault}
+use Rattle.bridge_schema.specs.declared.plan_fault.PlanFault.TheVariants as plan
+use Rattle.bridge_schema.specs.Keys.{key_name, section_name}
 
--- an instance of a section by its place from 1; the section alone where there is no place
-abbrev pub instance : Section → ℕ → List ℕ
-instance section index = if index == 0 then name_of section else name_of section ++ (codes " " ++ decimal index)
+-- The section's name and the instance's position from 1; only the name for position 0.
+abbrev pub instance_text : Section → ℕ → List ℕ
+instance_text section index = if index == 0 then section_name section else section_name section ++ (codes " " ++ decimal index)
 
--- a key of an instance
-abbrev pub key_at : Place → List ℕ
-key_at place = instance place.section place.index ++ (codes " " ++ key_of place.field)
+-- A section, an instance's position and a key, such as `filter 2 max_sdu`.
+abbrev pub key_text : KeyLocation → List ℕ
+key_text place = instance_text place.section place.index ++ (codes " " ++ key_name place.field)
 
--- the plan is refused, by the name of its fault
+-- The fault line of a refused plan, with the fault's name.
 abbrev pub plan_refused : List ℕ → List ℕ
 plan_refused name = codes "plan refused: " ++ name
 
--- the same, with what is wrong
-abbrev pub plan_refused_at : List ℕ → List ℕ → List ℕ
-plan_refused_at name place = codes "plan refused: " ++ (name ++ (codes " " ++ place))
+-- The fault line of a refused plan, with the fault's name and the part at fault.
+abbrev pub plan_refused_section : List ℕ → List ℕ → List ℕ
+plan_refused_section name place = codes "plan refused: " ++ (name ++ (codes " " ++ place))
 
--- the list of an instance is refused, by the name of its fault
+-- The fault line of a refused list of an instance, with the fault's name.
 abbrev pub list_refused : Section → ℕ → List ℕ → List ℕ
-list_refused section index name = plan_refused_at (codes "BadList") (instance section index ++ (codes " " ++ name))
+list_refused section index name = plan_refused_section (codes "BadList") (instance_text section index ++ (codes " " ++ name))
 
--- the same, by the fault
-abbrev pub line_of_list : Section → ℕ → ListFault → List ℕ
-line_of_list section index list.Empty = list_refused section index (codes "Empty")
-line_of_list section index list.ZeroInterval = list_refused section index (codes "ZeroInterval")
-line_of_list section index list.OverCycle = list_refused section index (codes "OverCycle")
-line_of_list section index list.CycleOutOfRange = list_refused section index (codes "CycleOutOfRange")
-line_of_list section index list.TooManyEntries = list_refused section index (codes "TooManyEntries")
-line_of_list section index list.NoMemory = codes "no memory"
+-- The fault line of a refused list of an instance, by the fault.
+abbrev pub list_fault_line : Section → ℕ → ListFault → List ℕ
+list_fault_line section index list.Empty = list_refused section index (codes "Empty")
+list_fault_line section index list.ZeroInterval = list_refused section index (codes "ZeroInterval")
+list_fault_line section index list.OverCycle = list_refused section index (codes "OverCycle")
+list_fault_line section index list.CycleOutOfRange = list_refused section index (codes "CycleOutOfRange")
+list_fault_line section index list.TooManyEntries = list_refused section index (codes "TooManyEntries")
+list_fault_line section index list.NoMemory = codes "no memory"
 
--- a plan that is refused
-abbrev pub line_of_plan : PlanFault → List ℕ
-line_of_plan plan.Syntax = plan_refused (codes "Syntax")
-line_of_plan plan.TooLong = plan_refused (codes "TooLong")
-line_of_plan (plan.UnknownKey section index) = plan_refused_at (codes "UnknownKey") (instance section index)
-line_of_plan (plan.NotAList section) = plan_refused_at (codes "NotAList") (name_of section)
-line_of_plan (plan.Missing place) = plan_refused_at (codes "Missing") (key_at place)
-line_of_plan (plan.WrongKind place) = plan_refused_at (codes "WrongKind") (key_at place)
-line_of_plan (plan.OutOfRange place) = plan_refused_at (codes "OutOfRange") (key_at place)
-line_of_plan (plan.Duplicate section index) = plan_refused_at (codes "Duplicate") (instance section index)
-line_of_plan (plan.Unresolved place) = plan_refused_at (codes "Unresolved") (key_at place)
-line_of_plan (plan.TooMany section) = plan_refused_at (codes "TooMany") (name_of section)
-line_of_plan (plan.BadList section index fault) = line_of_list section index fault
-line_of_plan plan.NoPorts = plan_refused (codes "NoPorts")
-line_of_plan plan.NoMemory = codes "no memory"
+-- The fault line of a refused plan.
+abbrev pub plan_fault_line : PlanFault → List ℕ
+plan_fault_line plan.Syntax = plan_refused (codes "Syntax")
+plan_fault_line plan.TooLong = plan_refused (codes "TooLong")
+plan_fault_line (plan.UnknownKey section index) = plan_refused_section (codes "UnknownKey") (instance_text section index)
+plan_fault_line (plan.NotAList section) = plan_refused_section (codes "NotAList") (section_name section)
+plan_fault_line (plan.Missing place) = plan_refused_section (codes "Missing") (key_text place)
+plan_fault_line (plan.WrongKind place) = plan_refused_section (codes "WrongKind") (key_text place)
+plan_fault_line (plan.OutOfRange place) = plan_refused_section (codes "OutOfRange") (key_text place)
+plan_fault_line (plan.Duplicate section index) = plan_refused_section (codes "Duplicate") (instance_text section index)
+plan_fault_line (plan.Unresolved place) = plan_refused_section (codes "Unresolved") (key_text place)
+plan_fault_line (plan.TooMany section) = plan_refused_section (codes "TooMany") (section_name section)
+plan_fault_line (plan.BadList section index fault) = list_fault_line section index fault
+plan_fault_line plan.NoPorts = plan_refused (codes "NoPorts")
+plan_fault_line plan.NoMemory = codes "no memory"

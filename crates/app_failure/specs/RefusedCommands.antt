@@ -1,16 +1,16 @@
--- What the program says of commands that are refused.
+-- The fault line of refused commands.
 use Rattle.std.specs.Prelude.{List, ℕ, ◌++◌, codes, drop, length}
-use Rattle.bridge_cycle.specs.declared.cyclic.ListFault.TheVariants as list
-use Rattle.bridge_schema.specs.declared.fault.PlanFault.{PlanFault}
-use Rattle.bridge_schema.specs.declared.fault.PlanFault.TheVariants as plan
-use Rattle.app_failure.specs.PlanLines.{line_of_plan}
+use Rattle.bridge_cycle.specs.declared.cyclic_list.ListFault.TheVariants as list
+use Rattle.bridge_schema.specs.declared.plan_fault.PlanFault.{PlanFault}
+use Rattle.bridge_schema.specs.declared.plan_fault.PlanFault.TheVariants as plan
+use Rattle.app_failure.specs.PlanLines.{plan_fault_line}
 
--- the words of a plan's fault, behind what is refused
-abbrev pub words_of_plan : PlanFault → List ℕ
-words_of_plan f = drop (length (codes "plan refused: ")) (line_of_plan f)
+-- The words of a plan's fault line after `plan refused: `.
+abbrev pub plan_fault_words : PlanFault → List ℕ
+plan_fault_words f = drop (length (codes "plan refused: ")) (plan_fault_line f)
 
--- commands that are refused, with the words of a plan's fault
-abbrev pub line_of_commands : PlanFault → List ℕ
-line_of_commands plan.NoMemory = codes "no memory"
-line_of_commands (plan.BadList section index list.NoMemory) = codes "no memory"
-line_of_commands f = codes "commands refused: " ++ words_of_plan f
+-- The fault line of refused commands, with the words of a plan's fault line.
+abbrev pub commands_fault_line : PlanFault → List ℕ
+commands_fault_line plan.NoMemory = codes "no memory"
+commands_fault_line (plan.BadList section index list.NoMemory) = codes "no memory"
+commands_fault_line f = codes "commands refused: " ++ plan_fault_words f

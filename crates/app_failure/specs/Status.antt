@@ -1,64 +1,64 @@
--- With what the program ends.
+-- Exit statuses of faults.
 use Rattle.std.specs.Prelude.{ℕ}
-use Rattle.bridge_capture.specs.declared.fault.CaptureFault.{CaptureFault}
-use Rattle.bridge_capture.specs.declared.fault.CaptureFault.TheVariants as capture
-use Rattle.bridge_capture.specs.declared.run_fault.RunFault.{RunFault}
-use Rattle.bridge_capture.specs.declared.run_fault.RunFault.TheVariants as run
-use Rattle.bridge_cycle.specs.declared.cyclic.ListFault.{ListFault}
-use Rattle.bridge_cycle.specs.declared.cyclic.ListFault.TheVariants as list
-use Rattle.bridge_check.specs.declared.fault.CheckFault.{CheckFault}
-use Rattle.bridge_check.specs.declared.fault.CheckFault.TheVariants as check
-use Rattle.bridge_schema.specs.declared.fault.PlanFault.{PlanFault}
-use Rattle.bridge_schema.specs.declared.fault.PlanFault.TheVariants as plan
+use Rattle.bridge_capture.specs.declared.capture_fault.CaptureFault.{CaptureFault}
+use Rattle.bridge_capture.specs.declared.capture_fault.CaptureFault.TheVariants as capture
+use Rattle.bridge_capture.specs.declared.fault.RunFault.{RunFault}
+use Rattle.bridge_capture.specs.declared.fault.RunFault.TheVariants as run
+use Rattle.bridge_cycle.specs.declared.cyclic_list.ListFault.{ListFault}
+use Rattle.bridge_cycle.specs.declared.cyclic_list.ListFault.TheVariants as list
+use Rattle.bridge_check.specs.declared.check_fault.CheckFault.{CheckFault}
+use Rattle.bridge_check.specs.declared.check_fault.CheckFault.TheVariants as check
+use Rattle.bridge_schema.specs.declared.plan_fault.PlanFault.{PlanFault}
+use Rattle.bridge_schema.specs.declared.plan_fault.PlanFault.TheVariants as plan
 use Rattle.app_failure.specs.declared.fault.TextFault.{TextFault}
 use Rattle.app_failure.specs.declared.fault.TextFault.TheVariants as text
-use Rattle.app_failure.specs.declared.fault.Fault.{Fault}
-use Rattle.app_failure.specs.declared.fault.Fault.TheVariants as fault
+use Rattle.app_failure.specs.declared.fault.Failure.{Failure}
+use Rattle.app_failure.specs.declared.fault.Failure.TheVariants as fault
 
--- a capture that is refused, or a device or memory that failed
-abbrev pub status_of_capture : CaptureFault → ℕ
-status_of_capture capture.Read = 3
-status_of_capture capture.Write = 3
-status_of_capture capture.NoMemory = 3
-status_of_capture f = 2
+-- The exit status after a faulty capture: 3 for devices and memory, otherwise 2.
+abbrev pub capture_fault_status : CaptureFault → ℕ
+capture_fault_status capture.Read = 3
+capture_fault_status capture.Write = 3
+capture_fault_status capture.NoMemory = 3
+capture_fault_status f = 2
 
--- the status of a run that stops
-abbrev pub status_of_run : RunFault → ℕ
-status_of_run (run.Capture port f) = status_of_capture f
-status_of_run (run.Write port) = 3
-status_of_run run.NoMemory = 3
+-- The exit status after a stopped run.
+abbrev pub run_fault_status : RunFault → ℕ
+run_fault_status (run.Capture port f) = capture_fault_status f
+run_fault_status (run.Write port) = 3
+run_fault_status run.NoMemory = 3
 
--- the status of a text of standard input that is refused or whose run stops
-abbrev pub status_of_text : TextFault → ℕ
-status_of_text text.NotHex = 2
-status_of_text text.TooLong = 2
-status_of_text (text.Run f) = status_of_run f
+-- The exit status after a refused text on standard input or its stopped run.
+abbrev pub text_fault_status : TextFault → ℕ
+text_fault_status text.NotHex = 2
+text_fault_status text.TooLong = 2
+text_fault_status (text.Run f) = run_fault_status f
 
--- a list of a plan that is refused, unless memory failed
-abbrev pub status_of_list : ListFault → ℕ
-status_of_list list.NoMemory = 3
-status_of_list f = 1
+-- The exit status after a refused list of a plan: 3 if memory ran out, otherwise 1.
+abbrev pub list_fault_status : ListFault → ℕ
+list_fault_status list.NoMemory = 3
+list_fault_status f = 1
 
--- a plan or commands that are refused, unless memory failed
-abbrev pub status_of_plan : PlanFault → ℕ
-status_of_plan (plan.BadList section index f) = status_of_list f
-status_of_plan plan.NoMemory = 3
-status_of_plan f = 1
+-- The exit status after a refused plan or refused commands: 3 if memory ran out, otherwise 1.
+abbrev pub plan_fault_status : PlanFault → ℕ
+plan_fault_status (plan.BadList section index f) = list_fault_status f
+plan_fault_status plan.NoMemory = 3
+plan_fault_status f = 1
 
--- a plan that doesn't isolate a protected filter, unless memory failed
-abbrev pub status_of_check : CheckFault → ℕ
-status_of_check check.NoMemory = 3
-status_of_check f = 1
+-- The exit status after a plan that doesn't isolate a protected filter: 3 if memory ran out, otherwise 1.
+abbrev pub check_fault_status : CheckFault → ℕ
+check_fault_status check.NoMemory = 3
+check_fault_status f = 1
 
--- the status of a fault: 1 for a plan, commands or a network, 2 for a text, a capture or a run of a network, 3 for a file, a device or memory, 4 for the command line
-abbrev pub status_of : Fault → ℕ
-status_of (fault.Text f) = status_of_text f
-status_of (fault.Run f) = status_of_run f
-status_of (fault.Plan f) = status_of_plan f
-status_of (fault.Check f) = status_of_check f
-status_of (fault.Commands f) = status_of_plan f
-status_of (fault.Network line) = 1
-status_of (fault.Rounds line) = 2
-status_of fault.Words = 4
-status_of fault.NoMemory = 3
-status_of (fault.File e) = 3
+-- The exit status after a fault: 1 for plans, commands and networks; 2 for texts, captures and network runs; 3 for files and memory; 4 for arguments.
+abbrev pub fault_status : Failure → ℕ
+fault_status (fault.Text f) = text_fault_status f
+fault_status (fault.Run f) = run_fault_status f
+fault_status (fault.Plan f) = plan_fault_status f
+fault_status (fault.Check f) = check_fault_status f
+fault_status (fault.Commands f) = plan_fault_status f
+fault_status (fault.Network line) = 1
+fault_status (fault.Rounds line) = 2
+fault_status fault.Words = 4
+fault_status fault.NoMemory = 3
+fault_status (fault.File e) = 3

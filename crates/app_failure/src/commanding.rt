@@ -1,30 +1,28 @@
-//! The commands of a run under a plan.
+//! Reads the commands of a run.
 ghost use Rattle.std.specs.Prelude.{◌≡◌, ℕ, List, Option, None, Some, Ok, IfOk, IfErr, option_map, string_bytes};
 ghost use Rattle.bridge_check.specs.Faults.{first_fault};
 ghost use Rattle.bridge_config.specs.Commands.{AreCommands};
-ghost use Rattle.bridge_config.specs.Document.{commands_of_text};
+ghost use Rattle.bridge_config.specs.Document.{text_commands};
 ghost use Rattle.app_failure.specs.Commanding.{EndsCommanded, EndsCommands, TellsText, commands_for};
 
-use crate::accepting::checked;
-use crate::fault::Fault;
-use crate::jobs::fault_of_file;
+use crate::accepting::check_isolation;
+use crate::fault::Failure;
+use crate::jobs::read_failure;
 use app_files::read_text;
 use bridge_check::Accepted;
 use bridge_config::{Command, Plan, commands_of};
 use std::alloc::{Allocator, Global};
 use std::io::Read;
 
-/// A plan where it isolates each of its protected filters, with the commands of a reader, by the path of its file; without
-/// a file there are no commands.
+/// Accepts a plan and reads its commands from a reader; without a reader there are none. The path in `file` names the commands in a fault.
 ///
-/// The commands are read before the plan is checked: `Commands` with the first fault of their text, `Check` with the first
-/// fault of the plan, both also for want of memory. At most 1,048,577 octets are read, one more than commands may have.
-pub fn commanded<R: Read + Drop, A: Allocator + Copy>(
+/// Reads the commands before the check: fails with `Commands` or `Check`.
+pub fn read_commands_and_check<R: Read + Drop, A: Allocator + Copy>(
     alloc: A,
     heap: Global,
     plan: Plan<A>,
     file: Option<(String, R)>,
-) -> Result<(Accepted<A>, Vec<Command, A>), Fault>
+) -> Result<(Accepted<A>, Vec<Command, A>), Failure>
     ensures plan { IfOk result (λ done. (done.0 ≡ plan) × (first_fault plan ≡ None)) }
     ensures commands { IfOk result (λ done. AreCommands done.0 done.1.items) }
     ensures ok { (text : Option (List ℕ)) → TellsText R.remaining file text
@@ -34,26 +32,26 @@ pub fn commanded<R: Read + Drop, A: Allocator + Copy>(
     ensures only { IfErr result (λ fault. (text : Option (List ℕ))
         × EndsCommanded plan (option_map (λ f. string_bytes f.0) file) text fault) }
 {
-    let commands = match commands_in(alloc, heap, &plan, file) {
+    let commands = match read_optional_commands(alloc, heap, &plan, file) {
         Ok(commands) => commands,
         Err(fault) => {
             drop(plan);
             return Err(fault);
         }
     };
-    match checked(alloc, plan) {
+    match check_isolation(alloc, plan) {
         Ok(accepted) => Ok((accepted, commands)),
         Err(fault) => Err(fault),
     }
 }
 
-/// The commands to a plan of a reader, by the path of its file; none without a file.
-fn commands_in<R: Read + Drop, A: Allocator + Copy>(
+/// Reads the commands of a plan from an optional reader. Without a reader there are none, and no fault.
+fn read_optional_commands<R: Read + Drop, A: Allocator + Copy>(
     alloc: A,
     heap: Global,
     plan: &Plan<A>,
     file: Option<(String, R)>,
-) -> Result<Vec<Command, A>, Fault>
+) -> Result<Vec<Command, A>, Failure>
     ensures commands { IfOk result (λ v. AreCommands plan.now v.items) }
     ensures some { IfOk result (λ v. (text : Option (List ℕ)) × (commands_for plan.now text ≡ Ok v.items)) }
     ensures ok { (text : Option (List ℕ)) → TellsText R.remaining file text
@@ -65,22 +63,22 @@ fn commands_in<R: Read + Drop, A: Allocator + Copy>(
 {
     match file {
         None => Ok(Vec::new(alloc)),
-        Some((path, reader)) => commands_from(alloc, heap, plan, path.as_str(), reader),
+        Some((path, reader)) => read_commands(alloc, heap, plan, path.as_str(), reader),
     }
 }
 
-/// The commands to a plan of a reader, by the path of its file.
-fn commands_from<R: Read + Drop, A: Allocator + Copy>(
+/// Reads the commands of a plan from a reader. A fault names `path`.
+fn read_commands<R: Read + Drop, A: Allocator + Copy>(
     alloc: A,
     heap: Global,
     plan: &Plan<A>,
     path: &str,
     reader: R,
-) -> Result<Vec<Command, A>, Fault>
+) -> Result<Vec<Command, A>, Failure>
     ensures commands { IfOk result (λ v. AreCommands plan.now v.items) }
-    ensures some { IfOk result (λ v. (input : List ℕ) × (commands_of_text plan.now input ≡ Ok v.items)) }
+    ensures some { IfOk result (λ v. (input : List ℕ) × (text_commands plan.now input ≡ Ok v.items)) }
     ensures ok { (input : List ℕ) → R.remaining reader ≡ Some input
-        → IfOk result (λ v. commands_of_text plan.now input ≡ Ok v.items) }
+        → IfOk result (λ v. text_commands plan.now input ≡ Ok v.items) }
     ensures err { (input : List ℕ) → R.remaining reader ≡ Some input
         → IfErr result (EndsCommands plan.now path.now input) }
     ensures only { IfErr result (λ fault. (input : List ℕ) × EndsCommands plan.now path.now input fault) }
@@ -88,8 +86,8 @@ fn commands_from<R: Read + Drop, A: Allocator + Copy>(
     match read_text(alloc, reader) {
         Ok(text) => match commands_of(alloc, heap, &text, plan) {
             Ok(commands) => Ok(commands),
-            Err(fault) => Err(Fault::Commands(fault)),
+            Err(fault) => Err(Failure::Commands(fault)),
         },
-        Err(fault) => Err(fault_of_file(heap, path, fault)),
+        Err(fault) => Err(read_failure(heap, path, fault)),
     }
 }

@@ -1,7 +1,10 @@
-//! Why the program stops.
-ghost use Rattle.std.specs.Prelude.{◌≡◌};
+//! Faults that end the program.
+ghost use Rattle.std.specs.Prelude.{◌≡◌, ℕ, List};
 ghost use Rattle.app_failure.specs.Faults.{of_file_fault};
-ghost use Rattle.app_failure.specs.declared.fault.Fault.TheVariants.{NoMemory as no_memory};
+ghost use Rattle.app_failure.specs.declared.fault.Failure.TheVariants.{NoMemory as no_memory};
+ghost use Rattle.app_files.specs.FailedFiles.{IsCaptureFault, IsOfPath};
+ghost use Rattle.app_files.specs.Folders.{LackPath};
+ghost use Rattle.app_failure.specs.Reading.{EndsFiles, FailsCaptures, IsFileFault, LacksPath};
 
 use app_files::{FileError, FileFault};
 use bridge_capture::RunFault;
@@ -11,26 +14,26 @@ use bridge_schema::PlanFault;
 use std::alloc::AllocError;
 use thiserror::Error;
 
-/// Why a text is not run.
+/// Why a hexadecimal text isn't run.
 #[derive(Clone, Copy, Debug, PartialEq, Eq, Error)]
 pub enum TextFault {
-    /// The text is no hexadecimal text.
+    /// The text isn't hexadecimal.
     #[error("the text is not hexadecimal")]
     NotHex,
-    /// The text is longer than 4,194,304 bytes or spells more than 1,048,576 octets.
+    /// The text is longer than 4,194,304 bytes, or encodes more than 1,048,576 octets.
     #[error("the text is too long")]
     TooLong,
-    /// The run over its octets stopped, or a growth was refused.
+    /// The run over its octets stopped, or memory ran out.
     #[error("{0}")]
     Run(RunFault),
 }
 
 impl TextFault {
-    ghost use Rattle.app_failure.specs.Numbering.{number_of};
+    ghost use Rattle.app_failure.specs.Numbering.{fault_code};
 
-    /// The number of the fault, 1 to 3.
+    /// Returns the number of the fault, 1 to 3. Definitions name the faults by these numbers.
     pub fn number(self) -> u8
-        ensures { result ≡ number_of self }
+        ensures { result ≡ fault_code self }
     {
         match self {
             TextFault::NotHex => 1,
@@ -40,54 +43,68 @@ impl TextFault {
     }
 }
 
-/// Why the program stops.
+/// Why the program ends without result. Fault line, exit status and explanation are made from it.
 #[derive(Debug, Drop)]
-pub enum Fault {
-    /// The arguments of the command line are refused.
+pub enum Failure {
+    /// The arguments are refused.
     Words,
     /// Memory ran out.
     NoMemory,
-    /// A file can't be opened, made, read or written. Standard input and output are the file `-`.
+    /// A file can't be opened, created, read or written. Standard input and output have the path `-`.
     File(FileError),
-    /// The hexadecimal text of standard input is refused, or its run stopped.
+    /// The hexadecimal text on standard input is refused, or its run stopped.
     Text(TextFault),
-    /// A run stopped: at a capture that is refused, or at a device.
+    /// A run stopped, because a capture is refused or a device failed.
     Run(RunFault),
     /// A plan is refused.
     Plan(PlanFault),
     /// A plan doesn't isolate a protected filter.
     Check(CheckFault),
-    /// Commands are refused.
+    /// The commands are refused.
     Commands(PlanFault),
-    /// A network of bridges or its traffic is refused. The text is the line of the fault, by whoever reads and tests them.
+    /// A network or its traffic is refused. The text is the fault line.
     Network(String),
-    /// A run of a network stopped at a capture, or doesn't settle. The text is the line of the fault, by whoever runs networks.
+    /// A network run stopped at a capture, or didn't settle. The text is the fault line.
     Rounds(String),
 }
 
-impl From<AllocError> for Fault {
+impl From<AllocError> for Failure {
     ghost from_gives = { λ _ fault. fault ≡ no_memory };
 
-    fn from(_: AllocError) -> Fault {
-        Fault::NoMemory
+    fn from(_: AllocError) -> Failure {
+        Failure::NoMemory
     }
 }
 
-impl From<NoMemory> for Fault {
+impl From<NoMemory> for Failure {
     ghost from_gives = { λ _ fault. fault ≡ no_memory };
 
-    fn from(_: NoMemory) -> Fault {
-        Fault::NoMemory
+    fn from(_: NoMemory) -> Failure {
+        Failure::NoMemory
     }
 }
 
-impl From<FileFault> for Fault {
+impl From<FileFault> for Failure {
     ghost from_gives = { λ file fault. fault ≡ of_file_fault file };
 
-    fn from(fault: FileFault) -> Fault {
+    fn from(fault: FileFault) -> Failure {
         match fault {
-            FileFault::File(error) => Fault::File(error),
-            FileFault::NoMemory => Fault::NoMemory,
+            FileFault::File(error) => Failure::File(error),
+            FileFault::NoMemory => Failure::NoMemory,
         }
+    }
+}
+
+/// Returns a fault of `app_files` as a fault of the program.
+pub fn file_failure(fault: FileFault) -> Failure
+    ensures same { result ≡ of_file_fault fault }
+    ensures ends { EndsFiles result }
+    ensures path { (path : List ℕ) → IsOfPath path fault → IsFileFault path result }
+    ensures captures { (folder ports : List ℕ) → IsCaptureFault folder ports fault → FailsCaptures folder ports result }
+    ensures folders { (input output : List ℕ) → LackPath input output fault → LacksPath input output result }
+{
+    match fault {
+        FileFault::File(error) => Failure::File(error),
+        FileFault::NoMemory => Failure::NoMemory,
     }
 }

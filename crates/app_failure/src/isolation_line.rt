@@ -1,21 +1,25 @@
-//! The line of a plan that doesn't isolate a protected filter.
+//! Writes the fault line of a plan that doesn't isolate a protected filter.
 ghost use Rattle.bridge_text.specs.Growth.{HasGrown};
-ghost use Rattle.app_failure.specs.CheckLines.{filter_refused, line_of_check, queue_refused, queue_shared, window_shared};
+ghost use Rattle.app_failure.specs.CheckLines.{filter_refused, check_fault_line, queue_refused, queue_shared, window_shared};
 
 use bridge_check::CheckFault;
-use bridge_text::Text;
+use bridge_text::TextBuilder;
 use std::alloc::Allocator;
 
-/// Puts the line of a plan that doesn't isolate a protected filter.
-pub fn put_check<A: Allocator>(text: &mut Text<A>, fault: &CheckFault)
-    ensures { HasGrown text.old (line_of_check fault.now) text.new }
+/// Writes the fault line of a plan that doesn't isolate a protected filter: the failed test, the filter, and the queue if there is one.
+pub fn put_check_fault<A: Allocator>(text: &mut TextBuilder<A>, fault: &CheckFault)
+    ensures { HasGrown text.old (check_fault_line fault.now) text.new }
 {
     match *fault {
-        CheckFault::ProtectedWildcard { filter } => put_filter(text, "ProtectedWildcard", filter),
-        CheckFault::NoMaxSdu { filter } => put_filter(text, "NoMaxSdu", filter),
-        CheckFault::GateShared { filter } => put_filter(text, "GateShared", filter),
-        CheckFault::MeterShared { filter } => put_filter(text, "MeterShared", filter),
-        CheckFault::NoCatchAll { filter } => put_filter(text, "NoCatchAll", filter),
+        CheckFault::ProtectedWildcard { filter } => put_filter_fault(
+            text,
+            "ProtectedWildcard",
+            filter,
+        ),
+        CheckFault::NoMaxSdu { filter } => put_filter_fault(text, "NoMaxSdu", filter),
+        CheckFault::GateShared { filter } => put_filter_fault(text, "GateShared", filter),
+        CheckFault::MeterShared { filter } => put_filter_fault(text, "MeterShared", filter),
+        CheckFault::NoCatchAll { filter } => put_filter_fault(text, "NoCatchAll", filter),
         CheckFault::QueueShared {
             filter,
             port,
@@ -32,13 +36,13 @@ pub fn put_check<A: Allocator>(text: &mut Text<A>, fault: &CheckFault)
             filter,
             port,
             class,
-        } => put_queue(text, "MaxSduNeverFits", filter, port, class),
+        } => put_queue_fault(text, "MaxSduNeverFits", filter, port, class),
         CheckFault::NoMemory => text.put("no memory"),
     }
 }
 
-/// Puts that the plan is refused for a filter, by the name of the fault.
-fn put_filter<A: Allocator>(text: &mut Text<A>, name: &str, filter: u32)
+/// Writes the fault line `plan refused: NAME filter NUMBER`, for tests that concern no queue.
+fn put_filter_fault<A: Allocator>(text: &mut TextBuilder<A>, name: &str, filter: u32)
     ensures { HasGrown text.old (filter_refused name.now filter) text.new }
 {
     text.put("plan refused: ");
@@ -47,8 +51,14 @@ fn put_filter<A: Allocator>(text: &mut Text<A>, name: &str, filter: u32)
     text.put_number(u64::from(filter));
 }
 
-/// Puts that the plan is refused for a queue of a filter's frames, by the name of the fault.
-fn put_queue<A: Allocator>(text: &mut Text<A>, name: &str, filter: u32, port: u8, class: u8)
+/// Writes the fault line `plan refused: NAME filter NUMBER ..` with port and class of a reachable queue.
+fn put_queue_fault<A: Allocator>(
+    text: &mut TextBuilder<A>,
+    name: &str,
+    filter: u32,
+    port: u8,
+    class: u8,
+)
     ensures { HasGrown text.old (queue_refused name.now filter port class) text.new }
 {
     text.put("plan refused: ");
@@ -61,8 +71,14 @@ fn put_queue<A: Allocator>(text: &mut Text<A>, name: &str, filter: u32, port: u8
     text.put_number(u64::from(class));
 }
 
-/// Puts that the plan is refused for a queue that another filter's frames come to.
-fn put_shared_queue<A: Allocator>(text: &mut Text<A>, filter: u32, port: u8, class: u8, other: u32)
+/// Writes the fault line `QueueShared`: the filter, its queue, and the other filter that can reach the queue.
+fn put_shared_queue<A: Allocator>(
+    text: &mut TextBuilder<A>,
+    filter: u32,
+    port: u8,
+    class: u8,
+    other: u32,
+)
     ensures { HasGrown text.old (queue_shared filter port class other) text.new }
 {
     text.put("plan refused: QueueShared filter ");
@@ -75,9 +91,14 @@ fn put_shared_queue<A: Allocator>(text: &mut Text<A>, filter: u32, port: u8, cla
     text.put_number(u64::from(other));
 }
 
-/// Puts that the plan is refused for a queue beside which another class is open, first from a phase of the port's list on,
-/// in ns.
-fn put_shared_window<A: Allocator>(text: &mut Text<A>, filter: u32, port: u8, class: u8, at: u64)
+/// Writes the fault line `WindowShared`: the filter, its queue, and the offset `at` in ns from which another class is open too.
+fn put_shared_window<A: Allocator>(
+    text: &mut TextBuilder<A>,
+    filter: u32,
+    port: u8,
+    class: u8,
+    at: u64,
+)
     ensures { HasGrown text.old (window_shared filter port class at) text.new }
 {
     text.put("plan refused: WindowShared filter ");

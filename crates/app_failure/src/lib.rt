@@ -1,11 +1,9 @@
 #![tactic(auto)]
-//! What the program does with a plan and says: its jobs over readers, and the line and the status of each fault.
+//! Defines the program's faults, their fault lines and exit statuses. Reads and checks plans and commands from readers.
 
 mod accepting;
 mod commanding;
 mod fault;
-mod file_faults;
-mod host;
 mod isolation_line;
 mod jobs;
 mod line;
@@ -13,11 +11,9 @@ mod plan_line;
 mod refused_commands;
 mod status;
 
-pub use accepting::{accepted_of, check_line, checked};
+pub use accepting::{accepted_plan, check_line};
 pub use bridge_limits::NoMemory;
-pub use commanding::commanded;
-pub use fault::{Fault, TextFault};
-pub use file_faults::file_failure;
-pub use host::{end, print};
-pub use jobs::{check_job, fault_of_file, plan_from, planned, standard_file};
-pub use line::fault_line;
+pub use commanding::read_commands_and_check;
+pub use fault::{Failure, TextFault, file_failure};
+pub use jobs::{check_job, read_accepted_plan, read_failure, read_plan, standard_stream_fault};
+pub use line::{fault_line, print, print_fault};

@@ -1,30 +1,34 @@
-//! The line of commands that are refused.
+//! Writes the fault line of refused commands.
 ghost use Rattle.std.specs.Prelude.{◌≡◌, IfOk, string_bytes};
 ghost use Rattle.bridge_text.specs.Growth.{HasGrown};
-ghost use Rattle.app_failure.specs.PlanLines.{line_of_plan};
-ghost use Rattle.app_failure.specs.RefusedCommands.{line_of_commands};
+ghost use Rattle.app_failure.specs.PlanLines.{plan_fault_line};
+ghost use Rattle.app_failure.specs.RefusedCommands.{commands_fault_line};
 
-use crate::plan_line::put_plan;
+use crate::plan_line::put_plan_fault;
 use bridge_limits::NoMemory;
 use bridge_schema::PlanFault;
-use bridge_text::Text;
+use bridge_text::TextBuilder;
 use std::alloc::Allocator;
 
-/// The line of a plan that is refused.
-fn line_of_plan<A: Allocator + Copy>(alloc: A, fault: &PlanFault) -> Result<String<A>, NoMemory>
-    ensures { IfOk result (λ line. string_bytes line ≡ line_of_plan fault.now) }
+/// Returns the fault line that a refused plan would have with this fault: the fault line of commands differs only in its start.
+fn plan_fault_line<A: Allocator + Copy>(alloc: A, fault: &PlanFault) -> Result<String<A>, NoMemory>
+    ensures { IfOk result (λ line. string_bytes line ≡ plan_fault_line fault.now) }
 {
-    let mut text = Text::new(alloc);
-    put_plan(&mut text, fault);
-    text.done()
+    let mut text = TextBuilder::new(alloc);
+    put_plan_fault(&mut text, fault);
+    text.finish()
 }
 
-/// Puts the line of commands that are refused: the words of a plan's fault behind `commands refused: `.
-pub fn put_commands<A: Allocator + Copy>(alloc: A, text: &mut Text<A>, fault: &PlanFault)
-    ensures { HasGrown text.old (line_of_commands fault.now) text.new }
+/// Writes the fault line of refused commands: `commands refused: `, followed by the words of a plan's fault line.
+pub fn put_commands_fault<A: Allocator + Copy>(
+    alloc: A,
+    text: &mut TextBuilder<A>,
+    fault: &PlanFault,
+)
+    ensures { HasGrown text.old (commands_fault_line fault.now) text.new }
 {
-    let Ok(line) = line_of_plan(alloc, fault) else {
-        text.give_up();
+    let Ok(line) = plan_fault_line(alloc, fault) else {
+        text.discard();
         return;
     };
     match line.as_str().strip_prefix("plan refused: ") {

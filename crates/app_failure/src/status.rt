@@ -1,65 +1,65 @@
-//! The status of each fault.
+//! Exit statuses of faults.
 ghost use Rattle.std.specs.Prelude.{◌≡◌};
-ghost use Rattle.app_failure.specs.Status.{status_of, status_of_capture, status_of_check, status_of_list, status_of_plan, status_of_run, status_of_text};
+ghost use Rattle.app_failure.specs.Status.{fault_status, capture_fault_status, check_fault_status, list_fault_status, plan_fault_status, run_fault_status, text_fault_status};
 
-use crate::fault::{Fault, TextFault};
+use crate::fault::{Failure, TextFault};
 use bridge_capture::{CaptureFault, RunFault};
 use bridge_check::CheckFault;
 use bridge_cycle::ListFault;
 use bridge_schema::PlanFault;
 
-/// A plan, commands or a network that are refused.
+/// Status after a refused plan, commands, network or traffic.
 const REFUSED_PLAN: u8 = 1;
 
-/// A text or a capture that is refused, or a run of a network that doesn't settle.
+/// Status after a refused text or capture, or a network run that doesn't settle.
 const REFUSED: u8 = 2;
 
-/// A file, a device or memory.
+/// Status after a failed file or device, or out of memory.
 const FAILED: u8 = 3;
 
-/// The words of the command line.
+/// Status after refused arguments.
 const WORDS: u8 = 4;
 
-/// The status with which the program ends after a fault.
-pub fn ending(fault: &Fault) -> u8
-    ensures { result ≡ status_of fault.now }
+/// Returns the exit status after a fault, 1 to 4, by the kind of the fault.
+pub fn fault_status(fault: &Failure) -> u8
+    ensures { result ≡ fault_status fault.now }
 {
     match fault {
-        Fault::Text(fault) => ending_of_text(fault),
-        Fault::Run(fault) => ending_of_run(fault),
-        Fault::Plan(fault) => ending_of_plan(fault),
-        Fault::Check(fault) => ending_of_check(fault),
-        Fault::Commands(fault) => ending_of_plan(fault),
-        Fault::Network(_) => REFUSED_PLAN,
-        Fault::Rounds(_) => REFUSED,
-        Fault::Words => WORDS,
-        Fault::NoMemory | Fault::File(_) => FAILED,
+        Failure::Text(fault) => text_fault_status(fault),
+        Failure::Run(fault) => run_fault_status(fault),
+        Failure::Plan(fault) => plan_fault_status(fault),
+        Failure::Check(fault) => check_fault_status(fault),
+        Failure::Commands(fault) => plan_fault_status(fault),
+        Failure::Network(_) => REFUSED_PLAN,
+        Failure::Rounds(_) => REFUSED,
+        Failure::Words => WORDS,
+        Failure::NoMemory | Failure::File(_) => FAILED,
     }
 }
 
-/// The status of a text that is refused, or whose run stopped.
-fn ending_of_text(fault: &TextFault) -> u8
-    ensures { result ≡ status_of_text fault.now }
+/// Returns the exit status after a refused hexadecimal text or its stopped run.
+fn text_fault_status(fault: &TextFault) -> u8
+    ensures { result ≡ text_fault_status fault.now }
 {
     match fault {
         TextFault::NotHex | TextFault::TooLong => REFUSED,
-        TextFault::Run(fault) => ending_of_run(fault),
+        TextFault::Run(fault) => run_fault_status(fault),
     }
 }
 
-/// The status of a run that stopped.
-fn ending_of_run(fault: &RunFault) -> u8
-    ensures { result ≡ status_of_run fault.now }
+/// Returns the exit status after a stopped run: 2 for a refused capture, 3 for devices and memory.
+fn run_fault_status(fault: &RunFault) -> u8
+    ensures { result ≡ run_fault_status fault.now }
 {
     match fault {
-        RunFault::Capture { fault, .. } => ending_of_capture(fault),
+        RunFault::Capture { fault, .. } => capture_fault_status(fault),
         RunFault::Write { .. } | RunFault::NoMemory => FAILED,
     }
 }
 
-/// The status of a capture that is refused, or that can't be read or written.
-fn ending_of_capture(fault: &CaptureFault) -> u8
-    ensures { result ≡ status_of_capture fault.now }
+/// Returns the exit status after a capture fault: 2 if the capture is refused, 3 if a device failed or memory ran out.
+fn capture_fault_status(fault: &CaptureFault) -> u8
+    ensures { result ≡ capture_fault_status fault.now }
 {
     match fault {
         CaptureFault::Read | CaptureFault::Write | CaptureFault::NoMemory => FAILED,
@@ -67,20 +67,20 @@ fn ending_of_capture(fault: &CaptureFault) -> u8
     }
 }
 
-/// The status of a plan or of commands that are refused.
-fn ending_of_plan(fault: &PlanFault) -> u8
-    ensures { result ≡ status_of_plan fault.now }
+/// Returns the exit status after a refused plan or refused commands: 1, or 3 if memory ran out.
+fn plan_fault_status(fault: &PlanFault) -> u8
+    ensures { result ≡ plan_fault_status fault.now }
 {
     match fault {
-        PlanFault::BadList(_, _, fault) => ending_of_list(fault),
+        PlanFault::BadList(_, _, fault) => list_fault_status(fault),
         PlanFault::NoMemory => FAILED,
         _ => REFUSED_PLAN,
     }
 }
 
-/// The status of a plan that doesn't isolate a protected filter.
-fn ending_of_check(fault: &CheckFault) -> u8
-    ensures { result ≡ status_of_check fault.now }
+/// Returns the exit status after a plan that doesn't isolate a protected filter: 1, or 3 if memory ran out.
+fn check_fault_status(fault: &CheckFault) -> u8
+    ensures { result ≡ check_fault_status fault.now }
 {
     match fault {
         CheckFault::NoMemory => FAILED,
@@ -88,9 +88,9 @@ fn ending_of_check(fault: &CheckFault) -> u8
     }
 }
 
-/// The status of a plan of which a list is refused.
-fn ending_of_list(fault: &ListFault) -> u8
-    ensures { result ≡ status_of_list fault.now }
+/// Returns the exit status after a refused list of a plan: 1, or 3 if memory ran out.
+fn list_fault_status(fault: &ListFault) -> u8
+    ensures { result ≡ list_fault_status fault.now }
 {
     match fault {
         ListFault::NoMemory => FAILED,

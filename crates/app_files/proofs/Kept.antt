@@ -1,8 +1,8 @@
--- Octets that were kept.
+-- Octets that remain.
 use Rattle.std.proofs.Common.{ℕ, List, ◌++◌, Option, Some, None, ap, ◌∙◌}
 use Rattle.std.specs.Io.KnownBytes.{Appends, Keeps}
 
--- what is added behind octets that were kept
+-- Octets appended to known contents that remained.
 pub kept_appends : (a b c : Option (List ℕ)) (octets : List ℕ) → Keeps a b → Appends b c octets → Appends a c octets
 kept_appends None b c octets p q = tt
 kept_appends (Some x) None c octets p q = absurd p

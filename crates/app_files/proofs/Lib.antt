@@ -1,3 +1,4 @@
 pub mod Failed
 pub mod Kept
 pub mod Taken
+pub mod Folders

@@ -1,4 +1,4 @@
--- The paths of the folders that a command reads and writes.
+-- Paths of the folders that a command reads and writes.
 use Rattle.std.specs.Prelude.{◌≡◌, ◌≢◌, ◌⊎◌, ℕ, List, [], string_bytes}
 use Rattle.app_files.specs.declared.failed_file.FileFault.{FileFault}
 use Rattle.app_files.specs.declared.failed_file.FileFault.TheVariants as fault
@@ -7,7 +7,7 @@ use Rattle.app_files.specs.declared.failed_file.FileFault.TheVariants as fault
 abbrev pub HavePaths : List ℕ → List ℕ → Type 0
 HavePaths input output = (input ≢ []) × (output ≢ [])
 
--- Holds if one of the paths is empty, and the fault is that of the file of the empty path, or memory ran out.
+-- Holds if one of the paths is empty, and the fault names the empty path or memory ran out.
 abbrev pub LackPath : List ℕ → List ℕ → FileFault → Type 0
 LackPath input output (fault.File e) = ((input ≡ []) ⊎ (output ≡ [])) × (string_bytes e.path ≡ [])
 LackPath input output fault.NoMemory = (input ≡ []) ⊎ (output ≡ [])

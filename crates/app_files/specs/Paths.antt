@@ -1,10 +1,15 @@
--- The files of a run, by their folder.
-use Rattle.std.specs.Prelude.{ℕ, List, ◌++◌, codes, decimal}
+-- Paths of the files of a run.
+use Rattle.std.specs.Prelude.{ℕ, List, ◌++◌, Option, codes, decimal, option_map}
+use Rattle.std.specs.Path.{rsplit_once}
 
--- the path of the capture of a port in a folder
+-- The path of a port's capture in a folder.
 abbrev pub capture_path : List ℕ → ℕ → List ℕ
 capture_path folder port = folder ++ (codes "/" ++ (decimal port ++ codes ".pcap"))
 
--- the path of the report in a folder
+-- The path of the report in a folder.
 abbrev pub report_path : List ℕ → List ℕ
 report_path folder = folder ++ codes "/report.txt"
+
+-- The folder of the file at `path`: the path before its last `/`, if it has one.
+abbrev pub folder_of : List ℕ → Option (List ℕ)
+folder_of path = option_map (λ (parts : List ℕ × List ℕ). parts.0) (rsplit_once 47 path)

@@ -1,10 +1,10 @@
--- What an error of a reader is.
+-- Faults of readers.
 use Rattle.std.specs.declared.io.ErrorKind.{ErrorKind}
 use Rattle.std.specs.declared.io.ErrorKind.TheVariants as kind
 use Rattle.app_files.specs.declared.reading.ReadFault.{ReadFault}
 use Rattle.app_files.specs.declared.reading.ReadFault.TheVariants.{Broken, NoMemory}
 
--- want of memory, else a reader that failed
-abbrev pub read_fault_of : ErrorKind → ReadFault
-read_fault_of kind.OutOfMemory = NoMemory
-read_fault_of _ = Broken
+-- The fault of a reader's error: out of memory, or otherwise a broken reader.
+abbrev pub read_fault : ErrorKind → ReadFault
+read_fault kind.OutOfMemory = NoMemory
+read_fault _ = Broken

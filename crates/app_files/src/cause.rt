@@ -1,54 +1,46 @@
-//! Why a file can't be opened, made, read or written, as the call that failed says.
+//! Finds why a file can't be opened, created, read or written, from the error of the failed call.
 //!
-//! The file system is asked for two more facts at most: whether the folder of a missing file is there, and what lies next to a
-//! missing capture.
+//! Asks the file system for at most two more facts: whether a missing file's folder exists, and which files lie next to a missing capture.
 
+use crate::paths::parent_folder;
 use std::fs;
 use std::io::{Error, ErrorKind};
 use std::rt::Files;
 
-/// Why a file can't be opened, made, read or written.
+/// Why a file can't be opened, created, read or written.
 #[derive(Clone, Copy, Debug)]
 pub enum Cause {
-    /// There is no file of this name.
+    /// The file doesn't exist.
     NotFound,
-    /// There is none, and it is the capture that a port of a plan needs.
+    /// The capture that a port of a plan needs doesn't exist.
     NoCapture,
-    /// There is none, but a pcapng file of the same name with its own ending.
+    /// The file doesn't exist, but a pcapng file with its name and the ending `ng` does.
     Pcapng,
-    /// There is none, but one of the name that is packed by gzip.
+    /// The file doesn't exist, but a file with its name and the ending `.gz` does.
     Gzip,
-    /// The folder in which it should lie isn't there.
+    /// The file's folder doesn't exist.
     NoFolder,
-    /// It is a folder.
+    /// The path leads to a folder.
     Folder,
-    /// What should be its folder is a file.
+    /// A part of the path that should be a folder is a file.
     NoFolderButFile,
-    /// The user may not read it.
+    /// The user may not read the file.
     NotReadable,
-    /// The user may not make or write it.
+    /// The user may not create or write the file.
     NotWritable,
-    /// It is the folder of the captures that are read.
+    /// The output folder is the folder of the input captures.
     SameFolder,
-    /// The command reads this file, or writes it for something else.
+    /// The command reads this file, or writes it as another output.
     InUse,
-    /// Standard input or output.
+    /// Standard input or output failed.
     Standard,
-    /// Nothing is found.
+    /// The cause is unknown.
     Unknown,
 }
 
-/// The folder of a path, where it names one.
-fn folder_of(path: &str) -> Option<&str> {
-    match path.rsplit_once('/') {
-        Some((folder, _)) => Some(folder),
-        None => None,
-    }
-}
-
-/// Whether the folder of a path is there.
+/// Whether the folder of a path exists. If not, it is the reason why the file is missing. Returns true for a path without folder.
 fn has_folder(rt: &impl Files, path: &str) -> bool {
-    match folder_of(path) {
+    match parent_folder(path) {
         None | Some("") => true,
         Some(folder) => match fs::metadata(rt, folder) {
             Ok(data) => data.is_dir(),
@@ -57,8 +49,8 @@ fn has_folder(rt: &impl Files, path: &str) -> bool {
     }
 }
 
-/// Why a file can't be opened, by the kind of the error alone: whether it is to be read or written is all the same.
-fn cause_of_kind(kind: ErrorKind) -> Cause {
+/// Returns the cause that the error's kind shows, both for reading and for writing. Other kinds are `Unknown`, and callers look further.
+fn kind_cause(kind: ErrorKind) -> Cause {
     match kind {
         ErrorKind::IsADirectory => Cause::Folder,
         ErrorKind::NotADirectory => Cause::NoFolderButFile,
@@ -66,8 +58,8 @@ fn cause_of_kind(kind: ErrorKind) -> Cause {
     }
 }
 
-/// Why a file can't be opened or read, by the error.
-pub fn cause_of_read(rt: &impl Files, path: &str, error: &Error) -> Cause {
+/// Returns why a file can't be opened or read, by the error and the folder. `Unknown` if neither shows it.
+pub fn read_cause(rt: &impl Files, path: &str, error: &Error) -> Cause {
     match error.kind() {
         ErrorKind::NotFound => {
             if has_folder(rt, path) {
@@ -77,12 +69,12 @@ pub fn cause_of_read(rt: &impl Files, path: &str, error: &Error) -> Cause {
             }
         }
         ErrorKind::PermissionDenied => Cause::NotReadable,
-        kind => cause_of_kind(kind),
+        kind => kind_cause(kind),
     }
 }
 
-/// Why a file can't be opened or made to be written, by the error.
-pub fn cause_of_write(rt: &impl Files, path: &str, error: &Error) -> Cause {
+/// Returns why a file can't be opened or created for writing, by the error and the folder. `Unknown` if neither shows it.
+pub fn write_cause(rt: &impl Files, path: &str, error: &Error) -> Cause {
     match error.kind() {
         ErrorKind::NotFound => {
             if has_folder(rt, path) {
@@ -95,22 +87,23 @@ pub fn cause_of_write(rt: &impl Files, path: &str, error: &Error) -> Cause {
         | ErrorKind::ReadOnlyFilesystem
         | ErrorKind::StorageFull
         | ErrorKind::QuotaExceeded => Cause::NotWritable,
-        kind => cause_of_kind(kind),
+        kind => kind_cause(kind),
     }
 }
 
-/// Why a capture can't be opened, by the error: where there is none, by what lies beside it, or else this.
-pub fn cause_of_capture(
+/// Returns why a capture can't be opened. If it doesn't exist, a pcapng or gzip file next to it may explain why; otherwise the cause is
+/// `missing`.
+pub fn capture_cause(
     rt: &(impl AllocGlobal + Files),
     path: &str,
     error: &Error,
     missing: Cause,
 ) -> Cause {
-    match cause_of_read(rt, path, error) {
+    match read_cause(rt, path, error) {
         Cause::NotFound => {
-            if lies_beside(rt, path, "ng") {
+            if has_file_with_suffix(rt, path, "ng") {
                 Cause::Pcapng
-            } else if lies_beside(rt, path, ".gz") {
+            } else if has_file_with_suffix(rt, path, ".gz") {
                 Cause::Gzip
             } else {
                 missing
@@ -120,16 +113,16 @@ pub fn cause_of_capture(
     }
 }
 
-/// Whether there is a file of a path with more behind it.
-fn lies_beside(rt: &(impl AllocGlobal + Files), path: &str, ending: &str) -> bool {
+/// Whether a file exists whose path is `path` followed by `ending`. Returns false if memory runs out.
+fn has_file_with_suffix(rt: &(impl AllocGlobal + Files), path: &str, ending: &str) -> bool {
     match format!(in rt.alloc(); "{path}{ending}") {
-        Ok(other) => is_there(rt, other.as_str()),
+        Ok(other) => is_file(rt, other.as_str()),
         Err(_) => false,
     }
 }
 
-/// Whether a path is that of a file.
-pub fn is_there(rt: &impl Files, path: &str) -> bool {
+/// Whether the path leads to a regular file.
+pub fn is_file(rt: &impl Files, path: &str) -> bool {
     match fs::metadata(rt, path) {
         Ok(data) => data.is_file(),
         Err(_) => false,

@@ -1,13 +1,14 @@
-//! The files of a command: what it reads and writes, and which files must not be overwritten.
-ghost use Rattle.std.specs.Prelude.{◌≡◌, ℕ, IfErr, IfOk, List, None, Some, length, take};
-ghost use Rattle.app_files.specs.FailedFiles.{IsOfCaptures, IsOfPath};
+//! The files of a command: inputs, outputs, and files that no output may overwrite.
+ghost use Rattle.std.specs.Prelude.{◌≡◌, ℕ, IfErr, IfOk, List, None, Some, length, take, IsTrue, Option};
+ghost use Rattle.app_files.specs.FailedFiles.{IsCaptureFault, IsOfPath};
 ghost use Rattle.app_files.specs.Taken.{BeginWith};
 
-use crate::cause::{Cause, cause_of_capture, cause_of_read, cause_of_write};
-use crate::failed_file::{FileError, FileFault, failed_at};
-use crate::output::{FileId, Output, add_file, are_same, file_at, file_of, is_one_of, output_at};
+use crate::cause::{Cause, capture_cause, read_cause, write_cause};
+use crate::failed_file::{FileError, FileFault, file_fault};
+use crate::output::{
+    FileId, Output, add_file, has_file, is_same_file, open_file_id, open_output, path_file_id,
+};
 use crate::paths::capture_path;
-use crate::read_files::ReadFiles;
 use crate::reading::{MOST_TEXT, ReadFault, read_at_most};
 use bridge_limits::NoMemory;
 use std::alloc::Global;
@@ -15,22 +16,22 @@ use std::fs;
 use std::io::{ErrorKind, Read};
 use std::rt::Files;
 
-/// The path under which the system has the file of standard output.
+/// Path of standard output's file, which may be a regular file by redirection.
 const STANDARD_OUTPUT: &str = "/dev/stdout";
 
-/// The files of a command, and the system that has them.
+/// Files of a command, and the system that contains them.
 ///
-/// Files in use are those that the command reads or has opened for writing. No output may be one of them.
+/// Files in use are those that the command reads or has opened for writing. No output may be a file in use.
 #[derive(Drop)]
 pub struct CommandFiles<'a, H> {
-    /// The system.
+    /// System that contains the files.
     pub rt: &'a H,
-    /// The files in use, as far as the system says which they are.
+    /// Files in use, as far as the system identifies them.
     pub in_use: Vec<FileId>,
 }
 
 impl<'a, H: AllocGlobal + Files> CommandFiles<'a, H> {
-    /// Returns the files of a command that has opened none.
+    /// Returns the files of a command that hasn't opened any file.
     pub fn new(rt: &'a H) -> CommandFiles<'a, H> {
         CommandFiles {
             rt,
@@ -43,7 +44,7 @@ impl<'a, H: AllocGlobal + Files> CommandFiles<'a, H> {
         self.rt.alloc()
     }
 
-    /// Returns a copy with the same files in use.
+    /// Returns a copy with equal files in use. Callers add files to the copy for a test, and then drop it.
     pub fn copy(&self) -> Result<CommandFiles<'a, H>, NoMemory> {
         Ok(CommandFiles {
             rt: self.rt,
@@ -51,66 +52,67 @@ impl<'a, H: AllocGlobal + Files> CommandFiles<'a, H> {
         })
     }
 
-    /// Opens the file at a path for reading. The file is in use then.
+    /// Opens a file for reading, and adds it to the files in use.
     pub fn open(&mut self, path: &str) -> Result<H::File, FileFault>
         ensures fails { IfErr result (IsOfPath path.now) }
         ensures kept { BeginWith self.old.in_use.items self.new.in_use.items }
     {
-        let reader = open_at(self.rt, path)?;
-        add_file(&mut self.in_use, file_of(&reader))?;
+        let reader = open_input(self.rt, path)?;
+        add_file(&mut self.in_use, open_file_id(&reader))?;
         Ok(reader)
     }
 
-    /// Reads a text: at most `MOST_TEXT` octets of the file at a path. The file is in use then.
+    /// Reads at most `MOST_TEXT` octets of the file at `path`, and adds it to the files in use.
     pub fn read_text(&mut self, path: &str) -> Result<Vec<u8>, FileFault>
         ensures { IfErr result (IsOfPath path.now) }
     {
         self.read(path, MOST_TEXT)
     }
 
-    /// Notes that open files are in use.
+    /// Adds open files to the files in use. A command calls it for the captures that it reads.
     pub fn note_files(&mut self, files: &[H::File]) -> Result<(), NoMemory>
         ensures { BeginWith self.old.in_use.items self.new.in_use.items }
     {
         for file in files {
-            add_file(&mut self.in_use, file_of(file))?;
+            add_file(&mut self.in_use, open_file_id(file))?;
         }
         Ok(())
     }
 
-    /// Notes that the files at some paths are in use, if they exist.
+    /// Adds the existing files at `paths` to the files in use. Missing files are ignored.
     pub fn note_paths(&mut self, paths: &[String]) -> Result<(), NoMemory> {
         for path in paths {
-            add_file(&mut self.in_use, file_at(self.rt, path.as_str()))?;
+            add_file(&mut self.in_use, path_file_id(self.rt, path.as_str()))?;
         }
         Ok(())
     }
 
-    /// Notes that the regular file at a path is in use, if it exists.
+    /// Adds the regular file at `path`, if it exists, to the files in use. Ignores pipes and devices: they lose nothing if written.
     pub fn note_regular(&mut self, path: &str) -> Result<(), NoMemory> {
-        add_file(&mut self.in_use, regular_at(self.rt, path))
+        add_file(&mut self.in_use, regular_file_id(self.rt, path))
     }
 
-    /// Notes that the file of standard output is in use, if it is a regular file. Otherwise the line of a run would overwrite an
-    /// output of that file.
+    /// Adds standard output's file to the files in use, if it is a regular file. Otherwise the line of counts would overwrite an output to
+    /// this file.
     pub fn note_standard_output(&mut self) -> Result<(), NoMemory> {
         self.note_regular(STANDARD_OUTPUT)
     }
 
-    /// Notes that the regular file at a path is in use. Returns false if it was in use before.
+    /// Adds the regular file at `path` to the files in use. Returns false if it was in use already. Missing files, pipes and devices count
+    /// as new.
     fn note_new(&mut self, path: &str) -> Result<bool, NoMemory> {
-        let file = regular_at(self.rt, path);
-        if is_one_of(&self.in_use, file) {
+        let file = regular_file_id(self.rt, path);
+        if has_file(&self.in_use, file) {
             return Ok(false);
         }
         add_file(&mut self.in_use, file)?;
         Ok(true)
     }
 
-    /// Notes that the captures of ports in a folder are in use, which are made already. The first one that was in use before fails:
-    /// two captures of the folder may be one file.
+    /// Adds the created captures of a folder to the files in use. Fails at the first capture that is in use already, because two captures
+    /// may be links to one file.
     pub fn note_captures(&mut self, folder: &str, ports: &[u8]) -> Result<(), FileFault>
-        ensures { IfErr result (IsOfCaptures folder.now ports.now) }
+        ensures { IfErr result (IsCaptureFault folder.now ports.now) }
     {
         for port in ports {
             let Ok(path) = capture_path(self.rt.alloc(), folder, *port) else {
@@ -129,35 +131,34 @@ impl<'a, H: AllocGlobal + Files> CommandFiles<'a, H> {
         Ok(())
     }
 
-    /// Returns whether the file at a path is in use.
+    /// Whether the file at `path` is in use.
     pub fn is_in_use(&self, path: &str) -> bool {
-        is_one_of(&self.in_use, file_at(self.rt, path))
+        has_file(&self.in_use, path_file_id(self.rt, path))
     }
 
-    /// Refuses the path of an output that is a regular file in use.
+    /// Refuses an output path that leads to a regular file in use, without opening it. A missing file or a pipe is accepted.
     pub fn spare(&self, path: &str) -> Result<(), FileFault>
         ensures { IfErr result (IsOfPath path.now) }
     {
-        if is_one_of(&self.in_use, regular_at(self.rt, path)) {
-            return Err(failed_at(self.rt.alloc(), path, Cause::InUse));
+        if has_file(&self.in_use, regular_file_id(self.rt, path)) {
+            return Err(file_fault(self.rt.alloc(), path, Cause::InUse));
         }
         Ok(())
     }
 
-    /// Opens the file at a path for writing, and makes it if there is none. It keeps what it holds until the first write. A file in
-    /// use is refused.
+    /// Opens a file for writing, or creates it. Its contents remain until the first write. Refuses a file in use.
     pub fn create(&self, path: &str) -> Result<Output<H::File>, FileFault>
         ensures { IfErr result (IsOfPath path.now) }
     {
-        let output = create_at(self.rt, path)?;
-        if is_one_of(&self.in_use, output.id()) {
+        let output = create_output(self.rt, path)?;
+        if has_file(&self.in_use, output.id()) {
             drop(output);
-            return Err(failed_at(self.rt.alloc(), path, Cause::InUse));
+            return Err(file_fault(self.rt.alloc(), path, Cause::InUse));
         }
         Ok(output)
     }
 
-    /// Opens the file at a path for writing, as `create` does. The file is in use then.
+    /// Opens a file for writing as `create` does, and adds it to the files in use.
     pub fn create_new(&mut self, path: &str) -> Result<Output<H::File>, FileFault>
         ensures { IfErr result (IsOfPath path.now) }
     {
@@ -171,14 +172,14 @@ impl<'a, H: AllocGlobal + Files> CommandFiles<'a, H> {
         }
     }
 
-    /// Opens the captures of ports in a folder for writing, one after the other. The first that can't be opened or is in use fails.
+    /// Opens the captures of `ports` in a folder for writing, in list order. Fails at the first capture that can't be opened or is in use.
     pub fn create_captures(
         &self,
         folder: &str,
         ports: &[u8],
     ) -> Result<Vec<Output<H::File>>, FileFault>
         ensures all { IfOk result (λ outputs. length outputs.items ≡ length ports.now) }
-        ensures fails { IfErr result (IsOfCaptures folder.now ports.now) }
+        ensures fails { IfErr result (IsCaptureFault folder.now ports.now) }
     {
         let mut outputs = Vec::new(self.rt.alloc());
         for port in ports {
@@ -206,21 +207,21 @@ impl<H: AllocGlobal + Files> ReadFiles for CommandFiles<'_, H> {
     }
 
     fn is_there(&self, path: &str) -> bool {
-        file_at(self.rt, path).is_some()
+        path_file_id(self.rt, path).is_some()
     }
 }
 
-/// Opens the file at a path for reading.
-pub fn open_at<H: AllocGlobal + Files>(rt: &H, path: &str) -> Result<H::File, FileFault>
+/// Opens the file at `path` for reading. Adds it to no files in use, for commands that write no file.
+pub fn open_input<H: AllocGlobal + Files>(rt: &H, path: &str) -> Result<H::File, FileFault>
     ensures { IfErr result (IsOfPath path.now) }
 {
     match fs::open(rt, path) {
         Ok(reader) => Ok(reader),
-        Err(error) => Err(failed_at(rt.alloc(), path, cause_of_read(rt, path, &error))),
+        Err(error) => Err(file_fault(rt.alloc(), path, read_cause(rt, path, &error))),
     }
 }
 
-/// Reads at most `most` octets of an open file, by its path.
+/// Reads at most `most` octets of an open file. A fault names `path`, with the cause of the failed read.
 pub fn read_open<R: Read + Drop>(
     rt: &(impl AllocGlobal + Files),
     path: &str,
@@ -238,27 +239,27 @@ pub fn read_open<R: Read + Drop>(
             if error.kind() == ErrorKind::OutOfMemory {
                 return Err(FileFault::NoMemory);
             }
-            Err(failed_at(rt.alloc(), path, cause_of_read(rt, path, &error)))
+            Err(file_fault(rt.alloc(), path, read_cause(rt, path, &error)))
         }
     }
 }
 
-/// Reads a text: at most `MOST_TEXT` octets of the file at a path.
-pub fn text_at<H: AllocGlobal + Files>(rt: &H, path: &str) -> Result<Vec<u8>, FileFault>
+/// Reads at most `MOST_TEXT` octets of the file at `path`. Adds it to no files in use, for commands that write no file.
+pub fn read_text_file<H: AllocGlobal + Files>(rt: &H, path: &str) -> Result<Vec<u8>, FileFault>
     ensures { IfErr result (IsOfPath path.now) }
 {
-    let reader = open_at(rt, path)?;
+    let reader = open_input(rt, path)?;
     read_open(rt, path, reader, MOST_TEXT)
 }
 
-/// Opens the captures of ports in a folder for reading, one after the other. The first that can't be opened fails.
+/// Opens the captures of `ports` in a folder for reading, in list order. Fails at the first capture that can't be opened.
 pub fn open_captures<H: AllocGlobal + Files>(
     rt: &H,
     folder: &str,
     ports: &[u8],
 ) -> Result<Vec<H::File>, FileFault>
     ensures all { IfOk result (λ files. length files.items ≡ length ports.now) }
-    ensures fails { IfErr result (IsOfCaptures folder.now ports.now) }
+    ensures fails { IfErr result (IsCaptureFault folder.now ports.now) }
 {
     let mut files = Vec::new(rt.alloc());
     for port in ports {
@@ -276,7 +277,7 @@ pub fn open_captures<H: AllocGlobal + Files>(
     Ok(files)
 }
 
-/// Opens the capture at a path for reading. `missing` is the cause if there is no file and nothing next to it explains that.
+/// Opens a capture for reading. If it doesn't exist and no file next to it explains that, the cause is `missing`.
 pub fn open_capture<H: AllocGlobal + Files>(
     rt: &H,
     path: &str,
@@ -286,33 +287,51 @@ pub fn open_capture<H: AllocGlobal + Files>(
 {
     match fs::open(rt, path) {
         Ok(file) => Ok(file),
-        Err(error) => Err(failed_at(
-            rt.alloc(),
-            path,
-            cause_of_capture(rt, path, &error, missing),
-        )),
+        Err(error) => Err(file_fault(rt.alloc(), path, capture_cause(rt, path, &error, missing))),
     }
 }
 
-/// Opens the file at a path for writing, and makes it if there is none. It keeps what it holds until the first write.
-pub fn create_at<H: AllocGlobal + Files>(rt: &H, path: &str) -> Result<Output<H::File>, FileFault>
+/// Opens the file at `path` for writing, or creates it. Its contents remain until the first write. A fault has path and cause.
+pub fn create_output<H: AllocGlobal + Files>(
+    rt: &H,
+    path: &str,
+) -> Result<Output<H::File>, FileFault>
     ensures { IfErr result (IsOfPath path.now) }
 {
-    match output_at(rt, path) {
+    match open_output(rt, path) {
         Ok(output) => Ok(output),
-        Err(error) => Err(failed_at(rt.alloc(), path, cause_of_write(rt, path, &error))),
+        Err(error) => Err(file_fault(rt.alloc(), path, write_cause(rt, path, &error))),
     }
 }
 
-/// Returns whether two paths lead to one folder: to one inode of one device. The answer is false if one of them can't be looked at.
+/// Whether two paths lead to one folder: one inode of one device. Returns false if one path can't be examined.
 pub fn is_same_folder(rt: &impl Files, one: &str, other: &str) -> bool {
-    are_same(file_at(rt, one), file_at(rt, other))
+    is_same_file(path_file_id(rt, one), path_file_id(rt, other))
 }
 
-/// Returns the regular file at a path. A pipe or a device has no length, so it has nothing to lose.
-fn regular_at(rt: &impl Files, path: &str) -> Option<FileId> {
+/// Returns the identity of the regular file at a path. Returns `None` for a missing file, a pipe or a device: writing to them loses
+/// nothing.
+fn regular_file_id(rt: &impl Files, path: &str) -> Option<FileId> {
     match fs::metadata(rt, path) {
-        Ok(metadata) if metadata.is_file() => file_at(rt, path),
+        Ok(metadata) if metadata.is_file() => path_file_id(rt, path),
         _ => None,
     }
+}
+
+/// Reading of whole files by path. Contracts over this trait can name the octets of each file; the octets of the system's files are
+/// unknown.
+pub trait ReadFiles {
+    /// Octets of the file at a path, if they are known.
+    ghost octets_at: { Self → List ℕ → Option (List ℕ) };
+
+    /// Reads at most `most` octets of the file at `path`.
+    fn read(&mut self, path: &str, most: u64) -> Result<Vec<u8>, FileFault>
+        ensures octets { (octets : List ℕ) → octets_at self.old path.now ≡ Some octets
+            → IfOk result (λ text. text.items ≡ take most octets) }
+        ensures fails { IfErr result (IsOfPath path.now) }
+        ensures same { (path : List ℕ) → octets_at self.new path ≡ octets_at self.old path };
+
+    /// Whether a file exists at `path`.
+    fn is_there(&self, path: &str) -> bool
+        ensures { (octets : List ℕ) → octets_at self.now path.now ≡ Some octets → IsTrue result };
 }

@@ -1,4 +1,4 @@
-//! The failure of a file: its path, and why it failed.
+//! The fault of a file: its path and the cause.
 ghost use Rattle.std.specs.Prelude.{◌≡◌};
 ghost use Rattle.app_files.specs.FailedFiles.{IsOfPath};
 ghost use Rattle.app_files.specs.declared.failed_file.FileFault.TheVariants.{NoMemory as no_memory};
@@ -7,16 +7,16 @@ use crate::cause::Cause;
 use bridge_limits::NoMemory;
 use std::alloc::{AllocError, Global};
 
-/// A file that can't be opened, made, read or written. Standard input and output are the file `-`.
+/// File that failed, with the cause. Standard input and output have the path `-`.
 #[derive(Debug, Drop)]
 pub struct FileError {
-    /// The path of the file, as given.
+    /// Path of the file, as given.
     pub path: String,
     /// Why the file failed.
     pub cause: Cause,
 }
 
-/// Why the files of a command fail.
+/// Why the files of a command failed.
 #[derive(Drop)]
 pub enum FileFault {
     /// A file failed.
@@ -41,8 +41,8 @@ impl From<AllocError> for FileFault {
     }
 }
 
-/// Returns the fault of the file at a path. If there is no memory for the path, the fault says so.
-pub fn failed_at(alloc: Global, path: &str, cause: Cause) -> FileFault
+/// Returns the fault of the file at `path`. If memory for the path runs out, returns that fault instead.
+pub fn file_fault(alloc: Global, path: &str, cause: Cause) -> FileFault
     ensures { IsOfPath path.now result }
 {
     match String::from_str(alloc, path) {

@@ -1,27 +1,21 @@
 #![tactic(auto)]
-//! The files of a command: what it reads and writes, which files it must not overwrite, and why a file fails.
+//! Opens, reads and writes the files of a command, protects files in use, and finds why a file fails.
 
 mod cause;
 mod command_files;
 mod failed_file;
-mod folders;
 mod output;
 mod paths;
-mod read_files;
 mod reading;
-mod saying;
 mod writing;
 
-pub use cause::{Cause, cause_of_capture, cause_of_read, cause_of_write, is_there};
+pub use cause::{Cause, is_file, read_cause, write_cause};
 pub use command_files::{
-    CommandFiles, create_at, is_same_folder, open_at, open_capture, open_captures, read_open,
-    text_at,
+    CommandFiles, ReadFiles, create_output, is_same_folder, open_capture, open_captures,
+    open_input, read_open, read_text_file,
 };
-pub use failed_file::{FileError, FileFault, failed_at};
-pub use folders::test_folders;
-pub use output::{FileId, Output, are_same, file_at, file_of};
-pub use paths::{capture_path, report_path};
-pub use read_files::ReadFiles;
+pub use failed_file::{FileError, FileFault, file_fault};
+pub use output::{FileId, Output, Said, is_same_file, is_standard, open_file_id, path_file_id};
+pub use paths::{capture_path, parent_folder, report_path, test_folders};
 pub use reading::{MOST_TEXT, ReadFault, read_at_most, read_text};
-pub use saying::{Said, is_standard};
 pub use writing::{finish_file, write_file};

@@ -1,6 +1,7 @@
-//! Files that are written anew without losing what they held before anything is written.
+//! Output files whose old contents remain until the first write.
 ghost use Rattle.std.specs.Prelude.{◌≡◌, ◌↔◌, IfOk, IsTrue, OnErr, OnOk, true};
-ghost use Rattle.app_files.specs.Taken.{AreSame, IsAmong, with_known};
+ghost use Rattle.app_files.specs.Taken.{IsSameFile, HasFile, with_known};
+ghost use Rattle.app_files.specs.Said.{IsStandard};
 
 use bridge_limits::NoMemory;
 use std::fs::{Metadata, OpenFile, OpenOptions};
@@ -9,15 +10,15 @@ use std::os::unix::fs::MetadataExt;
 use std::rt::Files;
 use std::{fs, io};
 
-/// A file by what it is, whatever its path is called: the inode of a device.
+/// Identity of a file: device and inode. Two paths can lead to one file.
 #[derive(Clone, Copy, PartialEq, Eq)]
 pub struct FileId {
     device: u64,
     inode: u64,
 }
 
-/// A file that is written anew from its beginning. It keeps what it held until the first octets are written, or until it
-/// is finished: then it is emptied. What is flushed without having been written to stays as it was.
+/// Output file that is written from its beginning. It keeps its old contents until the first write or until `finish`, which empty it. A
+/// flush before the first write changes nothing.
 #[derive(Drop)]
 pub struct Output<F: Write + OpenFile + Drop> {
     file: F,
@@ -25,12 +26,12 @@ pub struct Output<F: Write + OpenFile + Drop> {
 }
 
 impl<F: Write + OpenFile + Drop> Output<F> {
-    /// Which file it is, where the system tells.
+    /// Returns the identity of the file, or `None` if the system doesn't provide it.
     pub fn id(&self) -> Option<FileId> {
-        file_of(&self.file)
+        open_file_id(&self.file)
     }
 
-    /// Ends what is written, and returns the file. A file to which nothing was written is empty then.
+    /// Completes the output and returns the file. A file without any write is empty afterwards.
     pub fn finish(self) -> io::Result<Output<F>>
         ensures { IfOk result (λ done. done.file ≡ self.file) }
     {
@@ -39,7 +40,7 @@ impl<F: Write + OpenFile + Drop> Output<F> {
         Ok(output)
     }
 
-    /// Empties the file, once. What has no length, as a pipe or a device, has nothing to lose and is left alone.
+    /// Empties the file, once. Leaves a pipe or device alone, because it has no length.
     fn empty(&mut self) -> io::Result<()>
         ensures emptied { OnOk result (self.new.was_emptied ≡ true) }
         ensures file { self.new.file ≡ self.old.file }
@@ -70,8 +71,8 @@ impl<F: Write + OpenFile + Drop> Write for Output<F> {
     }
 }
 
-/// Opens a file to be written anew, and makes it where it isn't there. What it holds stays.
-pub fn output_at<H: Files>(rt: &H, path: &str) -> io::Result<Output<H::File>> {
+/// Opens the file at `path` for writing, or creates it. Its contents remain until the first write.
+pub fn open_output<H: Files>(rt: &H, path: &str) -> io::Result<Output<H::File>> {
     let file = OpenOptions::new().write(true).create(true).open(rt, path)?;
     Ok(Output {
         file,
@@ -79,33 +80,33 @@ pub fn output_at<H: Files>(rt: &H, path: &str) -> io::Result<Output<H::File>> {
     })
 }
 
-/// Which file is open, where the system tells.
-pub fn file_of(file: &impl OpenFile) -> Option<FileId> {
+/// Returns the identity of an open file, or `None` if the system doesn't provide it.
+pub fn open_file_id(file: &impl OpenFile) -> Option<FileId> {
     match file.metadata() {
-        Ok(metadata) => Some(id_of(&metadata)),
+        Ok(metadata) => Some(metadata_file_id(&metadata)),
         Err(_) => None,
     }
 }
 
-/// To which file a path leads, where the system tells.
-pub fn file_at(rt: &impl Files, path: &str) -> Option<FileId> {
+/// Returns the identity of the file at `path`. Returns `None` if it doesn't exist or the system doesn't provide it.
+pub fn path_file_id(rt: &impl Files, path: &str) -> Option<FileId> {
     match fs::metadata(rt, path) {
-        Ok(metadata) => Some(id_of(&metadata)),
+        Ok(metadata) => Some(metadata_file_id(&metadata)),
         Err(_) => None,
     }
 }
 
-/// The file of what the system tells.
-fn id_of(metadata: &Metadata) -> FileId {
+/// Returns the identity of the file that `metadata` describes.
+fn metadata_file_id(metadata: &Metadata) -> FileId {
     FileId {
         device: metadata.dev(),
         inode: metadata.ino(),
     }
 }
 
-/// Whether two files are known and one.
-pub fn are_same(one: Option<FileId>, other: Option<FileId>) -> bool
-    ensures { IsTrue result ↔ AreSame one other }
+/// Whether both files are known and identical. An unknown file (`None`) equals no file.
+pub fn is_same_file(one: Option<FileId>, other: Option<FileId>) -> bool
+    ensures { IsTrue result ↔ IsSameFile one other }
 {
     match (one, other) {
         (Some(one), Some(other)) => one == other,
@@ -113,7 +114,7 @@ pub fn are_same(one: Option<FileId>, other: Option<FileId>) -> bool
     }
 }
 
-/// Adds a file to a list, where it is known. Where the growth is refused the list stays as it was.
+/// Adds a file to the list; does nothing for an unknown file (`None`). If memory runs out, the list is unchanged.
 pub fn add_file(files: &mut Vec<FileId>, file: Option<FileId>) -> Result<(), NoMemory>
     ensures added { OnOk result (files.new.items ≡ with_known files.old.items file) }
     ensures same { OnErr result (files.new.items ≡ files.old.items) }
@@ -127,12 +128,28 @@ pub fn add_file(files: &mut Vec<FileId>, file: Option<FileId>) -> Result<(), NoM
     }
 }
 
-/// Whether a file is one of a list. One that isn't known is none of them.
-pub fn is_one_of(files: &[FileId], file: Option<FileId>) -> bool
-    ensures { IsTrue result ↔ IsAmong files.now file }
+/// Whether the file is in the list. Returns false for an unknown file (`None`).
+pub fn has_file(files: &[FileId], file: Option<FileId>) -> bool
+    ensures { IsTrue result ↔ HasFile files.now file }
 {
     match file {
         None => false,
         Some(file) => files.contains(&file),
     }
+}
+
+/// Message of a successful `wire`: its line of counts, and where it goes.
+#[derive(Drop)]
+pub enum Said {
+    /// For standard output.
+    Printed(String),
+    /// For standard error, because standard output has other contents.
+    Noted(String),
+}
+
+/// Whether an argument stands for standard input or output.
+pub fn is_standard(word: &str) -> bool
+    ensures { IsTrue result ↔ IsStandard word.now }
+{
+    word == "-"
 }

@@ -1,25 +1,25 @@
-//! What is read of a file or of standard input.
+//! Reads files and standard input whole.
 ghost use Rattle.std.specs.Prelude.{◌≡◌, List, ℕ, Some, IfOk, take};
 ghost use Rattle.std.specs.IoError.{error_kind};
-ghost use Rattle.app_files.specs.Reading.{read_fault_of};
+ghost use Rattle.app_files.specs.Reading.{read_fault};
 
 use std::alloc::Allocator;
 use std::io::{Error, ErrorKind, Read};
 
-/// The most octets that are read of a plan, of commands, of traffic and of a network: one more than each may have, so that a longer text
-/// is refused and not cut.
+/// Largest number of octets read from a plan, commands, traffic or a network. It exceeds each size limit by one, so that a longer text is
+/// refused and not cut.
 pub const MOST_TEXT: u64 = 1_048_577;
 
-/// Why the octets of a reader are not there.
+/// Why a reader's octets can't be read.
 #[derive(Clone, Copy)]
 pub enum ReadFault {
     /// The reader failed.
     Broken,
-    /// A growth was refused.
+    /// Memory ran out.
     NoMemory,
 }
 
-/// The octets of a reader, as far as `most` of them. A read that is interrupted is made again.
+/// Reads at most `most` octets of a reader. Repeats an interrupted read.
 pub fn read_at_most<R: Read + Drop, A: Allocator>(
     alloc: A,
     reader: R,
@@ -35,7 +35,7 @@ pub fn read_at_most<R: Read + Drop, A: Allocator>(
     }
 }
 
-/// Reads a text: at most `MOST_TEXT` octets of a reader. A plan, commands, traffic and a network are read by it.
+/// Reads at most `MOST_TEXT` octets of a reader: a plan, commands, traffic or a network.
 pub fn read_text<R: Read + Drop, A: Allocator>(alloc: A, reader: R) -> Result<Vec<u8, A>, ReadFault>
     ensures { (octets : List ℕ) → R.remaining reader ≡ Some octets
         → IfOk result (λ text. text.items ≡ take MOST_TEXT octets) }
@@ -43,9 +43,9 @@ pub fn read_text<R: Read + Drop, A: Allocator>(alloc: A, reader: R) -> Result<Ve
     read_at_most(alloc, reader, MOST_TEXT)
 }
 
-/// What an error of a reader is.
+/// Returns the fault for a reader's error: `NoMemory` if memory ran out, otherwise `Broken`.
 fn read_fault(error: &Error) -> ReadFault
-    ensures { result ≡ read_fault_of (error_kind error.now) }
+    ensures { result ≡ read_fault (error_kind error.now) }
 {
     match error.kind() {
         ErrorKind::OutOfMemory => ReadFault::NoMemory,

@@ -1,17 +1,18 @@
-//! Files that are written whole.
+//! Writes files whole.
 ghost use Rattle.std.specs.Prelude.{◌≡◌, IfErr, IfOk};
 ghost use Rattle.std.specs.Io.KnownBytes.{Appends};
 ghost use Rattle.app_files.specs.FailedFiles.{IsOfPath};
 
 use crate::cause::Cause;
-use crate::failed_file::{FileFault, failed_at};
+use crate::failed_file::{FileFault, file_fault};
 use crate::output::Output;
 use std::alloc::Global;
 use std::fs::OpenFile;
 use std::io;
 use std::io::Write;
 
-/// Writes octets as the whole of the file at a path, and returns the file. A caller that needs the file can't hide a failed write.
+/// Writes `octets` as the whole contents of an output file, and returns the file. The result needs the file, so no caller can ignore a
+/// failed write. A fault names `path`.
 pub fn write_file<F: Write + OpenFile + Drop>(
     alloc: Global,
     path: &str,
@@ -24,11 +25,11 @@ pub fn write_file<F: Write + OpenFile + Drop>(
 {
     match write_all(output, octets) {
         Ok(output) => Ok(output),
-        Err(_) => Err(failed_at(alloc, path, Cause::NotWritable)),
+        Err(_) => Err(file_fault(alloc, path, Cause::NotWritable)),
     }
 }
 
-/// Writes octets as the whole of a file, and returns the file.
+/// Writes `octets` to an output file, flushes and completes it, and returns the file.
 fn write_all<F: Write + OpenFile + Drop>(output: Output<F>, octets: &[u8]) -> io::Result<Output<F>>
     ensures { IfOk result (λ done. Appends (⟦<Output<F> as Write>⟧.contents output)
         (⟦<Output<F> as Write>⟧.contents done) octets.now) }
@@ -39,7 +40,7 @@ fn write_all<F: Write + OpenFile + Drop>(output: Output<F>, octets: &[u8]) -> io
     output.finish()
 }
 
-/// Ends what is written to the file at a path, and returns the file. A file to which nothing was written is empty then.
+/// Completes the output file at `path`, and returns it. A file without any write is empty afterwards.
 pub fn finish_file<F: Write + OpenFile + Drop>(
     alloc: Global,
     path: &str,
@@ -51,6 +52,6 @@ pub fn finish_file<F: Write + OpenFile + Drop>(
 {
     match output.finish() {
         Ok(output) => Ok(output),
-        Err(_) => Err(failed_at(alloc, path, Cause::NotWritable)),
+        Err(_) => Err(file_fault(alloc, path, Cause::NotWritable)),
     }
 }

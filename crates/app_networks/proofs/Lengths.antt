@@ -1,20 +1,20 @@
--- A frame that is read from a capture has at most as many captured octets as its length on the link.
+-- A frame read from a capture has at most as many captured octets as its length on the link.
 use Rattle.std.proofs.Common.{◌≡◌, ℕ, zero, suc, ◌+◌, ◌<◌, ◌≤◌, Bool, true, false, if◌then◌else◌, List, [], ◌∷◌, ◌++◌, length, take, drop, nat_eq, nat_lt, ◌==◌, Option, Some, None, Result, Ok, Err, refl, sym, ap, ◌∙◌, subst, arith, inl, inr}
 use Rattle.std.proofs.lemmas.Bool.{ltb-false}
-use Rattle.bridge_limits.specs.Members.{In}
+use Rattle.bridge_limits.specs.Members.{IsMember}
 use Rattle.bridge_limits.proofs.Cases.{by_bool}
 use Rattle.bridge_limits.proofs.Members.{in_push}
-use Rattle.bridge_capture.specs.declared.form.Form.{Form}
-use Rattle.bridge_capture.specs.declared.fault.CaptureFault.{CaptureFault}
-use Rattle.bridge_capture.specs.declared.fault.CaptureFault.TheVariants.{LengthsCross, RecordCut, RecordTooLarge, TimeTooLate, TimeBack, TooManyRecords}
-use Rattle.bridge_capture.specs.Grammar.{AtEnd, Captured, Ending, Fault, Front, Nothing, Place, Reads, ReadsAfter, Record, Records, after, captured_of, first_place, front_of, head_fault, header_of, octets_at, original_of, record_with_head, time_of}
+use Rattle.bridge_capture.specs.declared.format.CaptureFormat.{CaptureFormat}
+use Rattle.bridge_capture.specs.declared.capture_fault.CaptureFault.{CaptureFault}
+use Rattle.bridge_capture.specs.declared.capture_fault.CaptureFault.TheVariants.{LengthsCross, RecordCut, RecordTooLarge, TimeTooLate, TimeBack, TooManyRecords}
+use Rattle.bridge_capture.specs.Grammar.{AtEnd, CapturedFrame, CaptureEnding, Fault, FrontItem, Nothing, RecordPosition, ReadsFrames, ReadsBody, Record, IsCapture, next_position, captured_length, first_position, front_item, record_header_fault, header_format, octet_range, original_length, record_after_header, record_time}
 use Rattle.bridge_config.specs.declared.command.Command.{Command}
 use Rattle.bridge_config.specs.declared.ports.PortPlan.{PortPlan}
 use Rattle.bridge_config.specs.Model.{Plan}
-use Rattle.bridge_config.specs.Rules.{port_at}
+use Rattle.bridge_config.specs.Rules.{find_port}
 use Rattle.bridge_semantics.specs.Events.{Arrived, Cleared, Event, arrival}
-use Rattle.bridge_semantics.specs.Merge.{Input, IsMerged, asked, commands_of, events, frame, inputs_of, of_rank, streams}
-use Rattle.bridge_bounds.specs.Passing.{AreWithinLengths}
+use Rattle.bridge_semantics.specs.Merge.{Input, IsMerged, command_as_input, commands_of, input_events, capture_input, capture_inputs, inputs_by_rank, input_streams}
+use Rattle.bridge_bounds.specs.GateFrames.{AreWithinLengths}
 use Rattle.net_model.proofs.Members.{in_inputs, rank_in}
 
 -- ONE RECORD
@@ -23,10 +23,10 @@ if_not : {A : Type 0} (b : Bool) (x y z : A) → (x ≡ z → ⊥) → (if b the
 if_not true x y z differs e = absurd (differs e)
 if_not false x y z differs e = (refl, e)
 
-nothing_differs : (c : Captured) (rest : List ℕ) → Nothing ≡ Record c rest → ⊥
+nothing_differs : (c : CapturedFrame) (rest : List ℕ) → Nothing ≡ Record c rest → ⊥
 nothing_differs c rest e = cc
 
-fault_differs : (f : CaptureFault) (c : Captured) (rest : List ℕ) → Fault f ≡ Record c rest → ⊥
+fault_differs : (f : CaptureFault) (c : CapturedFrame) (rest : List ℕ) → Fault f ≡ Record c rest → ⊥
 fault_differs f c rest e = cc
 
 some_differs : (f : CaptureFault) → Some f ≡ None → ⊥
@@ -37,29 +37,29 @@ take_short zero xs = omega arith
 take_short (suc n) [] = omega arith
 take_short (suc n) (x ∷ xs) = let more = take_short n xs in omega (arith, more)
 
-in_record : (form : Form) (place : Place) (octets : List ℕ) (fault : Option CaptureFault) (c : Captured) (rest : List ℕ)
-    → head_fault place (time_of form octets) (captured_of form octets) (original_of form octets) ≡ fault
-    → record_with_head form place octets fault ≡ Record c rest → length c.octets ≤ c.len
+in_record : (form : CaptureFormat) (place : RecordPosition) (octets : List ℕ) (fault : Option CaptureFault) (c : CapturedFrame) (rest : List ℕ)
+    → record_header_fault place (record_time form octets) (captured_length form octets) (original_length form octets) ≡ fault
+    → record_after_header form place octets fault ≡ Record c rest → length c.octets ≤ c.len
 in_record form place octets (Some f) c rest head e = absurd (fault_differs f c rest e)
 in_record form place octets None c rest head e =
-    let captured = captured_of form octets in
-    let original = original_of form octets in
+    let captured = captured_length form octets in
+    let original = original_length form octets in
     let first = if_not (nat_lt 262144 captured) (Some (RecordTooLarge place.number)) _ None (some_differs (RecordTooLarge place.number)) head in
     let second = if_not (nat_lt original captured) (Some (LengthsCross place.number)) _ None (some_differs (LengthsCross place.number)) first.1 in
     let few : captured ≤ original = ltb-false original captured second.0 in
-    let found : Captured = record { time = time_of form octets; len = original; octets = octets_at 16 captured octets } in
+    let found : CapturedFrame = record { time = record_time form octets; len = original; octets = octet_range 16 captured octets } in
     let whole : Record found (drop (16 + captured) octets) ≡ Record c rest = (if_not (nat_lt (length octets) (16 + captured)) (Fault (RecordCut place.number)) _ (Record c rest) (fault_differs (RecordCut place.number) c rest) e).1 in
     let same : found ≡ c = cc in
     let short = take_short captured (drop 16 octets) in
     let here : length (take captured (drop 16 octets)) ≤ original = omega (arith, short, few) in
-    subst (λ (z : Captured). length z.octets ≤ z.len) same here
+    subst (λ (z : CapturedFrame). length z.octets ≤ z.len) same here
 
-in_front : (form : Form) (place : Place) (octets : List ℕ) (c : Captured) (rest : List ℕ) → front_of form place octets ≡ Record c rest → length c.octets ≤ c.len
-unfolding front_of
+in_front : (form : CaptureFormat) (place : RecordPosition) (octets : List ℕ) (c : CapturedFrame) (rest : List ℕ) → front_item form place octets ≡ Record c rest → length c.octets ≤ c.len
+unfolding front_item
 in_front form place octets c rest e =
-    let here : Front = Record c rest in
-    let whole : Front = record_with_head form place octets (head_fault place (time_of form octets) (captured_of form octets) (original_of form octets)) in
-    let cut : Front = if nat_lt (length octets) 16 then Fault (RecordCut place.number) else whole in
+    let here : FrontItem = Record c rest in
+    let whole : FrontItem = record_after_header form place octets (record_header_fault place (record_time form octets) (captured_length form octets) (original_length form octets)) in
+    let cut : FrontItem = if nat_lt (length octets) 16 then Fault (RecordCut place.number) else whole in
     let some = if_not (length octets == 0) Nothing (if nat_lt 1000000 place.number then Fault TooManyRecords else cut) here (nothing_differs c rest) e in
     let few = if_not (nat_lt 1000000 place.number) (Fault TooManyRecords) cut here (fault_differs TooManyRecords c rest) some.1 in
     let words = if_not (nat_lt (length octets) 16) (Fault (RecordCut place.number)) whole here (fault_differs (RecordCut place.number) c rest) few.1 in
@@ -67,20 +67,20 @@ in_front form place octets c rest e =
 
 -- ALL RECORDS
 
-abbrev AreShort : List Captured → Type 0
-AreShort cs = (c : Captured) → In c cs → length c.octets ≤ c.len
+abbrev AreShort : List CapturedFrame → Type 0
+AreShort cs = (c : CapturedFrame) → IsMember c cs → length c.octets ≤ c.len
 
-in_reads : (form : Form) (place : Place) (octets : List ℕ) (cs : List Captured) (e : Ending) → Reads form place octets cs e → AreShort cs
+in_reads : (form : CaptureFormat) (place : RecordPosition) (octets : List ℕ) (cs : List CapturedFrame) (e : CaptureEnding) → ReadsFrames form place octets cs e → AreShort cs
 in_reads form place octets [] e reads c i = absurd i
-in_reads form place octets (x ∷ xs) e (rest, is, more) c (inl same) = subst (λ (z : Captured). length z.octets ≤ z.len) (sym same) (in_front form place octets x rest is)
-in_reads form place octets (x ∷ xs) e (rest, is, more) c (inr i) = in_reads form (after place x) rest xs e more c i
+in_reads form place octets (x ∷ xs) e (rest, is, more) c (inl same) = subst (λ (z : CapturedFrame). length z.octets ≤ z.len) (sym same) (in_front form place octets x rest is)
+in_reads form place octets (x ∷ xs) e (rest, is, more) c (inr i) = in_reads form (next_position place x) rest xs e more c i
 
-in_after : (header : Result Form CaptureFault) (text : List ℕ) (cs : List Captured) (e : Ending) → ReadsAfter header text cs e → AreShort cs
-in_after (Ok form) text cs e reads c i = in_reads form first_place (drop 24 text) cs e reads c i
-in_after (Err f) text cs e (none, is) c i = absurd (subst (λ (l : List Captured). In c l) none i)
+in_after : (header : Result CaptureFormat CaptureFault) (text : List ℕ) (cs : List CapturedFrame) (e : CaptureEnding) → ReadsBody header text cs e → AreShort cs
+in_after (Ok form) text cs e reads c i = in_reads form first_position (drop 24 text) cs e reads c i
+in_after (Err f) text cs e (none, is) c i = absurd (subst (λ (l : List CapturedFrame). IsMember c l) none i)
 
-in_text : (text : List ℕ) (cs : List Captured) (e : Ending) → Records text cs e → AreShort cs
-in_text text cs e reads = in_after (header_of text) text cs e reads
+in_text : (text : List ℕ) (cs : List CapturedFrame) (e : CaptureEnding) → IsCapture text cs e → AreShort cs
+in_text text cs e reads = in_after (header_format text) text cs e reads
 
 -- EVENTS
 
@@ -88,33 +88,33 @@ abbrev IsShort : Event → Type 0
 IsShort (Arrived a) = length a.octets ≤ a.len
 IsShort (Cleared clear n) = Unit {0}
 
-of_commands : (cs : List Command) (x : Input) → In x (commands_of cs) → IsShort x.event
+of_commands : (cs : List Command) (x : Input) → IsMember x (commands_of cs) → IsShort x.event
 of_commands [] x i = absurd i
-of_commands (c ∷ cs) x i = elim (in_push x (asked c) (commands_of cs) i) [
+of_commands (c ∷ cs) x i = elim (in_push x (command_as_input c) (commands_of cs) i) [
   | inl old ↦ of_commands cs x old
   | inr new ↦ subst (λ (y : Input). IsShort y.event) (sym new) tt
 ]
 
-each_short : (inputs : List Input) → ((x : Input) → In x inputs → IsShort x.event) → AreWithinLengths (events inputs)
+each_short : (inputs : List Input) → ((x : Input) → IsMember x inputs → IsShort x.event) → AreWithinLengths (input_events inputs)
 each_short [] each = tt
 each_short (x ∷ xs) each = one x.event xs (each x (inl refl)) (each_short xs (λ y i. each y (inr i))) where
-  one : (e : Event) (ys : List Input) → IsShort e → AreWithinLengths (events ys) → AreWithinLengths (e ∷ events ys)
+  one : (e : Event) (ys : List Input) → IsShort e → AreWithinLengths (input_events ys) → AreWithinLengths (e ∷ input_events ys)
   one (Arrived a) ys here more = (here, more)
   one (Cleared clear n) ys here more = more
 
-pub are_within : {A : Type 0} (p : Plan A) (commands : List Command) (texts : ℕ → List ℕ) (frames : ℕ → List Captured) (inputs : List Input)
-    → ((q : ℕ) (out : PortPlan A) → port_at p.ports q ≡ Some out → Records (texts q) (frames q) AtEnd)
-    → ((q : ℕ) → port_at p.ports q ≡ None → frames q ≡ [])
-    → IsMerged (streams (commands_of commands) frames) inputs → AreWithinLengths (events inputs)
+pub are_within : {A : Type 0} (p : Plan A) (commands : List Command) (texts : ℕ → List ℕ) (frames : ℕ → List CapturedFrame) (inputs : List Input)
+    → ((q : ℕ) (out : PortPlan A) → find_port p.ports q ≡ Some out → IsCapture (texts q) (frames q) AtEnd)
+    → ((q : ℕ) → find_port p.ports q ≡ None → frames q ≡ [])
+    → IsMerged (input_streams (commands_of commands) frames) inputs → AreWithinLengths (input_events inputs)
 are_within {A} p commands texts frames inputs reads others merged = each_short inputs (λ x i.
-    let own : In x (streams (commands_of commands) frames x.rank) = subst (In x) (merged.each x.rank) (rank_in x.rank x inputs i refl) in
+    let own : IsMember x (input_streams (commands_of commands) frames x.rank) = subst (IsMember x) (merged.each x.rank) (rank_in x.rank x inputs i refl) in
     by_bool (nat_eq x.rank 0)
-    (λ k. let asked_for : In x (commands_of commands) = rw k at own in of_commands commands x asked_for)
+    (λ k. let asked_for : IsMember x (commands_of commands) = rw k at own in of_commands commands x asked_for)
     (λ k.
-    let came : In x (inputs_of x.rank (frames x.rank)) = rw k at own in
+    let came : IsMember x (capture_inputs x.rank (frames x.rank)) = rw k at own in
     let (c, listed, is) = in_inputs x.rank x (frames x.rank) came in
-    subst (λ (y : Input). IsShort y.event) (sym is) (read_at x.rank c (port_at p.ports x.rank) refl listed)))
+    subst (λ (y : Input). IsShort y.event) (sym is) (read_at x.rank c (find_port p.ports x.rank) refl listed)))
   where
-    read_at : (q : ℕ) (c : Captured) (o : Option (PortPlan A)) → port_at p.ports q ≡ o → In c (frames q) → length c.octets ≤ c.len
-    read_at q c None none i = absurd (subst (λ (l : List Captured). In c l) (others q none) i)
+    read_at : (q : ℕ) (c : CapturedFrame) (o : Option (PortPlan A)) → find_port p.ports q ≡ o → IsMember c (frames q) → length c.octets ≤ c.len
+    read_at q c None none i = absurd (subst (λ (l : List CapturedFrame). IsMember c l) (others q none) i)
     read_at q c (Some out) there i = in_text (texts q) (frames q) AtEnd (reads q out there) c i

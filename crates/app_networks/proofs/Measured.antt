@@ -1,34 +1,34 @@
--- Each copy that leaves a hop is done in time.
+-- Each copy that leaves a hop leaves in time.
 use Rattle.std.proofs.Common.{◌≡◌, ◌≢◌, ◌<◌, ◌≤◌, ◌+◌, ◌-◌, ℕ, zero, suc, List, [], ◌∷◌, Some, length, map, refl, sym, ap, ◌∙◌, subst, inl, inr, arith}
 use Rattle.std.specs.Prelude.{nat_eq, slice_get}
 use Rattle.std.specs.Map.{lookup}
 use Rattle.std.proofs.lemmas.Option.{same_Some}
-use Rattle.bridge_limits.specs.Members.{AllAfter, In}
+use Rattle.bridge_limits.specs.Members.{RelatesToEach, IsMember}
 use Rattle.bridge_limits.proofs.Members.{in_at}
-use Rattle.bridge_capture.specs.Grammar.{Captured}
+use Rattle.bridge_capture.specs.Grammar.{CapturedFrame}
 use Rattle.bridge_filter.proofs.Members.{member_found}
 use Rattle.bridge_semantics.specs.declared.outcome.Departure.{Departure}
 use Rattle.bridge_semantics.specs.declared.outcome.Origin.{Origin}
 use Rattle.bridge_semantics.specs.declared.outcome.Outcome.{Outcome}
-use Rattle.bridge_semantics.specs.Events.{origins_of}
-use Rattle.bridge_semantics.specs.Merge.{Input, events}
-use Rattle.bridge_semantics.specs.Offers.{offers}
-use Rattle.bridge_semantics.specs.Runs.{AtPort, Departs}
+use Rattle.bridge_semantics.specs.Events.{filter_origins}
+use Rattle.bridge_semantics.specs.Merge.{Input, input_events}
+use Rattle.bridge_semantics.specs.Offers.{port_offers}
+use Rattle.bridge_semantics.specs.Runs.{IsPortCopy, IsFilterDeparture}
 use Rattle.bridge_semantics.proofs.Facts.{own_queues}
 use Rattle.bridge_semantics.proofs.Headline.{as_offer, in_offered}
 use Rattle.bridge_bounds.proofs.Whole.{in_bound}
 use Rattle.net_model.specs.Networks.{IsNetwork, IsNetworkRun, Network}
 use Rattle.net_model.specs.declared.links.Link.{Link}
-use Rattle.net_report.specs.declared.hop_run.HopRun.{HopRun}
-use Rattle.net_report.specs.declared.tracing.Root.{Root}
-use Rattle.net_report.specs.Tracing.{IsBehind, IsFrom}
-use Rattle.app_networks.specs.InTime.{AreRunsOf, AreWithin, ComeOnward, GoesOnce, IsFromOver, IsRunOf, IsWithin, took_most}
+use Rattle.net_report.specs.declared.copy_counting.HopRun.{HopRun}
+use Rattle.net_report.specs.declared.sources.SourceFrame.{SourceFrame}
+use Rattle.net_report.specs.SourceFrames.{IsCopyOfKnownFrame, HasSource}
+use Rattle.app_networks.specs.InTime.{AreHopRuns, AreHopsBounded, ComeFromLowerRank, GoesOnce, HasSourceOverRoute, IsHopRun, IsHopBounded, route_time}
 use Rattle.app_networks.proofs.Origins.{came_as}
 
 -- LEGS
 
--- another thing is known of the frame before
-behind_as : {A : Type 0} (links : List Link) (hops : List (HopRun A)) (P Q : ℕ → ℕ → Type 0) (i k : ℕ) (b : IsBehind links hops P i k) → Q b.place (b.copy.own - 1) → IsBehind links hops Q i k
+-- Another fact about the frame before the copy.
+behind_as : {A : Type 0} (links : List Link) (hops : List (HopRun A)) (P Q : ℕ → ℕ → Type 0) (i k : ℕ) (b : IsCopyOfKnownFrame links hops P i k) → Q b.place (b.copy.own - 1) → IsCopyOfKnownFrame links hops Q i k
 behind_as links hops P Q i k b known = record {
   hop = b.hop;
   other = b.other;
@@ -43,7 +43,7 @@ behind_as links hops P Q i k b known = record {
   known = known;
 }
 
-pub over_legs : {A : Type 0} (links : List Link) (hops : List (HopRun A)) (r : Root) (n i k : ℕ) → IsFrom links hops r n i k → (legs : List (ℕ × ℕ)) × (length legs ≡ n) × IsFromOver links hops r legs i k
+pub over_legs : {A : Type 0} (links : List Link) (hops : List (HopRun A)) (r : SourceFrame) (n i k : ℕ) → HasSource links hops r n i k → (legs : List (ℕ × ℕ)) × (length legs ≡ n) × HasSourceOverRoute links hops r legs i k
 unfolding behind_as
 over_legs links hops r zero i k first = ([], refl, first)
 over_legs links hops r (suc n) i k b =
@@ -51,34 +51,34 @@ over_legs links hops r (suc n) i k b =
       (b.place, b.over.from.delay) ∷ legs,
       ap suc many,
       record {
-        behind = behind_as links hops (IsFrom links hops r n) (IsFromOver links hops r legs) i k b known;
+        behind = behind_as links hops (HasSource links hops r n) (HasSourceOverRoute links hops r legs) i k b known;
         place = refl;
         delay = refl;
       },
     )
 
-pub over_links : {A : Type 0} (links : List Link) (hops : List (HopRun A)) (r : Root) (legs : List (ℕ × ℕ)) (i k : ℕ) → IsFromOver links hops r legs i k → IsFrom links hops r (length legs) i k
+pub over_links : {A : Type 0} (links : List Link) (hops : List (HopRun A)) (r : SourceFrame) (legs : List (ℕ × ℕ)) (i k : ℕ) → HasSourceOverRoute links hops r legs i k → HasSource links hops r (length legs) i k
 over_links links hops r [] i k first = first
 over_links links hops r (leg ∷ legs) i k is =
     let b = is.behind in
-    behind_as links hops (IsFromOver links hops r legs) (IsFrom links hops r (length legs)) i k b (over_links links hops r legs b.place (b.copy.own - 1) b.known)
+    behind_as links hops (HasSourceOverRoute links hops r legs) (HasSource links hops r (length legs)) i k b (over_links links hops r legs b.place (b.copy.own - 1) b.known)
 
--- no hop that it went through before has the rank of its own
-before_apart : (rank : ℕ → ℕ) (i : ℕ) (js : List ℕ) → ((j : ℕ) → In j js → rank j < rank i) → AllAfter (λ a b. a ≢ b) i js
+-- No earlier hop on the route has the hop's own rank.
+before_apart : (rank : ℕ → ℕ) (i : ℕ) (js : List ℕ) → ((j : ℕ) → IsMember j js → rank j < rank i) → RelatesToEach (λ a b. a ≢ b) i js
 before_apart rank i [] less = tt
 before_apart rank i (j ∷ js) less = ((λ same. let lt : rank i < rank i = subst (λ (z : ℕ). rank z < rank i) (sym same) (less j (inl refl)) in absurd (omega (arith, lt))), before_apart rank i js (λ z listed. less z (inr listed)))
 
-module _ {A : Type 0} (links : List Link) (hops : List (HopRun A)) (rank : ℕ → ℕ) (onward : ComeOnward links hops rank) (r : Root) where
-  -- it came from a hop of lesser rank
-  from_lesser : (leg : ℕ × ℕ) (legs : List (ℕ × ℕ)) (i k : ℕ) → IsFromOver links hops r (leg ∷ legs) i k → rank leg.0 < rank i
+module _ {A : Type 0} (links : List Link) (hops : List (HopRun A)) (rank : ℕ → ℕ) (onward : ComeFromLowerRank links hops rank) (r : SourceFrame) where
+  -- The frame came from a hop of lower rank.
+  from_lesser : (leg : ℕ × ℕ) (legs : List (ℕ × ℕ)) (i k : ℕ) → HasSourceOverRoute links hops r (leg ∷ legs) i k → rank leg.0 < rank i
   from_lesser leg legs i k over =
       let b = over.behind in
       subst (λ (place : ℕ). rank place < rank i) over.place (onward i b.place b.hop b.other b.origin b.copy b.there b.other_there (in_at b.hop.view.now.origins.items k b.origin b.came) b.over)
 
-  known_before : (leg : ℕ × ℕ) (legs : List (ℕ × ℕ)) (i k : ℕ) (over : IsFromOver links hops r (leg ∷ legs) i k) → IsFromOver links hops r legs leg.0 (over.behind.copy.own - 1)
-  known_before leg legs i k over = subst (λ (place : ℕ). IsFromOver links hops r legs place (over.behind.copy.own - 1)) over.place over.behind.known
+  known_before : (leg : ℕ × ℕ) (legs : List (ℕ × ℕ)) (i k : ℕ) (over : HasSourceOverRoute links hops r (leg ∷ legs) i k) → HasSourceOverRoute links hops r legs leg.0 (over.behind.copy.own - 1)
+  known_before leg legs i k over = subst (λ (place : ℕ). HasSourceOverRoute links hops r legs place (over.behind.copy.own - 1)) over.place over.behind.known
 
-  all_lesser : (legs : List (ℕ × ℕ)) (i k : ℕ) → IsFromOver links hops r legs i k → (j : ℕ) → In j (map (λ (leg : ℕ × ℕ). leg.0) legs) → rank j < rank i
+  all_lesser : (legs : List (ℕ × ℕ)) (i k : ℕ) → HasSourceOverRoute links hops r legs i k → (j : ℕ) → IsMember j (map (λ (leg : ℕ × ℕ). leg.0) legs) → rank j < rank i
   all_lesser [] i k first j listed = absurd listed
   all_lesser (leg ∷ legs) i k over j (inl same) = subst (λ (z : ℕ). rank z < rank i) (sym same) (from_lesser leg legs i k over)
   all_lesser (leg ∷ legs) i k over j (inr listed) =
@@ -86,7 +86,7 @@ module _ {A : Type 0} (links : List Link) (hops : List (HopRun A)) (rank : ℕ �
       let before = all_lesser legs leg.0 (over.behind.copy.own - 1) (known_before leg legs i k over) j listed in
       omega (arith, here, before)
 
-  pub goes_once : (legs : List (ℕ × ℕ)) (i k : ℕ) → IsFromOver links hops r legs i k → GoesOnce i legs
+  pub goes_once : (legs : List (ℕ × ℕ)) (i k : ℕ) → HasSourceOverRoute links hops r legs i k → GoesOnce i legs
   goes_once [] i k first = (tt, tt)
   goes_once (leg ∷ legs) i k over = (
     before_apart rank i (leg.0 ∷ map (λ (leg : ℕ × ℕ). leg.0) legs) (all_lesser (leg ∷ legs) i k over),
@@ -95,42 +95,42 @@ module _ {A : Type 0} (links : List Link) (hops : List (HopRun A)) (rank : ℕ �
 
 -- A HOP
 
-module _ {A : Type 0} (n : Network A) (commands : ℕ → List Input) (captures : ℕ → ℕ → List Captured) (o : ℕ → Outcome A)
+module _ {A : Type 0} (n : Network A) (commands : ℕ → List Input) (captures : ℕ → ℕ → List CapturedFrame) (o : ℕ → Outcome A)
     (network : IsNetwork n) (run : IsNetworkRun n commands captures o) where
-  -- a copy that leaves a hop is done at most so much after its frame came there as each of its queues' bounds
-  hop_in_time : (x : ℕ × ℕ) (most : ℕ) (h : HopRun A) (d : Departure) (came : Origin) → IsWithin n x most → IsRunOf o x h → In d h.view.now.departures.items
+  -- A copy leaves a hop within the bound of the hop's queues, counted from its frame's arrival there.
+  hop_in_time : (x : ℕ × ℕ) (most : ℕ) (h : HopRun A) (d : Departure) (came : Origin) → IsHopBounded n x most → IsHopRun o x h → IsMember d h.view.now.departures.items
       → slice_get h.view.now.origins.items (d.own - 1) ≡ Some came → d.done ≤ came.at + most
   hop_in_time x most h d came within told listed there =
       let p = within.plan in
       let m = x.1 in
       let lists = run.lists x.0 in
-      let es = events (run.inputs x.0) in
+      let es = input_events (run.inputs x.0) in
       let outcome = run.outcome x.0 p within.there in
       let plan = network.plan x.0 p within.there in
       let good = network.acceptable x.0 p within.there in
       let known : lookup (nat_eq m) p.filters ≡ Some within.filter = member_found p.filters m within.filter plan.filters.own within.listed in
       let view = outcome.views m within.filter h.view.now known told.view in
-      let left : Departs p m (AtPort lists) d = (view.told.departures_are d).0 listed in
+      let left : IsFilterDeparture p m (IsPortCopy lists) d = (view.told.departures_are d).0 listed in
       let reach = (own_queues p m within.filter es outcome.moments lists d.port left.out left.copy plan good within.listed within.protected outcome.run left.at left.lies).0 left.flow in
       let (bound, is_bound, upto) = within.bounds d.port left.copy.class reach in
       let done = in_bound p m bound es outcome.moments lists d.port d.start left.out left.copy plan good outcome.run outcome.whole left.at left.lies left.flow left.started is_bound in
-      let among : In (as_offer left.copy) (offers p left.out es) = subst (In (as_offer left.copy)) (outcome.run.offers d.port left.out left.at) (in_offered left.copy (lists d.port) left.lies) in
+      let among : IsMember (as_offer left.copy) (port_offers p left.out es) = subst (IsMember (as_offer left.copy)) (outcome.run.offers d.port left.out left.at) (in_offered left.copy (lists d.port) left.lies) in
       let frame = came_as p left.out m es (as_offer left.copy) among left.flow in
-      let same : Some frame.origin ≡ Some came = sym frame.there ∙ (ap (λ (k : ℕ). slice_get (origins_of p m es) (k - 1)) left.own ∙ (ap (λ (os : List Origin). slice_get os (d.own - 1)) (sym view.origins) ∙ there)) in
+      let same : Some frame.origin ≡ Some came = sym frame.there ∙ (ap (λ (k : ℕ). slice_get (filter_origins p m es) (k - 1)) left.own ∙ (ap (λ (os : List Origin). slice_get os (d.own - 1)) (sym view.origins) ∙ there)) in
       let moment : left.copy.at ≡ came.at = sym frame.moment ∙ ap (λ (z : Origin). z.at) (same_Some frame.origin came same) in
       let is = left.done in
       omega (arith, done, upto, moment, is)
 
-  -- so through all hops that it went through
-  pub in_time : (stream : List (ℕ × ℕ)) (links : List Link) (hops : List (HopRun A)) (most : ℕ → ℕ) → AreRunsOf o stream hops → AreWithin n stream most
-      → (r : Root) (legs : List (ℕ × ℕ)) (i : ℕ) (h : HopRun A) (d : Departure) → slice_get hops i ≡ Some h → In d h.view.now.departures.items → IsFromOver links hops r legs i (d.own - 1)
-      → d.done ≤ r.came + took_most most i legs
+  -- A copy has passed all hops of its route within the sum of their bounds and the links' delays.
+  pub in_time : (stream : List (ℕ × ℕ)) (links : List Link) (hops : List (HopRun A)) (most : ℕ → ℕ) → AreHopRuns o stream hops → AreHopsBounded n stream most
+      → (r : SourceFrame) (legs : List (ℕ × ℕ)) (i : ℕ) (h : HopRun A) (d : Departure) → slice_get hops i ≡ Some h → IsMember d h.view.now.departures.items → HasSourceOverRoute links hops r legs i (d.own - 1)
+      → d.done ≤ r.came + route_time most i legs
   in_time stream links hops most told within r [] i h d there listed first =
       let (x, at, is) = told i h there in
       let same : first.hop ≡ h = same_Some first.hop h (sym first.there ∙ there) in
       let came : slice_get h.view.now.origins.items (d.own - 1) ≡ Some first.origin = subst (λ (z : HopRun A). slice_get z.view.now.origins.items (d.own - 1) ≡ Some first.origin) same first.came in
       let done = hop_in_time x (most i) h d first.origin (within i x at) is listed came in
-      let root : r.came ≡ first.origin.at = ap (λ (z : Root). z.came) first.root in
+      let root : r.came ≡ first.origin.at = ap (λ (z : SourceFrame). z.came) first.root in
       omega (arith, done, root)
   in_time stream links hops most told within r (leg ∷ legs) i h d there listed over =
       let b = over.behind in
@@ -139,7 +139,7 @@ module _ {A : Type 0} (n : Network A) (commands : ℕ → List Input) (captures 
       let came : slice_get h.view.now.origins.items (d.own - 1) ≡ Some b.origin = subst (λ (z : HopRun A). slice_get z.view.now.origins.items (d.own - 1) ≡ Some b.origin) same b.came in
       let done = hop_in_time x (most i) h d b.origin (within i x at) is listed came in
       let other : slice_get hops leg.0 ≡ Some b.other = ap (slice_get hops) (sym over.place) ∙ b.other_there in
-      let known : IsFromOver links hops r legs leg.0 (b.copy.own - 1) = subst (λ (place : ℕ). IsFromOver links hops r legs place (b.copy.own - 1)) over.place b.known in
+      let known : HasSourceOverRoute links hops r legs leg.0 (b.copy.own - 1) = subst (λ (place : ℕ). HasSourceOverRoute links hops r legs place (b.copy.own - 1)) over.place b.known in
       let before = in_time stream links hops most told within r legs leg.0 b.other b.copy other b.over.listed known in
       let moment = b.over.moment in
       let delay = over.delay in

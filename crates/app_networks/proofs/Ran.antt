@@ -1,4 +1,4 @@
--- The output of a run of a network, by what the run says.
+-- The output of a network run.
 use Rattle.std.proofs.Common.{◌≡◌, ◌⊎◌, ◌++◌, ◌&&◌, ℕ, Bool, true, false, List, [], None, Option, Some, String, Global, ap, inl, inr, is_some, refl, string_bytes, subst, sym, ◌∙◌}
 use Rattle.std.specs.Option.{IfSome}
 use Rattle.std.proofs.lemmas.Bool.{false≢true}
@@ -6,7 +6,7 @@ use Rattle.bridge_limits.proofs.Options.{some_is_none}
 use Rattle.app_commands.specs.declared.output.Output.{Output}
 use Rattle.app_commands.specs.CommandOutputs.{line_if}
 use Rattle.app_networks.specs.Losing.{PrintsRunLosses, PrintsWarnings, has_lines, status_of}
-use Rattle.app_networks.specs.declared.job.RoundsSaid.{RoundsSaid}
+use Rattle.app_networks.specs.declared.job.NetworkRunResult.{NetworkRunResult}
 use Rattle.app_networks.specs.Networks.{IsNetworkRunOutput, IsOutputOfRun, IsWithRounds}
 
 plain_rounds : (told stderr : List ℕ) (explained : Bool) → IsWithRounds told (explained && false) stderr → stderr ≡ told
@@ -31,8 +31,8 @@ ran_by strict explained false lossy rounds None told output prints loses warned 
 ran_by strict explained true lossy rounds None told output prints loses warned idle is =
     inr ((idle refl).1.0, (told, (idle refl).1.1, (is.0, plain_rounds told (string_bytes output.stderr) explained is.1, is.2)))
 
--- the output of a run of a network, by the clauses of the run
-pub ran : (strict explained : Bool) (s : RoundsSaid) (output : Output)
+-- The clauses of the run determine its output.
+pub ran : (strict explained : Bool) (s : NetworkRunResult) (output : Output)
     → IfSome s.line (λ l. PrintsRunLosses Global strict (string_bytes l) s.rounds (string_bytes s.told))
     → IfSome s.line (λ _. s.is_lossy ≡ has_lines (string_bytes s.told))
     → (s.is_warned ≡ true → s.line ≡ None)

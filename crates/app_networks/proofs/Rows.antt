@@ -5,25 +5,25 @@ use Rattle.std.specs.Io.KnownBytes.{Appends}
 use Rattle.std.proofs.KnownBytes.{Appends-nil, Appends-trans}
 use Rattle.std.proofs.lemmas.List.{append-nil, append_assoc, length-take, take_all, take_more}
 use Rattle.std.proofs.lemmas.Option.{slice_get-get_or}
-use Rattle.bridge_limits.specs.Members.{In}
+use Rattle.bridge_limits.specs.Members.{IsMember}
 use Rattle.bridge_limits.proofs.Members.{in_at}
-use Rattle.net_report.specs.declared.frames.TheConstants.{FRAMES_HEADER}
-use Rattle.net_report.specs.declared.lines.TheConstants.{STREAMS_HEADER}
+use Rattle.net_report.specs.declared.frame_table.TheConstants.{FRAMES_HEADER}
+use Rattle.net_report.specs.declared.stream_table.TheConstants.{STREAMS_HEADER}
 use Rattle.net_report.specs.Tables.{Heading, WriteStream}
 use Rattle.net_file.specs.Model.{Bridge, Stream}
 use Rattle.net_file.specs.Model as file
 use Rattle.net_model.specs.declared.links.Link.{Link}
-use Rattle.net_run.specs.declared.settling.Settled.{Settled}
-use Rattle.app_networks.specs.Counted.{IsCountOf}
+use Rattle.net_run.specs.declared.rounds.BridgeResult.{BridgeResult}
+use Rattle.app_networks.specs.Counted.{IsStreamCount}
 use Rattle.app_networks.specs.Tables.{AreRows, IsTabled, TablesStream, WriteStreams, WriteTables, heading, hop_text}
 
--- what an index finds is in a list
-pub in_list : {X : Type 0} (xs here : List X) (i : ℕ) (x d : X) → here ≡ xs → i < length here → x ≡ get_or here i d → In x xs
+-- An item at an index is in its list.
+pub in_list : {X : Type 0} (xs here : List X) (i : ℕ) (x d : X) → here ≡ xs → i < length here → x ≡ get_or here i d → IsMember x xs
 in_list {X} xs here i x d is within item =
     let there = slice_get-get_or here i d within in
-    subst (λ (l : List X). In x l) is (in_at here i x (there ∙ ap Some (sym item)))
+    subst (λ (l : List X). IsMember x l) is (in_at here i x (there ∙ ap Some (sym item)))
 
--- what the tables call a stream
+-- The heading of a stream in the tables.
 pub heading_is : (bridges called : List Bridge) (s : Stream) (asked : List (ℕ × ℕ)) (n : List ℕ) (names : List (List ℕ)) (bound : ℕ) (d : Option ℕ)
     → called ≡ bridges → asked ≡ s.hops → n ≡ s.name → names ≡ map (hop_text called) asked → d ≡ s.deadline
     → ◌≡◌ {A = Heading} (record { name = n; hops = names; bound = bound; deadline = d }) (heading bridges s bound)
@@ -32,15 +32,15 @@ heading_is bridges called s asked n names bound d is_called is_asked is_name is_
     let mk : List ℕ → List (List ℕ) → Option ℕ → Heading = λ x h t. record { name = x; hops = h; bound = bound; deadline = t } in
     ap (λ x. mk x names d) is_name ∙ (ap (λ h. mk s.name h d) named ∙ ap (λ t. mk s.name (map (hop_text bridges) s.hops) t) is_deadline)
 
--- the rows of a stream with its counts
-pub tabled : {A : Type 0} (links : List Link) (settled : List (Settled A)) (bridges : List Bridge) (s : Stream) (bound frames delivered : ℕ) (a0 a1 b0 b1 : Option (List ℕ))
-    (count : IsCountOf links settled s.hops frames delivered)
+-- The rows of a stream with its counts.
+pub tabled : {A : Type 0} (links : List Link) (settled : List (BridgeResult A)) (bridges : List Bridge) (s : Stream) (bound frames delivered : ℕ) (a0 a1 b0 b1 : Option (List ℕ))
+    (count : IsStreamCount links settled s.hops frames delivered)
     → WriteStream links count.hops count.known count.tallies (heading bridges s bound) a0 a1 b0 b1 → TablesStream links settled bridges s bound frames delivered a0 a1 b0 b1
 tabled links settled bridges s bound frames delivered a0 a1 b0 b1 count (rows, lines, are, first, front) =
     (rows, lines, record { count = count; are_rows = are }, first, front)
 
--- the rows of one stream more
-rows_more : {A : Type 0} (links : List Link) (settled : List (Settled A)) (bridges : List Bridge) (ss : List Stream) (bs : List ℕ) (s : Stream) (b frames delivered : ℕ) (rows lines row line : List ℕ)
+-- The rows with one stream more.
+rows_more : {A : Type 0} (links : List Link) (settled : List (BridgeResult A)) (bridges : List Bridge) (ss : List Stream) (bs : List ℕ) (s : Stream) (b frames delivered : ℕ) (rows lines row line : List ℕ)
     → length bs ≡ length ss → AreRows links settled bridges ss bs rows lines → IsTabled links settled bridges s b frames delivered row line
     → AreRows links settled bridges (ss ++ s ∷ []) (bs ++ b ∷ []) (rows ++ row) (lines ++ line)
 rows_more links settled bridges [] [] s b frames delivered rows lines row line many (no_rows, no_lines) is =
@@ -51,12 +51,12 @@ rows_more links settled bridges (x ∷ ss) (c ∷ bs) s b frames delivered rows 
     let later = rows_more links settled bridges ss bs s b frames delivered more rest row line (omega (arith, many)) all is in
     (f, d, first, front, more ++ row, rest ++ line, own, later, ap (λ r. r ++ row) rows_is ∙ append_assoc first more row, ap (λ r. r ++ line) lines_is ∙ append_assoc front rest line)
 
--- two writers that were handed the rows of no stream
-pub no_streams : {A : Type 0} (links : List Link) (settled : List (Settled A)) (bridges : List Bridge) (a b : Option (List ℕ)) → WriteStreams links settled bridges [] [] a a b b
+-- Both writers received the rows of no stream.
+pub no_streams : {A : Type 0} (links : List Link) (settled : List (BridgeResult A)) (bridges : List Bridge) (a b : Option (List ℕ)) → WriteStreams links settled bridges [] [] a a b b
 no_streams links settled bridges a b = ([], [], (refl, refl), Appends-nil a, Appends-nil b)
 
--- two writers that were handed the rows of the streams before a place, and then those of the stream there
-pub streams_more : {A : Type 0} (links : List Link) (settled : List (Settled A)) (bridges : List Bridge) (streams here : List Stream) (bounds : List ℕ) (i : ℕ) (s d : Stream) (b e frames delivered : ℕ) (a0 a1 a2 b0 b1 b2 : Option (List ℕ))
+-- Both writers received the rows of the streams before an index, and of the stream there.
+pub streams_more : {A : Type 0} (links : List Link) (settled : List (BridgeResult A)) (bridges : List Bridge) (streams here : List Stream) (bounds : List ℕ) (i : ℕ) (s d : Stream) (b e frames delivered : ℕ) (a0 a1 a2 b0 b1 b2 : Option (List ℕ))
     → here ≡ streams → length bounds ≡ length streams → i < length here → s ≡ get_or here i d → b ≡ get_or bounds i e
     → WriteStreams links settled bridges (take i streams) (take i bounds) a0 a1 b0 b1
     → TablesStream links settled bridges s b frames delivered a1 a2 b1 b2
@@ -77,8 +77,8 @@ streams_more {A} links settled bridges streams here bounds i s d b e frames deli
       Appends-trans b0 b1 b2 lines line front back,
     )
 
--- two writers that were handed the rows of all streams
-pub streams_all : {A : Type 0} (links : List Link) (settled : List (Settled A)) (bridges : List Bridge) (streams here : List Stream) (bounds : List ℕ) (i : ℕ) (a0 a1 b0 b1 : Option (List ℕ))
+-- Both writers received the rows of all streams.
+pub streams_all : {A : Type 0} (links : List Link) (settled : List (BridgeResult A)) (bridges : List Bridge) (streams here : List Stream) (bounds : List ℕ) (i : ℕ) (a0 a1 b0 b1 : Option (List ℕ))
     → here ≡ streams → length bounds ≡ length streams → length here ≤ i
     → WriteStreams links settled bridges (take i streams) (take i bounds) a0 a1 b0 b1 → WriteStreams links settled bridges streams bounds a0 a1 b0 b1
 streams_all {A} links settled bridges streams here bounds i a0 a1 b0 b1 is many past before =
@@ -87,8 +87,8 @@ streams_all {A} links settled bridges streams here bounds i a0 a1 b0 b1 is many 
     subst (λ (ss : List Stream). WriteStreams links settled bridges ss bounds a0 a1 b0 b1) (take_all i streams over)
     (subst (λ (bs : List ℕ). WriteStreams links settled bridges (take i streams) bs a0 a1 b0 b1) (take_all i bounds beyond) before)
 
--- two writers that were handed the headers and then the rows of all streams
-pub tables_written : {A : Type 0} (links : List Link) (settled : List (Settled A)) (f : file.Network) (bounds : List ℕ) (a0 a1 a2 b0 b1 b2 : Option (List ℕ))
+-- Both writers received the headers, then the rows of all streams.
+pub tables_written : {A : Type 0} (links : List Link) (settled : List (BridgeResult A)) (f : file.Network) (bounds : List ℕ) (a0 a1 a2 b0 b1 b2 : Option (List ℕ))
     → Appends a0 a1 STREAMS_HEADER.now → Appends b0 b1 FRAMES_HEADER.now → WriteStreams links settled f.bridges f.streams bounds a1 a2 b1 b2 → WriteTables links settled f bounds a0 a2 b0 b2
 tables_written links settled f bounds a0 a1 a2 b0 b1 b2 first front (rows, lines, are, second, back) = (
   STREAMS_HEADER.now ++ rows,

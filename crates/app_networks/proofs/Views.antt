@@ -1,9 +1,9 @@
--- The run of an accepted network told of each hop of its streams.
+-- The run of an accepted network has a record of each hop of its streams.
 use Rattle.std.proofs.Common.{◌≡◌, ◌<◌, ℕ, true, List, [], ◌∷◌, length, Option, Some, None, Vec, nat_eq, refl, sym, ap, subst, ◌∙◌, inl, inr, arith}
 use Rattle.std.specs.Prelude.{slice_get}
 use Rattle.std.specs.Map.{lookup}
 use Rattle.std.proofs.lemmas.Option.{same_Some, slice_get_within}
-use Rattle.bridge_limits.specs.Members.{In}
+use Rattle.bridge_limits.specs.Members.{IsMember}
 use Rattle.std.proofs.lemmas.Bool.{eq-eqb, false≢true}
 use Rattle.bridge_limits.proofs.Cases.{by_bool}
 use Rattle.bridge_limits.proofs.Lists.{there_is}
@@ -13,18 +13,18 @@ use Rattle.bridge_semantics.specs.declared.outcome.Outcome.{Outcome}
 use Rattle.bridge_semantics.specs.declared.outcome.View.{View}
 use Rattle.net_file.specs.Model.{Stream}
 use Rattle.net_file.specs.Model as file
-use Rattle.net_model.specs.Refusing as spec
-use Rattle.net_model.specs.Wiring.{Parts}
+use Rattle.net_model.specs.Faults as spec
+use Rattle.net_model.specs.NetworkParts.{NetworkParts}
 use Rattle.net_model.proofs.Closed.{numbered}
-use Rattle.net_run.specs.declared.settling.Settled.{Settled}
-use Rattle.net_run.specs.declared.station.Incoming.{Incoming}
+use Rattle.net_run.specs.declared.rounds.BridgeResult.{BridgeResult}
+use Rattle.net_run.specs.declared.bridge_run.BridgeInput.{BridgeInput}
 use Rattle.net_run.specs.Rounds.{AreOutcomes, RunsNetwork}
-use Rattle.net_check.specs.Networks.{IsMadeOf}
+use Rattle.net_check.specs.Networks.{IsNetworkOfFile}
 use Rattle.app_networks.specs.InTime.{HasView, HaveViews}
 use Rattle.app_networks.proofs.Accepted.{hop_protected, placed}
 
--- a number of a list is looked up
-looked_up : {X : Type 0} (xs : List (ℕ × X)) (m : ℕ) (x : X) → In (m, x) xs → (y : X) × (lookup (nat_eq m) xs ≡ Some y)
+-- The lookup of a number in the list finds a value.
+looked_up : {X : Type 0} (xs : List (ℕ × X)) (m : ℕ) (x : X) → IsMember (m, x) xs → (y : X) × (lookup (nat_eq m) xs ≡ Some y)
 looked_up [] m x i = absurd i
 looked_up (y ∷ ys) m x i = by_bool (nat_eq m y.0)
     (λ k. (y.1, rw k refl))
@@ -33,15 +33,15 @@ looked_up (y ∷ ys) m x i = by_bool (nat_eq m y.0)
       | inr j ↦ let (z, is) = looked_up ys m x j in (z, rw k is)
     ])
 
--- the outcome of the bridge at a place, or another one
-abbrev outcome_or : {A : Type 0} → Option (Settled A) → Outcome A → Outcome A
+-- The result of an optional bridge, or the result `o`.
+abbrev outcome_or : {A : Type 0} → Option (BridgeResult A) → Outcome A → Outcome A
 outcome_or None o = o
 outcome_or (Some s) o = s.outcome
 
-are_outcomes : {A : Type 0} (settled : List (Settled A)) (o : Outcome A) → AreOutcomes settled (λ b. outcome_or (slice_get settled b) o)
+are_outcomes : {A : Type 0} (settled : List (BridgeResult A)) (o : Outcome A) → AreOutcomes settled (λ b. outcome_or (slice_get settled b) o)
 are_outcomes settled o b s is = ap (λ x. outcome_or x o) is
 
-pub have_views : {A : Type 0} (f : file.Network) (plans : List (Plan A)) (n : Parts A) (came : List (Incoming A)) (settled : List (Settled A)) → IsMadeOf f plans n → spec.first_fault n ≡ None → RunsNetwork n came settled → HaveViews settled f.streams
+pub have_views : {A : Type 0} (f : file.Network) (plans : List (Plan A)) (n : NetworkParts A) (came : List (BridgeInput A)) (settled : List (BridgeResult A)) → IsNetworkOfFile f plans n → spec.first_fault n ≡ None → RunsNetwork n came settled → HaveViews settled f.streams
 have_views {A} f plans n came settled made none ran s is x i =
     let (k, below, at) = placed s.hops x i in
     let h = hop_protected f plans n s k x made none is at in

@@ -1,19 +1,19 @@
--- The program, from its words to what it prints and to its exit status.
+-- The program from its arguments to its output and exit status.
 use Rattle.std.specs.Prelude.{◌≡◌, ◌⊎◌, ℕ, Bool, true, false, List, [], None, Option, Some, codes, is_some, option_map, string_bytes}
 use Rattle.std.specs.declared.alloc.Global.{Global}
 use Rattle.std.specs.List.{list_any}
 use Rattle.clap.specs.Words.{Row, Text, fault_of, subcommand_of}
-use Rattle.app_failure.specs.declared.fault.Fault.{Fault}
-use Rattle.app_failure.specs.declared.fault.Fault.TheVariants as fault
+use Rattle.app_failure.specs.declared.fault.Failure.{Failure}
+use Rattle.app_failure.specs.declared.fault.Failure.TheVariants as fault
 use Rattle.app_cli.specs.CommandLine.{AsksFor, HasRoom, commands}
 use Rattle.app_cli.specs.Helping.{AsksForHelp, IsHelp, explains, is_help_word, is_strict}
 use Rattle.app_cli.specs.Sketching.{AsksForPart, AsksForSketch, NamesPart}
 use Rattle.app_cli.specs.Tabling.{AsksForTables}
-use Rattle.app_cli.specs.declared.job.Job.{Job}
-use Rattle.app_cli.specs.declared.job.Job.TheVariants as job
+use Rattle.app_cli.specs.declared.job.Command.{Command}
+use Rattle.app_cli.specs.declared.job.Command.TheVariants as job
 use Rattle.app_cli.specs.declared.request.Request.{Request}
-use Rattle.app_cli.specs.declared.words_fault.WordsFault.{WordsFault}
-use Rattle.app_cli.specs.declared.words_fault.WordsFault.TheVariants as words
+use Rattle.app_cli.specs.declared.words_fault.ArgumentsFault.{ArgumentsFault}
+use Rattle.app_cli.specs.declared.words_fault.ArgumentsFault.TheVariants as words
 use Rattle.app_commands.specs.WireFiles.{EndsWiring}
 use Rattle.app_commands.specs.Checked.{EndsChecked}
 use Rattle.app_commands.specs.Outputs.{Prints, Reports}
@@ -25,9 +25,9 @@ use Rattle.app_networks.specs.Folders.{EndsRounds}
 use Rattle.app_networks.specs.Bounds.{FailsTraffic, IsBoundsOutput, IsTrafficOutput}
 use Rattle.app_networks.specs.Networks.{FailsNetworkPicture, IsNetworkOutput, IsNetworkRunOutput}
 
--- WORDS
+-- ARGUMENTS
 
--- Holds if the words ask for this request: the command with its values, what is written beside it, and the two flags.
+-- Holds if the arguments request `r`: the command with its values, its picture and tables, and the two flags.
 pub record IsRequest (words : List Text) (r : Request) : Type 0 where
   pub job : AsksFor words r.job
   pub room : HasRoom r.job
@@ -37,31 +37,26 @@ pub record IsRequest (words : List Text) (r : Request) : Type 0 where
   pub explained : r.is_explained ≡ explains words
   pub strict : r.is_strict ≡ is_strict words
 
--- Holds if the words don't ask for help or for the version: one of them may be such a word, but `clap` has another answer to them.
+-- Holds if the arguments don't request help or the version: one of them may be such an argument, but `clap` has another answer.
 abbrev pub MissesHelp : List Text → Type 0
 MissesHelp words = list_any is_help_word words ≡ true → ¬ AsksForHelp (fault_of commands words)
 
--- The fault of the program for words that are refused.
-abbrev pub of_words_fault : WordsFault → Fault
-of_words_fault words.Words = fault.Words
-of_words_fault words.NoMemory = fault.NoMemory
-
--- Holds if the fault `f` refuses the words: they ask neither for help nor for a command, except that they may name a part of a run or of
--- a plan; or memory ran out for them.
-abbrev pub RefusesWords : List Text → Fault → Type 0
-RefusesWords words fault.Words = MissesHelp words × ((job : Job) → AsksFor words job → NamesPart words)
+-- Holds if fault `f` refuses the arguments, or memory ran out. Refused arguments request neither help nor a command, except that they may name a part of a run
+-- or plan.
+abbrev pub RefusesWords : List Text → Failure → Type 0
+RefusesWords words fault.Words = MissesHelp words × ((job : Command) → AsksFor words job → NamesPart words)
 RefusesWords words fault.NoMemory = Unit {0}
 RefusesWords words f = ⊥
 
--- A COMMAND THAT IS DONE
+-- A SUCCESSFUL COMMAND
 
--- Holds if the program prints what `bounds` prints if it is done, by whether traffic is given.
+-- Holds if the program prints the output of a successful `bounds`, with or without traffic.
 abbrev pub PerformsBounds : Bool → Bool → Bool → Output → Type 0
 PerformsBounds true strict explained output = IsTrafficOutput strict explained output
 PerformsBounds false strict explained output = IsBoundsOutput strict explained output
 
--- Holds if the program prints what this command prints if it is done, by whether `--strict` and `--explain` are given.
-abbrev pub PerformsJob : Job → Bool → Bool → Output → Type 0
+-- Holds if the program prints the output of this command, if it succeeds, by the flags `--strict` and `--explain`.
+abbrev pub PerformsJob : Command → Bool → Bool → Output → Type 0
 PerformsJob job.Text strict explained output = IsTextOutput output
 PerformsJob (job.Wire speed room input file) strict explained output = IsWireOutput (string_bytes file) output
 PerformsJob (job.Check plan) strict explained output = IsCheckOutput strict explained output
@@ -71,23 +66,23 @@ PerformsJob (job.Bounds plan traffic) strict explained output = PerformsBounds (
 PerformsJob (job.Network network) strict explained output = IsNetworkOutput strict explained output
 PerformsJob (job.RunNetwork network input folder picture) strict explained output = IsNetworkRunOutput strict explained output
 
--- Holds if the program prints what the command of a request prints if it is done.
+-- Holds if the program prints the output of a request's successful command.
 abbrev pub PerformsRequest : Request → Output → Type 0
 PerformsRequest r output = PerformsJob r.job r.is_strict r.is_explained output
 
--- A COMMAND THAT FAILS
+-- A FAILED COMMAND
 
--- Holds if the fault `f` can end the picture of the file at `path`, which has a plan or a network. A part of a network can't be asked for.
-abbrev pub FailsPicture : List ℕ → List ℕ → Bool → Fault → Type 0
+-- Holds if fault `f` can end the picture of the file at `path`, a plan or a network. A part of a network is refused.
+abbrev pub FailsPicture : List ℕ → List ℕ → Bool → Failure → Type 0
 FailsPicture path file part f = EndsPicture Global path file f ⊎ (FailsNetworkPicture path file f ⊎ ((part ≡ true) × (f ≡ fault.Words)))
 
--- Holds if the fault `f` can end `bounds`, by the paths of the plan and of the traffic.
-abbrev pub FailsBounds : List ℕ → Option (List ℕ) → Fault → Type 0
+-- Holds if fault `f` can end `bounds`, by the paths of the plan and the optional traffic.
+abbrev pub FailsBounds : List ℕ → Option (List ℕ) → Failure → Type 0
 FailsBounds plan None f = EndsChecked Global plan f
 FailsBounds plan (Some file) f = FailsTraffic plan file f
 
--- Holds if the fault `f` can end the command of a request.
-abbrev pub FailsJob : Job → Request → Fault → Type 0
+-- Holds if fault `f` can end the command of a request.
+abbrev pub FailsJob : Command → Request → Failure → Type 0
 FailsJob job.Text r f = FailsText f
 FailsJob (job.Wire speed room input file) r f = EndsWiring (string_bytes input) (string_bytes file) f
 FailsJob (job.Check plan) r f = EndsChecked Global (string_bytes plan) f
@@ -99,29 +94,27 @@ FailsJob (job.Bounds plan traffic) r f = FailsBounds (string_bytes plan) (option
 FailsJob (job.Network network) r f = EndsNetwork Global (string_bytes network) f
 FailsJob (job.RunNetwork network input folder picture) r f = EndsRounds Global (string_bytes network) f
 
-abbrev pub FailsRequest : Request → Fault → Type 0
+abbrev pub FailsRequest : Request → Failure → Type 0
 FailsRequest r f = FailsJob r.job r f
 
 -- THE PROGRAM
 
--- Holds if the program prints what the command of a request prints, or reports a fault that can end this command.
+-- Holds if the program prints the output of a request's command, or reports a fault that can end this command.
 abbrev pub IsOutputOf : Request → Output → Type 0
-IsOutputOf r output = PerformsRequest r output ⊎ ((f : Fault) × FailsRequest r f × Reports r.is_explained f output)
+IsOutputOf r output = PerformsRequest r output ⊎ ((f : Failure) × FailsRequest r f × Reports r.is_explained f output)
 
--- Holds if the program prints its help or its version, and nothing on standard error: the words ask for that and for no command. The
--- status is 4, that of words that ask for no command.
+-- Holds if the program prints only its help or version: the arguments request that and no command. The status is 4, as for other arguments without a command.
 abbrev pub IsHelpOutput : List Text → Output → Type 0
-IsHelpOutput words output = IsHelp (fault_of commands words) × (((job : Job) → ¬ AsksFor words job) × ((text : List ℕ) × Prints text [] 4 output))
+IsHelpOutput words output = IsHelp (fault_of commands words) × (((job : Command) → ¬ AsksFor words job) × ((text : List ℕ) × Prints text [] 4 output))
 
--- Holds if the program reports why it refuses the words.
+-- Holds if the program reports why it refuses the arguments.
 abbrev pub IsRefusal : List Text → Output → Type 0
-IsRefusal words output = (f : Fault) × RefusesWords words f × Reports (explains words) f output
+IsRefusal words output = (f : Failure) × RefusesWords words f × Reports (explains words) f output
 
--- Holds if the program prints this for the words: its help, the fault of words that are refused, or the output of what they ask for.
+-- Holds if the program prints the output for the arguments: help, the fault of refused arguments, or the output of the requested command.
 abbrev pub IsOutput : List Text → Output → Type 0
 IsOutput words output = IsHelpOutput words output ⊎ (IsRefusal words output ⊎ ((r : Request) × IsRequest words r × IsOutputOf r output))
 
--- Holds if the program ends with this output: that of the words, whose text for standard output was printed, or the report that standard
--- output failed.
+-- Holds if the program ends with this output: the output for the arguments, completely printed, or the report that standard output failed.
 abbrev pub IsPrinted : List Text → Output → Type 0
 IsPrinted words output = IsOutput words output ⊎ IsStandardFailure (explains words) output

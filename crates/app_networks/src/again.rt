@@ -1,12 +1,12 @@
-//! Files that are read a second time, for what is told beside a line.
+//! Tests whether files can be read a second time, for explanations.
 
 use app_files::CommandFiles;
-use net_check::{paths_of, read_network};
+use net_check::{network_paths, read_network};
 use std::fs;
 use std::rt::Files;
 
-/// Whether a file can be read a second time. What a pipe or a device gave is gone, and opening a pipe again may wait forever. A
-/// missing file does no harm.
+/// Whether a file can be read a second time. A pipe or device can't: its contents are gone, and opening a pipe may wait forever. A missing
+/// file can.
 fn can_read_again(rt: &impl Files, path: &str) -> bool {
     match fs::metadata(rt, path) {
         Ok(data) => data.is_file() || data.is_dir(),
@@ -14,7 +14,7 @@ fn can_read_again(rt: &impl Files, path: &str) -> bool {
     }
 }
 
-/// Whether each of some files can be read a second time.
+/// Whether all files at `paths` can be read a second time. One pipe among them would block an explanation.
 fn can_read_all_again(rt: &impl Files, paths: &[String]) -> bool {
     for path in paths {
         if !can_read_again(rt, path.as_str()) {
@@ -24,14 +24,15 @@ fn can_read_all_again(rt: &impl Files, paths: &[String]) -> bool {
     true
 }
 
-/// Whether the network of a file can be read a second time, by the path of the file: the file, and the plans that it names.
+/// Whether the network file at `path` and the plans that it names can be read a second time. Returns true if the file can't be read now,
+/// and false without memory.
 pub fn can_read_network_again<H: AllocGlobal + Files>(rt: &H, path: &str) -> bool {
     if !can_read_again(rt, path) {
         return false;
     }
     let mut files = CommandFiles::new(rt);
     match read_network(rt.alloc(), &mut files, path) {
-        Ok(file) => match paths_of(rt.alloc(), path, file.bridges()) {
+        Ok(file) => match network_paths(rt.alloc(), path, file.bridges()) {
             Ok(paths) => can_read_all_again(rt, &paths),
             Err(_) => false,
         },
@@ -39,7 +40,7 @@ pub fn can_read_network_again<H: AllocGlobal + Files>(rt: &H, path: &str) -> boo
     }
 }
 
-/// Whether a plan and traffic can be read a second time, by the paths of their files.
+/// Whether a plan and its traffic can be read a second time, for an explanation.
 pub fn can_read_traffic_again(rt: &impl Files, plan: &str, traffic: &str) -> bool {
     can_read_again(rt, plan) && can_read_again(rt, traffic)
 }

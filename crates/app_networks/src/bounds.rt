@@ -1,4 +1,4 @@
-//! The command `bounds`: the delay bounds of a plan, and the traffic of its talkers.
+//! The command `bounds`: delay bounds of a plan, and its traffic.
 ghost use Rattle.std.specs.Prelude.{[], ◌≡◌, ◌&&◌, IfErr, IfOk, None, false, is_some, not, string_bytes};
 ghost use Rattle.std.specs.declared.alloc.Global.{Global};
 ghost use Rattle.app_commands.specs.Checked.{EndsChecked};
@@ -6,24 +6,24 @@ ghost use Rattle.app_networks.specs.Bounds.{FailsTraffic, IsBoundsOutput, IsTraf
 
 use crate::again::can_read_traffic_again;
 use app_commands::{Flags, Output, Texts, bounds_warning, status_if};
-use app_failure::{Fault, NoMemory, file_failure};
-use app_files::{CommandFiles, MOST_TEXT, open_at, read_open, text_at};
+use app_failure::{Failure, NoMemory, file_failure};
+use app_files::{CommandFiles, MOST_TEXT, open_input, read_open, read_text_file};
 use net_latency::{TrafficReport, bounds_job, explain_refusable, traffic_job};
 use std::alloc::Global;
 use std::io::Read;
 use std::rt::Files;
 
-/// Prints the delay bounds of the plan at a path. The status is 1 if a warning is a fault and the plan has no protected filter.
+/// Returns the output of `bounds` for a plan without traffic. The status is 1 if warnings are errors and the plan has no protected filter.
 pub(crate) fn bound_plan<H: AllocGlobal + Files>(
     files: &CommandFiles<'_, H>,
     plan: &str,
     flags: Flags,
     texts: &mut Texts,
-) -> Result<Output, Fault>
+) -> Result<Output, Failure>
     ensures ok { IfOk result (IsBoundsOutput flags.is_strict flags.is_explained) }
     ensures fails { IfErr result (EndsChecked Global plan.now) }
 {
-    let text = match text_at(files.rt, plan) {
+    let text = match read_text_file(files.rt, plan) {
         Ok(text) => text,
         Err(fault) => return Err(file_failure(fault)),
     };
@@ -32,8 +32,8 @@ pub(crate) fn bound_plan<H: AllocGlobal + Files>(
     bounded
 }
 
-/// Prints the delay bounds of the plan of a text, by the path of its file.
-fn bound_text(alloc: Global, plan: &str, text: &[u8], flags: Flags) -> Result<Output, Fault>
+/// Returns the output of `bounds` for the plan in `text`. A fault names the path `plan`.
+fn bound_text(alloc: Global, plan: &str, text: &[u8], flags: Flags) -> Result<Output, Failure>
     ensures ok { IfOk result (IsBoundsOutput flags.is_strict flags.is_explained) }
     ensures fails { IfErr result (EndsChecked Global plan.now) }
 {
@@ -42,13 +42,13 @@ fn bound_text(alloc: Global, plan: &str, text: &[u8], flags: Flags) -> Result<Ou
         Err(fault) => return Err(fault),
     };
     let Ok(warning) = warning_if(alloc, text, flags) else {
-        return Err(Fault::NoMemory);
+        return Err(Failure::NoMemory);
     };
-    Ok(output_of(lines, true, String::new(alloc), warning, flags))
+    Ok(bounds_output(lines, true, String::new(alloc), warning, flags))
 }
 
-/// Returns the warning of a plan without a protected filter, by the text of the accepted plan. Nothing is looked for unless warnings
-/// are faults or an explanation is asked for.
+/// Returns the warning of an accepted plan without a protected filter, if warnings are errors or an explanation is requested. Otherwise
+/// returns `None`.
 fn warning_if(alloc: Global, text: &[u8], flags: Flags) -> Result<Option<String>, NoMemory>
     ensures { IfOk result (WarnsBy flags.is_strict flags.is_explained text.now) }
 {
@@ -59,9 +59,9 @@ fn warning_if(alloc: Global, text: &[u8], flags: Flags) -> Result<Option<String>
     }
 }
 
-/// Returns the output of bounds: their lines, the lines about the traffic, and the warning of the plan. The status is 1 if the
-/// traffic isn't kept, or if a warning is a fault and there is one.
-fn output_of(
+/// Returns the output of `bounds`: delay bounds, text about the traffic, and the plan's warning. The status is 1 if the traffic isn't kept,
+/// or a warning is an error.
+fn bounds_output(
     lines: String,
     is_kept: bool,
     notes: String,
@@ -84,23 +84,23 @@ fn output_of(
     }
 }
 
-/// Prints the delay bounds of the plan at a path and whether the traffic of another file is kept. The status is 1 if a frame of the
-/// traffic may be refused or late; it is also 1 if a warning is a fault and the plan has no protected filter.
+/// Returns the output of `bounds --traffic`: delay bounds, and whether the traffic is kept. The status is 1 if a frame may be refused or
+/// late, or a warning is an error.
 pub(crate) fn bound_traffic<H: AllocGlobal + Files>(
     files: &CommandFiles<'_, H>,
     plan: &str,
     file: &str,
     flags: Flags,
     texts: &mut Texts,
-) -> Result<Output, Fault>
+) -> Result<Output, Failure>
     ensures ok { IfOk result (IsTrafficOutput flags.is_strict flags.is_explained) }
     ensures fails { IfErr result (FailsTraffic plan.now file.now) }
 {
-    let reader = match open_at(files.rt, plan) {
+    let reader = match open_input(files.rt, plan) {
         Ok(reader) => reader,
         Err(fault) => return Err(file_failure(fault)),
     };
-    let rows = match open_at(files.rt, file) {
+    let rows = match open_input(files.rt, file) {
         Ok(rows) => rows,
         Err(fault) => {
             drop(reader);
@@ -119,7 +119,8 @@ pub(crate) fn bound_traffic<H: AllocGlobal + Files>(
     bounded
 }
 
-/// Prints the delay bounds of the plan of a text and whether the traffic of a reader is kept, by the paths of their files.
+/// Returns the output of `bounds --traffic` for the plan in `text` and the traffic of reader `rows`. Faults name the paths `plan` and
+/// `file`.
 fn bound_rows<R: Read + Drop, H: AllocGlobal + Files>(
     rt: &H,
     plan: &str,
@@ -127,7 +128,7 @@ fn bound_rows<R: Read + Drop, H: AllocGlobal + Files>(
     file: &str,
     rows: R,
     flags: Flags,
-) -> Result<Output, Fault>
+) -> Result<Output, Failure>
     ensures ok { IfOk result (IsTrafficOutput flags.is_strict flags.is_explained) }
     ensures fails { IfErr result (FailsTraffic plan.now file.now) }
 {
@@ -139,15 +140,15 @@ fn bound_rows<R: Read + Drop, H: AllocGlobal + Files>(
         Err(fault) => return Err(fault),
     };
     let Ok(warning) = warning_if(alloc, text, flags) else {
-        return Err(Fault::NoMemory);
+        return Err(Failure::NoMemory);
     };
-    let notes = reasons_of(rt, plan, file, flags.is_explained, kept);
-    Ok(output_of(lines, kept, notes, warning, flags))
+    let notes = traffic_reasons(rt, plan, file, flags.is_explained, kept);
+    Ok(bounds_output(lines, kept, notes, warning, flags))
 }
 
-/// Returns why frames of traffic that isn't kept may be refused, if an explanation is asked for. The text is empty otherwise, if memory
-/// runs out, and if a file is a pipe, which can't be read again.
-fn reasons_of(
+/// Returns why frames of traffic may be refused, if an explanation is requested and the traffic isn't kept. The text is empty if memory
+/// runs out or a file is a pipe.
+fn traffic_reasons(
     rt: &(impl AllocGlobal + Files),
     plan: &str,
     traffic: &str,

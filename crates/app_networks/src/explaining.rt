@@ -1,66 +1,66 @@
-//! What is told of a network, of traffic and of a run of a network that are refused. Files are read again. Nothing here can fail: what
-//! can't be read again is left out.
+//! Explains refused networks, refused traffic and stopped network runs, by reading the files again. These functions never fail: if a file
+//! can't be read again, its explanation is left out.
 
 use crate::refusing::explain_stopped;
-use app_commands::{explain_capture_at, explain_plan_fault};
-use app_failure::accepted_of;
+use app_commands::{explain_capture_file, explain_plan_fault};
+use app_failure::accepted_plan;
 use app_files::CommandFiles;
 use bridge_config::{commands_of, plan_of};
-use net_check::{beside, explain_loops, explain_network, read_network};
-use net_file::{network_of, traffic_of};
-use net_latency::{explain_traffic, text_of};
+use net_check::{explain_loops, explain_network, read_network, sibling_path};
+use net_file::{parse_network, parse_traffic};
+use net_latency::{explain_traffic, reread_text};
 use show_explain::{explain_commands, explain_network_text, explain_traffic_text};
 use std::rt::Files;
 
-/// How the line of a network begins that is refused for the plan of a bridge.
+/// Start of the fault line of a network whose plan for one bridge is refused. The bridge's name follows.
 const OF_PLAN: &str = "network refused: Plan ";
 
-/// How the line of a network begins that is refused for the commands to a bridge.
+/// Start of the fault line of a network whose commands for one bridge are refused. The bridge's name follows.
 const OF_COMMANDS: &str = "network refused: Commands ";
 
-/// Returns why traffic is refused, by the paths of its plan and of its file: for its text, or by the plan.
-pub(crate) fn said_of_traffic(
+/// Explains why traffic is refused: for its text, or by the plan. Returns `None` if a file can't be read again or memory runs out.
+pub(crate) fn explain_refused_traffic(
     rt: &(impl AllocGlobal + Files),
     plan: &str,
     traffic: &str,
 ) -> Option<String> {
     let alloc = rt.alloc();
-    let octets = text_of(rt, traffic)?;
-    match traffic_of(alloc, alloc, &octets) {
+    let octets = reread_text(rt, traffic)?;
+    match parse_traffic(alloc, alloc, &octets) {
         Ok(_rows) => explain_traffic(rt, plan, traffic),
         Err(fault) => explain_traffic_text(alloc, traffic, &octets, &fault).ok(),
     }
 }
 
-/// Returns the rest of the first line of a text behind a front, if the text begins with the front and has another line.
-fn name_behind<'a>(text: &'a str, front: &str) -> Option<&'a str> {
+/// Returns the rest of a text's first line after `front`: a bridge's name. Returns `None` if the text begins otherwise or has one line.
+fn name_after_prefix<'a>(text: &'a str, front: &str) -> Option<&'a str> {
     let (name, _) = text.strip_prefix(front)?.split_once('\n')?;
     Some(name)
 }
 
-/// Returns why a network is refused, by the path of its file, the folder that is read, and its line: for the plan of a bridge, for the
-/// commands to one, for its text, or by its tests.
-pub(crate) fn said_of_network(
+/// Explains why a network is refused, by its fault line: a plan, commands in folder `input`, its text, or its tests. Returns `None` if a
+/// file can't be read again.
+pub(crate) fn explain_refused_network(
     rt: &(impl AllocGlobal + Files),
     path: &str,
     input: &str,
     line: &str,
 ) -> Option<String> {
-    if let Some(name) = name_behind(line, OF_PLAN) {
-        return said_of_bridge(rt, path, name);
+    if let Some(name) = name_after_prefix(line, OF_PLAN) {
+        return explain_bridge_plan(rt, path, name);
     }
-    if let Some(name) = name_behind(line, OF_COMMANDS) {
-        return said_of_commands(rt, path, input, name);
+    if let Some(name) = name_after_prefix(line, OF_COMMANDS) {
+        return explain_bridge_commands(rt, path, input, name);
     }
     let alloc = rt.alloc();
-    let octets = text_of(rt, path)?;
-    match network_of(alloc, alloc, &octets) {
+    let octets = reread_text(rt, path)?;
+    match parse_network(alloc, alloc, &octets) {
         Ok(_file) => explain_network(rt, path),
         Err(fault) => explain_network_text(alloc, path, &octets, &fault).ok(),
     }
 }
 
-/// Returns the path of the plan of a bridge, by the path of the network's file and the name of the bridge.
+/// Returns the path of the plan of bridge `name`, by the path of the network's file. Returns `None` if the file or the bridge is missing.
 fn plan_path(rt: &(impl AllocGlobal + Files), path: &str, name: &str) -> Option<String> {
     let alloc = rt.alloc();
     let mut files = CommandFiles::new(rt);
@@ -69,18 +69,19 @@ fn plan_path(rt: &(impl AllocGlobal + Files), path: &str, name: &str) -> Option<
     };
     for bridge in file.bridges() {
         if bridge.name() == name {
-            return beside(alloc, path, bridge.plan()).ok();
+            return sibling_path(alloc, path, bridge.plan()).ok();
         }
     }
     None
 }
 
-/// Returns why the plan of a bridge of a network is refused, as for the plan by itself.
-fn said_of_bridge(rt: &(impl AllocGlobal + Files), path: &str, name: &str) -> Option<String> {
+/// Explains why the plan of bridge `name` is refused, by its text or its tests. Returns `None` if the plan can't be read again or is
+/// accepted now.
+fn explain_bridge_plan(rt: &(impl AllocGlobal + Files), path: &str, name: &str) -> Option<String> {
     let alloc = rt.alloc();
     let place = plan_path(rt, path, name)?;
-    let text = text_of(rt, place.as_str())?;
-    match accepted_of(alloc, alloc, &text) {
+    let text = reread_text(rt, place.as_str())?;
+    match accepted_plan(alloc, alloc, &text) {
         Ok(accepted) => {
             drop(accepted);
             None
@@ -89,8 +90,9 @@ fn said_of_bridge(rt: &(impl AllocGlobal + Files), path: &str, name: &str) -> Op
     }
 }
 
-/// Returns why the commands to a bridge of a network are refused, as for a run of the bridge by itself.
-fn said_of_commands(
+/// Explains why the commands of bridge `name` in folder `input` are refused; reads the commands and the bridge's plan again. Returns `None`
+/// if this fails or they are accepted now.
+fn explain_bridge_commands(
     rt: &(impl AllocGlobal + Files),
     path: &str,
     input: &str,
@@ -98,9 +100,9 @@ fn said_of_commands(
 ) -> Option<String> {
     let alloc = rt.alloc();
     let place = plan_path(rt, path, name)?;
-    let text = text_of(rt, place.as_str())?;
+    let text = reread_text(rt, place.as_str())?;
     let file = format!(in alloc; "{input}/{name}/commands.toml").ok()?;
-    let words = text_of(rt, file.as_str())?;
+    let words = reread_text(rt, file.as_str())?;
     let Ok(plan) = plan_of(alloc, alloc, &text) else {
         return None;
     };
@@ -112,16 +114,16 @@ fn said_of_commands(
     }
 }
 
-/// Returns what is told of a run of a network that stopped, by its line: of a capture why it is refused; of a network that doesn't settle
-/// the port, the loops that the plans allow, and a remedy.
-pub(crate) fn said_of_stopped_run(
+/// Explains a stopped network run, by its fault line: why a capture is refused, or which loops keep the network from settling. Returns
+/// `None` if a file can't be read again.
+pub(crate) fn explain_stopped_run(
     rt: &(impl AllocGlobal + Files),
     path: &str,
     input: &str,
     line: &str,
 ) -> Option<String> {
     if let Some(rest) = line.strip_prefix("capture ") {
-        return said_of_capture(rt, input, rest);
+        return explain_refused_capture(rt, input, rest);
     }
     let said = explain_stopped(rt.alloc(), line)?;
     match explain_loops(rt, path) {
@@ -132,11 +134,15 @@ pub(crate) fn said_of_stopped_run(
     }
 }
 
-/// Returns why the capture of a port of a bridge is refused, by the folder that is read and a line that begins with both:
-/// `BRIDGE.PORT refused: ..`.
-fn said_of_capture(rt: &(impl AllocGlobal + Files), input: &str, line: &str) -> Option<String> {
+/// Explains why a bridge's capture is refused. The line begins with `BRIDGE.PORT refused: ..`, which gives the capture's path in folder
+/// `input`.
+fn explain_refused_capture(
+    rt: &(impl AllocGlobal + Files),
+    input: &str,
+    line: &str,
+) -> Option<String> {
     let (end, _) = line.split_once(' ')?;
     let (name, port) = end.rsplit_once('.')?;
     let path = format!(in rt.alloc(); "{input}/{name}/{port}.pcap").ok()?;
-    explain_capture_at(rt, path.as_str())
+    explain_capture_file(rt, path.as_str())
 }

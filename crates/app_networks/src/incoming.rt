@@ -1,28 +1,27 @@
-//! What arrives at the bridges of a network from outside: captures of open ports, and commands.
+//! Reads captures of open ports and commands, which arrive at a network's bridges from outside.
 ghost use Rattle.std.specs.Prelude.{◌≡◌, IfErr, IfOk, length};
 ghost use Rattle.bridge_config.specs.Commands.{AreCommands};
-ghost use Rattle.net_run.specs.Rounds.{AreIncoming};
-ghost use Rattle.net_run.specs.Stations.{IsIncoming};
+ghost use Rattle.net_run.specs.Rounds.{AreBridgeInputs};
+ghost use Rattle.net_run.specs.BridgeRuns.{IsBridgeInput};
 ghost use Rattle.app_failure.specs.Reading.{EndsFiles};
-ghost use Rattle.app_networks.specs.Folders.{AllIncoming, EndsBridge, EndsReading};
+ghost use Rattle.app_networks.specs.Folders.{AreInputsOfPlans, EndsBridge, EndsReading};
 
-use crate::outputs::folder_of;
-use crate::refusing::{name_at, said_of_commands};
-use app_failure::{Fault, file_failure};
+use crate::outputs::bridge_folder;
+use crate::refusing::{bridge_commands_fault, bridge_name};
+use app_failure::{Failure, file_failure};
 use app_files::{MOST_TEXT, ReadFiles, capture_path};
 use bridge_check::Accepted;
 use bridge_config::{Command, commands_of};
 use net_file::BridgeRow;
 use net_model::{Link, Network};
-use net_run::{Incoming, is_linked};
+use net_run::{BridgeInput, is_linked};
 use std::alloc::Global;
 
-/// The most octets of a capture that are read: those of 1,000,001 records of the greatest length, one more than a capture may
-/// have.
+/// Largest number of octets read from a capture: 1,000,001 records of the greatest length, one more than a capture may have.
 const MOST_CAPTURE: u64 = 65_552_065_576;
 
-/// Reads at most `most` octets of the file at a path.
-fn read_file<F: ReadFiles>(files: &mut F, path: &str, most: u64) -> Result<Vec<u8>, Fault>
+/// Reads at most `most` octets of the file at `path`. Converts a file fault to the program's fault.
+fn read_file<F: ReadFiles>(files: &mut F, path: &str, most: u64) -> Result<Vec<u8>, Failure>
     ensures { IfErr result EndsFiles }
 {
     match files.read(path, most) {
@@ -31,22 +30,22 @@ fn read_file<F: ReadFiles>(files: &mut F, path: &str, most: u64) -> Result<Vec<u
     }
 }
 
-/// Reads the capture of a port in a folder.
+/// Reads the capture of a port in a bridge's folder. A missing file is a fault.
 fn read_capture<F: ReadFiles>(
     alloc: Global,
     files: &mut F,
     folder: &str,
     port: u8,
-) -> Result<Vec<u8>, Fault>
+) -> Result<Vec<u8>, Failure>
     ensures { IfErr result EndsFiles }
 {
     match capture_path(alloc, folder, port) {
         Ok(path) => read_file(files, path.as_str(), MOST_CAPTURE),
-        Err(_) => Err(Fault::NoMemory),
+        Err(_) => Err(Failure::NoMemory),
     }
 }
 
-/// Returns a capture for each port of a bridge: read from a folder if the port is open, else nothing.
+/// Returns a capture for each port of a bridge, by rising number: read from the folder for an open port, otherwise empty.
 fn read_captures<F: ReadFiles>(
     alloc: Global,
     files: &mut F,
@@ -54,7 +53,7 @@ fn read_captures<F: ReadFiles>(
     bridge: usize,
     ports: &[u8],
     folder: &str,
-) -> Result<Vec<Vec<u8>>, Fault>
+) -> Result<Vec<Vec<u8>>, Failure>
     ensures each { IfOk result (λ captures. length captures.items ≡ length ports.now) }
     ensures ends { IfErr result EndsFiles }
 {
@@ -66,41 +65,41 @@ fn read_captures<F: ReadFiles>(
             read_capture(alloc, files, folder, *port)?
         };
         if captures.push(capture).is_err() {
-            return Err(Fault::NoMemory);
+            return Err(Failure::NoMemory);
         }
     }
     Ok(captures)
 }
 
-/// Returns the commands of a text to the bridge of a plan, or the fault of the network with the name of the bridge.
-fn commands_in(
+/// Returns the commands in a text for a bridge's plan. A fault names the bridge.
+fn bridge_commands(
     alloc: Global,
     accepted: &Accepted<Global>,
     name: &str,
     text: &[u8],
-) -> Result<Vec<Command>, Fault>
+) -> Result<Vec<Command>, Failure>
     ensures commands { IfOk result (λ commands. AreCommands accepted.now commands.items) }
     ensures ends { IfErr result (EndsBridge accepted.now name.now) }
 {
     match commands_of(alloc, alloc, text, accepted.plan()) {
         Ok(commands) => Ok(commands),
-        Err(fault) => Err(said_of_commands(alloc, name, fault)),
+        Err(fault) => Err(bridge_commands_fault(alloc, name, fault)),
     }
 }
 
-/// Reads the commands to a bridge in a folder. There are none if the folder has no file of them.
+/// Reads the commands in a bridge's folder. Returns none if the folder has no file of commands.
 fn read_commands<F: ReadFiles>(
     alloc: Global,
     files: &mut F,
     accepted: &Accepted<Global>,
     name: &str,
     folder: &str,
-) -> Result<Vec<Command>, Fault>
+) -> Result<Vec<Command>, Failure>
     ensures commands { IfOk result (λ commands. AreCommands accepted.now commands.items) }
     ensures ends { IfErr result (EndsBridge accepted.now name.now) }
 {
     let Ok(path) = format!(in alloc; "{folder}/commands.toml") else {
-        return Err(Fault::NoMemory);
+        return Err(Failure::NoMemory);
     };
     if !files.is_there(path.as_str()) {
         return Ok(Vec::new(alloc));
@@ -109,85 +108,81 @@ fn read_commands<F: ReadFiles>(
         Ok(text) => text,
         Err(fault) => return Err(fault),
     };
-    commands_in(alloc, accepted, name, &text)
+    bridge_commands(alloc, accepted, name, &text)
 }
 
-/// Reads what arrives at a bridge from outside, in its folder.
-fn read_bridge<F: ReadFiles>(
+/// Reads everything that arrives at a bridge from outside: captures of open ports, and commands.
+fn read_bridge_input<F: ReadFiles>(
     alloc: Global,
     files: &mut F,
     links: &[Link],
     bridge: usize,
     accepted: &Accepted<Global>,
     place: &Place<'_>,
-) -> Result<Incoming<Global>, Fault>
-    ensures came { IfOk result (IsIncoming accepted.now) }
+) -> Result<BridgeInput<Global>, Failure>
+    ensures came { IfOk result (IsBridgeInput accepted.now) }
     ensures ends { IfErr result (EndsBridge accepted.now place.now.name.now) }
 {
     let Ok(ports) = accepted.plan().port_numbers(alloc) else {
-        return Err(Fault::NoMemory);
+        return Err(Failure::NoMemory);
     };
     let captures = read_captures(alloc, files, links, bridge, &ports, place.folder)?;
     let commands = read_commands(alloc, files, accepted, place.name, place.folder)?;
-    Ok(Incoming { commands, captures })
+    Ok(BridgeInput { commands, captures })
 }
 
-/// A bridge, and where its files are.
+/// Name of a bridge, which faults show, and its folder in the input.
 #[derive(Clone, Copy)]
 struct Place<'a> {
-    /// The name of the bridge.
+    /// Name of the bridge.
     name: &'a str,
-    /// The folder of the bridge.
+    /// Folder of the bridge.
     folder: &'a str,
 }
 
-/// Reads what arrives at each bridge of some plans from outside, each from the folder of its name in a folder: a capture of each open
-/// port, and its commands if there is a file of them.
-///
-/// Faults by the order of the bridges, of each by rising port and the commands last: `File` of what can't be opened or read,
-/// `Network` for commands that are refused, `NoMemory`.
-fn read_each<F: ReadFiles>(
+/// Reads the input of each bridge from its folder in `input`. Faults come by bridge, then by rising port, with commands last.
+fn read_inputs_of_plans<F: ReadFiles>(
     alloc: Global,
     files: &mut F,
     plans: &[Accepted<Global>],
     links: &[Link],
     bridges: &[BridgeRow<Global>],
     input: &str,
-) -> Result<Vec<Incoming<Global>>, Fault>
-    ensures came { IfOk result (λ all. AllIncoming plans.now all.items) }
+) -> Result<Vec<BridgeInput<Global>>, Failure>
+    ensures came { IfOk result (λ all. AreInputsOfPlans plans.now all.items) }
     ensures ends { IfErr result (EndsReading plans.now bridges.now) }
 {
     let mut all = Vec::new(alloc);
     for accepted in plans {
         let bridge = all.len();
-        let name = name_at(bridges, bridge);
-        let Ok(folder) = folder_of(alloc, input, name) else {
-            return Err(Fault::NoMemory);
+        let name = bridge_name(bridges, bridge);
+        let Ok(folder) = bridge_folder(alloc, input, name) else {
+            return Err(Failure::NoMemory);
         };
         let place = Place {
             name,
             folder: folder.as_str(),
         };
-        let came = read_bridge(alloc, files, links, bridge, accepted, &place)?;
+        let came = read_bridge_input(alloc, files, links, bridge, accepted, &place)?;
         let Ok(()) = all.push(came) else {
-            return Err(Fault::NoMemory);
+            return Err(Failure::NoMemory);
         };
     }
     Ok(all)
 }
 
-/// Reads what arrives at each bridge of a network from outside.
-pub(crate) fn read_all<F: ReadFiles>(
+/// Reads the captures and commands of each bridge of a network, from its folder in `input`.
+pub(crate) fn read_bridge_inputs<F: ReadFiles>(
     alloc: Global,
     files: &mut F,
     network: &Network<Global>,
     bridges: &[BridgeRow<Global>],
     input: &str,
-) -> Result<Vec<Incoming<Global>>, Fault>
-    ensures came { IfOk result (λ all. AreIncoming network.now.plans all.items) }
+) -> Result<Vec<BridgeInput<Global>>, Failure>
+    ensures came { IfOk result (λ all. AreBridgeInputs network.now.plans all.items) }
     ensures ends { IfErr result (EndsReading network.now.plans bridges.now) }
 {
-    let all = read_each(
+    let all = read_inputs_of_plans(
         alloc,
         files,
         network.plans(),

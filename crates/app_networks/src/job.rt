@@ -1,44 +1,45 @@
-//! The job of a run of a network over folders.
+//! Runs a network between folders: reads the inputs, opens the outputs, runs, then writes everything.
 ghost use Rattle.std.specs.Prelude.{◌≡◌, ◌≤◌, IfOk, IfErr, IfSome, None, Some, false, true, length, string_bytes};
 ghost use Rattle.app_files.specs.Folders.{HavePaths};
 ghost use Rattle.app_networks.specs.Losing.{AreToldLines, AreWarningsIf, PrintsRunLosses, PrintsWarnings, TellsRunLosses, TellsWarnings, has_lines};
 ghost use Rattle.app_networks.specs.InTime.{HaveViews};
+ghost use Rattle.net_run.specs.Rounds.{AreBridgeInputs};
 ghost use Rattle.app_failure.specs.Reading.{EndsFiles};
-ghost use Rattle.app_networks.specs.Folders.{EndsRounds, EndsRun, IsAccepted, IsLine, IsMostRounds, PrintsRounds, PrintsRoundsIn, TellsRun, TellsRunIn, network_words, rounds_line};
+ghost use Rattle.app_networks.specs.Folders.{EndsRounds, EndsRun, IsAccepted, IsLine, IsMostRounds, PrintsRounds, PrintsRoundsIn, IsRunLine, TellsRunIn, network_words, rounds_line};
 
-use crate::incoming::read_all;
+use crate::incoming::read_bridge_inputs;
 use crate::losing::fault_lines;
 use crate::outputs::{Outputs, open_outputs};
-use crate::picture::{open_picture, put_picture};
-use crate::refusing::said_of_run;
+use crate::picture::{open_picture, write_picture};
+use crate::refusing::run_failure;
 use crate::tables::put_tables;
-use crate::watching::{Teller, is_long};
-use crate::writing::put_bridges;
+use crate::watching::{ProgressPrinter, is_long_run};
+use crate::writing::write_bridges;
 use app_commands::Flags;
-use app_failure::{Fault, file_failure};
+use app_failure::{Failure, file_failure};
 use app_files::{CommandFiles, Output, test_folders};
 use bridge_limits::NoMemory;
-use net_check::{read_network, read_plans, tested, warnings_of};
+use net_check::{all_warnings, check_network_file, read_network, read_plans};
 use net_file::NetworkFile;
-use net_latency::{QueueBound, bounds_of_all, bounds_of_streams};
-use net_loops::circulations_in;
+use net_latency::{QueueBound, all_queue_bounds, stream_bounds};
+use net_loops::find_forwarding_loops;
 use net_model::Network;
-use net_run::{Settled, settle};
+use net_run::{BridgeInput, BridgeResult, run_network};
 use std::alloc::Global;
 use std::fs::OpenFile;
 use std::io::Write;
 use std::rt::Files;
 
-/// After how many rounds a network in which frames may go round isn't run further, if it still changes.
+/// Number of rounds after which a run ends, if the network has forwarding loops and still changes. Otherwise such a run might never end.
 const MOST_ROUNDS: u32 = 64;
 
-/// After how many rounds a network that still changes isn't run further. If no frames can go round, each round settles what
-/// happens up to a later time, so the run ends by itself.
+/// Returns the number of rounds after which a changing run ends. Without forwarding loops each round settles a later time, so the run ends
+/// by itself.
 fn most_rounds(alloc: Global, network: &Network<Global>) -> Result<u32, NoMemory>
     requires few { length network.now.plans ≤ 64 }
     ensures { IfOk result (IsMostRounds network.now) }
 {
-    let loops = circulations_in(alloc, network.plans(), network.links())?;
+    let loops = find_forwarding_loops(alloc, network.plans(), network.links())?;
     Ok(if loops.is_empty() {
         u32::MAX
     } else {
@@ -46,7 +47,7 @@ fn most_rounds(alloc: Global, network: &Network<Global>) -> Result<u32, NoMemory
     })
 }
 
-/// How many bridges, links and streams a network has.
+/// Returns the start of a run's line: the numbers of bridges, links and streams.
 #[tactic(auto, unfolding(crate::specs::Folders::network_words))]
 fn network_words(alloc: Global, file: &NetworkFile<Global>) -> Result<String, NoMemory>
     ensures { IfOk result (λ words. string_bytes words ≡ network_words file.now) }
@@ -59,10 +60,10 @@ fn network_words(alloc: Global, file: &NetworkFile<Global>) -> Result<String, No
     Ok(text)
 }
 
-/// The line of a run: how many bridges, links and streams there are, how many frames came to the first hops of streams, and
-/// how many of these were delivered and lost.
+/// Returns the line of a network run: numbers of bridges, links and streams, frames that arrived at first hops, and frames delivered and
+/// lost.
 #[tactic(auto, unfolding(crate::specs::Folders::rounds_line))]
-fn line_of(
+fn run_line(
     alloc: Global,
     file: &NetworkFile<Global>,
     frames: u64,
@@ -80,26 +81,26 @@ fn line_of(
     Ok(text)
 }
 
-/// Lines of a run of a network that is done.
+/// Lines of a complete network run.
 #[derive(Drop)]
 struct RunLines {
-    /// The line that sums the run up.
+    /// Line with the counts of the run.
     line: String,
-    /// The lines of the streams that lost frames or missed their deadlines, if such a stream is a fault.
+    /// Lines of streams with lost frames or missed deadlines; empty unless losses are errors.
     lost: String,
 }
 
-/// Returns the lines of the streams that lost frames or missed their deadlines, if such a stream is a fault. The text is empty
-/// otherwise.
+/// Returns the lines of streams with lost frames or missed deadlines, if losses are errors; otherwise the empty text.
 fn lost_if(
     alloc: Global,
     file: &NetworkFile<Global>,
     network: &Network<Global>,
-    settled: &[Settled<Global>],
+    settled: &[BridgeResult<Global>],
     is_strict: bool,
 ) -> Result<String, NoMemory>
     requires { HaveViews settled.now file.now.streams }
-    ensures { IfOk result (λ lines. AreToldLines network.now.links settled.now file.now is_strict (string_bytes lines)) }
+    ensures { IfOk result (λ lines. AreToldLines network.now.links settled.now file.now is_strict
+        (string_bytes lines)) }
 {
     if is_strict {
         fault_lines(alloc, file, network.links(), settled)
@@ -108,20 +109,21 @@ fn lost_if(
     }
 }
 
-/// Writes what a run of a network told.
-fn put_all<F: Write + OpenFile + Drop>(
+/// Writes the captures, reports and tables of a network run, and returns its lines.
+fn write_results<F: Write + OpenFile + Drop>(
     alloc: Global,
     file: &NetworkFile<Global>,
     network: &Network<Global>,
     queues: &[Vec<QueueBound>],
     output: &str,
-    settled: &[Settled<Global>],
+    settled: &[BridgeResult<Global>],
     outputs: Outputs<F>,
     is_strict: bool,
-) -> Result<RunLines, Fault>
+) -> Result<RunLines, Failure>
     requires views { HaveViews settled.now file.now.streams }
     ensures ok { IfOk result (λ lines. IsLine network.now.links settled.now file.now (string_bytes lines.line)) }
-    ensures lost { IfOk result (λ lines. AreToldLines network.now.links settled.now file.now is_strict (string_bytes lines.lost)) }
+    ensures lost { IfOk result (λ lines. AreToldLines network.now.links settled.now file.now is_strict
+        (string_bytes lines.lost)) }
     ensures err { IfErr result EndsFiles }
 {
     let Outputs {
@@ -129,13 +131,13 @@ fn put_all<F: Write + OpenFile + Drop>(
         streams,
         frames,
     } = outputs;
-    let Ok(bounds) = bounds_of_streams(alloc, queues, file.links(), file.streams()) else {
+    let Ok(bounds) = stream_bounds(alloc, queues, file.links(), file.streams()) else {
         drop(bridges);
         drop(streams);
         drop(frames);
-        return Err(Fault::NoMemory);
+        return Err(Failure::NoMemory);
     };
-    match put_bridges(alloc, network, file.bridges(), output, settled, bridges) {
+    match write_bridges(alloc, network, file.bridges(), output, settled, bridges) {
         Ok(written) => drop(written),
         Err(fault) => {
             drop(streams);
@@ -154,37 +156,38 @@ fn put_all<F: Write + OpenFile + Drop>(
         frames,
     )?;
     let Ok(lost) = lost_if(alloc, file, network, settled, is_strict) else {
-        return Err(Fault::NoMemory);
+        return Err(Failure::NoMemory);
     };
-    match line_of(alloc, file, totals.frames, totals.delivered) {
+    match run_line(alloc, file, totals.frames, totals.delivered) {
         Ok(line) => Ok(RunLines { line, lost }),
-        Err(_) => Err(Fault::NoMemory),
+        Err(_) => Err(Failure::NoMemory),
     }
 }
 
-/// Writes what a run of a network told, and its picture, where one is asked for.
-fn put_drawn<H: AllocGlobal + Files>(
+/// Writes the captures, reports, tables and requested picture of a network run, and returns its lines. All outputs are open before.
+fn write_results_and_picture<H: AllocGlobal + Files>(
     rt: &H,
     file: &NetworkFile<Global>,
     network: &Network<Global>,
     output: &str,
-    settled: &[Settled<Global>],
+    settled: &[BridgeResult<Global>],
     outputs: Outputs<H::File>,
     picture: &Option<String>,
     drawing: Option<Output<H::File>>,
     is_strict: bool,
-) -> Result<RunLines, Fault>
+) -> Result<RunLines, Failure>
     requires views { HaveViews settled.now file.now.streams }
     ensures ok { IfOk result (λ lines. IsLine network.now.links settled.now file.now (string_bytes lines.line)) }
-    ensures lost { IfOk result (λ lines. AreToldLines network.now.links settled.now file.now is_strict (string_bytes lines.lost)) }
+    ensures lost { IfOk result (λ lines. AreToldLines network.now.links settled.now file.now is_strict
+        (string_bytes lines.lost)) }
     ensures err { IfErr result EndsFiles }
 {
-    let Ok(queues) = bounds_of_all(rt.alloc(), network.plans()) else {
+    let Ok(queues) = all_queue_bounds(rt.alloc(), network.plans()) else {
         drop(outputs);
         drop(drawing);
-        return Err(Fault::NoMemory);
+        return Err(Failure::NoMemory);
     };
-    let lines = match put_all(
+    let lines = match write_results(
         rt.alloc(),
         file,
         network,
@@ -200,7 +203,7 @@ fn put_drawn<H: AllocGlobal + Files>(
             return Err(fault);
         }
     };
-    match put_picture(
+    match write_picture(
         rt.alloc(),
         file,
         network,
@@ -214,20 +217,22 @@ fn put_drawn<H: AllocGlobal + Files>(
     }
 }
 
-/// Runs a network from one folder into another, if both have a path. Returns the lines of the run, and in how many rounds it was
-/// found.
-fn run_network<H: AllocGlobal + Eprint + Files>(
+/// Reads the inputs of a network run, then opens its outputs and the requested picture. So an unreadable input leaves the output folder
+/// unchanged.
+fn open_run<H: AllocGlobal + Files>(
     files: &mut CommandFiles<'_, H>,
     file: &NetworkFile<Global>,
     network: &Network<Global>,
-    job: &RoundsJob<'_>,
-    flags: Flags,
-) -> Result<(RunLines, u32), Fault>
-    requires few { length network.now.plans ≤ 64 }
-    requires accepted { IsAccepted network.now file.now }
-    ensures ok { IfOk result (λ ran. TellsRun network.now file.now (string_bytes ran.0.line)) }
-    ensures rounds { IfOk result (λ ran. TellsRunIn network.now file.now (string_bytes ran.0.line) ran.1) }
-    ensures lost { IfOk result (λ ran. TellsRunLosses network.now file.now flags.is_strict (string_bytes ran.0.line) ran.1 (string_bytes ran.0.lost)) }
+    job: &NetworkRunRequest<'_>,
+) -> Result<
+    (
+        Vec<BridgeInput<Global>>,
+        Outputs<H::File>,
+        Option<Output<H::File>>,
+    ),
+    Failure,
+>
+    ensures came { IfOk result (λ opened. AreBridgeInputs network.now.plans opened.0.items) }
     ensures named { IfOk result (λ _. HavePaths job.now.input.now job.now.output.now) }
     ensures err { IfErr result (EndsRun network.now file.now.bridges) }
 {
@@ -235,7 +240,7 @@ fn run_network<H: AllocGlobal + Eprint + Files>(
     if let Err(fault) = test_folders(alloc, job.input, job.output) {
         return Err(file_failure(fault));
     }
-    let incoming = read_all(alloc, files, network, bridges, job.input)?;
+    let incoming = read_bridge_inputs(alloc, files, network, bridges, job.input)?;
     let outputs = match open_outputs(files, plans, bridges, job.input, job.output) {
         Ok(outputs) => outputs,
         Err(fault) => {
@@ -243,29 +248,51 @@ fn run_network<H: AllocGlobal + Eprint + Files>(
             return Err(fault);
         }
     };
-    let drawing = match open_picture(files, job.picture) {
-        Ok(drawing) => drawing,
+    match open_picture(files, job.picture) {
+        Ok(drawing) => Ok((incoming, outputs, drawing)),
         Err(fault) => {
             drop(incoming);
             drop(outputs);
-            return Err(fault);
+            Err(fault)
         }
-    };
-    let mut teller = Teller {
+    }
+}
+
+/// Runs a network between two folders with nonempty paths, and writes its outputs. Returns the run's lines and its number of rounds.
+fn run_network_folders<H: AllocGlobal + Eprint + Files>(
+    files: &mut CommandFiles<'_, H>,
+    file: &NetworkFile<Global>,
+    network: &Network<Global>,
+    job: &NetworkRunRequest<'_>,
+    flags: Flags,
+) -> Result<(RunLines, u32), Failure>
+    requires few { length network.now.plans ≤ 64 }
+    requires accepted { IsAccepted network.now file.now }
+    ensures ok { IfOk result (λ ran. IsRunLine network.now file.now (string_bytes ran.0.line)) }
+    ensures rounds { IfOk result (λ ran. TellsRunIn network.now file.now (string_bytes ran.0.line) ran.1) }
+    ensures lost { IfOk result (λ ran. TellsRunLosses network.now file.now flags.is_strict (string_bytes ran.0.line)
+        ran.1 (string_bytes ran.0.lost)) }
+    ensures named { IfOk result (λ _. HavePaths job.now.input.now job.now.output.now) }
+    ensures err { IfErr result (EndsRun network.now file.now.bridges) }
+{
+    let (alloc, bridges) = (files.alloc(), file.bridges());
+    let opened = open_run(files, file, network, job)?;
+    let (incoming, outputs, drawing) = opened;
+    let mut teller = ProgressPrinter {
         rt: files.rt,
         bridges,
-        is_wanted: flags.is_watched && is_long(&incoming),
+        is_wanted: flags.is_watched && is_long_run(&incoming),
     };
     let Ok(rounds) = most_rounds(alloc, network) else {
         drop(incoming);
         drop(outputs);
         drop(drawing);
-        return Err(Fault::NoMemory);
+        return Err(Failure::NoMemory);
     };
-    match settle(alloc, network, incoming, rounds, &mut teller) {
+    match run_network(alloc, network, incoming, rounds, &mut teller) {
         Ok(settled) => {
             let rounds = settled.rounds;
-            let told = put_drawn(
+            let told = write_results_and_picture(
                 files.rt,
                 file,
                 network,
@@ -285,32 +312,32 @@ fn run_network<H: AllocGlobal + Eprint + Files>(
         Err(fault) => {
             drop(outputs);
             drop(drawing);
-            Err(said_of_run(alloc, bridges, fault))
+            Err(run_failure(alloc, bridges, fault))
         }
     }
 }
 
-/// What is said of a run of a network.
+/// Result of the command `net`, from which its output is made.
 #[derive(Drop)]
-pub struct RoundsSaid {
-    /// The line that is printed, if the network ran.
+pub struct NetworkRunResult {
+    /// Line for standard output. `None` if a warning kept the network from running.
     pub line: Option<String>,
-    /// The lines on standard error: the warnings of `net check`, or the lines of the streams that lost frames or missed their
-    /// deadlines. The text is empty unless they are faults.
+    /// Text for standard error: warnings of `net check`, or lines of streams with lost frames or missed deadlines. The text is empty unless
+    /// they are errors.
     pub told: String,
-    /// Whether a warning is a fault and the network has one.
+    /// Whether warnings are errors and the network has one.
     pub is_warned: bool,
-    /// Whether a loss is a fault and a stream lost frames or missed its deadline.
+    /// Whether losses are errors and a stream lost frames or missed its deadline.
     pub is_lossy: bool,
-    /// In how many rounds it was found: in the last of them nothing else was sent over any link than before.
+    /// Number of rounds. In the last round, every link carried the same frames as in the round before.
     pub rounds: u32,
 }
 
-impl RoundsSaid {
+impl NetworkRunResult {
     ghost use Rattle.std.specs.Prelude.{◌≡◌};
     ghost use Rattle.app_networks.specs.Losing.{status_of};
 
-    /// Returns the exit status: 1 if a warning or a loss is a fault, else 0.
+    /// Returns the exit status: 1 if a warning or a loss is an error, otherwise 0.
     pub fn status(&self) -> u8
         ensures { result ≡ status_of self.now.is_warned self.now.is_lossy }
     {
@@ -322,7 +349,7 @@ impl RoundsSaid {
     }
 }
 
-/// Returns the warnings of `net check` on a network, if a warning is a fault. The text is empty otherwise.
+/// Returns the warnings of `net check`, if warnings are errors; otherwise the empty text.
 fn warnings_if(
     alloc: Global,
     file: &NetworkFile<Global>,
@@ -335,34 +362,38 @@ fn warnings_if(
     if !is_strict {
         return Ok(String::new(alloc));
     }
-    let bounds = bounds_of_all(alloc, network.plans())?;
-    warnings_of(alloc, alloc, file, network, &bounds)
+    let bounds = all_queue_bounds(alloc, network.plans())?;
+    all_warnings(alloc, alloc, file, network, &bounds)
 }
 
-/// Runs an accepted network. If a warning is a fault and the network has one, the function runs nothing and opens no file.
+/// Runs an accepted network. If warnings are errors and the network has one, runs nothing and opens no file.
 fn run_accepted<H: AllocGlobal + Eprint + Files>(
     files: &mut CommandFiles<'_, H>,
     file: &NetworkFile<Global>,
     network: &Network<Global>,
-    job: &RoundsJob<'_>,
+    job: &NetworkRunRequest<'_>,
     flags: Flags,
-) -> Result<RoundsSaid, Fault>
+) -> Result<NetworkRunResult, Failure>
     requires few { length network.now.plans ≤ 64 }
     requires accepted { IsAccepted network.now file.now }
-    ensures ok { IfOk result (λ said. IfSome said.line (λ line. TellsRun network.now file.now (string_bytes line))) }
-    ensures rounds { IfOk result (λ said. IfSome said.line (λ line. TellsRunIn network.now file.now (string_bytes line) said.rounds)) }
-    ensures told { IfOk result (λ said. IfSome said.line (λ line. TellsRunLosses network.now file.now flags.is_strict (string_bytes line) said.rounds (string_bytes said.told))) }
+    ensures ok { IfOk result (λ said. IfSome said.line (λ line. IsRunLine network.now file.now (string_bytes line))) }
+    ensures rounds { IfOk result (λ said. IfSome said.line
+        (λ line. TellsRunIn network.now file.now (string_bytes line) said.rounds)) }
+    ensures told { IfOk result (λ said. IfSome said.line
+        (λ line. TellsRunLosses network.now file.now flags.is_strict (string_bytes line) said.rounds
+        (string_bytes said.told))) }
     ensures lossy { IfOk result (λ said. IfSome said.line (λ _. said.is_lossy ≡ has_lines (string_bytes said.told))) }
     ensures named { IfOk result (λ said. IfSome said.line (λ _. HavePaths job.now.input.now job.now.output.now)) }
     ensures warned { IfOk result (λ said. said.is_warned ≡ true → said.line ≡ None) }
-    ensures idle { IfOk result (λ said. said.line ≡ None → (said.is_warned ≡ true) × ((flags.is_strict ≡ true) × TellsWarnings network.now file.now (string_bytes said.told))) }
+    ensures idle { IfOk result (λ said. said.line ≡ None → (said.is_warned ≡ true)
+        × ((flags.is_strict ≡ true) × TellsWarnings network.now file.now (string_bytes said.told))) }
     ensures err { IfErr result (EndsRun network.now file.now.bridges) }
 {
     let Ok(warnings) = warnings_if(files.alloc(), file, network, flags.is_strict) else {
-        return Err(Fault::NoMemory);
+        return Err(Failure::NoMemory);
     };
     if !warnings.as_str().is_empty() {
-        return Ok(RoundsSaid {
+        return Ok(NetworkRunResult {
             line: None,
             told: warnings,
             is_warned: true,
@@ -370,14 +401,14 @@ fn run_accepted<H: AllocGlobal + Eprint + Files>(
             rounds: 0,
         });
     }
-    match run_network(files, file, network, job, flags) {
+    match run_network_folders(files, file, network, job, flags) {
         Ok((lines, rounds)) => Ok(ran(lines, rounds)),
         Err(fault) => Err(fault),
     }
 }
 
-/// Returns what is said of a run that is done.
-fn ran(lines: RunLines, rounds: u32) -> RoundsSaid
+/// Returns the result of `net` after a complete run.
+fn ran(lines: RunLines, rounds: u32) -> NetworkRunResult
     ensures line { result.line ≡ Some lines.line }
     ensures told { result.told ≡ lines.lost }
     ensures warned { result.is_warned ≡ false }
@@ -386,7 +417,7 @@ fn ran(lines: RunLines, rounds: u32) -> RoundsSaid
 {
     let RunLines { line, lost } = lines;
     let is_lossy = !lost.as_str().is_empty();
-    RoundsSaid {
+    NetworkRunResult {
         line: Some(line),
         told: lost,
         is_warned: false,
@@ -395,45 +426,38 @@ fn ran(lines: RunLines, rounds: u32) -> RoundsSaid
     }
 }
 
-/// A run of a network that the arguments ask for.
+/// Requested network run: the paths that the arguments give.
 #[derive(Clone, Copy)]
-pub struct RoundsJob<'a> {
-    /// The path of the network.
+pub struct NetworkRunRequest<'a> {
+    /// Path of the network.
     pub network: &'a str,
-    /// The path of the folder that is read.
+    /// Path of the input folder.
     pub input: &'a str,
-    /// The path of the folder that is written.
+    /// Path of the output folder.
     pub output: &'a str,
-    /// The path of a picture of the run, if one is made.
+    /// Path of the requested picture, or `None`.
     pub picture: &'a Option<String>,
 }
 
-/// What is printed for a run of the network of a file whose plans lie beside it, where it is accepted: the captures of the open
-/// ports go through the whole network, with the commands of each bridge; what left each port of each bridge is written, a
-/// report of each bridge, the tables of the streams, and a picture, where one is asked for.
+/// Runs an accepted network between two folders, and writes captures, reports, tables and the requested picture. Outputs keep their
+/// contents until the run is complete.
 ///
-/// From the folder IN are read `BRIDGE/PORT.pcap` of each open port and `BRIDGE/commands.toml` where it is there; into the folder
-/// OUT are written `BRIDGE/PORT.pcap` of each port, `BRIDGE/report.txt`, `streams.csv` and `frames.csv`. Folders of OUT are
-/// made where they aren't there. An output that is a file that is read, another output, or the file into which standard output
-/// goes, is `File` of its path.
-///
-/// If a warning is a fault and the network has one, nothing runs, and no file is opened except the network's and its plans'.
-///
-/// Faults in this order: those of `network_job`; `File` of the empty path if IN or OUT is empty; what comes to each bridge; the
-/// folders and files that are written; the run, `Rounds` of a capture, or where frames may go round and something still changes after
-/// 64 rounds; then the writing. What the outputs hold stays until the run is done.
+/// If warnings are errors and the network has one, nothing runs.
 pub fn run_rounds<H: AllocGlobal + Eprint + Files>(
     files: &mut CommandFiles<'_, H>,
-    job: &RoundsJob<'_>,
+    job: &NetworkRunRequest<'_>,
     flags: Flags,
-) -> Result<RoundsSaid, Fault>
+) -> Result<NetworkRunResult, Failure>
     ensures ok { IfOk result (λ said. IfSome said.line (λ line. PrintsRounds Global (string_bytes line))) }
-    ensures rounds { IfOk result (λ said. IfSome said.line (λ line. PrintsRoundsIn Global (string_bytes line) said.rounds)) }
-    ensures told { IfOk result (λ said. IfSome said.line (λ line. PrintsRunLosses Global flags.is_strict (string_bytes line) said.rounds (string_bytes said.told))) }
+    ensures rounds { IfOk result (λ said. IfSome said.line
+        (λ line. PrintsRoundsIn Global (string_bytes line) said.rounds)) }
+    ensures told { IfOk result (λ said. IfSome said.line
+        (λ line. PrintsRunLosses Global flags.is_strict (string_bytes line) said.rounds (string_bytes said.told))) }
     ensures lossy { IfOk result (λ said. IfSome said.line (λ _. said.is_lossy ≡ has_lines (string_bytes said.told))) }
     ensures named { IfOk result (λ said. IfSome said.line (λ _. HavePaths job.now.input.now job.now.output.now)) }
     ensures warned { IfOk result (λ said. said.is_warned ≡ true → said.line ≡ None) }
-    ensures idle { IfOk result (λ said. said.line ≡ None → (said.is_warned ≡ true) × ((flags.is_strict ≡ true) × PrintsWarnings Global (string_bytes said.told))) }
+    ensures idle { IfOk result (λ said. said.line ≡ None → (said.is_warned ≡ true)
+        × ((flags.is_strict ≡ true) × PrintsWarnings Global (string_bytes said.told))) }
     ensures err { IfErr result (EndsRounds Global job.now.network.now) }
 {
     let alloc = files.alloc();
@@ -441,9 +465,9 @@ pub fn run_rounds<H: AllocGlobal + Eprint + Files>(
     let plans = read_plans(alloc, files, job.network, file.bridges())?;
     let Ok(()) = files.note_standard_output() else {
         drop(plans);
-        return Err(Fault::NoMemory);
+        return Err(Failure::NoMemory);
     };
-    match tested(alloc, alloc, &file, plans) {
+    match check_network_file(alloc, alloc, &file, plans) {
         Ok(network) => {
             let told = run_accepted(files, &file, &network, job, flags);
             drop(network);

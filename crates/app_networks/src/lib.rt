@@ -1,6 +1,6 @@
 #![tactic(auto)]
-//! The program from its arguments to its output and exit status: the commands for networks and bounds, and each other command by
-//! `app_commands`.
+//! Carries out the arguments: commands for networks and bounds, and by `app_commands` all other commands. Returns the output and the exit
+//! status.
 
 mod again;
 mod bounds;
@@ -21,9 +21,6 @@ mod tables;
 mod watching;
 mod writing;
 
-pub use again::{can_read_network_again, can_read_traffic_again};
 pub use app_commands::Output;
 pub use drawing::network_picture;
-pub use job::{RoundsJob, RoundsSaid, run_rounds};
-pub use program::{of_words_fault, perform};
-pub use refusing::explain_stopped;
+pub use program::perform;

@@ -1,20 +1,22 @@
-//! Streams that lost frames or missed their deadlines in a run of a network.
+//! Finds streams with lost frames or missed deadlines in a network run, for `net --strict`.
 ghost use Rattle.std.specs.Prelude.{◌≡◌, IfOk, OnOk, length, string_bytes};
 ghost use Rattle.app_networks.specs.InTime.{HaveViews, HaveViewsOf};
 ghost use Rattle.app_networks.specs.Losing.{AreFaultLines, AreLosses, IsLossOf, PutsLines, place_words};
 
-use crate::refusing::name_at;
-use crate::tables::runs_of;
+use crate::refusing::bridge_name;
+use crate::tables::hop_runs;
 use bridge_limits::NoMemory;
-use bridge_text::Text;
+use bridge_text::TextBuilder;
 use net_file::{BridgeRow, NetworkFile, StreamRow};
 use net_model::Link;
-use net_report::{HopLosses, HopRun, counts_of, delays_of_all, put_faults, roots_of, tallies_of};
-use net_run::Settled;
+use net_report::{
+    HopLosses, HopRun, count_copies, hop_counts, put_faults, stream_delays, trace_source_frames,
+};
+use net_run::BridgeResult;
 use std::alloc::Global;
 
-/// Returns the name of a hop with a space at its end.
-fn place_of(
+/// Returns the name of a hop as in the network's file, followed by a space, for the line of a stream with losses.
+fn hop_prefix(
     alloc: Global,
     bridges: &[BridgeRow<Global>],
     hop: (u16, u32),
@@ -22,12 +24,12 @@ fn place_of(
     ensures { IfOk result (λ place. string_bytes place ≡ place_words bridges.now hop) }
 {
     let (bridge, filter) = hop;
-    let name = name_at(bridges, bridge as usize);
+    let name = bridge_name(bridges, bridge as usize);
     Ok(format!(in alloc; "{name}.{filter} ")?)
 }
 
-/// Returns a hop of a stream with its losses.
-fn loss_of(
+/// Returns the losses of a stream's hop.
+fn hop_loss(
     alloc: Global,
     bridges: &[BridgeRow<Global>],
     links: &[Link],
@@ -37,13 +39,13 @@ fn loss_of(
 ) -> Result<HopLosses<Global>, NoMemory>
     ensures { IfOk result (IsLossOf links.now runs.now bridges.now hop run.now) }
 {
-    let place = place_of(alloc, bridges, hop)?;
-    let counts = counts_of(alloc, links, runs, run)?;
+    let place = hop_prefix(alloc, bridges, hop)?;
+    let counts = hop_counts(alloc, links, runs, run)?;
     Ok(HopLosses { place, counts })
 }
 
-/// Returns each hop of a stream with its losses.
-fn losses_of(
+/// Returns the losses of each hop of a stream.
+fn stream_losses(
     alloc: Global,
     bridges: &[BridgeRow<Global>],
     links: &[Link],
@@ -58,30 +60,30 @@ fn losses_of(
         if place >= runs.len() {
             return Ok(all);
         }
-        let loss = loss_of(alloc, bridges, links, runs, hops[place], &runs[place])?;
+        let loss = hop_loss(alloc, bridges, links, runs, hops[place], &runs[place])?;
         all.push(loss)?;
     }
     Ok(all)
 }
 
-/// Puts the lines about a stream.
+/// Writes the lines about a stream that lost frames or missed its deadline. Traces the stream's frames to find them.
 fn put_stream(
     alloc: Global,
-    text: &mut Text<Global>,
+    text: &mut TextBuilder<Global>,
     bridges: &[BridgeRow<Global>],
     links: &[Link],
-    settled: &[Settled<Global>],
+    settled: &[BridgeResult<Global>],
     stream: &StreamRow<Global>,
 ) -> Result<(), NoMemory>
     requires { HaveViewsOf settled.now stream.now.hops }
     ensures { OnOk result (PutsLines links.now settled.now bridges.now stream.now text.old text.new) }
 {
     let hops = stream.hops();
-    let runs = runs_of(alloc, settled, hops)?;
-    let all = roots_of(alloc, links, &runs)?;
-    let tallies = tallies_of(alloc, links, &runs, &all)?;
-    let losses = losses_of(alloc, bridges, links, hops, &runs)?;
-    let delays = delays_of_all(alloc, links, &runs, &all)?;
+    let runs = hop_runs(alloc, settled, hops)?;
+    let all = trace_source_frames(alloc, links, &runs)?;
+    let tallies = count_copies(alloc, links, &runs, &all)?;
+    let losses = stream_losses(alloc, bridges, links, hops, &runs)?;
+    let delays = stream_delays(alloc, links, &runs, &all)?;
     put_faults(
         text,
         stream.name(),
@@ -93,20 +95,21 @@ fn put_stream(
     Ok(())
 }
 
-/// Returns the lines of all streams that lost frames or missed their deadlines, in the order of the network's file. The function
-/// follows all frames again, so only `--strict` calls it.
+/// Returns the lines of all streams with lost frames or missed deadlines, in file order. Traces all frames again, so only `--strict` calls
+/// it.
 pub(crate) fn fault_lines(
     alloc: Global,
     file: &NetworkFile<Global>,
     links: &[Link],
-    settled: &[Settled<Global>],
+    settled: &[BridgeResult<Global>],
 ) -> Result<String, NoMemory>
     requires { HaveViews settled.now file.now.streams }
-    ensures { IfOk result (λ lines. AreFaultLines links.now settled.now file.now.bridges file.now.streams (string_bytes lines)) }
+    ensures { IfOk result (λ lines. AreFaultLines links.now settled.now file.now.bridges file.now.streams
+        (string_bytes lines)) }
 {
-    let mut text = Text::new(alloc);
+    let mut text = TextBuilder::new(alloc);
     for stream in file.streams() {
         put_stream(alloc, &mut text, file.bridges(), links, settled, stream)?;
     }
-    text.done()
+    text.finish()
 }

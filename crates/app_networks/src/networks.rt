@@ -1,4 +1,4 @@
-//! The commands of networks: `net check`, `net`, and `picture` for a network.
+//! The commands for networks: `net check`, `net` and `picture`.
 ghost use Rattle.std.specs.Prelude.{[], ◌≡◌, IfErr, IfOk, false, string_bytes};
 ghost use Rattle.std.specs.declared.alloc.Global.{Global};
 ghost use Rattle.net_check.specs.Networks.{EndsNetwork};
@@ -8,23 +8,22 @@ ghost use Rattle.app_networks.specs.Networks.{FailsNetworkPicture, IsNetworkOutp
 
 use crate::again::can_read_network_again;
 use crate::drawing::network_picture;
-use crate::job::{RoundsJob, RoundsSaid, run_rounds};
+use crate::job::{NetworkRunRequest, NetworkRunResult, run_rounds};
 use app_commands::{
-    Flags, Output, line_or_nothing, picture_apart, print_text, put_picture, status_if,
+    Flags, Output, line_or_nothing, picture_apart, print_text, status_if, write_picture_file,
 };
-use app_failure::{Fault, NoMemory};
+use app_failure::{Failure, NoMemory};
 use app_files::{CommandFiles, is_standard};
-use net_check::{NetworkSaid, explain_refusable_streams, network_job};
+use net_check::{NetworkOutput, explain_refusable_streams, network_job};
 use std::alloc::Global;
 use std::rt::Files;
 
-/// Checks the network of a file. The status is 1 if a stream is refusable or late; it is also 1 if a warning is a fault and the
-/// network has one.
+/// Returns the output of `net check`. The status is 1 if a stream is refusable or late, or if a warning is an error.
 pub(crate) fn check_network<H: AllocGlobal + Files>(
     files: &mut CommandFiles<'_, H>,
     path: &str,
     flags: Flags,
-) -> Result<Output, Fault>
+) -> Result<Output, Failure>
     ensures ok { IfOk result (IsNetworkOutput flags.is_strict flags.is_explained) }
     ensures fails { IfErr result (EndsNetwork Global path.now) }
 {
@@ -32,16 +31,16 @@ pub(crate) fn check_network<H: AllocGlobal + Files>(
         Ok(said) => said,
         Err(fault) => return Err(fault),
     };
-    let reasons = reasons_of(files.rt, path, flags.is_explained);
+    let reasons = refusable_reasons(files.rt, path, flags.is_explained);
     match output_of_check(said, reasons, flags) {
         Ok(output) => Ok(output),
-        Err(NoMemory) => Err(Fault::NoMemory),
+        Err(NoMemory) => Err(Failure::NoMemory),
     }
 }
 
-/// Returns the reason for each refusable stream of a network, if an explanation is asked for. The text is empty otherwise, if memory runs
-/// out, and if a file is a pipe, which can't be read again.
-fn reasons_of(rt: &(impl AllocGlobal + Files), path: &str, is_asked: bool) -> String
+/// Returns the reason of each refusable stream, if an explanation is requested. The text is empty otherwise, if memory runs out, and if a
+/// file is a pipe.
+fn refusable_reasons(rt: &(impl AllocGlobal + Files), path: &str, is_asked: bool) -> String
     ensures { is_asked ≡ false → string_bytes result ≡ [] }
 {
     let reasons = if is_asked && can_read_network_again(rt, path) {
@@ -55,11 +54,12 @@ fn reasons_of(rt: &(impl AllocGlobal + Files), path: &str, is_asked: bool) -> St
     }
 }
 
-/// Returns the output of the check of an accepted network: its lines with its warnings, and the reasons of refusable streams.
-fn output_of_check(said: NetworkSaid, reasons: String, flags: Flags) -> Result<Output, NoMemory>
+/// Returns the output of `net check` for an accepted network: its lines and warnings on standard output, the reasons of refusable streams
+/// on standard error.
+fn output_of_check(said: NetworkOutput, reasons: String, flags: Flags) -> Result<Output, NoMemory>
     ensures { IfOk result (IsOutputOfCheck said flags.is_strict reasons) }
 {
-    let NetworkSaid { lines, told, kept } = said;
+    let NetworkOutput { lines, told, kept } = said;
     let is_well = kept && !(flags.is_strict && !told.as_str().is_empty());
     let mut stdout = lines;
     let Ok(()) = stdout.push_str(told.as_str()) else {
@@ -72,13 +72,12 @@ fn output_of_check(said: NetworkSaid, reasons: String, flags: Flags) -> Result<O
     })
 }
 
-/// Runs a network. The status is 1 if a warning is a fault and the network has one, and nothing ran then; it is also 1 if a loss is a
-/// fault and a stream lost a frame or missed its deadline.
+/// Runs a network and returns the output of `net`. If a warning is an error, nothing runs. The status is 1 then, and if a loss is an error.
 pub(crate) fn run_network<H: AllocGlobal + Eprint + Files>(
     files: &mut CommandFiles<'_, H>,
-    job: &RoundsJob<'_>,
+    job: &NetworkRunRequest<'_>,
     flags: Flags,
-) -> Result<Output, Fault>
+) -> Result<Output, Failure>
     ensures ok { IfOk result (IsNetworkRunOutput flags.is_strict flags.is_explained) }
     ensures fails { IfErr result (EndsRounds Global job.now.network.now) }
 {
@@ -88,13 +87,12 @@ pub(crate) fn run_network<H: AllocGlobal + Eprint + Files>(
     }
 }
 
-/// Returns the output of the run of a network: its line, and the lines of lost and late streams. In an explanation the number of rounds
-/// stands behind these.
-fn output_of_run(alloc: Global, said: RoundsSaid, flags: Flags) -> Output
+/// Returns the output of a network run: its line, and the lines of lost and late streams. In an explanation, the number of rounds follows.
+fn output_of_run(alloc: Global, said: NetworkRunResult, flags: Flags) -> Output
     ensures { IsOutputOfRun said flags.is_explained result }
 {
     let status = said.status();
-    let RoundsSaid {
+    let NetworkRunResult {
         line,
         told,
         rounds,
@@ -109,7 +107,7 @@ fn output_of_run(alloc: Global, said: RoundsSaid, flags: Flags) -> Output
     }
 }
 
-/// Returns the lines of a run of a network, with its rounds behind them in an explanation. If memory runs out, the rounds are left out.
+/// Returns the lines of a network run, followed in an explanation by its rounds. If memory runs out, the rounds are left out.
 fn with_rounds(alloc: Global, told: String, rounds: u32, is_explained: bool) -> String
     ensures { IsWithRounds (string_bytes told) is_explained (string_bytes result) }
 {
@@ -120,7 +118,7 @@ fn with_rounds(alloc: Global, told: String, rounds: u32, is_explained: bool) -> 
     all
 }
 
-/// Returns the line with the number of rounds of a run of a network. The text is empty if memory runs out.
+/// Returns the line with the number of rounds; the empty text if memory runs out.
 fn rounds_line(alloc: Global, rounds: u32) -> String {
     match format!(in alloc; "Rounds until nothing changed: {rounds}.\n") {
         Ok(text) => text,
@@ -128,12 +126,12 @@ fn rounds_line(alloc: Global, rounds: u32) -> String {
     }
 }
 
-/// Draws the network of a file into another file, or for standard output if that path is `-`.
+/// Draws a network into `file`, or to standard output for `-`, and returns the output of `picture`.
 pub(crate) fn draw_network<H: AllocGlobal + Files>(
     files: &mut CommandFiles<'_, H>,
     path: &str,
     file: &str,
-) -> Result<Output, Fault>
+) -> Result<Output, Failure>
     ensures ok { IfOk result (IsPictureOutput file.now) }
     ensures fails { IfErr result (FailsNetworkPicture path.now file.now) }
 {
@@ -147,7 +145,7 @@ pub(crate) fn draw_network<H: AllocGlobal + Files>(
             Err(fault) => Err(fault),
         };
     }
-    match put_picture(files, file, text.as_str()) {
+    match write_picture_file(files, file, text.as_str()) {
         Ok(_) => Ok(print_text(files.alloc(), String::new(files.alloc()), 0)),
         Err(fault) => Err(fault),
     }

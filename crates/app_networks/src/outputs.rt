@@ -1,12 +1,12 @@
-//! The files that a run of a network writes.
+//! The output files of a network run. All are opened before the run, so that a wrong path costs no run.
 ghost use Rattle.std.specs.Prelude.{◌≡◌, IfErr, IfOk, string_bytes};
 ghost use Rattle.app_failure.specs.Reading.{EndsFiles};
 ghost use Rattle.app_networks.specs.OutputFiles.{folder_path};
 
-use crate::refusing::name_at;
-use app_failure::{Fault, NoMemory, file_failure};
+use crate::refusing::bridge_name;
+use app_failure::{Failure, NoMemory, file_failure};
 use app_files::{
-    Cause, CommandFiles, FileId, Output, cause_of_write, failed_at, file_at, report_path,
+    Cause, CommandFiles, FileId, Output, file_fault, path_file_id, report_path, write_cause,
 };
 use bridge_check::Accepted;
 use net_file::BridgeRow;
@@ -16,21 +16,21 @@ use std::fs::OpenFile;
 use std::io::Write;
 use std::rt::Files;
 
-/// Returns the path of the folder of a bridge in a folder.
-pub(crate) fn folder_of(alloc: Global, folder: &str, name: &str) -> Result<String, NoMemory>
+/// Returns the path of a bridge's folder: the bridge's name in the folder of all bridges.
+pub(crate) fn bridge_folder(alloc: Global, folder: &str, name: &str) -> Result<String, NoMemory>
     ensures { IfOk result (λ path. string_bytes path ≡ folder_path folder.now name.now) }
 {
     Ok(format!(in alloc; "{folder}/{name}")?)
 }
 
-/// What is written of a bridge: the captures of what left its ports, by rising number, and its report.
+/// Open output files of a bridge: the captures of its ports by rising number, and its report.
 #[derive(Drop)]
 pub(crate) struct BridgeOutputs<F: Write + OpenFile + Drop> {
     pub(crate) taps: Vec<Output<F>>,
     pub(crate) report: Output<F>,
 }
 
-/// What is written of a network: of each bridge, and the tables of its streams.
+/// Open output files of a network run: those of each bridge, and the tables of streams and frames.
 #[derive(Drop)]
 pub(crate) struct Outputs<F: Write + OpenFile + Drop> {
     pub(crate) bridges: Vec<BridgeOutputs<F>>,
@@ -38,48 +38,48 @@ pub(crate) struct Outputs<F: Write + OpenFile + Drop> {
     pub(crate) frames: Output<F>,
 }
 
-/// Returns the folders that are read, as far as the system says which they are.
-fn folders_read<H: AllocGlobal + Files>(
+/// Returns the identities of the input folders, as far as the system has them. No output folder may be one of them.
+fn input_folders<H: AllocGlobal + Files>(
     rt: &H,
     bridges: &[BridgeRow<Global>],
     input: &str,
 ) -> Result<Vec<FileId>, NoMemory> {
     let mut folders = Vec::new(rt.alloc());
-    if let Some(folder) = file_at(rt, input) {
+    if let Some(folder) = path_file_id(rt, input) {
         folders.push(folder)?;
     }
     for row in bridges {
-        let path = folder_of(rt.alloc(), input, row.name())?;
-        if let Some(folder) = file_at(rt, path.as_str()) {
+        let path = bridge_folder(rt.alloc(), input, row.name())?;
+        if let Some(folder) = path_file_id(rt, path.as_str()) {
             folders.push(folder)?;
         }
     }
     Ok(folders)
 }
 
-/// Makes a folder, and those above it, if there is none. A folder that is read is refused.
-fn make_folder<H: AllocGlobal + Files>(rt: &H, path: &str, read: &[FileId]) -> Result<(), Fault>
+/// Creates a missing folder and its parents. Refuses one of the input folders `read`, because outputs would replace inputs there.
+fn make_folder<H: AllocGlobal + Files>(rt: &H, path: &str, read: &[FileId]) -> Result<(), Failure>
     ensures { IfErr result EndsFiles }
 {
-    if let Some(folder) = file_at(rt, path) {
+    if let Some(folder) = path_file_id(rt, path) {
         if read.contains(&folder) {
-            return Err(file_failure(failed_at(rt.alloc(), path, Cause::SameFolder)));
+            return Err(file_failure(file_fault(rt.alloc(), path, Cause::SameFolder)));
         }
     }
     match fs::create_dir_all(rt, path) {
         Ok(()) => Ok(()),
         Err(error) => {
-            let cause = cause_of_write(rt, path, &error);
-            Err(file_failure(failed_at(rt.alloc(), path, cause)))
+            let cause = write_cause(rt, path, &error);
+            Err(file_failure(file_fault(rt.alloc(), path, cause)))
         }
     }
 }
 
-/// Opens the file at a path for writing. It wasn't in use and is in use then.
+/// Opens the file at `path` for writing. A file in use is refused; the opened file is in use afterwards.
 pub(crate) fn open_output<H: AllocGlobal + Files>(
     files: &mut CommandFiles<'_, H>,
     path: &str,
-) -> Result<Output<H::File>, Fault>
+) -> Result<Output<H::File>, Failure>
     ensures { IfErr result EndsFiles }
 {
     match files.create_new(path) {
@@ -88,26 +88,26 @@ pub(crate) fn open_output<H: AllocGlobal + Files>(
     }
 }
 
-/// Opens a table in a folder for writing.
+/// Opens the table `name` in a folder for writing.
 fn open_table<H: AllocGlobal + Files>(
     files: &mut CommandFiles<'_, H>,
     folder: &str,
     name: &str,
-) -> Result<Output<H::File>, Fault>
+) -> Result<Output<H::File>, Failure>
     ensures { IfErr result EndsFiles }
 {
     match format!(in files.alloc(); "{folder}/{name}.csv") {
         Ok(path) => open_output(files, path.as_str()),
-        Err(_) => Err(Fault::NoMemory),
+        Err(_) => Err(Failure::NoMemory),
     }
 }
 
-/// Opens the captures of ports in a folder for writing. No two of them are one file.
+/// Opens the captures of `ports` in a bridge's folder for writing, by rising port. Refuses two captures that are one file.
 fn open_captures<H: AllocGlobal + Files>(
     files: &mut CommandFiles<'_, H>,
     folder: &str,
     ports: &[u8],
-) -> Result<Vec<Output<H::File>>, Fault>
+) -> Result<Vec<Output<H::File>>, Failure>
     ensures { IfErr result EndsFiles }
 {
     let outputs = match files.create_captures(folder, ports) {
@@ -123,21 +123,21 @@ fn open_captures<H: AllocGlobal + Files>(
     }
 }
 
-/// Opens the captures and the report of a bridge for writing, in its folder. No two of them are one file.
+/// Opens the captures and the report of a bridge for writing. Refuses two outputs that are one file.
 fn open_bridge<H: AllocGlobal + Files>(
     files: &mut CommandFiles<'_, H>,
     accepted: &Accepted<Global>,
     folder: &str,
-) -> Result<BridgeOutputs<H::File>, Fault>
+) -> Result<BridgeOutputs<H::File>, Failure>
     ensures { IfErr result EndsFiles }
 {
     let Ok(ports) = accepted.plan().port_numbers(files.alloc()) else {
-        return Err(Fault::NoMemory);
+        return Err(Failure::NoMemory);
     };
     let taps = open_captures(files, folder, &ports)?;
     let Ok(path) = report_path(files.alloc(), folder) else {
         drop(taps);
-        return Err(Fault::NoMemory);
+        return Err(Failure::NoMemory);
     };
     match open_output(files, path.as_str()) {
         Ok(report) => Ok(BridgeOutputs { taps, report }),
@@ -148,47 +148,46 @@ fn open_bridge<H: AllocGlobal + Files>(
     }
 }
 
-/// Opens what is written of each bridge.
+/// Creates the folder of each bridge in `output`, and opens the bridge's outputs there.
 fn open_bridges<H: AllocGlobal + Files>(
     files: &mut CommandFiles<'_, H>,
     plans: &[Accepted<Global>],
     bridges: &[BridgeRow<Global>],
     input: &str,
     output: &str,
-) -> Result<Vec<BridgeOutputs<H::File>>, Fault>
+) -> Result<Vec<BridgeOutputs<H::File>>, Failure>
     ensures { IfErr result EndsFiles }
 {
-    let Ok(read) = folders_read(files.rt, bridges, input) else {
-        return Err(Fault::NoMemory);
+    let Ok(read) = input_folders(files.rt, bridges, input) else {
+        return Err(Failure::NoMemory);
     };
     make_folder(files.rt, output, &read)?;
     let mut all = Vec::new(files.alloc());
     for accepted in plans {
-        let name = name_at(bridges, all.len());
-        let Ok(folder) = folder_of(files.alloc(), output, name) else {
-            return Err(Fault::NoMemory);
+        let name = bridge_name(bridges, all.len());
+        let Ok(folder) = bridge_folder(files.alloc(), output, name) else {
+            return Err(Failure::NoMemory);
         };
         make_folder(files.rt, folder.as_str(), &read)?;
         let outputs = open_bridge(files, accepted, folder.as_str())?;
         if all.push(outputs).is_err() {
-            return Err(Fault::NoMemory);
+            return Err(Failure::NoMemory);
         }
     }
     Ok(all)
 }
 
-/// Opens all files that a run of a network writes, in a folder with one for each bridge; folders that aren't there are made.
-/// What the files hold stays until they are written.
+/// Opens all outputs of a network run, in a folder for each bridge, and creates missing folders. Outputs keep their contents until they are
+/// written.
 ///
-/// `File` of a folder that can't be made or is one that is read, and of a file that can't be opened or made, or is in use: of the
-/// folder, then by the order of the bridges the folder, the captures by rising port and the report, then of the tables.
+/// Faults come by bridge: folder, captures by rising port, report; the tables come last.
 pub(crate) fn open_outputs<H: AllocGlobal + Files>(
     files: &mut CommandFiles<'_, H>,
     plans: &[Accepted<Global>],
     bridges: &[BridgeRow<Global>],
     input: &str,
     output: &str,
-) -> Result<Outputs<H::File>, Fault>
+) -> Result<Outputs<H::File>, Failure>
     ensures { IfErr result EndsFiles }
 {
     let opened = open_bridges(files, plans, bridges, input, output)?;

@@ -1,28 +1,28 @@
-//! The picture of a run of a network.
+//! Draws a network run, for the option `--picture` of `net`.
 ghost use Rattle.std.specs.Prelude.{IfErr};
 ghost use Rattle.app_failure.specs.Reading.{EndsFiles};
 ghost use Rattle.app_networks.specs.InTime.{HaveViews};
 
 use crate::outputs::open_output;
-use crate::tables::{hop_name, runs_of};
-use app_failure::{Fault, file_failure};
+use crate::tables::{hop_name, hop_runs};
+use app_failure::{Failure, file_failure};
 use app_files::{CommandFiles, Output, write_file};
 use bridge_limits::NoMemory;
 use net_file::{BridgeRow, NetworkFile, StreamRow};
 use net_latency::QueueBound;
 use net_model::Network;
 use net_report::RunPicture;
-use net_run::Settled;
+use net_run::BridgeResult;
 use std::alloc::Global;
 use std::fs::OpenFile;
 use std::io::Write;
 use std::rt::Files;
 
-/// Opens the file of a picture for writing, if one is asked for.
+/// Opens the file of the requested picture for writing. Returns `None` if no picture is requested.
 pub(crate) fn open_picture<H: AllocGlobal + Files>(
     files: &mut CommandFiles<'_, H>,
     path: &Option<String>,
-) -> Result<Option<Output<H::File>>, Fault>
+) -> Result<Option<Output<H::File>>, Failure>
     ensures { IfErr result EndsFiles }
 {
     let Some(path) = path else {
@@ -34,8 +34,8 @@ pub(crate) fn open_picture<H: AllocGlobal + Files>(
     }
 }
 
-/// How the rows of a stream are called.
-fn names_of(
+/// Returns the names of a stream's rows: the stream's name and the hop's name, for each hop.
+fn row_names(
     alloc: Global,
     bridges: &[BridgeRow<Global>],
     stream: &StreamRow<Global>,
@@ -49,24 +49,24 @@ fn names_of(
     Ok(names)
 }
 
-/// Makes room for the moments of all streams.
-fn look_at_all(
+/// Extends the picture's time span by the times of all streams.
+fn include_streams(
     alloc: Global,
     picture: &mut RunPicture,
-    settled: &[Settled<Global>],
+    settled: &[BridgeResult<Global>],
     streams: &[StreamRow<Global>],
 ) -> Result<(), NoMemory>
     requires { HaveViews settled.now streams.now }
 {
     for stream in streams {
-        let runs = runs_of(alloc, settled, stream.hops())?;
-        picture.look_at(&runs);
+        let runs = hop_runs(alloc, settled, stream.hops())?;
+        picture.include_stream(&runs);
     }
     Ok(())
 }
 
-/// Adds when a queue is open to the row of a hop.
-fn open_queue(
+/// Draws the windows of a queue in the row of the hop with index `place`. Draws nothing if the bridge or port is missing.
+fn put_queue_windows(
     picture: &mut RunPicture,
     network: &Network<Global>,
     bridge: usize,
@@ -75,13 +75,13 @@ fn open_queue(
 ) {
     if let Some(accepted) = network.plans().get(bridge) {
         if let Some(port) = accepted.plan().port(queue.port) {
-            picture.open(place, queue.port, queue.class, &port.list);
+            picture.put_open_windows(place, queue.port, queue.class, &port.list);
         }
     }
 }
 
-/// Adds when the queues of a hop are open to its row.
-fn open_hop(
+/// Draws the windows of a hop's queues in its row. `queues` has the reachable queues of each bridge.
+fn put_hop_windows(
     picture: &mut RunPicture,
     network: &Network<Global>,
     queues: &[Vec<QueueBound>],
@@ -94,57 +94,57 @@ fn open_hop(
     };
     for row in rows {
         if row.filter == filter {
-            open_queue(picture, network, bridge as usize, place, row);
+            put_queue_windows(picture, network, bridge as usize, place, row);
         }
     }
 }
 
-/// Adds when the queues of all hops of a stream are open.
-fn open_hops(
+/// Draws the windows of the queues of a stream's hops.
+fn put_stream_windows(
     picture: &mut RunPicture,
     network: &Network<Global>,
     queues: &[Vec<QueueBound>],
     hops: &[(u16, u32)],
 ) {
     for place in 0..hops.len() {
-        open_hop(picture, network, queues, place, hops[place]);
+        put_hop_windows(picture, network, queues, place, hops[place]);
     }
 }
 
-/// Adds the rows of all streams.
-fn add_all(
+/// Draws the rows of all streams.
+fn put_all_streams(
     alloc: Global,
     picture: &mut RunPicture,
     network: &Network<Global>,
     queues: &[Vec<QueueBound>],
     bridges: &[BridgeRow<Global>],
-    settled: &[Settled<Global>],
+    settled: &[BridgeResult<Global>],
     streams: &[StreamRow<Global>],
 ) -> Result<(), NoMemory>
     requires { HaveViews settled.now streams.now }
 {
     for stream in streams {
-        let runs = runs_of(alloc, settled, stream.hops())?;
-        let names = names_of(alloc, bridges, stream)?;
-        open_hops(picture, network, queues, stream.hops());
-        picture.add(network.links(), &runs, &names);
+        let runs = hop_runs(alloc, settled, stream.hops())?;
+        let names = row_names(alloc, bridges, stream)?;
+        put_stream_windows(picture, network, queues, stream.hops());
+        picture.put_stream(network.links(), &runs, &names);
     }
     Ok(())
 }
 
-/// The picture of a run.
-fn drawn(
+/// Returns the picture of a network run as SVG text.
+fn draw_run(
     alloc: Global,
     file: &NetworkFile<Global>,
     network: &Network<Global>,
     queues: &[Vec<QueueBound>],
-    settled: &[Settled<Global>],
+    settled: &[BridgeResult<Global>],
 ) -> Result<String, NoMemory>
     requires { HaveViews settled.now file.now.streams }
 {
     let mut picture = RunPicture::new(alloc);
-    look_at_all(alloc, &mut picture, settled, file.streams())?;
-    add_all(
+    include_streams(alloc, &mut picture, settled, file.streams())?;
+    put_all_streams(
         alloc,
         &mut picture,
         network,
@@ -156,16 +156,16 @@ fn drawn(
     picture.finish(alloc)
 }
 
-/// Writes the picture of a run, where one is asked for. `File` of its path where it can't be written.
-pub(crate) fn put_picture<F: Write + OpenFile + Drop>(
+/// Writes the requested picture of a run to `output`, the file at `path`. Does nothing if no picture is requested. A fault names the path.
+pub(crate) fn write_picture<F: Write + OpenFile + Drop>(
     alloc: Global,
     file: &NetworkFile<Global>,
     network: &Network<Global>,
     queues: &[Vec<QueueBound>],
-    settled: &[Settled<Global>],
+    settled: &[BridgeResult<Global>],
     path: &Option<String>,
     output: Option<Output<F>>,
-) -> Result<(), Fault>
+) -> Result<(), Failure>
     requires { HaveViews settled.now file.now.streams }
     ensures { IfErr result EndsFiles }
 {
@@ -176,11 +176,11 @@ pub(crate) fn put_picture<F: Write + OpenFile + Drop>(
         drop(output);
         return Ok(());
     };
-    let text = match drawn(alloc, file, network, queues, settled) {
+    let text = match draw_run(alloc, file, network, queues, settled) {
         Ok(text) => text,
         Err(_) => {
             drop(output);
-            return Err(Fault::NoMemory);
+            return Err(Failure::NoMemory);
         }
     };
     match write_file(alloc, path.as_str(), output, text.as_bytes()) {

@@ -1,28 +1,28 @@
-//! The program: what its words ask for, and the command that does it.
+//! Finds the command that the arguments request, and carries it out.
 ghost use Rattle.std.specs.Prelude.{[], ◌≡◌, IfErr, IfOk, is_some, map, option_map, string_bytes};
 ghost use Rattle.app_cli.specs.CommandLine.{HasRoom};
 ghost use Rattle.app_commands.specs.Outputs.{Prints, Reports};
 ghost use Rattle.app_commands.specs.CommandOutputs.{IsPictureOutput};
-ghost use Rattle.app_networks.specs.Program.{FailsPicture, FailsRequest, IsOutput, IsOutputOf, MissesHelp, PerformsRequest, of_words_fault};
+ghost use Rattle.app_networks.specs.Networks.{IsNetworkRunOutput};
+ghost use Rattle.app_networks.specs.Folders.{EndsRounds};
+ghost use Rattle.app_networks.specs.Program.{FailsBounds, FailsPicture, FailsRequest, PerformsBounds, IsOutput, IsOutputOf, MissesHelp, PerformsRequest};
 
 use crate::bounds::{bound_plan, bound_traffic};
 use crate::failing::explain_failure;
-use crate::job::RoundsJob;
+use crate::job::NetworkRunRequest;
 use crate::networks::{check_network, draw_network, run_network};
-use app_cli::{Job, PictureRequest, Request, WordsFault, help_of, request_of};
+use app_cli::{Command, PictureRequest, Request, parse_request, requested_help};
 use app_commands::{
-    Flags, Output, RunJob, Texts, check_plan, draw_plan, is_network, report_fault, report_words,
-    run_bridge, send_capture, send_text,
+    Flags, Output, RunRequest, Texts, check_plan, draw_plan, is_network, report_fault,
+    report_words, run_bridge, send_capture, send_text, words_failure,
 };
-use app_failure::{Fault, NoMemory};
+use app_failure::{Failure, NoMemory};
 use app_files::CommandFiles;
 use std::alloc::Global;
 use std::rt::Files;
 
-/// Does what the words after the program's name ask for, and returns what the program prints and its exit status.
-///
-/// Words that ask for help or for the version get that text on standard output, and status 4. A capture that is written to standard
-/// output goes there at once. If `is_watched`, a long run shows on standard error how far it is.
+/// Carries out the arguments, and returns the program's output. The status is 4 for help or the version. If `is_watched`, a long run shows
+/// its progress on standard error.
 pub fn perform<H: Input + AllocGlobal + Print + Eprint + Files>(
     rt: &H,
     words: &[String],
@@ -30,17 +30,17 @@ pub fn perform<H: Input + AllocGlobal + Print + Eprint + Files>(
 ) -> Result<Output, NoMemory>
     ensures { IfOk result (IsOutput (map string_bytes words.now)) }
 {
-    match help_of(rt.alloc(), words) {
+    match requested_help(rt.alloc(), words) {
         Ok(None) => perform_request(rt, words, is_watched),
         Ok(Some(text)) => Ok(help_output(rt.alloc(), text)),
-        Err(fault) => report_words(rt.alloc(), words, &of_words_fault(fault)),
+        Err(fault) => report_words(rt.alloc(), words, &words_failure(fault)),
     }
 }
 
-/// The exit status of words that ask for help or for the version: that of words that ask for no command.
+/// Exit status after a request for help or the version.
 const HELP_STATUS: u8 = 4;
 
-/// Returns the output of words that ask for help or for the version.
+/// Returns the output for a request for help or the version.
 fn help_output(alloc: Global, text: String) -> Output
     ensures { Prints (string_bytes text) [] 4 result }
 {
@@ -51,7 +51,7 @@ fn help_output(alloc: Global, text: String) -> Output
     }
 }
 
-/// Does what the words ask for, if they ask for a command.
+/// Reads the request from the arguments, and returns its output. Refused arguments give their fault and the usage.
 fn perform_request<H: Input + AllocGlobal + Print + Eprint + Files>(
     rt: &H,
     words: &[String],
@@ -60,24 +60,15 @@ fn perform_request<H: Input + AllocGlobal + Print + Eprint + Files>(
     requires { MissesHelp (map string_bytes words.now) }
     ensures { IfOk result (IsOutput (map string_bytes words.now)) }
 {
-    match request_of(rt.alloc(), words) {
-        Ok(request) => output_of(rt, words, &request, is_watched),
-        Err(fault) => report_words(rt.alloc(), words, &of_words_fault(fault)),
+    match parse_request(rt.alloc(), words) {
+        Ok(request) => request_output(rt, words, &request, is_watched),
+        Err(fault) => report_words(rt.alloc(), words, &words_failure(fault)),
     }
 }
 
-/// Returns the fault of the program for words that are refused.
-pub fn of_words_fault(fault: WordsFault) -> Fault
-    ensures { result ≡ of_words_fault fault }
-{
-    match fault {
-        WordsFault::Words => Fault::Words,
-        WordsFault::NoMemory => Fault::NoMemory,
-    }
-}
-
-/// Returns the output of a request: of a command that is done, or of its failure.
-fn output_of<H: Input + AllocGlobal + Print + Eprint + Files>(
+/// Returns the output of a request: of its successful command, or of its failure. Keeps the texts that the command reads, for the
+/// explanation.
+fn request_output<H: Input + AllocGlobal + Print + Eprint + Files>(
     rt: &H,
     words: &[String],
     request: &Request,
@@ -93,13 +84,13 @@ fn output_of<H: Input + AllocGlobal + Print + Eprint + Files>(
     }
 }
 
-/// Returns the output of a command that failed: the line of its fault, and the explanation if the request asks for one.
+/// Returns the output of a failed command: its fault line, and the explanation if requested.
 fn report_failure<H: AllocGlobal + Files>(
     rt: &H,
     words: &[String],
     request: &Request,
     texts: &Texts,
-    fault: &Fault,
+    fault: &Failure,
 ) -> Result<Output, NoMemory>
     ensures { IfOk result (Reports request.now.is_explained fault.now) }
 {
@@ -111,14 +102,14 @@ fn report_failure<H: AllocGlobal + Files>(
     report_fault(rt.alloc(), fault, explanation)
 }
 
-/// Returns the run that a request asks for, by the fields of its command.
-pub(crate) fn run_of<'a>(
+/// Returns the request of a run with the fields of its command. The command and its explanation need it.
+pub(crate) fn requested_run<'a>(
     request: &'a Request,
     plan: &'a String,
     input: &'a String,
     output: &'a String,
     commands: &'a Option<String>,
-) -> RunJob<'a>
+) -> RunRequest<'a>
     ensures plan { result.plan.now ≡ string_bytes plan.now }
     ensures input { result.input.now ≡ string_bytes input.now }
     ensures output { result.output.now ≡ string_bytes output.now }
@@ -126,7 +117,7 @@ pub(crate) fn run_of<'a>(
     ensures tables { result.tables.now ≡ request.now.tables }
     ensures picture { result.picture.now ≡ request.now.picture }
 {
-    RunJob {
+    RunRequest {
         plan: plan.as_str(),
         input: input.as_str(),
         output: output.as_str(),
@@ -136,13 +127,13 @@ pub(crate) fn run_of<'a>(
     }
 }
 
-/// Runs the command of a request. The texts that it reads are kept.
+/// Carries out the command of a request by the command's function. Keeps in `texts` what it reads.
 fn run_request<H: Input + AllocGlobal + Print + Eprint + Files>(
     rt: &H,
     request: &Request,
     is_watched: bool,
     texts: &mut Texts,
-) -> Result<Output, Fault>
+) -> Result<Output, Failure>
     requires { HasRoom request.now.job }
     ensures ok { IfOk result (PerformsRequest request.now) }
     ensures fails { IfErr result (FailsRequest request.now) }
@@ -154,70 +145,89 @@ fn run_request<H: Input + AllocGlobal + Print + Eprint + Files>(
     };
     let mut files = CommandFiles::new(rt);
     match &request.job {
-        Job::Text => send_text(rt),
-        Job::Wire {
+        Command::Text => send_text(rt),
+        Command::Wire {
             speed,
             room,
             input,
             output,
         } => send_capture(rt, *speed, *room, input.as_str(), output.as_str()),
-        Job::Check { plan } => check_plan(&mut files, plan.as_str(), flags, texts),
-        Job::Run {
+        Command::Check { plan } => check_plan(&mut files, plan.as_str(), flags, texts),
+        Command::Run {
             plan,
             input,
             output,
             commands,
         } => {
-            let run = run_of(request, plan, input, output, commands);
+            let run = requested_run(request, plan, input, output, commands);
             run_bridge(&mut files, &run, flags, texts)
         },
-        Job::Picture { plan, file } => {
-            draw(
-                &mut files,
-                plan.as_str(),
-                file.as_str(),
-                &request.picture,
-                texts,
-            )
-        }
-        Job::Bounds { plan, traffic } => match traffic {
-            Some(file) => bound_traffic(&mut files, plan.as_str(), file.as_str(), flags, texts),
-            None => bound_plan(&mut files, plan.as_str(), flags, texts),
-        },
-        Job::Network { network } => check_network(&mut files, network.as_str(), flags),
-        Job::RunNetwork {
+        Command::Picture { plan, file } => draw(&mut files, plan, file, &request.picture, texts),
+        Command::Bounds { plan, traffic } => bound(&mut files, plan, traffic, flags, texts),
+        Command::Network { network } => check_network(&mut files, network.as_str(), flags),
+        Command::RunNetwork {
             network,
             input,
             output,
             picture,
-        } => {
-            let job = RoundsJob {
-                network: network.as_str(),
-                input: input.as_str(),
-                output: output.as_str(),
-                picture,
-            };
-            run_network(&mut files, &job, flags)
-        }
+        } => run_network_request(&mut files, network, input, output, picture, flags),
     }
 }
 
-/// Draws the plan or the network of a file, or the part of a plan that is asked for.
+/// Returns the output of `bounds`, with traffic or without.
+fn bound<H: AllocGlobal + Files>(
+    files: &mut CommandFiles<'_, H>,
+    plan: &String,
+    traffic: &Option<String>,
+    flags: Flags,
+    texts: &mut Texts,
+) -> Result<Output, Failure>
+    ensures ok { IfOk result (PerformsBounds (is_some traffic.now) flags.is_strict flags.is_explained) }
+    ensures fails { IfErr result (FailsBounds (string_bytes plan.now) (option_map string_bytes traffic.now)) }
+{
+    match traffic {
+        Some(file) => bound_traffic(files, plan.as_str(), file.as_str(), flags, texts),
+        None => bound_plan(files, plan.as_str(), flags, texts),
+    }
+}
+
+/// Runs a network from one folder into another, and returns the output of `net`.
+fn run_network_request<H: AllocGlobal + Eprint + Files>(
+    files: &mut CommandFiles<'_, H>,
+    network: &String,
+    input: &String,
+    output: &String,
+    picture: &Option<String>,
+    flags: Flags,
+) -> Result<Output, Failure>
+    ensures ok { IfOk result (IsNetworkRunOutput flags.is_strict flags.is_explained) }
+    ensures fails { IfErr result (EndsRounds Global (string_bytes network.now)) }
+{
+    let request = NetworkRunRequest {
+        network: network.as_str(),
+        input: input.as_str(),
+        output: output.as_str(),
+        picture,
+    };
+    run_network(files, &request, flags)
+}
+
+/// Draws a plan or a network, or the requested part of a plan, and returns the output of `picture`.
 fn draw<H: AllocGlobal + Files>(
     files: &mut CommandFiles<'_, H>,
-    path: &str,
-    file: &str,
+    path: &String,
+    file: &String,
     part: &Option<PictureRequest>,
     texts: &mut Texts,
-) -> Result<Output, Fault>
-    ensures ok { IfOk result (IsPictureOutput file.now) }
-    ensures fails { IfErr result (FailsPicture path.now file.now (is_some part.now)) }
+) -> Result<Output, Failure>
+    ensures ok { IfOk result (IsPictureOutput (string_bytes file.now)) }
+    ensures fails { IfErr result (FailsPicture (string_bytes path.now) (string_bytes file.now) (is_some part.now)) }
 {
-    if !is_network(files.rt, path) {
-        return draw_plan(files, path, file, part.as_ref(), texts);
+    if !is_network(files.rt, path.as_str()) {
+        return draw_plan(files, path.as_str(), file.as_str(), part.as_ref(), texts);
     }
     if part.is_some() {
-        return Err(Fault::Words);
+        return Err(Failure::Words);
     }
-    draw_network(files, path, file)
+    draw_network(files, path.as_str(), file.as_str())
 }

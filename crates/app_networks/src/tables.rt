@@ -1,44 +1,44 @@
-//! The tables of streams and of their frames.
+//! Writes the tables of streams and of their frames.
 ghost use Rattle.std.specs.Prelude.{◌≡◌, ℕ, IfErr, IfOk, OnOk, length, map, string_bytes};
 ghost use Rattle.bridge_semantics.specs.declared.outcome.Outcome.{Outcome};
 ghost use Rattle.net_run.specs.Rounds.{AreOutcomes};
-ghost use Rattle.app_networks.specs.Counted.{CountsTo};
+ghost use Rattle.app_networks.specs.Counted.{AreTotals};
 ghost use Rattle.app_failure.specs.Reading.{EndsFiles};
-ghost use Rattle.app_networks.specs.InTime.{AreRunsOf, HasView, HaveViews, HaveViewsOf, IsRunOf};
+ghost use Rattle.app_networks.specs.InTime.{AreHopRuns, HasView, HaveViews, HaveViewsOf, IsHopRun};
 ghost use Rattle.app_networks.specs.Tables.{TablesStream, WriteStreams, WriteTables, hop_text};
 
-use crate::refusing::name_at;
-use app_failure::{Fault, file_failure};
-use app_files::{Cause, Output, failed_at};
+use crate::refusing::bridge_name;
+use app_failure::{Failure, file_failure};
+use app_files::{Cause, Output, file_fault};
 use bridge_limits::NoMemory;
-use bridge_report::view_of;
+use bridge_report::find_view;
 use net_file::{BridgeRow, NetworkFile, StreamRow};
 use net_model::Link;
 use net_report::{
-    FRAMES_HEADER, Heading, HopRun, STREAMS_HEADER, Table, TableFault, delivered_of, put_table,
-    roots_of, tallies_of, write_stream,
+    FRAMES_HEADER, Heading, HopRun, STREAMS_HEADER, Table, TableFault, count_copies,
+    delivered_frames, put_table, trace_source_frames, write_stream,
 };
-use net_run::Settled;
+use net_run::BridgeResult;
 use std::alloc::Global;
 use std::fs::OpenFile;
 use std::io;
 use std::io::Write;
 
-/// How many frames of all streams came to their first hops, and how many of them were delivered.
+/// Numbers of all streams' frames, for the line of a run: frames that arrived at first hops, and frames delivered.
 #[derive(Clone, Copy)]
 pub(crate) struct Totals {
     pub(crate) frames: u64,
     pub(crate) delivered: u64,
 }
 
-/// Returns what was told of a hop.
-fn run_of<'a>(settled: &'a [Settled<Global>], hop: (u16, u32)) -> HopRun<'a, Global>
+/// Returns the record of a hop in a run, with its bridge. An accepted network has a record for each hop.
+fn hop_run<'a>(settled: &'a [BridgeResult<Global>], hop: (u16, u32)) -> HopRun<'a, Global>
     requires { HasView settled.now hop }
-    ensures { (o : ℕ → Outcome Global) → AreOutcomes settled.now o → IsRunOf o hop result }
+    ensures { (o : ℕ → Outcome Global) → AreOutcomes settled.now o → IsHopRun o hop result }
 {
     let (bridge, filter) = hop;
     let told = &settled[bridge as usize];
-    match view_of(&told.outcome, filter) {
+    match find_view(&told.outcome, filter) {
         Some(view) => HopRun {
             bridge: bridge as usize,
             view,
@@ -47,25 +47,25 @@ fn run_of<'a>(settled: &'a [Settled<Global>], hop: (u16, u32)) -> HopRun<'a, Glo
     }
 }
 
-/// The hops of a stream in the order of the text, with what was told of each.
-pub(crate) fn runs_of<'a>(
+/// Returns the records of a stream's hops, in file order.
+pub(crate) fn hop_runs<'a>(
     alloc: Global,
-    settled: &'a [Settled<Global>],
+    settled: &'a [BridgeResult<Global>],
     hops: &[(u16, u32)],
 ) -> Result<Vec<HopRun<'a, Global>>, NoMemory>
     requires { HaveViewsOf settled.now hops.now }
     ensures many { IfOk result (λ runs. length runs.items ≡ length hops.now) }
     ensures told { IfOk result (λ runs. (o : ℕ → Outcome Global) → AreOutcomes settled.now o
-        → AreRunsOf o hops.now runs.items) }
+        → AreHopRuns o hops.now runs.items) }
 {
     let mut runs = Vec::with_capacity(alloc, hops.len())?;
     for hop in hops {
-        runs.push(run_of(settled, *hop))?;
+        runs.push(hop_run(settled, *hop))?;
     }
     Ok(runs)
 }
 
-/// A hop as the network's file spells it.
+/// Returns the name of a hop, as in the network's file.
 pub(crate) fn hop_name(
     alloc: Global,
     bridges: &[BridgeRow<Global>],
@@ -74,11 +74,11 @@ pub(crate) fn hop_name(
     ensures { IfOk result (λ name. string_bytes name ≡ hop_text bridges.now hop) }
 {
     let (bridge, filter) = hop;
-    let name = name_at(bridges, bridge as usize);
+    let name = bridge_name(bridges, bridge as usize);
     Ok(format!(in alloc; "{name}.{filter}")?)
 }
 
-/// The names of some hops.
+/// Returns the names of these hops as in the network's file, for the tables.
 fn hop_names(
     alloc: Global,
     bridges: &[BridgeRow<Global>],
@@ -93,25 +93,26 @@ fn hop_names(
     Ok(names)
 }
 
-/// Writes the rows of a stream into both tables, and counts its frames.
+/// Writes the rows of a stream to both tables, and returns the totals with its frames added.
 fn put_stream<V: Write, W: Write>(
     alloc: Global,
     file: &NetworkFile<Global>,
     links: &[Link],
-    settled: &[Settled<Global>],
+    settled: &[BridgeResult<Global>],
     stream: &StreamRow<Global>,
     bound: u128,
     streams: &mut V,
     frames: &mut W,
 ) -> Result<Totals, TableFault>
     requires { HaveViewsOf settled.now stream.now.hops }
-    ensures { IfOk result (λ more. TablesStream links.now settled.now file.now.bridges stream.now bound more.frames more.delivered
+    ensures { IfOk result (λ more. TablesStream links.now settled.now file.now.bridges stream.now bound more.frames
+        more.delivered
         (V.contents streams.old) (V.contents streams.new) (W.contents frames.old) (W.contents frames.new)) }
 {
     let hops = stream.hops();
-    let runs = runs_of(alloc, settled, hops)?;
-    let known = roots_of(alloc, links, &runs)?;
-    let tallies = tallies_of(alloc, links, &runs, &known)?;
+    let runs = hop_runs(alloc, settled, hops)?;
+    let known = trace_source_frames(alloc, links, &runs)?;
+    let tallies = count_copies(alloc, links, &runs, &known)?;
     let names = hop_names(alloc, file.bridges(), hops)?;
     let heading = Heading {
         name: stream.name(),
@@ -124,23 +125,24 @@ fn put_stream<V: Write, W: Write>(
     )?;
     Ok(Totals {
         frames: tallies.len() as u64,
-        delivered: delivered_of(&tallies) as u64,
+        delivered: delivered_frames(&tallies) as u64,
     })
 }
 
-/// Writes the rows of all streams into both tables, and counts their frames.
-fn put_streams<V: Write, W: Write>(
+/// Writes the rows of all streams to both tables, and returns the numbers of their frames.
+fn write_both_tables<V: Write, W: Write>(
     alloc: Global,
     file: &NetworkFile<Global>,
     links: &[Link],
-    settled: &[Settled<Global>],
+    settled: &[BridgeResult<Global>],
     bounds: &[u128],
     streams: &mut V,
     frames: &mut W,
 ) -> Result<Totals, TableFault>
     requires bounds { length bounds.now ≡ length file.now.streams }
     requires views { HaveViews settled.now file.now.streams }
-    ensures counts { IfOk result (λ all. CountsTo links.now settled.now file.now.streams 0 0 all.frames all.delivered) }
+    ensures counts { IfOk result (λ all. AreTotals links.now settled.now file.now.streams 0 0 all.frames
+        all.delivered) }
     ensures tables { OnOk result (WriteStreams links.now settled.now file.now.bridges file.now.streams bounds.now
         (V.contents streams.old) (V.contents streams.new) (W.contents frames.old) (W.contents frames.new)) }
 {
@@ -167,28 +169,29 @@ fn put_streams<V: Write, W: Write>(
     Ok(totals)
 }
 
-/// Writes both tables: each begins with its header, and has the rows of all streams in the order of the network's file.
+/// Writes both tables: each begins with its header, followed by the rows of all streams in file order.
 pub(crate) fn write_tables<V: Write, W: Write>(
     alloc: Global,
     file: &NetworkFile<Global>,
     links: &[Link],
-    settled: &[Settled<Global>],
+    settled: &[BridgeResult<Global>],
     bounds: &[u128],
     streams: &mut V,
     frames: &mut W,
 ) -> Result<Totals, TableFault>
     requires bounds { length bounds.now ≡ length file.now.streams }
     requires views { HaveViews settled.now file.now.streams }
-    ensures counts { IfOk result (λ all. CountsTo links.now settled.now file.now.streams 0 0 all.frames all.delivered) }
+    ensures counts { IfOk result (λ all. AreTotals links.now settled.now file.now.streams 0 0 all.frames
+        all.delivered) }
     ensures tables { OnOk result (WriteTables links.now settled.now file.now bounds.now
         (V.contents streams.old) (V.contents streams.new) (W.contents frames.old) (W.contents frames.new)) }
 {
     put_table(streams, STREAMS_HEADER, Table::Streams)?;
     put_table(frames, FRAMES_HEADER, Table::Frames)?;
-    put_streams(alloc, file, links, settled, bounds, streams, frames)
+    write_both_tables(alloc, file, links, settled, bounds, streams, frames)
 }
 
-/// Ends what is written into a table.
+/// Completes the file of a table: writes its buffer, and closes it.
 fn end_table<F: Write + OpenFile + Drop>(output: Output<F>) -> io::Result<()> {
     let mut output = output;
     output.flush()?;
@@ -198,34 +201,34 @@ fn end_table<F: Write + OpenFile + Drop>(output: Output<F>) -> io::Result<()> {
     }
 }
 
-/// Returns the fault of the tables in a folder.
-fn fault_of(alloc: Global, folder: &str, fault: TableFault) -> Fault
+/// Returns the program's fault for a table that wasn't written, with the table's path in `folder`.
+fn folder_fault(alloc: Global, folder: &str, fault: TableFault) -> Failure
     ensures { EndsFiles result }
 {
     let path = match fault {
         TableFault::Broken(Table::Streams) => format!(in alloc; "{folder}/streams.csv"),
         TableFault::Broken(Table::Frames) => format!(in alloc; "{folder}/frames.csv"),
-        TableFault::NoMemory => return Fault::NoMemory,
+        TableFault::NoMemory => return Failure::NoMemory,
     };
     match path {
-        Ok(path) => file_failure(failed_at(alloc, path.as_str(), Cause::NotWritable)),
-        Err(_) => Fault::NoMemory,
+        Ok(path) => file_failure(file_fault(alloc, path.as_str(), Cause::NotWritable)),
+        Err(_) => Failure::NoMemory,
     }
 }
 
-/// Writes both tables to their files, and ends these.
+/// Writes both tables to their files, and completes the files. Returns the numbers of all streams' frames.
 fn put_files<F: Write + OpenFile + Drop>(
     alloc: Global,
     file: &NetworkFile<Global>,
     links: &[Link],
-    settled: &[Settled<Global>],
+    settled: &[BridgeResult<Global>],
     bounds: &[u128],
     streams: Output<F>,
     frames: Output<F>,
 ) -> Result<Totals, TableFault>
     requires bounds { length bounds.now ≡ length file.now.streams }
     requires views { HaveViews settled.now file.now.streams }
-    ensures { IfOk result (λ all. CountsTo links.now settled.now file.now.streams 0 0 all.frames all.delivered) }
+    ensures { IfOk result (λ all. AreTotals links.now settled.now file.now.streams 0 0 all.frames all.delivered) }
 {
     let mut streams = streams;
     let mut frames = frames;
@@ -247,24 +250,24 @@ fn put_files<F: Write + OpenFile + Drop>(
     }
 }
 
-/// Writes the tables of streams and of their frames of a run of a network. `File` of one that can't be written, in a folder.
+/// Writes the tables of streams and frames of a network run. A fault names the path of its table in `folder`.
 pub(crate) fn put_tables<F: Write + OpenFile + Drop>(
     alloc: Global,
     file: &NetworkFile<Global>,
     links: &[Link],
-    settled: &[Settled<Global>],
+    settled: &[BridgeResult<Global>],
     bounds: &[u128],
     folder: &str,
     streams: Output<F>,
     frames: Output<F>,
-) -> Result<Totals, Fault>
+) -> Result<Totals, Failure>
     requires bounds { length bounds.now ≡ length file.now.streams }
     requires views { HaveViews settled.now file.now.streams }
-    ensures ok { IfOk result (λ all. CountsTo links.now settled.now file.now.streams 0 0 all.frames all.delivered) }
+    ensures ok { IfOk result (λ all. AreTotals links.now settled.now file.now.streams 0 0 all.frames all.delivered) }
     ensures err { IfErr result EndsFiles }
 {
     match put_files(alloc, file, links, settled, bounds, streams, frames) {
         Ok(totals) => Ok(totals),
-        Err(fault) => Err(fault_of(alloc, folder, fault)),
+        Err(fault) => Err(folder_fault(alloc, folder, fault)),
     }
 }

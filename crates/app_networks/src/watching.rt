@@ -1,33 +1,33 @@
-//! How far a run of a network is, said on standard error.
-use crate::refusing::name_at;
+//! Shows the progress of a network run on standard error.
+use crate::refusing::bridge_name;
 use net_file::BridgeRow;
-use net_run::{Incoming, Watch};
+use net_run::{BridgeInput, RoundObserver};
 use std::alloc::Global;
 
-/// From how many octets of captures on a run takes so long that it is told how far it is.
+/// Number of captured octets from which a run shows its progress. Shorter runs are quick.
 const LONG: u64 = 8_388_608;
 
-/// Says in which round of a run which bridge runs, where that is wanted.
+/// Observer of a network run that prints its rounds and bridges on standard error. Prints nothing unless `is_wanted` is true.
 #[derive(Drop)]
-pub(crate) struct Teller<'a, H> {
+pub(crate) struct ProgressPrinter<'a, H> {
     pub(crate) rt: &'a H,
     pub(crate) bridges: &'a [BridgeRow<Global>],
     pub(crate) is_wanted: bool,
 }
 
-impl<H: Eprint> Watch for Teller<'_, H> {
-    fn begins(&mut self, round: u32, bridge: usize) {
+impl<H: Eprint> RoundObserver for ProgressPrinter<'_, H> {
+    fn bridge_starts(&mut self, round: u32, bridge: usize) {
         if !self.is_wanted {
             return;
         }
         let number = round.saturating_add(1);
-        let name = name_at(self.bridges, bridge);
+        let name = bridge_name(self.bridges, bridge);
         let _ = eprint!(self.rt; "round {number}: {name}\n");
     }
 }
 
-/// How many octets all captures have.
-fn octets_of(captures: &[Vec<u8>]) -> u64 {
+/// Returns the number of octets in all captures.
+fn capture_octets(captures: &[Vec<u8>]) -> u64 {
     let mut octets = 0u64;
     for capture in captures {
         octets = octets.saturating_add(capture.len() as u64);
@@ -35,11 +35,11 @@ fn octets_of(captures: &[Vec<u8>]) -> u64 {
     octets
 }
 
-/// Whether so much comes to the bridges of a network that its run is a long one.
-pub(crate) fn is_long(incoming: &[Incoming<Global>]) -> bool {
+/// Whether a network's inputs have enough octets for a long run.
+pub(crate) fn is_long_run(incoming: &[BridgeInput<Global>]) -> bool {
     let mut octets = 0u64;
     for came in incoming {
-        octets = octets.saturating_add(octets_of(&came.captures));
+        octets = octets.saturating_add(capture_octets(&came.captures));
     }
     octets >= LONG
 }

@@ -1,38 +1,38 @@
-//! What a run of a network writes of each bridge.
+//! Writes the outputs of each bridge of a network run.
 ghost use Rattle.std.specs.Prelude.{IfErr, IfOk};
 ghost use Rattle.std.specs.Io.KnownBytes.{Appends};
-ghost use Rattle.bridge_report.specs.Section.{report_of};
+ghost use Rattle.bridge_report.specs.Section.{report_text};
 ghost use Rattle.app_failure.specs.Reading.{EndsFiles};
 ghost use Rattle.app_networks.specs.OutputFiles.{AreWrittenBy, IsBridgeWritten, IsTapWritten};
 
-use crate::outputs::{BridgeOutputs, folder_of};
-use app_failure::{Fault, file_failure};
-use app_files::{Cause, Output, capture_path, failed_at, finish_file, report_path, write_file};
+use crate::outputs::{BridgeOutputs, bridge_folder};
+use app_failure::{Failure, file_failure};
+use app_files::{Cause, Output, capture_path, file_fault, finish_file, report_path, write_file};
 use bridge_capture::VecSink;
 use bridge_config::Plan;
 use bridge_report::{ReportFault, write_report};
 use bridge_semantics::Outcome;
 use net_file::BridgeRow;
 use net_model::Network;
-use net_run::Settled;
+use net_run::BridgeResult;
 use std::alloc::Global;
 use std::fs::OpenFile;
 use std::io::Write;
 
-/// Writes the capture of what left a port of a bridge into its folder, and returns the file.
+/// Writes the capture of a bridge's port to `output` in the bridge's folder, and returns the file. A fault names its path.
 fn put_tap<F: Write + OpenFile + Drop>(
     alloc: Global,
     folder: &str,
     port: u8,
     output: Output<F>,
     tap: &VecSink<Global>,
-) -> Result<Output<F>, Fault>
+) -> Result<Output<F>, Failure>
     ensures written { IfOk result (IsTapWritten ⟦<Output<F> as Write>⟧.contents output tap.now) }
     ensures fails { IfErr result EndsFiles }
 {
     let Ok(path) = capture_path(alloc, folder, port) else {
         drop(output);
-        return Err(Fault::NoMemory);
+        return Err(Failure::NoMemory);
     };
     match write_file(alloc, path.as_str(), output, tap.octets()) {
         Ok(output) => Ok(output),
@@ -40,15 +40,16 @@ fn put_tap<F: Write + OpenFile + Drop>(
     }
 }
 
-/// Writes the captures of what left the ports of a bridge into its folder, and returns the files.
-fn put_taps<F: Write + OpenFile + Drop>(
+/// Writes the captures of a bridge's ports to their files by rising port, and returns the files.
+fn write_captures<F: Write + OpenFile + Drop>(
     alloc: Global,
     folder: &str,
     ports: &[u8],
     outputs: Vec<Output<F>>,
     taps: &[VecSink<Global>],
-) -> Result<Vec<Output<F>>, Fault>
-    ensures written { IfOk result (λ done. AreWrittenBy (IsTapWritten ⟦<Output<F> as Write>⟧.contents) outputs.items taps.now done.items) }
+) -> Result<Vec<Output<F>>, Failure>
+    ensures written { IfOk result (λ done. AreWrittenBy (IsTapWritten ⟦<Output<F> as Write>⟧.contents) outputs.items
+        taps.now done.items) }
     ensures fails { IfErr result EndsFiles }
 {
     let mut done = Vec::new(alloc);
@@ -56,7 +57,7 @@ fn put_taps<F: Write + OpenFile + Drop>(
         let place = done.len();
         if place >= taps.len() || place >= ports.len() {
             drop(output);
-            return Err(Fault::NoMemory);
+            return Err(Failure::NoMemory);
         }
         let written = match put_tap(alloc, folder, ports[place], output, &taps[place]) {
             Ok(written) => written,
@@ -64,33 +65,33 @@ fn put_taps<F: Write + OpenFile + Drop>(
         };
         match done.push(written) {
             Ok(()) => {}
-            Err(_) => return Err(Fault::NoMemory),
+            Err(_) => return Err(Failure::NoMemory),
         }
     }
     Ok(done)
 }
 
-/// Writes the report of a bridge into its folder, and returns the file.
-fn put_report<F: Write + OpenFile + Drop>(
+/// Writes the report of a bridge to its file, and returns the file. A fault names its path.
+fn write_report_file<F: Write + OpenFile + Drop>(
     alloc: Global,
     folder: &str,
     outcome: &Outcome<Global>,
     output: Output<F>,
-) -> Result<Output<F>, Fault>
+) -> Result<Output<F>, Failure>
     ensures written { IfOk result (λ done. Appends (⟦<Output<F> as Write>⟧.contents output)
-        (⟦<Output<F> as Write>⟧.contents done) (report_of outcome.now.filters.items)) }
+        (⟦<Output<F> as Write>⟧.contents done) (report_text outcome.now.filters.items)) }
     ensures fails { IfErr result EndsFiles }
 {
     let Ok(path) = report_path(alloc, folder) else {
         drop(output);
-        return Err(Fault::NoMemory);
+        return Err(Failure::NoMemory);
     };
     let written = match write_report(alloc, outcome, output) {
         Ok(written) => written,
         Err(ReportFault::Broken) => {
-            return Err(file_failure(failed_at(alloc, path.as_str(), Cause::NotWritable)));
+            return Err(file_failure(file_fault(alloc, path.as_str(), Cause::NotWritable)));
         }
-        Err(ReportFault::NoMemory) => return Err(Fault::NoMemory),
+        Err(ReportFault::NoMemory) => return Err(Failure::NoMemory),
     };
     match finish_file(alloc, path.as_str(), written) {
         Ok(done) => Ok(done),
@@ -98,30 +99,30 @@ fn put_report<F: Write + OpenFile + Drop>(
     }
 }
 
-/// Writes the captures and the report of a bridge into its folder, and returns the files.
-fn put_bridge<F: Write + OpenFile + Drop>(
+/// Writes the captures and the report of a bridge to its folder, and returns the files.
+fn write_bridge<F: Write + OpenFile + Drop>(
     alloc: Global,
     plan: &Plan<Global>,
     folder: &str,
-    settled: &Settled<Global>,
+    settled: &BridgeResult<Global>,
     outputs: BridgeOutputs<F>,
-) -> Result<BridgeOutputs<F>, Fault>
+) -> Result<BridgeOutputs<F>, Failure>
     ensures written { IfOk result (IsBridgeWritten ⟦<Output<F> as Write>⟧.contents outputs settled.now) }
     ensures fails { IfErr result EndsFiles }
 {
     let Ok(ports) = plan.port_numbers(alloc) else {
         drop(outputs);
-        return Err(Fault::NoMemory);
+        return Err(Failure::NoMemory);
     };
     let BridgeOutputs { taps, report } = outputs;
-    let taps = match put_taps(alloc, folder, &ports, taps, &settled.taps) {
+    let taps = match write_captures(alloc, folder, &ports, taps, &settled.taps) {
         Ok(taps) => taps,
         Err(fault) => {
             drop(report);
             return Err(fault);
         }
     };
-    match put_report(alloc, folder, &settled.outcome, report) {
+    match write_report_file(alloc, folder, &settled.outcome, report) {
         Ok(report) => Ok(BridgeOutputs { taps, report }),
         Err(fault) => {
             drop(taps);
@@ -130,16 +131,17 @@ fn put_bridge<F: Write + OpenFile + Drop>(
     }
 }
 
-/// Writes the captures and the report of each bridge into the folder of its name in a folder, and returns the files.
-pub(crate) fn put_bridges<F: Write + OpenFile + Drop>(
+/// Writes the captures and the report of each bridge to its folder in `output`, and returns the files.
+pub(crate) fn write_bridges<F: Write + OpenFile + Drop>(
     alloc: Global,
     network: &Network<Global>,
     bridges: &[BridgeRow<Global>],
     output: &str,
-    settled: &[Settled<Global>],
+    settled: &[BridgeResult<Global>],
     outputs: Vec<BridgeOutputs<F>>,
-) -> Result<Vec<BridgeOutputs<F>>, Fault>
-    ensures written { IfOk result (λ done. AreWrittenBy (IsBridgeWritten ⟦<Output<F> as Write>⟧.contents) outputs.items settled.now done.items) }
+) -> Result<Vec<BridgeOutputs<F>>, Failure>
+    ensures written { IfOk result (λ done. AreWrittenBy (IsBridgeWritten ⟦<Output<F> as Write>⟧.contents) outputs.items
+        settled.now done.items) }
     ensures fails { IfErr result EndsFiles }
 {
     let plans = network.plans();
@@ -148,13 +150,13 @@ pub(crate) fn put_bridges<F: Write + OpenFile + Drop>(
         let place = done.len();
         if place >= plans.len() || place >= settled.len() || place >= bridges.len() {
             drop(opened);
-            return Err(Fault::NoMemory);
+            return Err(Failure::NoMemory);
         }
-        let Ok(folder) = folder_of(alloc, output, bridges[place].name()) else {
+        let Ok(folder) = bridge_folder(alloc, output, bridges[place].name()) else {
             drop(opened);
-            return Err(Fault::NoMemory);
+            return Err(Failure::NoMemory);
         };
-        let written = match put_bridge(
+        let written = match write_bridge(
             alloc,
             plans[place].plan(),
             folder.as_str(),
@@ -166,7 +168,7 @@ pub(crate) fn put_bridges<F: Write + OpenFile + Drop>(
         };
         match done.push(written) {
             Ok(()) => {}
-            Err(_) => return Err(Fault::NoMemory),
+            Err(_) => return Err(Failure::NoMemory),
         }
     }
     Ok(done)

@@ -1,16 +1,16 @@
--- Gates that change at a moment: what holds before it and what from it on, each by itself, bounds both together.
+-- A schedule change: the times of the old and the new windows together bound both.
 use Rattle.std.proofs.Common.{◌≡◌, ℕ, zero, suc, Bool, ◌<◌, ◌≤◌, ◌+◌, arith, sym, ◌∙◌, inl, inr}
 use Rattle.std.proofs.lemmas.Bool.{cases_lt}
-use Rattle.bridge_cycle.specs.Moments.{IsFirst}
-use Rattle.bridge_bounds.specs.Bounds.{EndsBy, IsLongest}
+use Rattle.bridge_cycle.specs.Fits.{IsFirstFit}
+use Rattle.bridge_bounds.specs.Bounds.{FramesEnd, IsLongestTime}
 use Rattle.bridge_bounds.proofs.Steps.{ends_after, ends_rises, ends_some}
 
--- what is open before a moment, and from it on
+-- The windows before a time, and from this time on.
 pub record IsChange (old new both : ℕ → Bool) (at : ℕ) : Type 0 where
   pub before : (w : ℕ) → w < at → both w ≡ old w
   pub after : (w : ℕ) → at ≤ w → both w ≡ new w
 
-first_after : (old new both : ℕ → Bool) (at occ u s : ℕ) → IsChange old new both at → at ≤ u → IsFirst new occ u s → IsFirst both occ u s
+first_after : (old new both : ℕ → Bool) (at occ u s : ℕ) → IsChange old new both at → at ≤ u → IsFirstFit new occ u s → IsFirstFit both occ u s
 first_after old new both at occ u s change h first =
     let after = first.after in
     record {
@@ -19,14 +19,14 @@ first_after old new both at occ u s change h first =
       least = λ v p q f. first.least v p q (λ w a b. sym (change.after w (omega (arith, a, p, h))) ∙ f w a b);
     }
 
--- from the change on frames end as the new gates say
-ends_new : (old new both : ℕ → Bool) (at occ k u v : ℕ) → IsChange old new both at → at ≤ u → EndsBy new occ k u v → EndsBy both occ k u v
+-- After the change, frames end by the new windows.
+ends_new : (old new both : ℕ → Bool) (at occ k u v : ℕ) → IsChange old new both at → at ≤ u → FramesEnd new occ k u v → FramesEnd both occ k u v
 ends_new old new both at occ zero u v change h e = e
 ends_new old new both at occ (suc k) u v change h (w, s, e, first, is) =
     let later = ends_after new occ k u w e in
     (w, s, ends_new old new both at occ k u w change h e, first_after old new both at occ w s change (omega (arith, later, h)) first, is)
 
-first_before : (old new both : ℕ → Bool) (at occ u s : ℕ) → IsChange old new both at → s + occ ≤ at → IsFirst old occ u s → IsFirst both occ u s
+first_before : (old new both : ℕ → Bool) (at occ u s : ℕ) → IsChange old new both at → s + occ ≤ at → IsFirstFit old occ u s → IsFirstFit both occ u s
 first_before old new both at occ u s change h first =
     record {
       after = first.after;
@@ -34,15 +34,15 @@ first_before old new both at occ u s change h first =
       least = λ v p q f. first.least v p q (λ w a b. sym (change.before w (omega (arith, b, q, h))) ∙ f w a b);
     }
 
--- what is done before the change ends as the old gates say
-ends_old : (old new both : ℕ → Bool) (at occ k u v : ℕ) → IsChange old new both at → v ≤ at → EndsBy old occ k u v → EndsBy both occ k u v
+-- Frames that leave before the change end by the old windows.
+ends_old : (old new both : ℕ → Bool) (at occ k u v : ℕ) → IsChange old new both at → v ≤ at → FramesEnd old occ k u v → FramesEnd both occ k u v
 ends_old old new both at occ zero u v change h e = e
 ends_old old new both at occ (suc k) u v change h (w, s, e, first, is) =
     let after = first.after in
     (w, s, ends_old old new both at occ k u w change (omega (arith, after, is, h)) e, first_before old new both at occ w s change (omega (arith, is, h)) first, is)
 
--- what is not out by the change was queued for less than the old longest time, and from the change on the new one is enough
-pub longest_over : (old new both : ℕ → Bool) (at occ k d e : ℕ) → IsChange old new both at → ((w : ℕ) → (s : ℕ) × IsFirst both occ w s) → IsLongest old occ k d → IsLongest new occ k e → IsLongest both occ k (d + e)
+-- A frame that hasn't left at the change has waited less than the old longest time; the new longest time is enough for the rest.
+pub longest_over : (old new both : ℕ → Bool) (at occ k d e : ℕ) → IsChange old new both at → ((w : ℕ) → (s : ℕ) × IsFirstFit both occ w s) → IsLongestTime old occ k d → IsLongestTime new occ k e → IsLongestTime both occ k (d + e)
 longest_over old new both at occ k d e change some one other u =
     let (y, before, soon) = one u in
     elim (cases_lt at y) [

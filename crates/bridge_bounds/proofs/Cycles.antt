@@ -1,18 +1,18 @@
--- The turns of a list come again with each cycle.
+-- The intervals of a list recur with each cycle.
 use Rattle.std.proofs.Common.{◌≡◌, ℕ, ◌<◌, ◌+◌, ◌-◌, ◌*◌, ◌/◌, ◌%◌, Some, arith, ap, sym, ◌∙◌}
 use Rattle.std.proofs.Math.Nat.{mod-lt}
 use Rattle.std.proofs.lemmas.Nat.{mod-mul-add}
 use Rattle.std.proofs.lemmas.Option.{same_Some}
-use Rattle.bridge_cycle.specs.Cyclic.{Cyclic, IsLawful, Place, phase, place, turn_at, turn_of}
+use Rattle.bridge_cycle.specs.Cyclic.{Cyclic, IsLawful, EntryInterval, phase, entry_interval, turn_by_time, interval_turn}
 use Rattle.bridge_cycle.specs.CyclicLaws.{turn_back}
 use Rattle.bridge_cycle.specs.declared.timeline.Turn.{Turn}
 
--- a turn that is another one so much later
+-- An interval equals another one, `by` ns later.
 pub record IsLater {S : Type 0} (x y : Turn S) (by : ℕ) : Type 0 where
   pub state : y.state ≡ x.state
   pub end : y.end ≡ x.end + by
 
-later_of : {S : Type 0} (t p by : ℕ) (z : Place S) (x y : Turn S) → turn_of t p (Some z) ≡ Some x → turn_of (t + by) p (Some z) ≡ Some y → IsLater x y by
+later_of : {S : Type 0} (t p by : ℕ) (z : EntryInterval S) (x y : Turn S) → interval_turn t p (Some z) ≡ Some x → interval_turn (t + by) p (Some z) ≡ Some y → IsLater x y by
 later_of t p by z x y h k =
     let a = same_Some _ x h in
     let b = same_Some _ y k in
@@ -23,13 +23,13 @@ later_of t p by z x y h k =
       end = omega (arith, end, other);
     }
 
--- so many cycles later the turn is the same one, so much later
-pub turn_later : {S : Type 0} (l : Cyclic S) (t k : ℕ) (x y : Turn S) → IsLawful l → turn_at l t ≡ Some x → turn_at l (t + k * l.cycle) ≡ Some y → IsLater x y (k * l.cycle)
+-- After `k` cycles the interval recurs, `k` cycles later.
+pub turn_later : {S : Type 0} (l : Cyclic S) (t k : ℕ) (x y : Turn S) → IsLawful l → turn_by_time l t ≡ Some x → turn_by_time l (t + k * l.cycle) ≡ Some y → IsLater x y (k * l.cycle)
 turn_later {S} l t k x y lawful h i =
     let p = phase l.base l.cycle t in
     let same : phase l.base l.cycle (t + k * l.cycle) ≡ p = cycle_phase l.base l.cycle t k lawful.cycle_some in
-    let (z, at, is) = turn_back t p (place l.entries 0 l.cycle p) x h in
-    let there : turn_of (t + k * l.cycle) p (Some z) ≡ Some y = rw (same, at) at i in
+    let (z, at, is) = turn_back t p (entry_interval l.entries 0 l.cycle p) x h in
+    let there : interval_turn (t + k * l.cycle) p (Some z) ≡ Some y = rw (same, at) at i in
     later_of t p (k * l.cycle) z x y is there
   where
     cycle_phase : (base cycle t k : ℕ) → 0 < cycle → phase base cycle (t + k * cycle) ≡ phase base cycle t

@@ -1,39 +1,39 @@
--- How long the frames of a protected filter take in a whole run.
+-- Delays of a protected filter's frames in a complete run.
 use Rattle.std.proofs.Common.{arith, ◌≡◌, ◌+◌, ◌-◌, ◌≤◌, ◌⊎◌, ℕ, true, List, [], ◌∷◌, refl, ap, sym, subst, inl, inr, Option, None, Some, ◌∙◌}
 use Rattle.std.specs.Prelude.{MatchOption, nat_eq}
 use Rattle.std.specs.Map.{lookup}
 use Rattle.std.proofs.lemmas.Bool.{eqb-true}
 use Rattle.std.proofs.lemmas.Option.{same_Some}
-use Rattle.bridge_limits.specs.Members.{In}
+use Rattle.bridge_limits.specs.Members.{IsMember}
 use Rattle.bridge_limits.proofs.Cases.{by_bool}
-use Rattle.bridge_frame.specs.Link.{occupied}
+use Rattle.bridge_frame.specs.Link.{transmission_time}
 use Rattle.bridge_frame.proofs.Times.{occupied_some}
 use Rattle.bridge_gate.specs.declared.schedule.Schedule.{Schedule}
 use Rattle.bridge_gate.specs.declared.schedule.Schedule.TheVariants.{Cyclic, Fixed, Joined}
 use Rattle.bridge_gate.specs.Gates.{GateRules}
-use Rattle.bridge_gate.specs.Schedules.{rules_of, turn_at}
+use Rattle.bridge_gate.specs.Schedules.{gate_rules, turn_by_time}
 use Rattle.bridge_filter.specs.declared.FilterPlan.{FilterPlan}
 use Rattle.bridge_filter.specs.Plans.{gate_or_closed}
 use Rattle.bridge_filter.proofs.Members.{member_found}
-use Rattle.bridge_port.specs.Opening.{opens_of}
-use Rattle.bridge_port.specs.Schedule.{Copy, OfferedUpTo, Started}
-use Rattle.bridge_port.specs.Solo.{only}
+use Rattle.bridge_port.specs.GateSchedule.{lists_open}
+use Rattle.bridge_port.specs.Schedule.{Copy, AreOffersInOrder, Started}
+use Rattle.bridge_port.specs.Solo.{class_copies}
 use Rattle.bridge_port.proofs.Laws.{offered_later}
 use Rattle.bridge_config.specs.declared.ports.PortPlan.{PortPlan}
 use Rattle.bridge_config.specs.Model.{Plan}
-use Rattle.bridge_config.specs.Rules.{IsPlan, port_at}
+use Rattle.bridge_config.specs.Rules.{IsPlan, find_port}
 use Rattle.bridge_check.specs.Acceptable.{IsAcceptable}
-use Rattle.bridge_check.specs.Reach.{reaches}
+use Rattle.bridge_check.specs.Reach.{reaches_queue}
 use Rattle.bridge_check.specs.Windows.{longest_frame}
-use Rattle.bridge_semantics.specs.Events.{Event, police_of}
-use Rattle.bridge_semantics.specs.Offers.{Carried, egress, offers}
-use Rattle.bridge_semantics.specs.Runs.{AreWhole, AtPort, Delayed, IsGreatest, IsOutcome, IsRun}
+use Rattle.bridge_semantics.specs.Events.{Event, plan_police}
+use Rattle.bridge_semantics.specs.Offers.{CarriedFrame, egress_rules, port_offers}
+use Rattle.bridge_semantics.specs.Runs.{AreFinished, IsPortCopy, IsFilterDelay, IsGreatestNumber, IsOutcome, IsRun}
 use Rattle.bridge_semantics.specs.declared.outcome.Outcome.{Outcome}
 use Rattle.bridge_semantics.specs.declared.outcome.View.{View}
 use Rattle.bridge_semantics.proofs.Facts.{own_queues, served_alone}
 use Rattle.bridge_semantics.proofs.Headline.{as_offer, in_offered, in_only, only_in}
-use Rattle.bridge_bounds.specs.Bounds.{AreShort, IsBound, IsLesser, IsLongest, IsTightBound, IsTightened}
-use Rattle.bridge_bounds.specs.Passing.{AreWithinLengths, LetsFew, fewer, most_in}
+use Rattle.bridge_bounds.specs.Bounds.{HaveShortFrames, IsQueueBound, IsLesserBound, IsLongestTime, IsTightBound, IsTightenedBound}
+use Rattle.bridge_bounds.specs.GateFrames.{AreWithinLengths, LetsFew, frames_below_room, max_list_frames}
 use Rattle.bridge_bounds.proofs.Among.{started_seldom}
 use Rattle.bridge_bounds.proofs.Apart.{fewer_is, turn_few}
 use Rattle.bridge_bounds.proofs.Queued.{each_in_time}
@@ -41,98 +41,97 @@ use Rattle.bridge_bounds.proofs.Reached.{found_in}
 use Rattle.bridge_bounds.proofs.Seldom.{each_seldom_in_time}
 use Rattle.bridge_bounds.proofs.Sizes.{occupied_rises, within_size}
 
--- the copies of a class are of it
-of_class : {X : Type 0} (c : ℕ) (y : Copy X) (xs : List (Copy X)) → In y (only c xs) → y.class ≡ c
+-- The copies of a class have this class.
+of_class : {X : Type 0} (c : ℕ) (y : Copy X) (xs : List (Copy X)) → IsMember y (class_copies c xs) → y.class ≡ c
 of_class c y [] i = absurd i
 of_class c y (x ∷ xs) i = by_bool (nat_eq x.class c)
-    (λ k. let j : (y ≡ x) ⊎ In y (only c xs) = rw k at i in elim j [ inl same ↦ subst (λ (z : Copy _). z.class ≡ c) (sym same) (eqb-true x.class c k) | inr later ↦ of_class c y xs later ])
-    (λ k. let j : In y (only c xs) = rw k at i in of_class c y xs j)
+    (λ k. let j : (y ≡ x) ⊎ IsMember y (class_copies c xs) = rw k at i in elim j [ inl same ↦ subst (λ (z : Copy _). z.class ≡ c) (sym same) (eqb-true x.class c k) | inr later ↦ of_class c y xs later ])
+    (λ k. let j : IsMember y (class_copies c xs) = rw k at i in of_class c y xs j)
 
--- and come in order
-only_order : {X : Type 0} (c h : ℕ) (xs : List (Copy X)) → OfferedUpTo h xs → OfferedUpTo h (only c xs)
+-- The copies of a class come in order.
+only_order : {X : Type 0} (c h : ℕ) (xs : List (Copy X)) → AreOffersInOrder h xs → AreOffersInOrder h (class_copies c xs)
 only_order c h [] o = tt
 only_order c h (x ∷ xs) o = by_bool (nat_eq x.class c)
     (λ k. rw k (o.0, only_order c x.at xs o.1))
-    (λ k. rw k (offered_later x.at h (only c xs) o.0 (only_order c x.at xs o.1)))
+    (λ k. rw k (offered_later x.at h (class_copies c xs) o.0 (only_order c x.at xs o.1)))
 
--- each frame of a filter in its queues is short
-short_in : {A : Type 0} (p : Plan A) (n m : ℕ) (f : FilterPlan) (es : List Event) (moments : ℕ → ℕ) (lists : ℕ → List (Copy Carried)) (q c : ℕ) (out : PortPlan A) → IsPlan p → IsAcceptable p → In (n, f) p.filters → f.protected ≡ true → f.max_sdu ≡ Some m → IsRun p es moments lists → port_at p.ports q ≡ Some out → reaches p f q c ≡ true → AreShort (egress out) c (occupied (longest_frame m) out.speed) (only c (lists q))
+-- Each frame of a filter in its queues is at most as long as its longest frame.
+short_in : {A : Type 0} (p : Plan A) (n m : ℕ) (f : FilterPlan) (es : List Event) (moments : ℕ → ℕ) (lists : ℕ → List (Copy CarriedFrame)) (q c : ℕ) (out : PortPlan A) → IsPlan p → IsAcceptable p → IsMember (n, f) p.filters → f.protected ≡ true → f.max_sdu ≡ Some m → IsRun p es moments lists → find_port p.ports q ≡ Some out → reaches_queue p f q c ≡ true → HaveShortFrames (egress_rules out) c (transmission_time (longest_frame m) out.speed) (class_copies c (lists q))
 short_in p n m f es moments lists q c out plan good listed is size run at reach y i =
     let class = of_class c y (lists q) i in
     let there = only_in c y (lists q) i in
-    let flow = (own_queues p n f es moments lists q out y plan good listed is run at there).1 (subst (λ (k : ℕ). reaches p f q k ≡ true) (sym class) reach) in
-    let among : In (as_offer y) (offers p out es) = subst (In (as_offer y)) (run.offers q out at) (in_offered y (lists q) there) in
+    let flow = (own_queues p n f es moments lists q out y plan good listed is run at there).1 (subst (λ (k : ℕ). reaches_queue p f q k ≡ true) (sym class) reach) in
+    let among : IsMember (as_offer y) (port_offers p out es) = subst (IsMember (as_offer y)) (run.offers q out at) (in_offered y (lists q) there) in
     (class, occupied_rises y.item.len (longest_frame m) out.speed (within_size p n m f out es (as_offer y) plan listed size flow among))
 
--- each copy of the filter that a queue takes is done in time
-pub in_time : {A : Type 0} (p : Plan A) (n m d : ℕ) (f : FilterPlan) (es : List Event) (moments : ℕ → ℕ) (lists : ℕ → List (Copy Carried)) (q s : ℕ) (out : PortPlan A) (x : Copy Carried) → IsPlan p → IsAcceptable p → In (n, f) p.filters → f.protected ≡ true → f.max_sdu ≡ Some m → IsRun p es moments lists → AreWhole lists → port_at p.ports q ≡ Some out → In x (lists q) → x.item.flow ≡ Some n → x.fate ≡ Started s → IsLongest (opens_of out.list x.class) (occupied (longest_frame m) out.speed) ((egress out).room x.class) d → s + occupied x.item.len out.speed ≤ x.at + (occupied (longest_frame m) out.speed - 1) + d
+-- Each sent copy of the filter leaves in time.
+pub in_time : {A : Type 0} (p : Plan A) (n m d : ℕ) (f : FilterPlan) (es : List Event) (moments : ℕ → ℕ) (lists : ℕ → List (Copy CarriedFrame)) (q s : ℕ) (out : PortPlan A) (x : Copy CarriedFrame) → IsPlan p → IsAcceptable p → IsMember (n, f) p.filters → f.protected ≡ true → f.max_sdu ≡ Some m → IsRun p es moments lists → AreFinished lists → find_port p.ports q ≡ Some out → IsMember x (lists q) → x.item.flow ≡ Some n → x.fate ≡ Started s → IsLongestTime (lists_open out.list x.class) (transmission_time (longest_frame m) out.speed) ((egress_rules out).room x.class) d → s + transmission_time x.item.len out.speed ≤ x.at + (transmission_time (longest_frame m) out.speed - 1) + d
 in_time p n m d f es moments lists q s out x plan good listed is size run whole at i flow started longest =
     let reach = (own_queues p n f es moments lists q out x plan good listed is run at i).0 flow in
     let solo = served_alone p n f q x.class (moments q) out (lists q) plan good listed is at reach (run.lawful q out at) (whole q) in
     let short = short_in p n m f es moments lists q x.class out plan good listed is size run at reach in
     let order = only_order x.class (moments q) (lists q) (run.lawful q out at).offers in
-    each_in_time (egress out) x.class (occupied (longest_frame m) out.speed) d s (moments q) x (only x.class (lists q)) (occupied_some (longest_frame m) out.speed) longest solo short order (in_only x.class x (lists q) i refl) started
+    each_in_time (egress_rules out) x.class (transmission_time (longest_frame m) out.speed) d s (moments q) x (class_copies x.class (lists q)) (occupied_some (longest_frame m) out.speed) longest solo short order (in_only x.class x (lists q) i refl) started
 
--- where its gate lets few frames through in the longest time of so many, this is the time of a copy that a queue takes
-pub few_in_time : {A : Type 0} (p : Plan A) (n m k d : ℕ) (f : FilterPlan) (es : List Event) (moments : ℕ → ℕ) (lists : ℕ → List (Copy Carried)) (q s : ℕ) (out : PortPlan A) (x : Copy Carried) → IsPlan p → IsAcceptable p → In (n, f) p.filters → f.protected ≡ true → f.max_sdu ≡ Some m → IsRun p es moments lists → AreWhole lists → AreWithinLengths es → port_at p.ports q ≡ Some out → In x (lists q) → x.item.flow ≡ Some n → x.fate ≡ Started s → LetsFew ((police_of p).gates f.gate).turn_at k d → IsLongest (opens_of out.list x.class) (occupied (longest_frame m) out.speed) k d → s + occupied x.item.len out.speed ≤ x.at + (occupied (longest_frame m) out.speed - 1) + d
+-- If the stream gate passes few frames in their longest time, this time bounds the delay of a sent copy.
+pub few_in_time : {A : Type 0} (p : Plan A) (n m k d : ℕ) (f : FilterPlan) (es : List Event) (moments : ℕ → ℕ) (lists : ℕ → List (Copy CarriedFrame)) (q s : ℕ) (out : PortPlan A) (x : Copy CarriedFrame) → IsPlan p → IsAcceptable p → IsMember (n, f) p.filters → f.protected ≡ true → f.max_sdu ≡ Some m → IsRun p es moments lists → AreFinished lists → AreWithinLengths es → find_port p.ports q ≡ Some out → IsMember x (lists q) → x.item.flow ≡ Some n → x.fate ≡ Started s → LetsFew ((plan_police p).gates f.gate).turn_at k d → IsLongestTime (lists_open out.list x.class) (transmission_time (longest_frame m) out.speed) k d → s + transmission_time x.item.len out.speed ≤ x.at + (transmission_time (longest_frame m) out.speed - 1) + d
 few_in_time p n m k d f es moments lists q s out x plan good listed is size run whole within at i flow started few longest =
     let reach = (own_queues p n f es moments lists q out x plan good listed is run at i).0 flow in
     let solo = served_alone p n f q x.class (moments q) out (lists q) plan good listed is at reach (run.lawful q out at) (whole q) in
     let short = short_in p n m f es moments lists q x.class out plan good listed is size run at reach in
     let order = only_order x.class (moments q) (lists q) (run.lawful q out at).offers in
     let seldom = started_seldom p n f plan listed q x.class k d out es moments lists good is run within at reach few in
-    each_seldom_in_time (egress out) x.class (occupied (longest_frame m) out.speed) k d s (moments q) x (only x.class (lists q)) (occupied_some (longest_frame m) out.speed) longest seldom solo short order (in_only x.class x (lists q) i refl) started
+    each_seldom_in_time (egress_rules out) x.class (transmission_time (longest_frame m) out.speed) k d s (moments q) x (class_copies x.class (lists q)) (occupied_some (longest_frame m) out.speed) longest seldom solo short order (in_only x.class x (lists q) i refl) started
 
--- a copy is done within the bound of its queue
-pub in_bound : {A : Type 0} (p : Plan A) (n b : ℕ) (es : List Event) (moments : ℕ → ℕ) (lists : ℕ → List (Copy Carried)) (q s : ℕ) (out : PortPlan A) (x : Copy Carried) → IsPlan p → IsAcceptable p → IsRun p es moments lists → AreWhole lists → port_at p.ports q ≡ Some out → In x (lists q) → x.item.flow ≡ Some n → x.fate ≡ Started s → IsBound p n q x.class b → s + occupied x.item.len out.speed ≤ x.at + b
+-- A sent copy leaves within its queue's bound.
+pub in_bound : {A : Type 0} (p : Plan A) (n b : ℕ) (es : List Event) (moments : ℕ → ℕ) (lists : ℕ → List (Copy CarriedFrame)) (q s : ℕ) (out : PortPlan A) (x : Copy CarriedFrame) → IsPlan p → IsAcceptable p → IsRun p es moments lists → AreFinished lists → find_port p.ports q ≡ Some out → IsMember x (lists q) → x.item.flow ≡ Some n → x.fate ≡ Started s → IsQueueBound p n q x.class b → s + transmission_time x.item.len out.speed ≤ x.at + b
 in_bound {A} p n b es moments lists q s out x plan good run whole at i flow started bound =
     let same : bound.out ≡ out = same_Some bound.out out (sym bound.at ∙ at) in
     let done = in_time p n bound.max_sdu bound.is.longest bound.filter es moments lists q s bound.out x plan good (found_in p.filters n bound.filter bound.found) bound.protected bound.size run whole bound.at i flow started bound.is.is_longest in
     let is = bound.is.bound in
-    let own : s + occupied x.item.len bound.out.speed ≤ x.at + b = omega (arith, done, is) in
-    subst (λ (o : PortPlan A). s + occupied x.item.len o.speed ≤ x.at + b) same own
+    let own : s + transmission_time x.item.len bound.out.speed ≤ x.at + b = omega (arith, done, is) in
+    subst (λ (o : PortPlan A). s + transmission_time x.item.len o.speed ≤ x.at + b) same own
 
--- so the greatest delay that is told of a filter is at most the greatest bound of its queues
-pub delay_bound : {A : Type 0} (p : Plan A) (n b k : ℕ) (f : FilterPlan) (es : List Event) (lists : ℕ → List (Copy Carried)) (o : Outcome A) (v : View A) → IsPlan p → IsAcceptable p → In (n, f) p.filters → f.protected ≡ true → IsOutcome p es lists o → lookup (nat_eq n) o.filters.items ≡ Some v → ((q c : ℕ) → reaches p f q c ≡ true → (d : ℕ) × IsBound p n q c d × (d ≤ b)) → v.delay ≡ Some k → k ≤ b
+-- The greatest recorded delay of a filter is at most the greatest bound of its queues.
+pub delay_bound : {A : Type 0} (p : Plan A) (n b k : ℕ) (f : FilterPlan) (es : List Event) (lists : ℕ → List (Copy CarriedFrame)) (o : Outcome A) (v : View A) → IsPlan p → IsAcceptable p → IsMember (n, f) p.filters → f.protected ≡ true → IsOutcome p es lists o → lookup (nat_eq n) o.filters.items ≡ Some v → ((q c : ℕ) → reaches_queue p f q c ≡ true → (d : ℕ) × IsQueueBound p n q c d × (d ≤ b)) → v.delay ≡ Some k → k ≤ b
 delay_bound {A} p n b k f es lists o v plan good listed is out found bounds delay =
     let known : lookup (nat_eq n) p.filters ≡ Some f = member_found p.filters n f plan.filters.own listed in
-    let longest : IsGreatest (Delayed p n (AtPort lists)) (Some k) = subst (IsGreatest (Delayed p n (AtPort lists))) delay (out.views n f v known found).told.longest in
-    let late : Delayed p n (AtPort lists) k = longest.0 in
+    let longest : IsGreatestNumber (IsFilterDelay p n (IsPortCopy lists)) (Some k) = subst (IsGreatestNumber (IsFilterDelay p n (IsPortCopy lists))) delay (out.views n f v known found).told.longest in
+    let late : IsFilterDelay p n (IsPortCopy lists) k = longest.0 in
     let reach = (own_queues p n f es out.moments lists late.port late.out late.copy plan good listed is out.run late.at late.lies).0 late.flow in
     let (d, bound, upto) = bounds late.port late.copy.class reach in
     let done = in_bound p n d es out.moments lists late.port late.start late.out late.copy plan good out.run out.whole late.at late.lies late.flow late.started bound in
     let was = late.delay in
     omega (arith, done, upto, was)
 
--- a copy that is done within a bound, and within that of few frames where a gate lets no more through, is done within the
--- tightened one
-within_tightened : {A : Type 0} (s : Schedule A) (out : PortPlan A) (c m a b done at : ℕ) → IsTightened s out c m a b → done ≤ at + a
-    → ((k d : ℕ) → LetsFew (turn_at s) k d → IsLongest (opens_of out.list c) (occupied (longest_frame m) out.speed) k d → done ≤ at + (occupied (longest_frame m) out.speed - 1) + d)
+-- A copy leaves within the tightened bound if it leaves within both bounds: by capacity, and by the frames that the stream gate passes.
+within_tightened : {A : Type 0} (s : Schedule A) (out : PortPlan A) (c m a b done at : ℕ) → IsTightenedBound s out c m a b → done ≤ at + a
+    → ((k d : ℕ) → LetsFew (turn_by_time s) k d → IsLongestTime (lists_open out.list c) (transmission_time (longest_frame m) out.speed) k d → done ≤ at + (transmission_time (longest_frame m) out.speed - 1) + d)
     → done ≤ at + b
 within_tightened (Fixed lets ipv) out c m a b done at is before few = omega (arith, is, before)
 within_tightened (Joined j) out c m a b done at is before few = omega (arith, is, before)
-within_tightened (Cyclic l) out c m a b done at is before few = by_most (fewer ((egress out).room c) (most_in l.entries)) refl is
+within_tightened (Cyclic l) out c m a b done at is before few = by_most (frames_below_room ((egress_rules out).room c) (max_list_frames l.entries)) refl is
   where
-    by_most : (o : Option ℕ) → fewer ((egress out).room c) (most_in l.entries) ≡ o → MatchOption o (b ≡ a) (λ k. IsLesser l out c m k a b) → done ≤ at + b
+    by_most : (o : Option ℕ) → frames_below_room ((egress_rules out).room c) (max_list_frames l.entries) ≡ o → MatchOption o (b ≡ a) (λ k. IsLesserBound l out c m k a b) → done ≤ at + b
     by_most None same is = omega (arith, is, before)
     by_most (Some k) same is = elim is.lesser [
       | inr other ↦ let own = other.1 in omega (arith, own, before)
       | inl lesser ↦
-          let most : most_in l.entries ≡ Some k = fewer_is ((egress out).room c) k (most_in l.entries) same in
+          let most : max_list_frames l.entries ≡ Some k = fewer_is ((egress_rules out).room c) k (max_list_frames l.entries) same in
           let within = few k is.is.longest (record { few = λ t x there lets. turn_few l k t x most there lets; apart = lesser.0 }) is.is.is_longest in
           let bound = is.is.bound in
           let own = lesser.1 in
           omega (arith, within, before, bound, own)
     ]
 
--- a copy is done within the tight bound of its queue
-pub in_tight_bound : {A : Type 0} (p : Plan A) (n b : ℕ) (es : List Event) (moments : ℕ → ℕ) (lists : ℕ → List (Copy Carried)) (q s : ℕ) (out : PortPlan A) (x : Copy Carried) → IsPlan p → IsAcceptable p → IsRun p es moments lists → AreWhole lists → AreWithinLengths es → port_at p.ports q ≡ Some out → In x (lists q) → x.item.flow ≡ Some n → x.fate ≡ Started s → IsTightBound p n q x.class b → s + occupied x.item.len out.speed ≤ x.at + b
+-- A sent copy leaves within its queue's tight bound.
+pub in_tight_bound : {A : Type 0} (p : Plan A) (n b : ℕ) (es : List Event) (moments : ℕ → ℕ) (lists : ℕ → List (Copy CarriedFrame)) (q s : ℕ) (out : PortPlan A) (x : Copy CarriedFrame) → IsPlan p → IsAcceptable p → IsRun p es moments lists → AreFinished lists → AreWithinLengths es → find_port p.ports q ≡ Some out → IsMember x (lists q) → x.item.flow ≡ Some n → x.fate ≡ Started s → IsTightBound p n q x.class b → s + transmission_time x.item.len out.speed ≤ x.at + b
 in_tight_bound {A} p n b es moments lists q s out x plan good run whole within at i flow started tight =
-    let bound : IsBound p n q x.class tight.by_room = tight.is_bound in
+    let bound : IsQueueBound p n q x.class tight.by_room = tight.is_bound in
     let same : bound.out ≡ out = same_Some bound.out out (sym bound.at ∙ at) in
     let listed = found_in p.filters n bound.filter bound.found in
     let before = in_bound p n tight.by_room es moments lists q s bound.out x plan good run whole bound.at i flow started bound in
-    let rules : (police_of p).gates bound.filter.gate ≡ rules_of tight.gate = ap gate_or_closed tight.gated in
-    let own : s + occupied x.item.len bound.out.speed ≤ x.at + b = within_tightened tight.gate.schedule bound.out x.class bound.max_sdu tight.by_room b (s + occupied x.item.len bound.out.speed) x.at tight.tightened before
+    let rules : (plan_police p).gates bound.filter.gate ≡ gate_rules tight.gate = ap gate_or_closed tight.gated in
+    let own : s + transmission_time x.item.len bound.out.speed ≤ x.at + b = within_tightened tight.gate.schedule bound.out x.class bound.max_sdu tight.by_room b (s + transmission_time x.item.len bound.out.speed) x.at tight.tightened before
     (λ k d few longest. few_in_time p n bound.max_sdu k d bound.filter es moments lists q s bound.out x plan good listed bound.protected bound.size run whole within bound.at i flow started (subst (λ (r : GateRules). LetsFew r.turn_at k d) (sym rules) few) longest) in
-    subst (λ (o : PortPlan A). s + occupied x.item.len o.speed ≤ x.at + b) same own
+    subst (λ (o : PortPlan A). s + transmission_time x.item.len o.speed ≤ x.at + b) same own

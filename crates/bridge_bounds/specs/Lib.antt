@@ -1,2 +1,2 @@
 pub mod Bounds
-pub mod Passing
+pub mod GateFrames

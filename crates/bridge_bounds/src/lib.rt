@@ -1,12 +1,11 @@
 #![tactic(auto)]
-//! How long the frames of a protected filter take: a bound that each frame which its queue takes keeps, whatever the
-//! talker does.
+//! Delay bounds of a protected filter's frames in each queue. They hold whatever the talker sends.
 
-mod bound;
+mod gate_frames;
 pub mod laws;
-mod longest;
-mod passing;
-mod tight;
+mod longest_time;
+mod queue_bounds;
+mod tight_bound;
 
-pub use bound::{bound_of, find_filter};
-pub use tight::tight_bound_of;
+pub use queue_bounds::{find_filter, queue_bound};
+pub use tight_bound::tight_queue_bound;

@@ -1,9 +1,8 @@
 -- A source or a sink over memory.
 use Rattle.std.specs.Prelude.{ℕ, List, Option, Bool, not, is_some, ◌&&◌, ◌||◌}
 
--- Source or sink of octets in memory: its octets, the number of octets until failure (`None` means unlimited), the most
--- per call, two failure flags.
--- `octets` are still to be read (source) or written (sink), and `ran_out` is true if memory for them was refused.
+-- Source or sink in memory with its remaining or written `octets`. It fails after `allowance` octets (`None`: unlimited) and moves at most `step`
+-- octets per call. `ran_out`: memory ran out.
 pub record MemoryDevice : Type 0 where
   pub octets : List ℕ
   pub allowance : Option ℕ
@@ -11,10 +10,10 @@ pub record MemoryDevice : Type 0 where
   pub is_broken : Bool
   pub ran_out : Bool
 
--- it never fails, as a source
-abbrev pub is_sure : MemoryDevice → Bool
-is_sure d = not (is_some d.allowance) && not d.is_broken
+-- True if the device never fails as a source.
+abbrev pub is_unfailing_source : MemoryDevice → Bool
+is_unfailing_source d = not (is_some d.allowance) && not d.is_broken
 
--- it never fails, as a sink, but where memory for it is refused
-abbrev pub is_unbounded : MemoryDevice → Bool
-is_unbounded d = not (is_some d.allowance) && (not d.is_broken || d.ran_out)
+-- True if the device fails as a sink only if memory runs out.
+abbrev pub is_unfailing_sink : MemoryDevice → Bool
+is_unfailing_sink d = not (is_some d.allowance) && (not d.is_broken || d.ran_out)

@@ -1,34 +1,33 @@
-//! A capture that is being read.
-use crate::fault::CaptureFault;
-use crate::form::Form;
-use crate::header::{HEADER_LEN, judge};
-use crate::packet::{Packet, Stamp};
+//! Capture that is being read.
+use crate::byte_source::ByteSource;
+use crate::capture_fault::CaptureFault;
+use crate::format::CaptureFormat;
+use crate::header::{HEADER_LEN, parse_header};
+use crate::packet::{Packet, PacketInfo};
 use crate::progress::Progress;
-use crate::record::{MAX_RECORDS, front_record};
-use crate::source::ByteSource;
-use crate::transfer::fill;
-use bridge_limits::{END_OF_TIME, MOST_CAPTURED};
+use crate::record::{MAX_RECORDS, read_next_record};
+use crate::transfer::fill_buffer;
+use bridge_limits::{END_OF_TIME, MAX_CAPTURED_OCTETS};
 use std::alloc::Allocator;
 use std::marker::Model;
 
-/// A capture that is being read. It keeps no source: each call is lent the one that the capture
-/// was begun on, untouched in between.
+/// Capture that is being read. It stores no source: each call needs the source of `begin`, unchanged in between.
 #[derive(Drop)]
 pub struct Capture {
-    form: Form,
-    /// The records so far.
+    form: CaptureFormat,
+    /// Number of records so far.
     records: u32,
-    /// The time of the last of them, in ns; 0 before any.
+    /// Time of the last record in ns; 0 before the first.
     latest: u64,
     progress: Progress,
 }
 
 impl Model for Capture {
     ghost use Rattle.std.specs.Prelude.{◌≤◌, ◌≢◌};
-    ghost use Rattle.bridge_capture.specs.declared.fault.CaptureFault.TheVariants.{Write};
+    ghost use Rattle.bridge_capture.specs.declared.capture_fault.CaptureFault.TheVariants.{Write};
     ghost use Rattle.bridge_capture.specs.declared.progress.Progress.TheVariants.{Refused};
     ghost use Rattle.bridge_capture.specs.declared.record.TheConstants.{MAX_RECORDS};
-    ghost use Rattle.bridge_capture.specs.Standing.{CaptureState};
+    ghost use Rattle.bridge_capture.specs.StandsFor.{CaptureState};
 
     ghost Value = { CaptureState };
 
@@ -39,23 +38,23 @@ impl Model for Capture {
 
 impl Capture {
     ghost use Rattle.std.specs.Prelude.{◌≡◌, ◌≢◌, ◌≤◌, ◌<◌, ◌+◌, ℕ, List, length, Ok, Err, Some, None, true, IfOk, IfErr};
-    ghost use Rattle.bridge_capture.specs.Grammar.{Captured};
-    ghost use Rattle.bridge_capture.specs.Reading.{IfPacket, packet_in};
-    ghost use Rattle.bridge_capture.specs.Standing.{StandsFor, Begins, Answers, IsReading, HasEnded, HasRefused, records_left, TakesFor};
-    ghost use Rattle.bridge_capture.specs.Taken.{TakesOfHeader};
+    ghost use Rattle.bridge_capture.specs.Grammar.{CapturedFrame};
+    ghost use Rattle.bridge_capture.specs.Reading.{IfPacket, packet_result};
+    ghost use Rattle.bridge_capture.specs.StandsFor.{StandsFor, BeginsCapture, AnswersNext, IsReading, HasEnded, HasRefused, records_left, TakesRefusedNext};
+    ghost use Rattle.bridge_capture.specs.TakenOctets.{TakesRefusedHeader};
 
-    /// Reads the header of a capture. Takes no memory.
+    /// Reads the header of a capture. Allocates no memory.
     pub fn begin<R: ByteSource>(source: &mut R) -> Result<Capture, CaptureFault>
         ensures stands { (text : List ℕ) → R.remaining source.old ≡ Some text
-            → Begins text (R.remaining source.new) result }
-        ensures taken { IfErr result (TakesOfHeader (R.remaining source.old) (R.remaining source.new)) }
+            → BeginsCapture text (R.remaining source.new) result }
+        ensures taken { IfErr result (TakesRefusedHeader (R.remaining source.old) (R.remaining source.new)) }
 
-        // A new capture is being read, and has given no record.
+        // A new capture is being read, and has returned no records.
         ensures reading { IfOk result (λ capture. IsReading capture) }
         ensures none { IfOk result (λ capture. records_left capture ≡ MAX_RECORDS) }
         ensures zero { IfOk result (λ capture. capture.latest ≡ 0) }
 
-        // Only a source that has failed is answered so, and each such source is.
+        // The result is a read fault exactly if the source has failed.
         ensures read { result ≡ Err CaptureFault.Read → R.has_failed source.new ≡ true }
         ensures sure { R.never_fails source.old ≡ true → result ≢ Err CaptureFault.Read }
         ensures lasts { R.never_fails source.old ≡ true → R.never_fails source.new ≡ true }
@@ -64,14 +63,14 @@ impl Capture {
         ensures no_memory { result ≢ Err CaptureFault.NoMemory }
     {
         let mut octets = [0u8; HEADER_LEN];
-        let count = match fill(source, &mut octets) {
+        let count = match fill_buffer(source, &mut octets) {
             Ok(count) => count,
             Err(_) => return Err(CaptureFault::Read),
         };
         if count < HEADER_LEN {
             return Err(CaptureFault::HeaderCut);
         }
-        match judge(&octets) {
+        match parse_header(&octets) {
             Ok(form) => Ok(Capture {
                 form,
                 records: 0,
@@ -82,36 +81,35 @@ impl Capture {
         }
     }
 
-    /// The next packet, or None at the end of the capture. One growth of memory at most, for the
-    /// packet's octets.
+    /// Reads the next packet; `None` at the end of the capture. Allocates memory at most once, for the packet's octets.
     pub fn next<R: ByteSource, A: Allocator>(
         &mut self,
         alloc: A,
         source: &mut R,
     ) -> Result<Option<Packet<A>>, CaptureFault>
-        ensures stands { (text : List ℕ) (given : List Captured)
+        ensures stands { (text : List ℕ) (given : List CapturedFrame)
             → StandsFor self.old (R.remaining source.old) text given →
-            Answers self.new (R.remaining source.new) text given result }
+            AnswersNext self.new (R.remaining source.new) text given result }
         ensures taken { IfErr result (λ fault. IsReading self.old
-            → TakesFor self.old (R.remaining source.old) (R.remaining source.new) fault) }
+            → TakesRefusedNext self.old (R.remaining source.old) (R.remaining source.new) fault) }
         ensures untouched { ¬ IsReading self.old → source.new ≡ source.old }
 
-        // What holds of a packet, whatever the source tells.
+        // Guarantees for a packet, for any source.
         ensures early { IfPacket result (λ packet. packet.time < END_OF_TIME) }
         ensures onward { IfPacket result (λ packet. self.old.latest ≤ packet.time) }
         ensures latest { IfPacket result (λ packet. self.new.latest ≡ packet.time) }
-        ensures small { IfPacket result (λ packet. length packet.octets.items ≤ MOST_CAPTURED) }
+        ensures small { IfPacket result (λ packet. length packet.octets.items ≤ MAX_CAPTURED_OCTETS) }
         ensures within { IfPacket result (λ packet. length packet.octets.items ≤ packet.len) }
         ensures fewer { IfPacket result (λ _. records_left self.old ≡ records_left self.new + 1) }
         ensures reading { IfPacket result (λ _. IsReading self.new) }
 
-        // Its end and its refusal are for good.
+        // The end and a fault are permanent.
         ensures ends { result ≡ Ok None → HasEnded self.new }
         ensures ended { HasEnded self.old → result ≡ Ok None }
         ensures refuses { IfErr result (λ fault. HasRefused self.new fault) }
         ensures again { (fault : _) → HasRefused self.old fault → result ≡ Err fault }
 
-        // Only a source that has failed is answered so, and each such source is.
+        // The result is a read fault exactly if the source has failed.
         ensures read { result ≡ Err CaptureFault.Read → IsReading self.old → R.has_failed source.new ≡ true }
         ensures broken { R.has_failed source.old ≡ true → IsReading self.old → result ≡ Err CaptureFault.Read }
         ensures sure { R.never_fails source.old ≡ true → IsReading self.old → result ≢ Err CaptureFault.Read }
@@ -119,45 +117,47 @@ impl Capture {
         ensures no_write { result ≢ Err CaptureFault.Write }
     {
         let mut octets = Vec::new(alloc);
-        match self.read_into(&mut octets, source) {
-            Ok(Some(Stamp { time, len })) => Ok(Some(Packet { time, len, octets })),
+        match self.read_packet(&mut octets, source) {
+            Ok(Some(PacketInfo { time, len })) => Ok(Some(Packet { time, len, octets })),
             Ok(None) => Ok(None),
             Err(refusal) => Err(refusal),
         }
     }
 
-    /// The next packet, as `next` gives it, its octets in a vector of the caller's, in place of what it holds. No growth
-    /// of memory where they fit, else one. Where no packet is given, what the vector holds is of no use.
+    /// Reads the next packet into the caller's vector. Allocates memory only if the octets exceed the vector's capacity. Without a
+    /// packet, the vector's contents have no meaning.
     #[inline(always)]
-    pub fn read_into<R: ByteSource, A: Allocator>(
+    pub fn read_packet<R: ByteSource, A: Allocator>(
         &mut self,
         octets: &mut Vec<u8, A>,
         source: &mut R,
-    ) -> Result<Option<Stamp>, CaptureFault>
-        ensures stands { (text : List ℕ) (given : List Captured)
+    ) -> Result<Option<PacketInfo>, CaptureFault>
+        ensures stands { (text : List ℕ) (given : List CapturedFrame)
             → StandsFor self.old (R.remaining source.old) text given →
-            Answers self.new (R.remaining source.new) text given (packet_in octets.new result) }
+            AnswersNext self.new (R.remaining source.new) text given (packet_result octets.new result) }
         ensures taken { IfErr result (λ fault. IsReading self.old
-            → TakesFor self.old (R.remaining source.old) (R.remaining source.new) fault) }
+            → TakesRefusedNext self.old (R.remaining source.old) (R.remaining source.new) fault) }
         ensures untouched { ¬ IsReading self.old → source.new ≡ source.old }
 
-        // What holds of a packet, whatever the source tells.
-        ensures early { IfPacket (packet_in octets.new result) (λ packet. packet.time < END_OF_TIME) }
-        ensures onward { IfPacket (packet_in octets.new result) (λ packet. self.old.latest ≤ packet.time) }
-        ensures latest { IfPacket (packet_in octets.new result) (λ packet. self.new.latest ≡ packet.time) }
-        ensures small { IfPacket (packet_in octets.new result) (λ packet. length packet.octets.items ≤ MOST_CAPTURED) }
-        ensures within { IfPacket (packet_in octets.new result) (λ packet. length packet.octets.items ≤ packet.len) }
-        ensures fewer { IfPacket (packet_in octets.new result) (λ _. records_left self.old
+        // Guarantees for a packet, for any source.
+        ensures early { IfPacket (packet_result octets.new result) (λ packet. packet.time < END_OF_TIME) }
+        ensures onward { IfPacket (packet_result octets.new result) (λ packet. self.old.latest ≤ packet.time) }
+        ensures latest { IfPacket (packet_result octets.new result) (λ packet. self.new.latest ≡ packet.time) }
+        ensures small { IfPacket (packet_result octets.new result) (λ packet. length packet.octets.items
+            ≤ MAX_CAPTURED_OCTETS) }
+        ensures within { IfPacket (packet_result octets.new result) (λ packet. length packet.octets.items
+            ≤ packet.len) }
+        ensures fewer { IfPacket (packet_result octets.new result) (λ _. records_left self.old
             ≡ records_left self.new + 1) }
-        ensures reading { IfPacket (packet_in octets.new result) (λ _. IsReading self.new) }
+        ensures reading { IfPacket (packet_result octets.new result) (λ _. IsReading self.new) }
 
-        // Its end and its refusal are for good.
+        // The end and a fault are permanent.
         ensures ends { result ≡ Ok None → HasEnded self.new }
         ensures ended { HasEnded self.old → result ≡ Ok None }
         ensures refuses { IfErr result (λ fault. HasRefused self.new fault) }
         ensures again { (fault : _) → HasRefused self.old fault → result ≡ Err fault }
 
-        // Only a source that has failed is answered so, and each such source is.
+        // The result is a read fault exactly if the source has failed.
         ensures read { result ≡ Err CaptureFault.Read → IsReading self.old → R.has_failed source.new ≡ true }
         ensures broken { R.has_failed source.old ≡ true → IsReading self.old → result ≡ Err CaptureFault.Read }
         ensures sure { R.never_fails source.old ≡ true → IsReading self.old → result ≢ Err CaptureFault.Read }
@@ -168,7 +168,7 @@ impl Capture {
             Progress::Ended => Ok(None),
             Progress::Refused(fault) => Err(fault),
             Progress::Reading => {
-                match front_record(self.form, self.records + 1, self.latest, octets, source) {
+                match read_next_record(self.form, self.records + 1, self.latest, octets, source) {
                     Ok(Some(stamp)) => {
                         self.records += 1;
                         self.latest = stamp.time;

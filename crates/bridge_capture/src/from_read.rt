@@ -1,10 +1,10 @@
-//! std's readers as sources.
+//! Readers of the standard library as sources.
 ghost use Rattle.std.specs.Prelude.{◌≡◌, [], false};
 
-use crate::source::{Broken, ByteSource};
+use crate::byte_source::{Broken, ByteSource};
 use std::io::Read;
 
-/// A reader as a source. Any error of the reader is for good, an interrupted call too.
+/// Reader as a source. Each error of the reader is permanent, even an interrupted call.
 #[derive(Drop)]
 pub struct FromRead<R: Read> {
     reader: R,
@@ -12,7 +12,7 @@ pub struct FromRead<R: Read> {
 }
 
 impl<R: Read> FromRead<R> {
-    /// A source of what the reader gives.
+    /// Makes a source of a reader.
     pub fn new(reader: R) -> FromRead<R>
         ensures remaining { ⟦<FromRead<R> as ByteSource>⟧.remaining result ≡ R.remaining reader }
         ensures sound { ⟦<FromRead<R> as ByteSource>⟧.has_failed result ≡ false }
@@ -23,7 +23,7 @@ impl<R: Read> FromRead<R> {
         }
     }
 
-    /// The reader, with what it has left.
+    /// Returns the reader with its remaining octets.
     pub fn into_inner(self) -> R
         ensures { R.remaining result ≡ ⟦<FromRead<R> as ByteSource>⟧.remaining self }
     {
@@ -58,9 +58,9 @@ impl<R: Read> ByteSource for FromRead<R> {
         self.is_broken
     }
 
-    fn lent(&self) -> &[u8] {
+    fn buffered_octets(&self) -> &[u8] {
         &[]
     }
 
-    fn skip(&mut self, _count: usize) {}
+    fn consume(&mut self, _count: usize) {}
 }

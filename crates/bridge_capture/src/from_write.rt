@@ -1,12 +1,11 @@
-//! std's writers as sinks.
+//! Writers of the standard library as sinks.
 ghost use Rattle.std.specs.Prelude.{◌≡◌, false};
 
-use crate::sink::ByteSink;
-use crate::source::Broken;
+use crate::byte_sink::ByteSink;
+use crate::byte_source::Broken;
 use std::io::Write;
 
-/// A writer as a sink. Any error of the writer is for good, an interrupted call and a write of
-/// nothing too.
+/// Writer as a sink. Each error of the writer is permanent, even an interrupted call or a write of 0 octets.
 #[derive(Drop)]
 pub struct FromWrite<W: Write> {
     writer: W,
@@ -14,7 +13,7 @@ pub struct FromWrite<W: Write> {
 }
 
 impl<W: Write> FromWrite<W> {
-    /// A sink into the writer.
+    /// Makes a sink of a writer.
     pub fn new(writer: W) -> FromWrite<W>
         ensures contents { ⟦<FromWrite<W> as ByteSink>⟧.contents result ≡ W.contents writer }
         ensures sound { ⟦<FromWrite<W> as ByteSink>⟧.has_failed result ≡ false }
@@ -25,7 +24,7 @@ impl<W: Write> FromWrite<W> {
         }
     }
 
-    /// The writer, with what it holds.
+    /// Returns the writer with its octets.
     pub fn into_inner(self) -> W
         ensures { W.contents result ≡ ⟦<FromWrite<W> as ByteSink>⟧.contents self }
     {

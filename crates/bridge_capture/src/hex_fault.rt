@@ -1,20 +1,20 @@
-//! Why a text spells no octets.
+//! Reasons why a text isn't hexadecimal.
 ghost use Rattle.std.specs.Prelude.{◌≡◌};
 ghost use Rattle.bridge_capture.specs.declared.hex_fault.HexFault.TheVariants.{NoMemory};
 
 use std::alloc::{AllocError, AllocFailed};
 use thiserror::Error;
 
-/// Why a text spells no octets.
+/// Reason why a text gives no octets.
 #[derive(Clone, Copy, Debug, PartialEq, Eq, Error)]
 pub enum HexFault {
-    /// A character that is no hexadecimal digit, where no blank may stand either, or a lone last digit.
+    /// A character isn't a hexadecimal digit or a blank between pairs, or the last digit has no partner.
     #[error("the text is not hexadecimal")]
     NotHex,
-    /// More than `MAX_OCTETS` octets, or more than `MAX_TEXT` bytes of text.
+    /// The text has more than `MAX_OCTETS` octets or `MAX_TEXT_BYTES` bytes.
     #[error("the text is too long")]
     TooLong,
-    /// A growth of memory was refused.
+    /// Memory ran out.
     #[error("no memory")]
     NoMemory,
 }

@@ -1,22 +1,22 @@
-//! What a capture gives.
+//! Frames read from a capture.
 use std::alloc::Allocator;
 
-/// A frame of a capture.
+/// Frame of a capture.
 #[derive(Debug, Drop)]
 pub struct Packet<A: Allocator> {
-    /// The moment at which the whole frame was received, in ns.
+    /// Arrival time in ns, when the last octet is received.
     pub time: u64,
-    /// The length that the frame had on the link, in octets, without its FCS.
+    /// Original length on the link in octets, without check sequence.
     pub len: u32,
-    /// The octets that were captured, from the first one on: at most `len`.
+    /// Captured octets from the first on, at most `len`.
     pub octets: Vec<u8, A>,
 }
 
-/// What a record says of its frame, beside its octets.
+/// Time and length in a record, without its octets.
 #[derive(Clone, Copy, Debug, PartialEq, Eq)]
-pub struct Stamp {
-    /// The moment at which the whole frame was received, in ns.
+pub struct PacketInfo {
+    /// Arrival time in ns, when the last octet is received.
     pub time: u64,
-    /// The length that the frame had on the link, in octets, without its FCS.
+    /// Original length on the link in octets, without check sequence.
     pub len: u32,
 }

@@ -1,13 +1,13 @@
-//! How far a capture was read.
-use crate::fault::CaptureFault;
+//! Progress of reading a capture.
+use crate::capture_fault::CaptureFault;
 
-/// Whether a capture goes on.
+/// Whether more records of a capture can follow.
 #[derive(Clone, Copy)]
 pub enum Progress {
-    /// More may come.
+    /// More records can follow.
     Reading,
-    /// It has come to its end.
+    /// The capture has ended.
     Ended,
-    /// It was refused, for good.
+    /// The capture was refused. The fault is permanent.
     Refused(CaptureFault),
 }

@@ -1,63 +1,63 @@
-//! One record of a capture.
+//! Record of a capture.
 ghost use Rattle.std.specs.Prelude.{◌≡◌, ◌≢◌, ◌≤◌, ◌<◌, ◌+◌, ◌*◌, Some, None, Err, true, length, take, IfSome, IfErr, MatchResult};
-ghost use Rattle.bridge_capture.specs.Grammar.{time_of, captured_of, original_of, head_fault, front_of};
-ghost use Rattle.bridge_capture.specs.Reading.{Takes, TakesOctets, TellsOf, IfPacket, IsInBounds, IsOfWords, packet_in};
-ghost use Rattle.bridge_capture.specs.Taken.{TakesOfRecord, IsSound};
+ghost use Rattle.bridge_capture.specs.Grammar.{record_time, captured_length, original_length, record_header_fault, front_item};
+ghost use Rattle.bridge_capture.specs.Reading.{TakesFront, TakesOctets, AgreesWithSource, IfPacket, IsInBounds, IsRecordHeaderFault, packet_result};
+ghost use Rattle.bridge_capture.specs.TakenOctets.{TakesRefusedRecord, HasSoundHeader};
 
-use crate::fault::CaptureFault;
-use crate::form::{Form, Unit};
-use crate::header::word;
-use crate::packet::Stamp;
-use crate::source::ByteSource;
-use crate::transfer::fill;
-use bridge_limits::{END_OF_TIME, MOST_CAPTURED};
+use crate::byte_source::ByteSource;
+use crate::capture_fault::CaptureFault;
+use crate::format::{CaptureFormat, FractionUnit};
+use crate::header::read_word;
+use crate::packet::PacketInfo;
+use crate::transfer::fill_buffer;
+use bridge_limits::{END_OF_TIME, MAX_CAPTURED_OCTETS};
 use std::alloc::Allocator;
 
-/// Snap length of a written capture, in octets.
+/// Snap length of written captures in octets.
 pub const SNAP_LENGTH: u32 = 65_535;
 
-/// Most records of a capture.
+/// Largest number of records of a capture.
 pub const MAX_RECORDS: u32 = 1_000_000;
 
-/// The four words of a record.
+/// Fields of a record's header.
 #[derive(Clone, Copy)]
-struct Head {
-    /// In ns.
+struct RecordHeader {
+    /// Time in ns.
     time: u64,
     captured: u32,
     original: u32,
 }
 
-/// The words that the sixteen octets are.
+/// Reads the header of a record from sixteen octets.
 #[inline(always)]
-fn head_of(form: Form, octets: &[u8]) -> Head
+fn parse_record_header(form: CaptureFormat, octets: &[u8]) -> RecordHeader
     requires { length octets.now ≡ 16 }
-    ensures time { result.time ≡ time_of form octets.now }
-    ensures captured { result.captured ≡ captured_of form octets.now }
-    ensures original { result.original ≡ original_of form octets.now }
+    ensures time { result.time ≡ record_time form octets.now }
+    ensures captured { result.captured ≡ captured_length form octets.now }
+    ensures original { result.original ≡ original_length form octets.now }
 {
-    let seconds = word(form.order, &octets[..4]) as u64;
-    let fraction = word(form.order, &octets[4..8]) as u64;
+    let seconds = read_word(form.order, &octets[..4]) as u64;
+    let fraction = read_word(form.order, &octets[4..8]) as u64;
     let unit: u64 = match form.unit {
-        Unit::Micro => 1000,
-        Unit::Nano => 1,
+        FractionUnit::Micro => 1000,
+        FractionUnit::Nano => 1,
     };
-    Head {
+    RecordHeader {
         time: seconds * 1_000_000_000 + fraction * unit,
-        captured: word(form.order, &octets[8..12]),
-        original: word(form.order, &octets[12..16]),
+        captured: read_word(form.order, &octets[8..12]),
+        original: read_word(form.order, &octets[12..16]),
     }
 }
 
-/// Whether record `number`, after one at `earliest`, may have these words; else their first fault.
+/// Checks the header of record `number` after a record at time `earliest`, and returns its first fault.
 #[inline(always)]
-fn judge_head(number: u32, earliest: u64, head: Head) -> Result<(), CaptureFault>
-    ensures judged { let fault = head_fault (record { number = number; earliest = earliest })
+fn check_record_header(number: u32, earliest: u64, head: RecordHeader) -> Result<(), CaptureFault>
+    ensures judged { let fault = record_header_fault (record { number = number; earliest = earliest })
         head.time head.captured head.original in
         MatchResult result (λ _. fault ≡ None) (λ f. fault ≡ Some f) }
-    ensures only { IfErr result IsOfWords }
+    ensures only { IfErr result IsRecordHeaderFault }
 {
-    if head.captured > MOST_CAPTURED {
+    if head.captured > MAX_CAPTURED_OCTETS {
         return Err(CaptureFault::RecordTooLarge(number));
     }
     if head.original < head.captured {
@@ -72,9 +72,9 @@ fn judge_head(number: u32, earliest: u64, head: Head) -> Result<(), CaptureFault
     Ok(())
 }
 
-/// Takes the octets of record `number`, so many, into a vector, in place of what it holds.
+/// Reads `captured` octets of record `number` into a vector, and replaces its contents.
 #[inline(always)]
-fn take_octets<R: ByteSource, A: Allocator>(
+fn read_octets<R: ByteSource, A: Allocator>(
     number: u32,
     captured: u32,
     octets: &mut Vec<u8, A>,
@@ -86,11 +86,11 @@ fn take_octets<R: ByteSource, A: Allocator>(
     ensures sure { R.never_fails source.old ≡ true → result ≢ Err CaptureFault.Read }
     ensures lasts { R.never_fails source.old ≡ true → R.never_fails source.new ≡ true }
 {
-    // What stood there is read over, so that only what is longer is set to 0 first.
+    // The read overwrites old octets; only additional octets are set to 0 first.
     if octets.resize(captured as usize, 0u8).is_err() {
         return Err(CaptureFault::NoMemory);
     }
-    let count = match fill(source, octets) {
+    let count = match fill_buffer(source, octets) {
         Ok(count) => count,
         Err(_) => return Err(CaptureFault::Read),
     };
@@ -100,54 +100,59 @@ fn take_octets<R: ByteSource, A: Allocator>(
     Ok(())
 }
 
-/// The words of record `number`, after one at `earliest`, where it is at hand whole and has no fault.
+/// Returns the header of record `number` if the whole record is in memory and its header has no fault.
 #[inline(always)]
-fn head_at_hand(form: Form, number: u32, earliest: u64, lent: &[u8]) -> Option<Head>
+fn parse_buffered_header(
+    form: CaptureFormat,
+    number: u32,
+    earliest: u64,
+    lent: &[u8],
+) -> Option<RecordHeader>
     ensures few { IfSome result (λ _. number ≤ MAX_RECORDS) }
     ensures whole { IfSome result (λ head. 16 + head.captured ≤ length lent.now) }
-    ensures time { IfSome result (λ head. head.time ≡ time_of form (take 16 lent.now)) }
-    ensures captured { IfSome result (λ head. head.captured ≡ captured_of form (take 16 lent.now)) }
-    ensures original { IfSome result (λ head. head.original ≡ original_of form (take 16 lent.now)) }
-    ensures sound { IfSome result (λ _. IsSound form (record
+    ensures time { IfSome result (λ head. head.time ≡ record_time form (take 16 lent.now)) }
+    ensures captured { IfSome result (λ head. head.captured ≡ captured_length form (take 16 lent.now)) }
+    ensures original { IfSome result (λ head. head.original ≡ original_length form (take 16 lent.now)) }
+    ensures sound { IfSome result (λ _. HasSoundHeader form (record
         { number = number; earliest = earliest }) (take 16 lent.now)) }
     ensures early { IfSome result (λ head. head.time < END_OF_TIME) }
     ensures onward { IfSome result (λ head. earliest ≤ head.time) }
-    ensures small { IfSome result (λ head. head.captured ≤ MOST_CAPTURED) }
+    ensures small { IfSome result (λ head. head.captured ≤ MAX_CAPTURED_OCTETS) }
     ensures within { IfSome result (λ head. head.captured ≤ head.original) }
 {
     if number > MAX_RECORDS || lent.len() < 16 {
         return None;
     }
-    let head = head_of(form, &lent[..16]);
-    match judge_head(number, earliest, head) {
+    let head = parse_record_header(form, &lent[..16]);
+    match check_record_header(number, earliest, head) {
         Ok(()) if lent.len() - 16 >= head.captured as usize => Some(head),
         _ => None,
     }
 }
 
-/// Takes the record at the front of what the source has left, if there is one: record `number`,
-/// after one at `earliest`. Its octets are put into a vector, in place of what it holds.
+/// Reads record `number` if octets remain. The previous record had the time `earliest`. The record's octets replace the vector's
+/// contents.
 #[inline(always)]
-pub fn front_record<R: ByteSource, A: Allocator>(
-    form: Form,
+pub fn read_next_record<R: ByteSource, A: Allocator>(
+    form: CaptureFormat,
     number: u32,
     earliest: u64,
     octets: &mut Vec<u8, A>,
     source: &mut R,
-) -> Result<Option<Stamp>, CaptureFault>
+) -> Result<Option<PacketInfo>, CaptureFault>
     ensures record { IfSome (R.remaining source.old) (λ text.
-        Takes (front_of form (record { number = number; earliest = earliest }) text) (R.remaining source.new)
-        (packet_in octets.new result)) }
-    ensures taken { IfErr result (TakesOfRecord form (record
+        TakesFront (front_item form (record { number = number; earliest = earliest }) text) (R.remaining source.new)
+        (packet_result octets.new result)) }
+    ensures taken { IfErr result (TakesRefusedRecord form (record
         { number = number; earliest = earliest }) (R.remaining source.old) (R.remaining source.new)) }
-    ensures bounds { IfPacket (packet_in octets.new result) (IsInBounds number earliest) }
-    ensures told { TellsOf R.has_failed R.never_fails source.old source.new result }
+    ensures bounds { IfPacket (packet_result octets.new result) (IsInBounds number earliest) }
+    ensures told { AgreesWithSource R.has_failed R.never_fails source.old source.new result }
 {
-    let lent = source.lent();
-    let Some(head) = head_at_hand(form, number, earliest, lent) else {
-        // Taken apart, so that what is given stays in registers where the record is at hand.
-        return match read_record(form, number, earliest, octets, source) {
-            Ok(Some(Stamp { time, len })) => Ok(Some(Stamp { time, len })),
+    let lent = source.buffered_octets();
+    let Some(head) = parse_buffered_header(form, number, earliest, lent) else {
+        // Rebuilding the result keeps it in registers if the record is in memory.
+        return match read_unbuffered_record(form, number, earliest, octets, source) {
+            Ok(Some(PacketInfo { time, len })) => Ok(Some(PacketInfo { time, len })),
             Ok(None) => Ok(None),
             Err(fault) => Err(fault),
         };
@@ -155,45 +160,45 @@ pub fn front_record<R: ByteSource, A: Allocator>(
     let end = 16 + head.captured as usize;
     octets.clear();
     if octets.extend_from_slice(&lent[16..end]).is_err() {
-        source.skip(16);
+        source.consume(16);
         return Err(CaptureFault::NoMemory);
     }
-    source.skip(end);
-    Ok(Some(Stamp {
+    source.consume(end);
+    Ok(Some(PacketInfo {
         time: head.time,
         len: head.original,
     }))
 }
 
-/// The same, of a record that isn't at hand, or has a fault.
+/// Reads a record that isn't completely in memory, or that has a fault.
 #[cold]
 #[inline(never)]
-fn read_record<R: ByteSource, A: Allocator>(
-    form: Form,
+fn read_unbuffered_record<R: ByteSource, A: Allocator>(
+    form: CaptureFormat,
     number: u32,
     earliest: u64,
     octets: &mut Vec<u8, A>,
     source: &mut R,
-) -> Result<Option<Stamp>, CaptureFault>
+) -> Result<Option<PacketInfo>, CaptureFault>
     ensures record { IfSome (R.remaining source.old) (λ text.
-        Takes (front_of form (record { number = number; earliest = earliest }) text) (R.remaining source.new)
-        (packet_in octets.new result)) }
-    ensures taken { IfErr result (TakesOfRecord form (record
+        TakesFront (front_item form (record { number = number; earliest = earliest }) text) (R.remaining source.new)
+        (packet_result octets.new result)) }
+    ensures taken { IfErr result (TakesRefusedRecord form (record
         { number = number; earliest = earliest }) (R.remaining source.old) (R.remaining source.new)) }
-    ensures bounds { IfPacket (packet_in octets.new result) (IsInBounds number earliest) }
-    ensures told { TellsOf R.has_failed R.never_fails source.old source.new result }
+    ensures bounds { IfPacket (packet_result octets.new result) (IsInBounds number earliest) }
+    ensures told { AgreesWithSource R.has_failed R.never_fails source.old source.new result }
 {
     if number > MAX_RECORDS {
-        // One octet is too much already, so no more is asked for.
+        // One octet already is too much, so it reads no more.
         let mut octet = [0u8; 1];
-        return match fill(source, &mut octet) {
+        return match fill_buffer(source, &mut octet) {
             Ok(count) if count > 0 => Err(CaptureFault::TooManyRecords),
             Ok(_) => Ok(None),
             Err(_) => Err(CaptureFault::Read),
         };
     }
     let mut words = [0u8; 16];
-    let count = match fill(source, &mut words) {
+    let count = match fill_buffer(source, &mut words) {
         Ok(count) => count,
         Err(_) => return Err(CaptureFault::Read),
     };
@@ -203,12 +208,12 @@ fn read_record<R: ByteSource, A: Allocator>(
     if count < 16 {
         return Err(CaptureFault::RecordCut(number));
     }
-    let head = head_of(form, &words);
-    if let Err(fault) = judge_head(number, earliest, head) {
+    let head = parse_record_header(form, &words);
+    if let Err(fault) = check_record_header(number, earliest, head) {
         return Err(fault);
     }
-    match take_octets(number, head.captured, octets, source) {
-        Ok(()) => Ok(Some(Stamp {
+    match read_octets(number, head.captured, octets, source) {
+        Ok(()) => Ok(Some(PacketInfo {
             time: head.time,
             len: head.original,
         })),

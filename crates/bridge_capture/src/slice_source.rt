@@ -1,19 +1,19 @@
-//! Octets of memory as a source, which tells them and can fail at a stated place.
+//! Octets in memory as a source that can fail after a given number of octets.
 ghost use Rattle.std.specs.Prelude.{◌≡◌, ◌≤◌, ◌-◌, ◌<◌, ◌⊎◌, [], length, Some, true, false, IfOk, OnOk, OnErr, IsErr, IsOk, option_map};
 ghost use Rattle.std.specs.Io.KnownBytes.{ReadConsumes};
-ghost use Rattle.bridge_capture.specs.Memory.{is_sure};
+ghost use Rattle.bridge_capture.specs.Memory.{is_unfailing_source};
 
-use crate::allowance::{allowed, is_over, left_behind};
-use crate::source::{Broken, ByteSource};
+use crate::allowance::{allowed_octets, is_failing, remaining_allowance};
+use crate::byte_source::{Broken, ByteSource};
 use std::marker::Model;
 
-/// The octets of a slice, as a source.
+/// Source of a slice's octets.
 #[derive(Drop)]
 pub struct SliceSource<'a> {
     rest: &'a [u8],
-    /// How many octets it still gives before it fails, if it is to fail.
+    /// Number of octets until failure; `None` means unlimited.
     allowance: Option<usize>,
-    /// The most that it gives a call.
+    /// Largest number of octets per call.
     step: usize,
     is_broken: bool,
 }
@@ -38,35 +38,35 @@ impl<'a> Model for SliceSource<'a> {
 impl<'a> SliceSource<'a> {
     ghost use Rattle.std.specs.Prelude.{◌≡◌, ◌<◌, Some, None, false};
 
-    /// A source of these octets that never fails.
+    /// Makes a source that never fails.
     pub fn new(octets: &'a [u8]) -> SliceSource<'a>
         ensures octets { result.octets ≡ octets.entry.now }
         ensures never { result.allowance ≡ None }
         ensures sound { result.is_broken ≡ false }
     {
-        SliceSource::with(octets, None, usize::MAX)
+        SliceSource::with_limits(octets, None, usize::MAX)
     }
 
-    /// A source of these octets that fails at the first call for more once it has given `count`.
-    pub fn failing_after(octets: &'a [u8], count: usize) -> SliceSource<'a>
+    /// Makes a source that fails at the next read after `count` octets.
+    pub fn with_allowance(octets: &'a [u8], count: usize) -> SliceSource<'a>
         ensures octets { result.octets ≡ octets.entry.now }
         ensures after { result.allowance ≡ Some count }
         ensures sound { result.is_broken ≡ false }
     {
-        SliceSource::with(octets, Some(count), usize::MAX)
+        SliceSource::with_limits(octets, Some(count), usize::MAX)
     }
 
-    /// A source of these octets that never fails and gives at most one of them a call.
-    pub fn one_by_one(octets: &'a [u8]) -> SliceSource<'a>
+    /// Makes a source that never fails and gives at most one octet per call.
+    pub fn with_single_octets(octets: &'a [u8]) -> SliceSource<'a>
         ensures octets { result.octets ≡ octets.entry.now }
         ensures never { result.allowance ≡ None }
         ensures single { result.step ≡ 1 }
         ensures sound { result.is_broken ≡ false }
     {
-        SliceSource::with(octets, None, 1)
+        SliceSource::with_limits(octets, None, 1)
     }
 
-    fn with(octets: &'a [u8], allowance: Option<usize>, step: usize) -> SliceSource<'a>
+    fn with_limits(octets: &'a [u8], allowance: Option<usize>, step: usize) -> SliceSource<'a>
         requires { 0 < step }
         ensures { result ≡ record {
           octets = octets.entry.now;
@@ -90,7 +90,7 @@ impl<'a> ByteSource for SliceSource<'a> {
 
     ghost has_failed = { λ s. s.is_broken };
 
-    ghost never_fails = { λ s. is_sure s };
+    ghost never_fails = { λ s. is_unfailing_source s };
 
     ghost at_hand = { λ _. [] };
 
@@ -99,26 +99,26 @@ impl<'a> ByteSource for SliceSource<'a> {
         ensures bytes { ReadConsumes (Some self.old.octets) (Some self.new.octets) result buf.new }
         ensures fails { OnErr result (self.new.is_broken ≡ true) }
         ensures works { OnOk result (self.new.is_broken ≡ false) }
-        ensures sure { is_sure self.old ≡ true → IsOk result }
-        ensures lasts { is_sure self.old ≡ true → is_sure self.new ≡ true }
+        ensures sure { is_unfailing_source self.old ≡ true → IsOk result }
+        ensures lasts { is_unfailing_source self.old ≡ true → is_unfailing_source self.new ≡ true }
         ensures stays { self.old.is_broken ≡ true → IsErr result }
 
-        // It fails only where it was to fail, and counts what it gives.
+        // It fails only after its allowance, and subtracts the octets that it gives.
         ensures spent { OnErr result ((self.old.is_broken ≡ true) ⊎ (self.old.allowance ≡ Some 0)) }
         ensures dry { self.old.allowance ≡ Some 0 → 0 < length buf.old → IsErr result }
         ensures counted { IfOk result (λ n. self.new.allowance ≡ option_map (λ left. left - n) self.old.allowance) }
         ensures step { IfOk result (λ n. n ≤ self.old.step) }
         ensures kept { self.new.step ≡ self.old.step }
     {
-        if is_over(self.is_broken, self.allowance, buf.len()) {
+        if is_failing(self.is_broken, self.allowance, buf.len()) {
             self.is_broken = true;
             return Err(Broken);
         }
-        let count = allowed(
+        let count = allowed_octets(
             self.allowance,
             self.step.min(buf.len()).min(self.rest.len()),
         );
-        self.allowance = left_behind(self.allowance, count);
+        self.allowance = remaining_allowance(self.allowance, count);
         let (now, later) = self.rest.split_at(count);
         buf[..count].copy_from_slice(now);
         self.rest = later;
@@ -129,9 +129,9 @@ impl<'a> ByteSource for SliceSource<'a> {
         self.is_broken
     }
 
-    fn lent(&self) -> &[u8] {
+    fn buffered_octets(&self) -> &[u8] {
         &[]
     }
 
-    fn skip(&mut self, _count: usize) {}
+    fn consume(&mut self, _count: usize) {}
 }

@@ -1,16 +1,15 @@
-//! Whole buffers from sources, and whole slices into sinks, that may move less at a time.
+//! Fills whole buffers and writes whole slices, by as many calls as needed.
 ghost use Rattle.std.specs.Prelude.{◌≡◌, ◌≤◌, ◌<◌, length, take, true, false, IsErr, IsOk, IfOk, IfErr, OnOk, OnErr};
 ghost use Rattle.std.specs.Io.KnownBytes.{Consumes, IsAtEnd, Appends};
-ghost use Rattle.bridge_capture.specs.Sinks.{AppendsFront};
-ghost use Rattle.bridge_capture.specs.Taken.{TakesFewer};
+ghost use Rattle.bridge_capture.specs.Sinks.{AppendsPrefix};
+ghost use Rattle.bridge_capture.specs.TakenOctets.{TakesFewer};
 
-use crate::sink::ByteSink;
-use crate::source::{Broken, ByteSource};
+use crate::byte_sink::ByteSink;
+use crate::byte_source::{Broken, ByteSource};
 
-/// Fills the buffer from its front, as far as the source goes, and says how many octets came:
-/// fewer than the buffer holds only at the end of the source.
+/// Fills the buffer, and returns the number of octets. It is less than the buffer's length only at the end of the source.
 #[inline(always)]
-pub fn fill<R: ByteSource>(source: &mut R, buf: &mut [u8]) -> Result<usize, Broken>
+pub fn fill_buffer<R: ByteSource>(source: &mut R, buf: &mut [u8]) -> Result<usize, Broken>
     ensures count { IfOk result (λ n. n ≤ length buf.new) }
     ensures bytes { IfOk result (λ n. Consumes (R.remaining source.old) (R.remaining source.new) (take n buf.new)) }
     ensures end { IfOk result (λ n. n < length buf.new → IsAtEnd (R.remaining source.new)) }
@@ -29,16 +28,16 @@ pub fn fill<R: ByteSource>(source: &mut R, buf: &mut [u8]) -> Result<usize, Brok
     if first == 0 || first == buf.len() {
         return Ok(first);
     }
-    match fill_on(source, &mut buf[first..]) {
+    match fill_by_many_reads(source, &mut buf[first..]) {
         Ok(more) => Ok(first + more),
         Err(broken) => Err(broken),
     }
 }
 
-/// The same, by as many reads as it takes.
+/// Fills the buffer by as many reads as needed.
 #[cold]
 #[inline(never)]
-fn fill_on<R: ByteSource>(source: &mut R, buf: &mut [u8]) -> Result<usize, Broken>
+fn fill_by_many_reads<R: ByteSource>(source: &mut R, buf: &mut [u8]) -> Result<usize, Broken>
     ensures count { IfOk result (λ n. n ≤ length buf.new) }
     ensures bytes { IfOk result (λ n. Consumes (R.remaining source.old) (R.remaining source.new) (take n buf.new)) }
     ensures end { IfOk result (λ n. n < length buf.new → IsAtEnd (R.remaining source.new)) }
@@ -61,11 +60,11 @@ fn fill_on<R: ByteSource>(source: &mut R, buf: &mut [u8]) -> Result<usize, Broke
     Ok(at)
 }
 
-/// Writes all of the octets. Where the sink fails, it holds a front of them.
+/// Writes all octets. If the sink fails, it has a prefix of them.
 #[inline(always)]
 pub fn write_all<W: ByteSink>(sink: &mut W, octets: &[u8]) -> Result<(), Broken>
     ensures all { OnOk result (Appends (W.contents sink.old) (W.contents sink.new) octets.now) }
-    ensures front { OnErr result (AppendsFront (W.contents sink.old) (W.contents sink.new) octets.now) }
+    ensures front { OnErr result (AppendsPrefix (W.contents sink.old) (W.contents sink.new) octets.now) }
     ensures fails { OnErr result (W.has_failed sink.new ≡ true) }
     ensures sure { W.never_fails sink.old ≡ true → OnErr result (W.ran_out sink.new ≡ true) }
     ensures lasts { W.never_fails sink.old ≡ true → W.never_fails sink.new ≡ true }
@@ -81,16 +80,16 @@ pub fn write_all<W: ByteSink>(sink: &mut W, octets: &[u8]) -> Result<(), Broken>
     if first == octets.len() {
         return Ok(());
     }
-    match write_front(sink, &octets[first..]) {
+    match write_by_many_writes(sink, &octets[first..]) {
         Ok(()) => Ok(()),
         Err(_) => Err(Broken),
     }
 }
 
-/// Writes all of the octets, by as many writes as it takes. Where the sink fails, it holds so many of them.
+/// Writes all octets by as many writes as needed. If the sink fails, returns how many octets it accepted.
 #[cold]
 #[inline(never)]
-pub fn write_front<W: ByteSink>(sink: &mut W, octets: &[u8]) -> Result<(), usize>
+pub fn write_by_many_writes<W: ByteSink>(sink: &mut W, octets: &[u8]) -> Result<(), usize>
     ensures all { OnOk result (Appends (W.contents sink.old) (W.contents sink.new) octets.now) }
     ensures count { IfErr result (λ n. n ≤ length octets.now) }
     ensures part { IfErr result (λ n. Appends (W.contents sink.old) (W.contents sink.new) (take n octets.now)) }

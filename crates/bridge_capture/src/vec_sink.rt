@@ -1,24 +1,24 @@
-//! A sink into memory, which tells what it holds and can fail at a stated place.
+//! Sink in memory that can fail after a given number of octets.
 ghost use Rattle.std.specs.Prelude.{◌≡◌, ◌≤◌, ◌-◌, ◌<◌, ◌⊎◌, length, Some, true, false, IfOk, OnOk, OnErr, IsErr, option_map};
 ghost use Rattle.std.specs.Io.KnownBytes.{WriteAppends};
-ghost use Rattle.bridge_capture.specs.Memory.{is_unbounded};
+ghost use Rattle.bridge_capture.specs.Memory.{is_unfailing_sink};
 
-use crate::allowance::{allowed, is_over, left_behind};
-use crate::sink::ByteSink;
-use crate::source::Broken;
+use crate::allowance::{allowed_octets, is_failing, remaining_allowance};
+use crate::byte_sink::ByteSink;
+use crate::byte_source::Broken;
 use std::alloc::Allocator;
 use std::marker::Model;
 
-/// A sink that holds what it took.
+/// Sink that stores its octets.
 #[derive(Drop)]
 pub struct VecSink<A: Allocator> {
     octets: Vec<u8, A>,
-    /// How many octets it still takes before it fails, if it is to fail.
+    /// Number of octets until failure; `None` means unlimited.
     allowance: Option<usize>,
-    /// The most that it takes a call.
+    /// Largest number of octets per call.
     step: usize,
     is_broken: bool,
-    /// Whether its growth was refused.
+    /// Whether memory ran out.
     ran_out: bool,
 }
 
@@ -42,39 +42,38 @@ impl<A: Allocator> Model for VecSink<A> {
 impl<A: Allocator> VecSink<A> {
     ghost use Rattle.std.specs.Prelude.{◌≡◌, ◌<◌, [], Some, None, false};
 
-    /// An empty sink that fails only where its growth is refused.
+    /// Makes an empty sink that fails only if memory runs out.
     pub fn new(alloc: A) -> VecSink<A>
         ensures octets { result.octets ≡ [] }
         ensures never { result.allowance ≡ None }
         ensures sound { result.is_broken ≡ false }
         ensures room { result.ran_out ≡ false }
     {
-        VecSink::with(alloc, None, usize::MAX)
+        VecSink::with_limits(alloc, None, usize::MAX)
     }
 
-    /// An empty sink that fails at the first octet more once it has taken `count`, and where its
-    /// growth is refused.
-    pub fn failing_after(alloc: A, count: usize) -> VecSink<A>
+    /// Makes an empty sink that fails after `count` octets, or if memory runs out.
+    pub fn with_allowance(alloc: A, count: usize) -> VecSink<A>
         ensures octets { result.octets ≡ [] }
         ensures after { result.allowance ≡ Some count }
         ensures sound { result.is_broken ≡ false }
         ensures room { result.ran_out ≡ false }
     {
-        VecSink::with(alloc, Some(count), usize::MAX)
+        VecSink::with_limits(alloc, Some(count), usize::MAX)
     }
 
-    /// An empty sink that takes at most one octet a call, and fails only where its growth is refused.
-    pub fn one_by_one(alloc: A) -> VecSink<A>
+    /// Makes an empty sink that accepts at most one octet per call, and fails only if memory runs out.
+    pub fn with_single_octets(alloc: A) -> VecSink<A>
         ensures octets { result.octets ≡ [] }
         ensures never { result.allowance ≡ None }
         ensures single { result.step ≡ 1 }
         ensures sound { result.is_broken ≡ false }
         ensures room { result.ran_out ≡ false }
     {
-        VecSink::with(alloc, None, 1)
+        VecSink::with_limits(alloc, None, 1)
     }
 
-    fn with(alloc: A, allowance: Option<usize>, step: usize) -> VecSink<A>
+    fn with_limits(alloc: A, allowance: Option<usize>, step: usize) -> VecSink<A>
         requires { 0 < step }
         ensures { result ≡ record {
           octets = [];
@@ -93,15 +92,15 @@ impl<A: Allocator> VecSink<A> {
         }
     }
 
-    /// What it holds.
+    /// Returns the octets in the sink.
     pub fn octets(&self) -> &[u8]
         ensures { result.now ≡ self.now.octets }
     {
         &self.octets
     }
 
-    /// Whether its growth was refused.
-    pub fn ran_out(&self) -> bool
+    /// Whether memory ran out.
+    pub fn is_out_of_memory(&self) -> bool
         ensures { result ≡ self.now.ran_out }
     {
         self.ran_out
@@ -113,7 +112,7 @@ impl<A: Allocator> ByteSink for VecSink<A> {
 
     ghost has_failed = { λ s. s.is_broken };
 
-    ghost never_fails = { λ s. is_unbounded s };
+    ghost never_fails = { λ s. is_unfailing_sink s };
 
     ghost ran_out = { λ s. s.ran_out };
 
@@ -123,11 +122,12 @@ impl<A: Allocator> ByteSink for VecSink<A> {
         ensures bytes { WriteAppends (Some self.old.octets) (Some self.new.octets) result octets.now }
         ensures fails { OnErr result (self.new.is_broken ≡ true) }
         ensures works { OnOk result (self.new.is_broken ≡ false) }
-        ensures sure { is_unbounded self.old ≡ true → OnErr result (self.new.ran_out ≡ true) }
-        ensures lasts { is_unbounded self.old ≡ true → is_unbounded self.new ≡ true }
+        ensures sure { is_unfailing_sink self.old ≡ true → OnErr result (self.new.ran_out ≡ true) }
+        ensures lasts { is_unfailing_sink self.old ≡ true → is_unfailing_sink self.new ≡ true }
         ensures stays { self.old.is_broken ≡ true → IsErr result }
 
-        // It fails only where it had failed, was to fail, or ran out of memory, and counts what it takes.
+        // It fails only after its allowance, after an earlier failure, or if memory runs out. It subtracts the octets that it
+        // accepts.
         ensures fault { OnErr result ((self.old.is_broken ≡ true) ⊎ (self.old.allowance ≡ Some 0)
             ⊎ (self.new.ran_out ≡ true)) }
         ensures room { OnOk result (self.new.ran_out ≡ self.old.ran_out) }
@@ -136,14 +136,14 @@ impl<A: Allocator> ByteSink for VecSink<A> {
         ensures kept { self.new.step ≡ self.old.step }
         ensures spent { self.old.allowance ≡ Some 0 → 0 < length octets.now → IsErr result }
     {
-        if is_over(self.is_broken, self.allowance, octets.len()) {
+        if is_failing(self.is_broken, self.allowance, octets.len()) {
             self.is_broken = true;
             return Err(Broken);
         }
-        let count = allowed(self.allowance, self.step.min(octets.len()));
+        let count = allowed_octets(self.allowance, self.step.min(octets.len()));
         match self.octets.extend_from_slice(&octets[..count]) {
             Ok(()) => {
-                self.allowance = left_behind(self.allowance, count);
+                self.allowance = remaining_allowance(self.allowance, count);
                 Ok(count)
             }
             Err(_) => {

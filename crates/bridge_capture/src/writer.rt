@@ -1,27 +1,27 @@
-//! Writing a capture.
+//! Writes captures.
 ghost use Rattle.std.specs.Prelude.{◌≡◌, ◌≤◌, ◌<◌, ◌*◌, ◌^◌, ◌++◌, length, true, Err, OnOk, OnErr};
 ghost use Rattle.std.specs.Int.{w64, to_le_bytes};
 ghost use Rattle.std.specs.Io.KnownBytes.{Appends};
-ghost use Rattle.bridge_capture.specs.Sinks.{AppendsFront};
-ghost use Rattle.bridge_capture.specs.Written.{written_header, written_words, written_record};
+ghost use Rattle.bridge_capture.specs.Sinks.{AppendsPrefix};
+ghost use Rattle.bridge_capture.specs.WrittenCapture.{written_header, written_words, written_record};
 
-use crate::fault::CaptureFault;
+use crate::byte_sink::ByteSink;
+use crate::capture_fault::CaptureFault;
 use crate::record::SNAP_LENGTH;
-use crate::sink::ByteSink;
 use crate::transfer::write_all;
 
-/// A capture that is being written, in little order with nanoseconds. It keeps no sink: each call
-/// is lent the one that the capture was begun on, untouched in between.
+/// Capture that is being written, little-endian with nanoseconds. It stores no sink: each call needs the sink of `begin`, unchanged
+/// in between.
 #[derive(Drop)]
 pub struct Writer {
     begun: (),
 }
 
 impl Writer {
-    /// Writes the header. Takes no memory. Where the sink fails, it holds a front of the header.
+    /// Writes the header. Allocates no memory. If the sink fails, it has a prefix of the header.
     pub fn begin<W: ByteSink>(sink: &mut W) -> Result<Writer, CaptureFault>
         ensures ok { OnOk result (Appends (W.contents sink.old) (W.contents sink.new) written_header) }
-        ensures err { OnErr result (AppendsFront (W.contents sink.old) (W.contents sink.new) written_header) }
+        ensures err { OnErr result (AppendsPrefix (W.contents sink.old) (W.contents sink.new) written_header) }
         ensures only { OnErr result (result ≡ Err CaptureFault.Write) }
         ensures fails { OnErr result (W.has_failed sink.new ≡ true) }
         ensures sure { W.never_fails sink.old ≡ true → OnErr result (W.ran_out sink.new ≡ true) }
@@ -38,9 +38,8 @@ impl Writer {
         }
     }
 
-    /// Writes a record: the moment `done`, in ns, at which the frame had left, the length `len` that
-    /// it had on the link, and its octets. Takes no memory. Where the sink fails, it holds a front
-    /// of the record.
+    /// Writes a record: the end of transmission `done` in ns, the length `len` on the link, and the octets. Allocates no memory. If
+    /// the sink fails, it has a prefix of the record.
     #[inline(always)]
     pub fn put<W: ByteSink>(
         &mut self,
@@ -54,7 +53,7 @@ impl Writer {
         requires original { length octets.now ≤ len }
         ensures ok { OnOk result (Appends (W.contents sink.old) (W.contents sink.new)
             (written_record done len octets.now)) }
-        ensures err { OnErr result (AppendsFront (W.contents sink.old) (W.contents sink.new)
+        ensures err { OnErr result (AppendsPrefix (W.contents sink.old) (W.contents sink.new)
             (written_record done len octets.now)) }
         ensures only { OnErr result (result ≡ Err CaptureFault.Write) }
         ensures fails { OnErr result (W.has_failed sink.new ≡ true) }
@@ -63,20 +62,24 @@ impl Writer {
         ensures again { W.has_failed sink.old ≡ true → result ≡ Err CaptureFault.Write }
     {
         let captured = octets.len() as u32;
-        let (first, second) = word_pairs(done, len, captured);
+        let (first, second) = record_word_pairs(done, len, captured);
         if sink.write_words(first, second, octets) {
             return Ok(());
         }
-        put_parts(sink, &head_words(done, len, captured), octets)
+        write_parts(sink, &record_words(done, len, captured), octets)
     }
 }
 
-/// Writes a record's words and then its octets, for which the sink has no room at once.
+/// Writes a record's header, then its octets, for a sink that can't accept both at once.
 #[cold]
 #[inline(never)]
-fn put_parts<W: ByteSink>(sink: &mut W, words: &[u8; 16], octets: &[u8]) -> Result<(), CaptureFault>
+fn write_parts<W: ByteSink>(
+    sink: &mut W,
+    words: &[u8; 16],
+    octets: &[u8],
+) -> Result<(), CaptureFault>
     ensures ok { OnOk result (Appends (W.contents sink.old) (W.contents sink.new) (words.now ++ octets.now)) }
-    ensures err { OnErr result (AppendsFront (W.contents sink.old) (W.contents sink.new) (words.now ++ octets.now)) }
+    ensures err { OnErr result (AppendsPrefix (W.contents sink.old) (W.contents sink.new) (words.now ++ octets.now)) }
     ensures only { OnErr result (result ≡ Err CaptureFault.Write) }
     ensures fails { OnErr result (W.has_failed sink.new ≡ true) }
     ensures sure { W.never_fails sink.old ≡ true → OnErr result (W.ran_out sink.new ≡ true) }
@@ -93,9 +96,9 @@ fn put_parts<W: ByteSink>(sink: &mut W, words: &[u8; 16], octets: &[u8]) -> Resu
     }
 }
 
-/// The four words of a record, two in a number: the whole seconds and the nanoseconds behind them, and the two lengths.
+/// Returns the four words of a record, two in each number: seconds and nanoseconds, captured length and original length.
 #[inline(always)]
-fn word_pairs(done: u64, len: u32, captured: u32) -> (u64, u64)
+fn record_word_pairs(done: u64, len: u32, captured: u32) -> (u64, u64)
     requires { done < 2 ^ 32 * 10 ^ 9 }
     ensures { to_le_bytes w64 result.0 ++ to_le_bytes w64 result.1 ≡ written_words done captured len }
 {
@@ -107,9 +110,9 @@ fn word_pairs(done: u64, len: u32, captured: u32) -> (u64, u64)
     )
 }
 
-/// The four words of a record.
-#[tactic(auto, unfolding(crate::specs::Written::written_words))]
-fn head_words(done: u64, len: u32, captured: u32) -> [u8; 16]
+/// Returns the four words of a record.
+#[tactic(auto, unfolding(crate::specs::WrittenCapture::written_words))]
+fn record_words(done: u64, len: u32, captured: u32) -> [u8; 16]
     requires { done < 2 ^ 32 * 10 ^ 9 }
     ensures { result ≡ written_words done captured len }
 {

@@ -4,9 +4,9 @@ use Rattle.std.specs.Option.{ForSome}
 use Rattle.bridge_frame.specs.declared.Tag.{Tag}
 use Rattle.bridge_config.specs.declared.ports.PortPlan.{PortPlan}
 use Rattle.bridge_config.specs.Rules.{IsPort}
-use Rattle.bridge_check.specs.Sending.{priority_of}
+use Rattle.bridge_check.specs.FrameInput.{frame_priority}
 
--- the priority of a frame has three bits, also where its port gives it
-pub priority_few : {A : Type 0} (port : PortPlan A) (t : Option Tag) → IsPort port → ForSome t (λ t. t.pcp ≤ 7) → priority_of port t ≤ 7
+-- A frame's priority is at most 7, from its tag or from its port.
+pub priority_few : {A : Type 0} (port : PortPlan A) (t : Option Tag) → IsPort port → ForSome t (λ t. t.pcp ≤ 7) → frame_priority port t ≤ 7
 priority_few port None is h = is.priority
 priority_few port (Some tag) is h = h tag refl

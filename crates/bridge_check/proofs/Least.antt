@@ -1,13 +1,13 @@
--- The fault of the least number, one filter more at a time.
+-- The fault of the lowest-numbered filter, by induction over the filters.
 use Rattle.std.proofs.Common.{◌≡◌, ℕ, Bool, true, false, List, [], ◌∷◌, Option, Some, None, nat_lt, refl, sym, ap, ◌∙◌, arith, inl, inr, cond}
 use Rattle.std.specs.Prelude.{option_map}
 use Rattle.std.proofs.lemmas.Bool.{ltb-true, lt-ltb, ltb-false, le-ltb}
-use Rattle.bridge_limits.specs.Members.{In}
+use Rattle.bridge_limits.specs.Members.{IsMember}
 use Rattle.bridge_limits.proofs.Cases.{by_bool}
 use Rattle.bridge_filter.specs.declared.FilterPlan.{FilterPlan}
 use Rattle.bridge_config.specs.Model.{Plan}
-use Rattle.bridge_check.specs.declared.fault.CheckFault.{CheckFault}
-use Rattle.bridge_check.specs.Faults.{lesser_fault, fault_of, numbered_fault, least_fault, first_fault}
+use Rattle.bridge_check.specs.declared.check_fault.CheckFault.{CheckFault}
+use Rattle.bridge_check.specs.Faults.{lesser_fault, filter_fault, numbered_fault, least_fault, first_fault}
 use Rattle.bridge_check.specs.Acceptable.{IsAcceptable}
 
 abbrev pub Numbered : Type 0
@@ -45,13 +45,13 @@ pub no_fault : (n : ℕ) (o : Option CheckFault) → option_map {U = Numbered} (
 no_fault n None h = refl
 no_fault n (Some e) h = absurd (cc)
 
--- where no filter has a fault, none that is protected has one
-none_of : {A : Type 0} (p : Plan A) (fs : List (ℕ × FilterPlan)) → least_fault p fs ≡ None → (n : ℕ) (f : FilterPlan) → In (n, f) fs → f.protected ≡ true → fault_of p n f ≡ None
+-- If no filter has a fault, no protected filter fails a test.
+none_of : {A : Type 0} (p : Plan A) (fs : List (ℕ × FilterPlan)) → least_fault p fs ≡ None → (n : ℕ) (f : FilterPlan) → IsMember (n, f) fs → f.protected ≡ true → filter_fault p n f ≡ None
 none_of p [] h n f i is = absurd i
 none_of p (g ∷ gs) h n f (inl e) is =
     let (here, rest) = neither (numbered_fault p g) (least_fault p gs) h in
     let own : numbered_fault p (n, f) ≡ None = ap (numbered_fault p) e ∙ here in
-    no_fault n (fault_of p n f) (rw is at own)
+    no_fault n (filter_fault p n f) (rw is at own)
 none_of p (g ∷ gs) h n f (inr i) is =
     let (here, rest) = neither (numbered_fault p g) (least_fault p gs) h in
     none_of p gs rest n f i is

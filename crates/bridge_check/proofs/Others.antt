@@ -1,6 +1,6 @@
--- The least of some numbers, one number more at a time.
+-- The lowest number in a list, one number more at a time.
 use Rattle.std.proofs.Common.{◌≡◌, ℕ, Option, Some, None, refl, ap, arith}
-use Rattle.bridge_filter.specs.Finding.{lesser_number}
+use Rattle.bridge_filter.specs.Routes.{lesser_number}
 
 pub lesser_assoc : (a b c : Option ℕ) → lesser_number (lesser_number a b) c ≡ lesser_number a (lesser_number b c)
 lesser_assoc None b c = refl

@@ -2,14 +2,14 @@
 use Rattle.std.specs.Prelude.{ℕ, zero, suc, ◌+◌, Bool, true, false, not, ◌&&◌, List, [], ◌∷◌, Option, Some, None, filter_map, flat_map, is_some, option_map, nat_eq, nat_le, nat_lt, if◌then◌else◌}
 use Rattle.std.specs.List.{list_any, list_all}
 use Rattle.bridge_filter.specs.declared.FilterPlan.{FilterPlan}
-use Rattle.bridge_filter.specs.Finding.{lesser_number}
+use Rattle.bridge_filter.specs.Routes.{lesser_number}
 use Rattle.bridge_config.specs.declared.ports.PortPlan.{PortPlan}
 use Rattle.bridge_config.specs.Model.{Plan}
-use Rattle.bridge_config.specs.Rules.{port_at}
-use Rattle.bridge_check.specs.declared.fault.CheckFault.{CheckFault}
-use Rattle.bridge_check.specs.declared.fault.CheckFault.TheVariants as fault
-use Rattle.bridge_check.specs.Reach.{reaches}
-use Rattle.bridge_check.specs.Windows.{shared_at, ever_fits}
+use Rattle.bridge_config.specs.Rules.{find_port}
+use Rattle.bridge_check.specs.declared.check_fault.CheckFault.{CheckFault}
+use Rattle.bridge_check.specs.declared.check_fault.CheckFault.TheVariants as fault
+use Rattle.bridge_check.specs.Reach.{reaches_queue}
+use Rattle.bridge_check.specs.Windows.{port_shared_phase, can_ever_fit}
 
 -- Returns the fault `e` if the test result is false, and `None` if the test result is true.
 abbrev pub fault_unless : Bool → CheckFault → Option CheckFault
@@ -17,9 +17,9 @@ fault_unless true e = None
 fault_unless false e = Some e
 
 -- True if two optional flow meter numbers are both present and equal; false if one of them or both are absent.
-abbrev pub is_one_meter : Option ℕ → Option ℕ → Bool
-is_one_meter (Some m) (Some n) = nat_eq m n
-is_one_meter _ _ = false
+abbrev pub is_same_meter : Option ℕ → Option ℕ → Bool
+is_same_meter (Some m) (Some n) = nat_eq m n
+is_same_meter _ _ = false
 
 -- True if a filter in the list whose number differs from `n` uses the stream gate of filter `f`.
 abbrev pub is_gate_shared : List (ℕ × FilterPlan) → ℕ → FilterPlan → Bool
@@ -27,49 +27,49 @@ is_gate_shared filters n f = list_any (λ g. not (nat_eq g.0 n) && nat_eq g.1.ga
 
 -- True if a filter in the list whose number differs from `n` uses the flow meter of `f`; false if `f` has no meter.
 abbrev pub is_meter_shared : List (ℕ × FilterPlan) → ℕ → FilterPlan → Bool
-is_meter_shared filters n f = list_any (λ g. not (nat_eq g.0 n) && is_one_meter g.1.meter f.meter) filters
+is_meter_shared filters n f = list_any (λ g. not (nat_eq g.0 n) && is_same_meter g.1.meter f.meter) filters
 
 -- True if every filter number in the list is at most `n`.
-abbrev pub is_greatest : List (ℕ × FilterPlan) → ℕ → Bool
-is_greatest filters n = list_all (λ g. nat_le g.0 n) filters
+abbrev pub is_greatest_number : List (ℕ × FilterPlan) → ℕ → Bool
+is_greatest_number filters n = list_all (λ g. nat_le g.0 n) filters
 
 -- True if a filter with the greatest number in the list names neither a stream handle nor a priority. This filter
 -- matches every frame.
 abbrev pub has_catch_all : List (ℕ × FilterPlan) → Bool
-has_catch_all filters = list_any (λ g. is_greatest filters g.0 && not (is_some g.1.handle) && not (is_some g.1.priority)) filters
+has_catch_all filters = list_any (λ g. is_greatest_number filters g.0 && not (is_some g.1.handle) && not (is_some g.1.priority)) filters
 
 -- The least number of a filter in the list, except `n`, whose reachable queues include class `c` at port `q`, or
 -- `None`.
-abbrev pub other_at : {A : Type 0} → Plan A → List (ℕ × FilterPlan) → ℕ → ℕ → ℕ → Option ℕ
-other_at p [] n q c = None
-other_at p (g ∷ gs) n q c = if not (nat_eq g.0 n) && reaches p g.1 q c then lesser_number (Some g.0) (other_at p gs n q c) else other_at p gs n q c
+abbrev pub other_in_queue : {A : Type 0} → Plan A → List (ℕ × FilterPlan) → ℕ → ℕ → ℕ → Option ℕ
+other_in_queue p [] n q c = None
+other_in_queue p (g ∷ gs) n q c = if not (nat_eq g.0 n) && reaches_queue p g.1 q c then lesser_number (Some g.0) (other_in_queue p gs n q c) else other_in_queue p gs n q c
 
 -- The first optional value if it is present, otherwise the second one, which may be `None`.
-abbrev pub first_of : {X : Type 0} → Option X → Option X → Option X
-first_of None b = b
-first_of (Some x) b = Some x
+abbrev pub first_option : {X : Type 0} → Option X → Option X → Option X
+first_option None b = b
+first_option (Some x) b = Some x
 
 -- The first value that function `tell` returns for the numbers 0 to `n` - 1, in rising order; `None` if every call
 -- returns `None`.
-unfoldable pub first_below : {X : Type 0} → ℕ → (ℕ → Option X) → Option X
-first_below zero tell = None
-first_below (suc n) tell = first_of (first_below n tell) (tell n)
+unfoldable pub first_among_numbers : {X : Type 0} → ℕ → (ℕ → Option X) → Option X
+first_among_numbers zero tell = None
+first_among_numbers (suc n) tell = first_option (first_among_numbers n tell) (tell n)
 
 -- The first fault that `tell port class` returns for a reachable queue of filter `f`, or `None`. Ports rise from 1 to
 -- 16, and classes from 0 to 7 at each port.
-abbrev pub first_in_reach : {A : Type 0} → Plan A → FilterPlan → (ℕ → ℕ → Option CheckFault) → Option CheckFault
-first_in_reach p f tell = first_below 16 (λ i. first_below 8 (λ c. if reaches p f (i + 1) c then tell (i + 1) c else None))
+abbrev pub first_fault_in_reach : {A : Type 0} → Plan A → FilterPlan → (ℕ → ℕ → Option CheckFault) → Option CheckFault
+first_fault_in_reach p f tell = first_among_numbers 16 (λ i. first_among_numbers 8 (λ c. if reaches_queue p f (i + 1) c then tell (i + 1) c else None))
 
 -- Offset in ns from the cycle's start at which the port first opens class `c` together with another class, or `None`. A
 -- port without a list gives 0, and a missing port `None`.
-abbrev pub shared_on : {A : Type 0} → Option (PortPlan A) → ℕ → Option ℕ
-shared_on None c = None
-shared_on (Some port) c = shared_at port.list c
+abbrev pub shared_phase_if_port : {A : Type 0} → Option (PortPlan A) → ℕ → Option ℕ
+shared_phase_if_port None c = None
+shared_phase_if_port (Some port) c = port_shared_phase port.list c
 
 -- True if some list of the port lacks a window of class `c` for the longest frame; false without a port or size limit.
-abbrev pub never_fits : {A : Type 0} → Option (PortPlan A) → ℕ → Option ℕ → Bool
-never_fits (Some port) c (Some sdu) = not (ever_fits port c sdu)
-never_fits _ c _ = false
+abbrev pub can_never_fit : {A : Type 0} → Option (PortPlan A) → ℕ → Option ℕ → Bool
+can_never_fit (Some port) c (Some sdu) = not (can_ever_fit port c sdu)
+can_never_fit _ c _ = false
 
 -- THE EIGHT TESTS
 
@@ -100,27 +100,27 @@ catch_all_fault p n = fault_unless (has_catch_all p.filters) (fault.NoCatchAll n
 -- Test 6 returns QueueShared for the first reachable queue of filter `f` that is also reachable for another filter;
 -- otherwise `None`. Unprotected filters count too.
 abbrev pub queue_fault : {A : Type 0} → Plan A → ℕ → FilterPlan → Option CheckFault
-queue_fault p n f = first_in_reach p f (λ q c. option_map (fault.QueueShared n q c) (other_at p p.filters n q c))
+queue_fault p n f = first_fault_in_reach p f (λ q c. option_map (fault.QueueShared n q c) (other_in_queue p p.filters n q c))
 
 -- Test 7 returns WindowShared for the first reachable queue of filter `f` whose class opens together with another
 -- class; otherwise `None`. A port without a gate control list opens all classes together.
 abbrev pub window_fault : {A : Type 0} → Plan A → ℕ → FilterPlan → Option CheckFault
-window_fault p n f = first_in_reach p f (λ q c. option_map (fault.WindowShared n q c) (shared_on (port_at p.ports q) c))
+window_fault p n f = first_fault_in_reach p f (λ q c. option_map (fault.WindowShared n q c) (shared_phase_if_port (find_port p.ports q) c))
 
 -- Test 8 returns MaxSduNeverFits for the first reachable queue that lacks a window for the longest frame of filter `f`;
 -- otherwise `None`. Each gate control list of the port needs a window that fits.
 abbrev pub size_fault : {A : Type 0} → Plan A → ℕ → FilterPlan → Option CheckFault
-size_fault p n f = first_in_reach p f (λ q c. fault_unless (not (never_fits (port_at p.ports q) c f.max_sdu)) (fault.MaxSduNeverFits n q c))
+size_fault p n f = first_fault_in_reach p f (λ q c. fault_unless (not (can_never_fit (find_port p.ports q) c f.max_sdu)) (fault.MaxSduNeverFits n q c))
 
 -- The first fault in a list of test results; `None` if every result is `None`, which means a passed test.
-abbrev pub first_fault_of : List (Option CheckFault) → Option CheckFault
-first_fault_of [] = None
-first_fault_of (e ∷ es) = first_of e (first_fault_of es)
+abbrev pub first_test_fault : List (Option CheckFault) → Option CheckFault
+first_test_fault [] = None
+first_test_fault (e ∷ es) = first_option e (first_test_fault es)
 
 -- The eight test results for filter `f` with number `n`, in the order of the tests: a fault, or `None` for a passed
 -- test.
-abbrev pub tests_of : {A : Type 0} → Plan A → ℕ → FilterPlan → List (Option CheckFault)
-tests_of p n f =
+abbrev pub filter_tests : {A : Type 0} → Plan A → ℕ → FilterPlan → List (Option CheckFault)
+filter_tests p n f =
     wildcard_fault n f
     ∷ max_sdu_fault n f
     ∷ gate_fault p n f
@@ -133,20 +133,20 @@ tests_of p n f =
 
 -- The fault of the first of eight tests that filter `f` with number `n` fails in plan `p`; `None` if it passes all
 -- eight.
-abbrev pub fault_of : {A : Type 0} → Plan A → ℕ → FilterPlan → Option CheckFault
-fault_of p n f = first_fault_of (tests_of p n f)
+abbrev pub filter_fault : {A : Type 0} → Plan A → ℕ → FilterPlan → Option CheckFault
+filter_fault p n f = first_test_fault (filter_tests p n f)
 
--- those of some tests that fail
-abbrev pub failing_in : List (Option CheckFault) → List CheckFault
-failing_in tests = filter_map (λ told. told) tests
+-- The faults in a list of test results, in order. A passed test gives none.
+abbrev pub failed_tests : List (Option CheckFault) → List CheckFault
+failed_tests tests = filter_map (λ told. told) tests
 
--- the tests that a filter fails, where it is protected
-abbrev pub failing_of : {A : Type 0} → Plan A → ℕ × FilterPlan → List CheckFault
-failing_of p f = if f.1.protected then failing_in (tests_of p f.0 f.1) else []
+-- The faults of a numbered filter, in test order; the empty list if the filter is unprotected.
+abbrev pub filter_failures : {A : Type 0} → Plan A → ℕ × FilterPlan → List CheckFault
+filter_failures p f = if f.1.protected then failed_tests (filter_tests p f.0 f.1) else []
 
--- the tests that the filters of a plan fail, in the order in which they stand there
+-- All faults of plan `p`: filters in plan order, tests in test order.
 abbrev pub all_faults : {A : Type 0} → Plan A → List CheckFault
-all_faults p = flat_map (failing_of p) p.filters
+all_faults p = flat_map (filter_failures p) p.filters
 
 -- The one of two optional pairs (filter number, fault) with the lower number, the first if equal; `None` if both are
 -- absent.
@@ -157,7 +157,7 @@ lesser_fault (Some a) (Some b) = if nat_lt b.0 a.0 then Some b else Some a
 
 -- The number of filter `f`, paired with its first fault; `None` if the filter is unprotected or passes all eight tests.
 abbrev pub numbered_fault : {A : Type 0} → Plan A → ℕ × FilterPlan → Option (ℕ × CheckFault)
-numbered_fault p f = if f.1.protected then option_map (λ e. (f.0, e)) (fault_of p f.0 f.1) else None
+numbered_fault p f = if f.1.protected then option_map (λ e. (f.0, e)) (filter_fault p f.0 f.1) else None
 
 -- The number and the first fault of the lowest-numbered faulty protected filter in the list, as a pair, or `None`.
 abbrev pub least_fault : {A : Type 0} → Plan A → List (ℕ × FilterPlan) → Option (ℕ × CheckFault)

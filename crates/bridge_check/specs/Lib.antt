@@ -2,6 +2,6 @@ pub mod Reach
 pub mod Windows
 pub mod Faults
 pub mod Acceptable
-pub mod Reached
-pub mod Sending
-pub mod Numbers
+pub mod ReachTables
+pub mod FrameInput
+pub mod FaultCodes

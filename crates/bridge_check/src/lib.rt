@@ -1,17 +1,17 @@
 #![tactic(auto)]
-//! Whether a plan isolates its protected filters: yes exactly where each has its gate, its meter, its queues and their
-//! windows for itself, and otherwise the first reason, by filter, port and class.
+//! Tests whether a plan isolates its protected filters: each needs its stream gate, meter, queues and windows for itself. A refused plan
+//! has a first fault, by filter, port and class.
 
-mod accepted;
-mod failing;
-mod fault;
+mod check_fault;
+mod faults;
+mod filter_tests;
 pub mod laws;
-mod queues;
 mod reach;
-mod rules;
+mod reaches;
+mod validator;
 mod windows;
 
-pub use accepted::{Accepted, Refused, check};
-pub use failing::faults_of;
-pub use fault::CheckFault;
-pub use reach::{Reach, find_gate, may_wait, may_wait_at, reach_of};
+pub use check_fault::CheckFault;
+pub use faults::all_faults;
+pub use reach::{Reach, can_wait, can_wait_in_reach, filter_reach, find_gate};
+pub use validator::{Accepted, Refused, check};

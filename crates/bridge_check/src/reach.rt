@@ -1,10 +1,10 @@
-//! Which ports and priorities the frames of a filter may have.
+//! Finds the ports and priorities that a filter's frames can have.
 ghost use Rattle.std.specs.Prelude.{◌≡◌, ◌≤◌, ◌+◌, ◌||◌, false, map, Some, option_map, nat_eq, slice_index_or};
 ghost use Rattle.std.specs.Map.{lookup};
-ghost use Rattle.bridge_forward.specs.Ports.{has};
-ghost use Rattle.bridge_config.specs.Rules.{port_at};
+ghost use Rattle.bridge_forward.specs.Ports.{has_port};
+ghost use Rattle.bridge_config.specs.Rules.{find_port};
 ghost use Rattle.bridge_check.specs.Reach as spec;
-ghost use Rattle.bridge_check.specs.Reached as reached;
+ghost use Rattle.bridge_check.specs.ReachTables as reached;
 
 use bridge_config::{Plan, PortPlan};
 use bridge_filter::FilterPlan;
@@ -13,9 +13,9 @@ use bridge_gate::{GateEntry, GatePlan, Schedule};
 use bridge_ident::{Kind, StreamEntry};
 use std::alloc::Allocator;
 
-/// Whether an identification compares the destination address.
-fn is_null(kind: Kind) -> bool
-    ensures { result ≡ spec.is_null kind }
+/// Whether entries of kind `kind` compare the destination address.
+fn is_null_kind(kind: Kind) -> bool
+    ensures { result ≡ spec.is_null_kind kind }
 {
     match kind {
         Kind::Null => true,
@@ -23,41 +23,42 @@ fn is_null(kind: Kind) -> bool
     }
 }
 
-/// Whether all identifications that give a handle compare the destination address.
-fn are_null(handle: u32, streams: &[StreamEntry]) -> bool
-    ensures { result ≡ spec.are_null handle streams.now }
+/// Whether all stream entries with handle `handle` compare the destination address.
+fn are_null_kinds(handle: u32, streams: &[StreamEntry]) -> bool
+    ensures { result ≡ spec.are_null_kinds handle streams.now }
 {
     streams
         .iter()
-        .all(|e| e.handle != handle || is_null(e.kind))
+        .all(|e| e.handle != handle || is_null_kind(e.kind))
 }
 
-/// Marks the ports of a set among those from port 1 on.
-fn mark(ports: &mut [bool; 16], set: PortSet)
-    ensures { ports.new ≡ reached.told_below 16 (λ i. slice_index_or ports.old i false || has set (i + 1)) }
+/// Sets the flag of each port in `set`. `ports` has one flag for each port, from port 1.
+fn mark_ports(ports: &mut [bool; 16], set: PortSet)
+    ensures { ports.new ≡ reached.test_results 16 (λ i. slice_index_or ports.old i false || has_port set (i + 1)) }
 {
     for i in 0..16usize {
         ports[i] = ports[i] || set.has(i as u8 + 1);
     }
 }
 
-/// Out of which ports, from port 1, frames go that the identifications of a handle ask for.
-fn led_ports<A: Allocator + Copy>(plan: &Plan<A>, handle: u32) -> [bool; 16]
-    ensures { result ≡ reached.told_below 16 (λ i. spec.leads_to plan.now.database handle (i + 1) plan.now.streams) }
+/// Returns a flag for each port, from port 1: whether frames that the entries of `handle` identify can leave by it.
+fn destination_ports<A: Allocator + Copy>(plan: &Plan<A>, handle: u32) -> [bool; 16]
+    ensures { result ≡ reached.test_results 16 (λ i. spec.leads_through_port plan.now.database handle (i
+        + 1) plan.now.streams) }
 {
     let mut ports = [false; 16];
     for stream in plan.streams() {
         if stream.handle == handle {
             let set = plan.forward(stream.port, stream.vid, &stream.address);
-            mark(&mut ports, set);
+            mark_ports(&mut ports, set);
         }
     }
     ports
 }
 
-/// Whether an entry lets frames through with a priority.
-fn gives(entry: &GateEntry, priority: Option<u8>, k: u8) -> bool
-    ensures { result ≡ spec.gives entry.now priority k }
+/// Whether `entry` is open and can give a frame priority `k`. `priority` is the filter's priority.
+fn gives_priority(entry: &GateEntry, priority: Option<u8>, k: u8) -> bool
+    ensures { result ≡ spec.gives_priority entry.now priority k }
 {
     if !entry.lets {
         return false;
@@ -69,22 +70,22 @@ fn gives(entry: &GateEntry, priority: Option<u8>, k: u8) -> bool
     }
 }
 
-/// Whether an entry of a list does.
-fn lets_in(entries: &[(GateEntry, u64)], priority: Option<u8>, k: u8) -> bool
+/// Whether some entry in `entries` is open and can give a frame priority `k`.
+fn entries_give_priority(entries: &[(GateEntry, u64)], priority: Option<u8>, k: u8) -> bool
     ensures { result ≡ spec.lets (map (λ e. e.0) entries.now) priority k }
 {
     for entry in entries {
-        if gives(&entry.0, priority, k) {
+        if gives_priority(&entry.0, priority, k) {
             return true;
         }
     }
     false
 }
 
-/// Whether a schedule lets frames through with a priority, under one of its lists where they are exchanged.
+/// Whether some entry of `schedule` is open and can give a frame priority `k`. If a schedule change joins two lists, either list counts.
 #[tactic(auto, using(crate::proofs::Both::lets_both))]
 fn lets<A: Allocator + Copy>(schedule: &Schedule<A>, priority: Option<u8>, k: u8) -> bool
-    ensures { result ≡ spec.lets (spec.entries_of schedule.now) priority k }
+    ensures { result ≡ spec.lets (spec.schedule_entries schedule.now) priority k }
 {
     match schedule {
         Schedule::Fixed { lets, ipv } => {
@@ -93,19 +94,20 @@ fn lets<A: Allocator + Copy>(schedule: &Schedule<A>, priority: Option<u8>, k: u8
                 ipv: *ipv,
                 octets: None,
             };
-            gives(&entry, priority, k)
+            gives_priority(&entry, priority, k)
         }
-        Schedule::Cyclic(list) => lets_in(list.entries(), priority, k),
+        Schedule::Cyclic(list) => entries_give_priority(list.entries(), priority, k),
         Schedule::Joined(joined) => {
             let (old, new) = joined.lists();
-            lets_in(old.entries(), priority, k) || lets_in(new.entries(), priority, k)
+            entries_give_priority(old.entries(), priority, k)
+                || entries_give_priority(new.entries(), priority, k)
         }
     }
 }
 
-/// Whether a schedule lets frames through with each priority.
-fn let_through<A: Allocator + Copy>(schedule: &Schedule<A>, priority: Option<u8>) -> [bool; 8]
-    ensures { result ≡ reached.told_below 8 (spec.lets (spec.entries_of schedule.now) priority) }
+/// Returns a flag for each priority, from 0: whether some open entry of `schedule` can give it.
+fn given_priorities<A: Allocator + Copy>(schedule: &Schedule<A>, priority: Option<u8>) -> [bool; 8]
+    ensures { result ≡ reached.test_results 8 (spec.lets (spec.schedule_entries schedule.now) priority) }
 {
     let mut priorities = [false; 8];
     for k in 0..8usize {
@@ -114,7 +116,7 @@ fn let_through<A: Allocator + Copy>(schedule: &Schedule<A>, priority: Option<u8>
     priorities
 }
 
-/// Returns the stream gate of a number; `None` if no gate has this number.
+/// Returns the stream gate with number `number`, or `None`.
 pub fn find_gate<A: Allocator + Copy>(
     gates: &[(u32, GatePlan<A>)],
     number: u32,
@@ -129,50 +131,49 @@ pub fn find_gate<A: Allocator + Copy>(
     None
 }
 
-/// What the frames of a filter may come to: a queue of a port to which they may go, of the class that a priority of theirs
-/// has there.
+/// Ports and priorities that a filter's frames can have. They determine the filter's reachable queues.
 #[derive(Clone, Copy)]
 pub struct Reach {
-    /// Whether they may go out of each port, from port 1.
+    /// Whether the filter's frames can leave by each port, from port 1.
     pub ports: [bool; 16],
-    /// Whether they may have each priority.
+    /// Whether the filter's frames can have each priority, from 0.
     pub priorities: [bool; 8],
 }
 
-/// Whether they may go out of each port: of any, where it isn't known to which their destination leads.
-fn ports_of<A: Allocator + Copy>(plan: &Plan<A>, handle: Option<u32>) -> [bool; 16]
-    ensures { result ≡ reached.told_below 16 (λ i. spec.reaches_port plan.now handle (i + 1)) }
+/// Returns a flag for each port, from port 1: whether frames with `handle` can leave by it. Every port counts if the destination addresses
+/// are unknown.
+fn reached_ports<A: Allocator + Copy>(plan: &Plan<A>, handle: Option<u32>) -> [bool; 16]
+    ensures { result ≡ reached.test_results 16 (λ i. spec.reaches_port plan.now handle (i + 1)) }
 {
     match handle {
-        Some(handle) if are_null(handle, plan.streams()) => led_ports(plan, handle),
+        Some(handle) if are_null_kinds(handle, plan.streams()) => destination_ports(plan, handle),
         _ => [true; 16],
     }
 }
 
-/// Whether they may have each priority.
-fn priorities_of<A: Allocator + Copy>(plan: &Plan<A>, filter: &FilterPlan) -> [bool; 8]
-    ensures { result ≡ reached.told_below 8 (spec.reaches_priority plan.now filter.now) }
+/// Returns a flag for each priority, from 0: whether the frames of `filter` can have it.
+fn reached_priorities<A: Allocator + Copy>(plan: &Plan<A>, filter: &FilterPlan) -> [bool; 8]
+    ensures { result ≡ reached.test_results 8 (spec.reaches_priority plan.now filter.now) }
 {
     match find_gate(plan.gates(), filter.gate) {
-        Some(gate) => let_through(&gate.schedule, filter.priority),
+        Some(gate) => given_priorities(&gate.schedule, filter.priority),
         None => [false; 8],
     }
 }
 
-/// What the frames of a filter may come to. It goes once through the streams of the plan.
-pub fn reach_of<A: Allocator + Copy>(plan: &Plan<A>, filter: &FilterPlan) -> Reach
-    ensures { result ≡ reached.reach_of plan.now filter.now }
+/// Returns the reach of `filter`, in one pass through the plan's streams.
+pub fn filter_reach<A: Allocator + Copy>(plan: &Plan<A>, filter: &FilterPlan) -> Reach
+    ensures { result ≡ reached.filter_reach plan.now filter.now }
 {
     Reach {
-        ports: ports_of(plan, filter.handle),
-        priorities: priorities_of(plan, filter),
+        ports: reached_ports(plan, filter.handle),
+        priorities: reached_priorities(plan, filter),
     }
 }
 
-/// Whether frames of a filter may be queued in a class of a port, 1 to 16: where some priority that its gate may give
-/// them has the class there, and where the port is one to which their destination may lead.
+/// Whether the frames of `filter` can enter the queue of class `class` at port `port`, 1 to 16.
 #[tactic(auto, using(crate::proofs::Told::unreached, crate::proofs::Told::in_reach))]
-pub fn may_wait<A: Allocator + Copy>(
+pub fn can_wait<A: Allocator + Copy>(
     plan: &Plan<A>,
     filter: &FilterPlan,
     port: u8,
@@ -180,43 +181,44 @@ pub fn may_wait<A: Allocator + Copy>(
 ) -> bool
     requires from { 1 ≤ port }
     requires to { port ≤ 16 }
-    ensures { result ≡ spec.reaches plan.now filter.now port class }
+    ensures { result ≡ spec.reaches_queue plan.now filter.now port class }
 {
     match plan.port(port) {
-        Some(found) => reach_of(plan, filter).has(port, &found.classes, class),
+        Some(found) => filter_reach(plan, filter).has_queue(port, &found.classes, class),
         None => false,
     }
 }
 
-/// The same at a port that the plan has, by the reach of the filter: to ask of many queues, it is made once.
+/// Whether the frames of `filter` can enter the queue of class `class` at `port`, by its known `reach`. Callers that test many queues
+/// compute the reach once.
 #[tactic(auto, using(crate::proofs::Told::in_reach))]
-pub fn may_wait_at<A: Allocator + Copy>(
+pub fn can_wait_in_reach<A: Allocator + Copy>(
     plan: &Plan<A>,
     filter: &FilterPlan,
     reach: &Reach,
     port: &PortPlan<A>,
     class: u8,
 ) -> bool
-    requires reach { reach.now ≡ reached.reach_of plan.now filter.now }
+    requires reach { reach.now ≡ reached.filter_reach plan.now filter.now }
     requires from { 1 ≤ port.now.number }
     requires to { port.now.number ≤ 16 }
-    requires port { port_at plan.now.ports port.now.number ≡ Some port.now }
-    ensures { result ≡ spec.reaches plan.now filter.now port.now.number class }
+    requires port { find_port plan.now.ports port.now.number ≡ Some port.now }
+    ensures { result ≡ spec.reaches_queue plan.now filter.now port.now.number class }
 {
-    reach.has(port.number, &port.classes, class)
+    reach.has_queue(port.number, &port.classes, class)
 }
 
 impl Reach {
-    /// Whether the frames may be queued in a class of a port that has these classes for its priorities.
-    pub(crate) fn has(&self, port: u8, classes: &[u8; 8], class: u8) -> bool
+    /// Whether the frames can enter class `class` at port `port`. `classes` gives the class of each priority.
+    pub(crate) fn has_queue(&self, port: u8, classes: &[u8; 8], class: u8) -> bool
         requires from { 1 ≤ port }
         requires to { port ≤ 16 }
-        ensures { result ≡ reached.is_in self.now port classes.now class }
+        ensures { result ≡ reached.has_queue self.now port classes.now class }
     {
         self.ports[port as usize - 1] && self.has_class(classes, class)
     }
 
-    /// Whether some priority of theirs has the class.
+    /// Whether some priority of the frames has class `class`.
     fn has_class(&self, classes: &[u8; 8], class: u8) -> bool
         ensures { result ≡ reached.has_class self.now.priorities classes.now class }
     {

@@ -1,8 +1,8 @@
-//! When a class of a port is open alone, and which frames fit.
+//! Finds windows that classes share, and frames that fit no window.
 ghost use Rattle.std.specs.Prelude.{◌≡◌, ◌<◌, ◌≤◌, Some, not, ◌&&◌, nat_eq};
-ghost use Rattle.bridge_cycle.specs.Moments as moments;
-ghost use Rattle.bridge_port.specs.Opening.{list_ever};
-ghost use Rattle.bridge_check.specs.Reach.{any_below};
+ghost use Rattle.bridge_cycle.specs.Fits as moments;
+ghost use Rattle.bridge_port.specs.GateSchedule.{list_can_fit};
+ghost use Rattle.bridge_check.specs.Reach.{some_number_passes};
 ghost use Rattle.bridge_check.specs.Windows as spec;
 
 use bridge_config::PortPlan;
@@ -11,17 +11,17 @@ use bridge_frame::occupation;
 use bridge_limits::LONGEST_FRAME;
 use std::alloc::Allocator;
 
-/// Whether a state opens a class and another one beside it.
+/// Whether gate state `state` opens class `class` and another class.
 fn is_shared(state: u8, class: u8) -> bool
     requires { class < 8 }
     ensures { result ≡ spec.is_shared state class }
 {
-    is_open(state, class) && opens_another(state, class)
+    is_open(state, class) && has_other_open_class(state, class)
 }
 
-/// Whether a state opens a class other than this one.
-fn opens_another(state: u8, class: u8) -> bool
-    ensures { result ≡ any_below 8 (λ d. not (nat_eq d class) && moments.is_open state d) }
+/// Whether gate state `state` opens a class other than `class`.
+fn has_other_open_class(state: u8, class: u8) -> bool
+    ensures { result ≡ some_number_passes 8 (λ d. not (nat_eq d class) && moments.is_open state d) }
 {
     let mut found = false;
     for other in 0..8u8 {
@@ -30,10 +30,10 @@ fn opens_another(state: u8, class: u8) -> bool
     found
 }
 
-/// The phase, in ns, at which the first entry begins that opens the class and another one.
-fn shared_from<A: Allocator + Copy>(list: &CyclicList<u8, A>, class: u8) -> Option<u64>
+/// Returns the offset in ns of the first entry that opens class `class` together with another class.
+fn shared_phase<A: Allocator + Copy>(list: &CyclicList<u8, A>, class: u8) -> Option<u64>
     requires { class < 8 }
-    ensures { result ≡ spec.shared_in list.now class }
+    ensures { result ≡ spec.list_shared_phase list.now class }
 {
     let mut start = 0;
     for entry in list.entries() {
@@ -45,44 +45,43 @@ fn shared_from<A: Allocator + Copy>(list: &CyclicList<u8, A>, class: u8) -> Opti
     None
 }
 
-/// The phase, in ns, from which a port opens the class beside another one, of its old list before the new one; 0 where
-/// it has no list.
-pub(crate) fn shared_at<A: Allocator + Copy>(port: &PortPlan<A>, class: u8) -> Option<u64>
+/// Returns the offset in ns at which the port first opens class `class` together with another class. The old list precedes the new list. A
+/// port without a list gives 0.
+pub(crate) fn port_shared_phase<A: Allocator + Copy>(port: &PortPlan<A>, class: u8) -> Option<u64>
     requires { class < 8 }
-    ensures { result ≡ spec.shared_at port.now.list class }
+    ensures { result ≡ spec.port_shared_phase port.now.list class }
 {
     match &port.list {
         None => Some(0),
-        Some(Egress::Cyclic(list)) => shared_from(list, class),
+        Some(Egress::Cyclic(list)) => shared_phase(list, class),
         Some(Egress::Joined(joined)) => {
             let (old, new) = joined.lists();
-            shared_from(old, class).or(shared_from(new, class))
+            shared_phase(old, class).or(shared_phase(new, class))
         }
     }
 }
 
-/// Whether the longest frame with a service data unit of so many octets fits in the class at some moment, under each
-/// list of the port.
-pub(crate) fn ever_fits<A: Allocator + Copy>(port: &PortPlan<A>, class: u8, sdu: u32) -> bool
+/// Whether the longest frame with `sdu` SDU octets fits a window of class `class` in every list of the port.
+pub(crate) fn can_ever_fit<A: Allocator + Copy>(port: &PortPlan<A>, class: u8, sdu: u32) -> bool
     requires class { class < 8 }
     requires sdu { sdu ≤ 65535 }
-    ensures { result ≡ spec.ever_fits port.now class sdu }
+    ensures { result ≡ spec.can_ever_fit port.now class sdu }
 {
     let occupied = occupation((sdu + 16).min(LONGEST_FRAME), port.speed);
     match &port.list {
         None => true,
-        Some(Egress::Cyclic(list)) => is_ever_open(list, class, occupied),
+        Some(Egress::Cyclic(list)) => can_fit_in_list(list, class, occupied),
         Some(Egress::Joined(joined)) => {
             let (old, new) = joined.lists();
-            is_ever_open(old, class, occupied) && is_ever_open(new, class, occupied)
+            can_fit_in_list(old, class, occupied) && can_fit_in_list(new, class, occupied)
         }
     }
 }
 
-/// Whether a list opens the class for so many ns without a break at some moment.
-fn is_ever_open<A: Allocator + Copy>(list: &CyclicList<u8, A>, class: u8, occupied: u64) -> bool
+/// Whether `list` has a window of class `class` of at least `occupied` ns.
+fn can_fit_in_list<A: Allocator + Copy>(list: &CyclicList<u8, A>, class: u8, occupied: u64) -> bool
     requires { class < 8 }
-    ensures { result ≡ list_ever list.now class occupied }
+    ensures { result ≡ list_can_fit list.now class occupied }
 {
     let _ = list.cycle();
     longest_run(list, class).allows(occupied)

@@ -1,4 +1,4 @@
--- What holds of the entries that were read holds of the list that was made of them.
+-- Properties of read entries hold for the list made from them.
 use Rattle.std.proofs.Common.{◌≡◌, ◌∙◌, ℕ, List, Option, Some, None, option_map, refl, sym, ap, subst}
 use Rattle.std.proofs.lemmas.Option.{same_Some}
 use Rattle.bridge_cycle.specs.Cyclic.{Cyclic}

@@ -1,4 +1,4 @@
--- One instance more, that none before it equals.
+-- Adds an instance that equals no earlier instance.
 use Rattle.std.proofs.Common.{◌≡◌, ℕ, Bool, true, false, not, ◌&&◌, nat_eq, List, [], ◌∷◌, ◌++◌, refl, sym, IsTrue, Option, Some, None, Result, Ok, Err, cond}
 use Rattle.std.specs.Option.{ForSome, is_some}
 use Rattle.std.specs.Map.{lookup}
@@ -14,11 +14,11 @@ use Rattle.bridge_limits.proofs.Orders.{swapped}
 use Rattle.bridge_forward.specs.declared.Vlan.{Vlan}
 use Rattle.bridge_forward.specs.declared.StaticEntry.{StaticEntry}
 use Rattle.bridge_filter.specs.declared.FilterPlan.{FilterPlan}
-use Rattle.bridge_filter.specs.Plans.{is_there, is_there_if_any, are_distinct, has_instances}
+use Rattle.bridge_filter.specs.Plans.{is_listed, is_listed_if_any, are_numbers_distinct, has_instances}
 use Rattle.bridge_config.specs.declared.ports.PortPlan.{PortPlan}
-use Rattle.bridge_config.specs.Rules.{has_port, has_vlan, has_static, IsVlan, AreVlans, IsStatic, AreStatics, IsPort, ArePorts, AreGates, AreMeters, IsFilter, AreFilters, IsBeforeEnd}
+use Rattle.bridge_config.specs.Rules.{has_port, has_vlan, has_static, IsVlan, AreVlans, IsStatic, AreStatics, IsPort, ArePorts, AreGates, AreMeters, IsFilter, AreFilters, IsChangeInTime}
 use Rattle.std.specs.Result.{IfOk}
-use Rattle.bridge_schema.specs.declared.fault.PlanFault.{PlanFault}
+use Rattle.bridge_schema.specs.declared.plan_fault.PlanFault.{PlanFault}
 use Rattle.bridge_config.specs.Sections.{has_number}
 
 pub ports_push : {A : Type 0} (ports : List (PortPlan A)) (p : PortPlan A) → ArePorts ports → has_port ports p.number ≡ false → IsPort p → ArePorts (ports ++ p ∷ [])
@@ -39,34 +39,34 @@ statics_push all vlans statics s are new is = record {
   own = are_own-push (λ s t. nat_eq s.vid t.vid && bytes_eq s.address t.address) statics s are.own new;
 }
 
--- what isn't found in a list isn't at its head, and isn't in the rest
+-- If a look-up fails, it fails at the head and in the rest of the list.
 pub past_head : {X : Type 0} (b : Bool) (v : X) (o : Option X) → is_some (cond b (Some v) o) ≡ false → (b ≡ false) × (is_some o ≡ false)
 past_head true v o h = absurd (false≢true (sym h))
 past_head false v o h = (refl, h)
 
--- a number that isn't there isn't there with another one more
-pub apart : {X : Type 0} (n : ℕ) (xs : List (ℕ × X)) (y : ℕ × X) → nat_eq n y.0 ≡ false → is_there n xs ≡ false → is_there n (xs ++ y ∷ []) ≡ false
+-- A number that isn't listed stays unlisted if another number is added.
+pub apart : {X : Type 0} (n : ℕ) (xs : List (ℕ × X)) (y : ℕ × X) → nat_eq n y.0 ≡ false → is_listed n xs ≡ false → is_listed n (xs ++ y ∷ []) ≡ false
 apart n [] y differ none = rw differ refl
 apart n (x ∷ xs) y differ none =
     let (other, more) = past_head (nat_eq n x.0) x.1 (lookup (nat_eq n) xs) none in
     rw other (apart n xs y differ more)
 
-pub distinct_push : {X : Type 0} (xs : List (ℕ × X)) (y : ℕ × X) → IsTrue (are_distinct xs) → has_number xs y.0 ≡ false → IsTrue (are_distinct (xs ++ y ∷ []))
+pub distinct_push : {X : Type 0} (xs : List (ℕ × X)) (y : ℕ × X) → IsTrue (are_numbers_distinct xs) → has_number xs y.0 ≡ false → IsTrue (are_numbers_distinct (xs ++ y ∷ []))
 distinct_push [] y own new = refl
 distinct_push (x ∷ xs) y own new =
-    let (here, more) = and_parts (not (is_there x.0 xs)) (are_distinct xs) own in
+    let (here, more) = and_parts (not (is_listed x.0 xs)) (are_numbers_distinct xs) own in
     let (other, others) = past_head (nat_eq y.0 x.0) x.1 (lookup (nat_eq y.0) xs) new in
-    rw (apart x.0 xs y (swapped y.0 x.0 other) (not-true (is_there x.0 xs) here), distinct_push xs y more others) refl
+    rw (apart x.0 xs y (swapped y.0 x.0 other) (not-true (is_listed x.0 xs) here), distinct_push xs y more others) refl
 
--- a number that may be none is there where each one is
-pub there_if_any : {X : Type 0} (o : Option ℕ) (xs : List (ℕ × X)) → ((n : ℕ) → o ≡ Some n → is_there n xs ≡ true) → is_there_if_any o xs ≡ true
+-- An optional number is listed if each number it can have is listed.
+pub there_if_any : {X : Type 0} (o : Option ℕ) (xs : List (ℕ × X)) → ((n : ℕ) → o ≡ Some n → is_listed n xs ≡ true) → is_listed_if_any o xs ≡ true
 there_if_any None xs h = refl
 there_if_any (Some n) xs h = h n refl
 
-pub gates_push : {A : Type 0} (gates : List (ℕ × GatePlan A)) (g : ℕ × GatePlan A) → AreGates gates → has_number gates g.0 ≡ false → schedules.has_priorities g.1.schedule ≡ true → schedules.IsLawful g.1.schedule → AreGates (gates ++ g ∷ [])
+pub gates_push : {A : Type 0} (gates : List (ℕ × GatePlan A)) (g : ℕ × GatePlan A) → AreGates gates → has_number gates g.0 ≡ false → schedules.has_valid_priorities g.1.schedule ≡ true → schedules.IsLawful g.1.schedule → AreGates (gates ++ g ∷ [])
 gates_push gates g are new priorities lawful = record {
   own = distinct_push gates g are.own new;
-  priorities = rw (list_all-append (λ h. schedules.has_priorities h.1.schedule) gates (g ∷ []), are.priorities, priorities) refl;
+  priorities = rw (list_all-append (λ h. schedules.has_valid_priorities h.1.schedule) gates (g ∷ []), are.priorities, priorities) refl;
   lawful = each_push (λ h. schedules.IsLawful h.1.schedule) gates g are.lawful lawful;
 }
 
@@ -83,19 +83,19 @@ filters_push gates meters filters f are new is there = record {
   instances = rw (list_all-append (λ g. has_instances gates meters g.1) filters (f ∷ []), are.instances, there) refl;
 }
 
--- a port that was read
-pub ports_kept : {A : Type 0} (change : Option ℕ) (ports : List (PortPlan A)) (r : Result (PortPlan A) PlanFault) → IsBeforeEnd change × ArePorts ports → IfOk r (λ p. has_port ports p.number ≡ false) → IfOk r IsPort
-    → IfOk r (λ p. IsBeforeEnd change × ArePorts (ports ++ p ∷ []))
+-- The rules of ports still hold with the port that was read.
+pub ports_kept : {A : Type 0} (change : Option ℕ) (ports : List (PortPlan A)) (r : Result (PortPlan A) PlanFault) → IsChangeInTime change × ArePorts ports → IfOk r (λ p. has_port ports p.number ≡ false) → IfOk r IsPort
+    → IfOk r (λ p. IsChangeInTime change × ArePorts (ports ++ p ∷ []))
 ports_kept change ports (Ok p) are new is = (are.0, ports_push ports p are.1 new is)
 ports_kept change ports (Err e) are new is = tt
 
--- a gate that was read
-pub gates_kept : {A : Type 0} (change : Option ℕ) (gates : List (ℕ × GatePlan A)) (r : Result (ℕ × GatePlan A) PlanFault) → IsBeforeEnd change × AreGates gates → IfOk r (λ g. has_number gates g.0 ≡ false)
-    → IfOk r (λ g. schedules.has_priorities g.1.schedule ≡ true) → IfOk r (λ g. schedules.IsLawful g.1.schedule) → IfOk r (λ g. IsBeforeEnd change × AreGates (gates ++ g ∷ []))
+-- The rules of gates still hold with the gate that was read.
+pub gates_kept : {A : Type 0} (change : Option ℕ) (gates : List (ℕ × GatePlan A)) (r : Result (ℕ × GatePlan A) PlanFault) → IsChangeInTime change × AreGates gates → IfOk r (λ g. has_number gates g.0 ≡ false)
+    → IfOk r (λ g. schedules.has_valid_priorities g.1.schedule ≡ true) → IfOk r (λ g. schedules.IsLawful g.1.schedule) → IfOk r (λ g. IsChangeInTime change × AreGates (gates ++ g ∷ []))
 gates_kept change gates (Ok g) are new priorities lawful = (are.0, gates_push gates g are.1 new priorities lawful)
 gates_kept change gates (Err e) are new priorities lawful = tt
 
--- a filter that was read has its gate, and its meter where it names one
+-- A filter that was read has its gate, and its meter if it names one.
 pub instances_kept : {A : Type 0} (gates : List (ℕ × GatePlan A)) (meters : List (ℕ × MeterPlan)) (r : Result (ℕ × FilterPlan) PlanFault) → IfOk r (λ f. has_number gates f.1.gate ≡ true)
     → IfOk r (λ f. ForSome f.1.meter (λ n. has_number meters n ≡ true)) → IfOk r (λ f. has_instances gates meters f.1 ≡ true)
 instances_kept gates meters (Ok f) gate meter = rw (gate, there_if_any f.1.meter meters meter) refl

@@ -1,4 +1,4 @@
--- The ports of a plan: what the port of a number is, and that frames go to ports of the plan alone.
+-- Ports of a plan: look-up by number, and egress ports, which are ports of the plan.
 use Rattle.std.proofs.Common.{◌≡◌, ◌≢◌, ℕ, suc, zero, Bool, true, false, ◌&&◌, ◌-◌, ◌^◌, ◌<◌, ◌≤◌, ◌⊎◌, List, [], ◌∷◌, All, Some, length, map, max, nat_eq, nat_le, cond, bit_and, bit_or, arith, refl, sym, subst, ap, ◌∙◌, inl, inr}
 use Rattle.std.specs.Prelude.{slice_index, slice_index_or}
 use Rattle.std.specs.Int.{bit_at}
@@ -7,49 +7,49 @@ use Rattle.std.proofs.lemmas.Bool.Decides.{nat_tests}
 use Rattle.std.proofs.lemmas.List.Sums.{AllPass-from_list_all}
 use Rattle.std.proofs.lemmas.Nat.Bits.{bit_at_or, bit_at-lt, bit_at-pow_other}
 use Rattle.std.proofs.lemmas.Option.{same_Some}
-use Rattle.bridge_limits.specs.Members.{In}
+use Rattle.bridge_limits.specs.Members.{IsMember}
 use Rattle.bridge_limits.proofs.Members.{each_in}
 use Rattle.bridge_forward.specs.declared.Vlan.{Vlan}
-use Rattle.bridge_forward.specs.Database.{members_at, entry_at}
+use Rattle.bridge_forward.specs.Database.{vlan_members, static_ports}
 use Rattle.bridge_forward.specs.Forward.{forward, is_reserved}
-use Rattle.bridge_forward.specs.Outs.{has_or}
-use Rattle.bridge_forward.specs.Ports.{has, IsEmpty}
+use Rattle.bridge_forward.specs.PortRule.{has_port_or}
+use Rattle.bridge_forward.specs.Ports.{has_port, IsEmpty}
 use Rattle.bridge_forward.proofs.Memberships.{has_both, has_none, members_only}
-use Rattle.bridge_schema.specs.Readers.{are_within, is_subset, set_with}
+use Rattle.bridge_schema.specs.Readers.{are_numbers_in_range, is_subset, add_to_set}
 use Rattle.bridge_config.specs.declared.ports.PortPlan.{PortPlan}
 use Rattle.bridge_config.specs.Model.{Plan}
-use Rattle.bridge_config.specs.Rules.{ArePorts, IsPlan, IsPort, IsVlan, port_at, port_set}
+use Rattle.bridge_config.specs.Rules.{ArePorts, IsPlan, IsPort, IsVlan, find_port, port_set}
 
--- THE PORT OF A NUMBER
+-- Look-up by number.
 
--- a port of a list, with a number
+-- Statement: The port is in the list and has the number `n`.
 pub record IsAt {A : Type 0} (ports : List (PortPlan A)) (n : ℕ) (p : PortPlan A) : Type 0 where
-  pub listed : In p ports
+  pub listed : IsMember p ports
   pub number : p.number ≡ n
 
-at_by : {A : Type 0} (b : Bool) (x : PortPlan A) (xs : List (PortPlan A)) (n : ℕ) (p : PortPlan A) → nat_eq x.number n ≡ b → cond b (Some x) (port_at xs n) ≡ Some p → (port_at xs n ≡ Some p → IsAt xs n p) → IsAt (x ∷ xs) n p
+at_by : {A : Type 0} (b : Bool) (x : PortPlan A) (xs : List (PortPlan A)) (n : ℕ) (p : PortPlan A) → nat_eq x.number n ≡ b → cond b (Some x) (find_port xs n) ≡ Some p → (find_port xs n ≡ Some p → IsAt xs n p) → IsAt (x ∷ xs) n p
 at_by true x xs n p e h more = let same : p ≡ x = sym (same_Some x p h) in record { listed = inl same; number = ap (λ z. z.number) same ∙ eqb-true x.number n e }
 at_by false x xs n p e h more = let m = more h in record { listed = inr m.listed; number = m.number }
 
--- the port of a number is one of the ports, and has the number
-pub at_port : {A : Type 0} (ports : List (PortPlan A)) (n : ℕ) (p : PortPlan A) → port_at ports n ≡ Some p → IsAt ports n p
+-- The port that a look-up finds is in the list and has the number.
+pub at_port : {A : Type 0} (ports : List (PortPlan A)) (n : ℕ) (p : PortPlan A) → find_port ports n ≡ Some p → IsAt ports n p
 at_port [] n p h = absurd (cc)
 at_port (x ∷ xs) n p h = at_by (nat_eq x.number n) x xs n p refl h (at_port xs n p)
 
--- and it is within the ranges of a port
-pub port_is : {A : Type 0} (ports : List (PortPlan A)) (n : ℕ) (p : PortPlan A) → ArePorts ports → port_at ports n ≡ Some p → IsPort p × (p.number ≡ n)
+-- The port that a look-up finds follows the rules of ports.
+pub port_is : {A : Type 0} (ports : List (PortPlan A)) (n : ℕ) (p : PortPlan A) → ArePorts ports → find_port ports n ≡ Some p → IsPort p × (p.number ≡ n)
 port_is ports n p are h = let at = at_port ports n p h in (each_in IsPort ports p are.each at.listed, at.number)
 
--- it is the port of its own number
-pub at_own : {A : Type 0} (ports : List (PortPlan A)) (n : ℕ) (p : PortPlan A) → port_at ports n ≡ Some p → port_at ports p.number ≡ Some p
-at_own ports n p h = subst (λ (m : ℕ). port_at ports m ≡ Some p) (sym (at_port ports n p h).number) h
+-- A look-up by the port's own number finds the port.
+pub at_own : {A : Type 0} (ports : List (PortPlan A)) (n : ℕ) (p : PortPlan A) → find_port ports n ≡ Some p → find_port ports p.number ≡ Some p
+at_own ports n p h = subst (λ (m : ℕ). find_port ports m ≡ Some p) (sym (at_port ports n p h).number) h
 
--- the number of a port that is there is 1 to 16
-pub number_is : {A : Type 0} (ports : List (PortPlan A)) (n : ℕ) (p : PortPlan A) → ArePorts ports → port_at ports n ≡ Some p → (1 ≤ n) × (n ≤ 16)
+-- The number of an existing port is 1 to 16.
+pub number_is : {A : Type 0} (ports : List (PortPlan A)) (n : ℕ) (p : PortPlan A) → ArePorts ports → find_port ports n ≡ Some p → (1 ≤ n) × (n ≤ 16)
 number_is ports n p are h = let (is, same) = port_is ports n p are h in let from = is.number_from in let to = is.number_to in (omega (arith, same, from), omega (arith, same, to))
 
--- where some port has a number, there is the port of the number
-pub there_is : {A : Type 0} (ports : List (PortPlan A)) (n : ℕ) → In n (map (λ p. p.number) ports) → (p : PortPlan A) × (port_at ports n ≡ Some p)
+-- If a port has the number, the look-up finds a port.
+pub there_is : {A : Type 0} (ports : List (PortPlan A)) (n : ℕ) → IsMember n (map (λ p. p.number) ports) → (p : PortPlan A) × (find_port ports n ≡ Some p)
 there_is [] n i = absurd i
 there_is (x ∷ xs) n (inl e) = (x, rw (eq-eqb x.number n (sym e)) refl)
 there_is {A} (x ∷ xs) n (inr i) = elim (cases_Bool (nat_eq x.number n)) [
@@ -57,9 +57,9 @@ there_is {A} (x ∷ xs) n (inr i) = elim (cases_Bool (nat_eq x.number n)) [
   | inr e ↦ let (p, at) = there_is xs n i in (p, rw e at)
 ]
 
--- CLASSES AND ROOMS
+-- Classes and queue capacities.
 
-within_at : (low high : ℕ) (ns : List ℕ) (k : ℕ) → are_within low high ns ≡ true → k < length ns → (low ≤ slice_index ns k) × (slice_index ns k ≤ high)
+within_at : (low high : ℕ) (ns : List ℕ) (k : ℕ) → are_numbers_in_range low high ns ≡ true → k < length ns → (low ≤ slice_index ns k) × (slice_index ns k ≤ high)
 within_at low high ns k within lt =
     let all = AllPass-from_list_all (λ n. nat_le low n && nat_le n high) ns within in
     let (above, below) = and_parts (nat_le low (slice_index ns k)) (nat_le (slice_index ns k) high) (all k 0 lt) in
@@ -68,15 +68,15 @@ within_at low high ns k within lt =
     least : (a b : ℕ) → nat_le a b ≡ true → a ≤ b
     least a b h = grind (arith, nat_tests)
 
--- the class of each priority is below 8
+-- The class of each priority is below 8.
 pub class_below : {A : Type 0} (p : PortPlan A) (k : ℕ) → IsPort p → k ≤ 7 → slice_index p.classes k < 8
 class_below p k is le = let eight = is.eight_classes in let (above, below) = within_at 0 7 p.classes k is.classes (omega (arith, eight, le)) in omega (arith, below)
 
--- the room of each class is 1 to 4096
+-- The queue capacity of each class is 1 to 4,096.
 pub room_within : {A : Type 0} (p : PortPlan A) (c : ℕ) → IsPort p → c ≤ 7 → (1 ≤ slice_index p.rooms c) × (slice_index p.rooms c ≤ 4096)
 room_within p c is le = let eight = is.eight_rooms in within_at 1 4096 p.rooms c is.rooms (omega (arith, eight, le))
 
--- WHERE FRAMES GO
+-- Egress ports.
 
 one_of : (x y : ℕ) → x < 2 → y < 2 → nat_eq (max x y) 1 ≡ true → (nat_eq x 1 ≡ true) ⊎ (nat_eq y 1 ≡ true)
 one_of zero zero a b h = absurd (false≢true h)
@@ -85,14 +85,14 @@ one_of zero (suc zero) a b h = inr refl
 one_of (suc (suc x)) y a b h = absurd (omega arith)
 one_of zero (suc (suc y)) a b h = absurd (omega arith)
 
--- a port of two sets together is in one of them
-has_either : (a b q : ℕ) → has (bit_or a b) q ≡ true → (has a q ≡ true) ⊎ (has b q ≡ true)
+-- A port of a union is in one of the two sets.
+has_either : (a b q : ℕ) → has_port (bit_or a b) q ≡ true → (has_port a q ≡ true) ⊎ (has_port b q ≡ true)
 has_either a b q h =
     let i = q - 1 in
     one_of (bit_at a i) (bit_at b i) (bit_at-lt a i) (bit_at-lt b i) (sym (ap (λ n. nat_eq n 1) (bit_at_or a b i)) ∙ h)
 
--- the set of one port has no other
-has_one : (n q : ℕ) → 1 ≤ n → 1 ≤ q → has (2 ^ (n - 1)) q ≡ true → q ≡ n
+-- A set of one port contains only this port.
+has_one : (n q : ℕ) → 1 ≤ n → 1 ≤ q → has_port (2 ^ (n - 1)) q ≡ true → q ≡ n
 has_one n q from low h = elim (cases_Bool (nat_eq (q - 1) (n - 1))) [
   | inl e ↦ let same : q - 1 ≡ n - 1 = eqb-true (q - 1) (n - 1) e in omega arith
   | inr e ↦
@@ -101,8 +101,8 @@ has_one n q from low h = elim (cases_Bool (nat_eq (q - 1) (n - 1))) [
       absurd (false≢true (sym (ap (λ b. nat_eq b 1) off) ∙ h))
 ]
 
--- what is in a set with some numbers was there or is one of them
-has_with : (bits : ℕ) (ns : List ℕ) (q : ℕ) → All (λ n. 1 ≤ n) ns → 1 ≤ q → has (set_with 1 bits ns) q ≡ true → (has bits q ≡ true) ⊎ In q ns
+-- A port of an extended set was in the set or is one of the added numbers.
+has_with : (bits : ℕ) (ns : List ℕ) (q : ℕ) → All (λ n. 1 ≤ n) ns → 1 ≤ q → has_port (add_to_set 1 bits ns) q ≡ true → (has_port bits q ≡ true) ⊎ IsMember q ns
 has_with bits [] q all low h = inl h
 has_with bits (n ∷ ns) q all low h = elim (has_with (bit_or bits (2 ^ (n - 1))) ns q (λ k d lt. all (suc k) d (omega (arith, lt))) low h) [
   | inr i ↦ inr (inr i)
@@ -120,38 +120,38 @@ numbers_from (p ∷ ps) all = λ k d lt. from_by k d lt (all 0 p (omega arith)) 
     from_by zero d lt is rest = is.number_from
     from_by (suc k) d lt is rest = rest k d (omega (arith, lt))
 
--- the set of all ports has ports of the plan alone
-pub in_set : {A : Type 0} (ports : List (PortPlan A)) (q : ℕ) → ArePorts ports → 1 ≤ q → has (port_set ports) q ≡ true → (p : PortPlan A) × (port_at ports q ≡ Some p)
+-- The set of all ports contains only ports of the plan.
+pub in_set : {A : Type 0} (ports : List (PortPlan A)) (q : ℕ) → ArePorts ports → 1 ≤ q → has_port (port_set ports) q ≡ true → (p : PortPlan A) × (find_port ports q ≡ Some p)
 in_set ports q are low h = elim (has_with 0 (map (λ p. p.number) ports) q (numbers_from ports are.each) low h) [
   | inl z ↦ absurd (false≢true (sym (has_none q) ∙ z))
   | inr i ↦ there_is ports q i
 ]
 
--- what a smaller set has, a greater one has
-has_all : (set all q : ℕ) → is_subset set all ≡ true → has set q ≡ true → has all q ≡ true
+-- A port of a subset is in the larger set.
+has_all : (set all q : ℕ) → is_subset set all ≡ true → has_port set q ≡ true → has_port all q ≡ true
 has_all set all q sub h =
     let same : bit_and set all ≡ set = eqb-true (bit_and set all) set sub in
-    let both : (has set q && has all q) ≡ true = sym (has_both set all q) ∙ (ap (λ s. has s q) same ∙ h) in
-    let (here, there) = and_parts (has set q) (has all q) both in
+    let both : (has_port set q && has_port all q) ≡ true = sym (has_both set all q) ∙ (ap (λ s. has_port s q) same ∙ h) in
+    let (here, there) = and_parts (has_port set q) (has_port all q) both in
     there
 
--- the members of a VLAN are ports of the plan
-vlan_has : (all : ℕ) (vlans : List Vlan) (vid q : ℕ) → All (IsVlan all) vlans → has_or false (members_at vlans vid) q ≡ true → has all q ≡ true
+-- The members of a VLAN are ports of the plan.
+vlan_has : (all : ℕ) (vlans : List Vlan) (vid q : ℕ) → All (IsVlan all) vlans → has_port_or false (vlan_members vlans vid) q ≡ true → has_port all q ≡ true
 vlan_has all [] vid q each h = absurd (false≢true h)
 vlan_has all (v ∷ vs) vid q each h = elim (cases_Bool (nat_eq v.vid vid)) [
   | inl e ↦ has_all v.members all q (each 0 v (omega arith)).members (rw e at h)
   | inr e ↦ vlan_has all vs vid q (λ k d lt. each (suc k) d (omega (arith, lt))) (rw e at h)
 ]
 
--- each port to which a frame goes is one of the plan's
-pub goes_to_a_port : {A : Type 0} (p : Plan A) (port vid : ℕ) (da : List ℕ) (q : ℕ) → IsPlan p → 1 ≤ q → has (forward p.database port vid da) q ≡ true → (out : PortPlan A) × (port_at p.ports q ≡ Some out)
+-- Each egress port of a frame is a port of the plan.
+pub goes_to_a_port : {A : Type 0} (p : Plan A) (port vid : ℕ) (da : List ℕ) (q : ℕ) → IsPlan p → 1 ≤ q → has_port (forward p.database port vid da) q ≡ true → (out : PortPlan A) × (find_port p.ports q ≡ Some out)
 goes_to_a_port p port vid da q plan low h =
-    let member = members_only (is_reserved da) (members_at p.database.vlans vid) (entry_at p.database.statics vid da) port q h in
+    let member = members_only (is_reserved da) (vlan_members p.database.vlans vid) (static_ports p.database.statics vid da) port q h in
     in_set p.ports q plan.ports low (vlan_has (port_set p.ports) p.database.vlans vid q plan.vlans.each member)
 
--- a frame goes nowhere exactly where it goes to no port of the plan
-pub goes_nowhere : {A : Type 0} (p : Plan A) (port vid : ℕ) (da : List ℕ) → IsPlan p → ((q : ℕ) (out : PortPlan A) → port_at p.ports q ≡ Some out → has (forward p.database port vid da) q ≡ false) → IsEmpty (forward p.database port vid da)
-goes_nowhere p port vid da plan none q low high = elim (cases_Bool (has (forward p.database port vid da) q)) [
+-- A frame without an egress port among the plan's ports has no egress port.
+pub goes_nowhere : {A : Type 0} (p : Plan A) (port vid : ℕ) (da : List ℕ) → IsPlan p → ((q : ℕ) (out : PortPlan A) → find_port p.ports q ≡ Some out → has_port (forward p.database port vid da) q ≡ false) → IsEmpty (forward p.database port vid da)
+goes_nowhere p port vid da plan none q low high = elim (cases_Bool (has_port (forward p.database port vid da) q)) [
   | inl e ↦ let (out, at) = goes_to_a_port p port vid da q plan low e in absurd (false≢true (sym (none q out at) ∙ e))
   | inr e ↦ e
 ]

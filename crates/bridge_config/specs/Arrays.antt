@@ -1,13 +1,13 @@
--- What the arrays of a document's sections keep. No public clause speaks of it.
+-- Arrays of a document's sections. No public clause uses these definitions.
 use Rattle.std.specs.Prelude.{◌≡◌, ◌<◌, ◌≤◌, true, length}
 use Rattle.toml.specs.View.{items_view}
 use Rattle.bridge_schema.specs.Readers.{are_tables}
-use Rattle.bridge_config.specs.declared.arrays.Arrays.{Arrays}
+use Rattle.bridge_config.specs.declared.section_arrays.SectionArrays.{SectionArrays}
 use Rattle.bridge_config.specs.Document as doc
 
--- the items that the arrays hold
-abbrev pub items_of_arrays : Arrays → doc.Arrays
-items_of_arrays a = record {
+-- Items of the arrays.
+abbrev pub array_items : SectionArrays → doc.SectionItems
+array_items a = record {
   changes = items_view a.changes.now;
   ports = items_view a.ports.now;
   vlans = items_view a.vlans.now;
@@ -18,8 +18,8 @@ items_of_arrays a = record {
   filters = items_view a.filters.now;
 }
 
--- each array has at most as many items as its section may have, and there is a port
-pub record AreFew (a : Arrays) : Type 0 where
+-- Statement: Each array is within the limit of its section, and there is a port.
+pub record AreWithinLimits (a : SectionArrays) : Type 0 where
   pub some_port : 0 < length a.ports.now
   pub tables : are_tables (items_view a.ports.now) ≡ true
   pub ports : length a.ports.now ≤ 16

@@ -1,33 +1,33 @@
--- The plan of a text, and the commands of another: what it stands for, or the first fault in order.
+-- Plan in a text, and commands in a text; or the first fault in order.
 use Rattle.std.specs.Prelude.{ℕ, Bool, not, List, [], ◌∷◌, Option, Some, None, Result, Ok}
 use Rattle.toml.specs.Data.{Data, table, Items, no_items, item, Members}
-use Rattle.bridge_schema.specs.declared.fault.Section.{Section}
-use Rattle.bridge_schema.specs.declared.fault.Section.TheVariants as section
-use Rattle.bridge_schema.specs.declared.fault.PlanFault.{PlanFault}
-use Rattle.bridge_schema.specs.declared.fault.PlanFault.TheVariants as fault
-use Rattle.bridge_schema.specs.Keys.{limit_of, name_of}
+use Rattle.bridge_schema.specs.declared.plan_fault.Section.{Section}
+use Rattle.bridge_schema.specs.declared.plan_fault.Section.TheVariants as section
+use Rattle.bridge_schema.specs.declared.plan_fault.PlanFault.{PlanFault}
+use Rattle.bridge_schema.specs.declared.plan_fault.PlanFault.TheVariants as fault
+use Rattle.bridge_schema.specs.Keys.{limit_of, section_name}
 use Rattle.bridge_schema.specs.Readers.{◌>>=◌, instances, is_empty}
 use Rattle.bridge_schema.specs.Reading as reading
 use Rattle.bridge_config.specs.declared.command.Command.{Command}
 use Rattle.bridge_config.specs.Model.{Policing, Plan}
 use Rattle.bridge_config.specs.Rules.{port_set}
-use Rattle.bridge_config.specs.Sections.{provided, change_at, port_at, vlan_at, static_at, stream_at, gate_at, meter_at, filter_at}
-use Rattle.bridge_config.specs.Commands.{command_at}
+use Rattle.bridge_config.specs.Sections.{provided, read_change_time, read_port, read_vlan, read_static, read_stream, read_gate, read_meter, read_filter}
+use Rattle.bridge_config.specs.Commands.{read_command}
 
--- the items of a section of a document
-abbrev pub items_of : Section → Members → Result Items PlanFault
-items_of = reading.items_of (λ section. fault.NotAList section) (λ section. fault.TooMany section) limit_of name_of
+-- Items of a section of a document.
+abbrev pub section_items : Section → Members → Result Items PlanFault
+section_items = reading.items_of (λ section. fault.NotAList section) (λ section. fault.TooMany section) limit_of section_name
 
--- the sections of a plan
+-- Sections of a plan.
 abbrev pub plan_sections : List Section
 plan_sections = section.Change ∷ section.Port ∷ section.Vlan ∷ section.Static ∷ section.Stream ∷ section.Gate ∷ section.Meter ∷ section.Filter ∷ []
 
--- whether a document has no key but these sections
-abbrev pub are_sections : List Section → Members → Bool
-are_sections = reading.are_known name_of
+-- True if the document has only these sections.
+abbrev pub has_only_sections : List Section → Members → Bool
+has_only_sections = reading.are_known section_name
 
--- the items of all sections
-pub record Arrays : Type 0 where
+-- Items of all sections.
+pub record SectionItems : Type 0 where
   pub changes : Items
   pub ports : Items
   pub vlans : Items
@@ -37,76 +37,76 @@ pub record Arrays : Type 0 where
   pub meters : Items
   pub filters : Items
 
--- first pass: the sections, as arrays of tables
-unfoldable pub first_pass : Members → Result Arrays PlanFault
-first_pass members = do
-  keys ← provided (are_sections plan_sections members) (fault.UnknownKey section.Top 0)
-  changes ← items_of section.Change members
-  ports ← items_of section.Port members
+-- First pass: reads the sections as arrays of tables.
+unfoldable pub read_arrays : Members → Result SectionItems PlanFault
+read_arrays members = do
+  keys ← provided (has_only_sections plan_sections members) (fault.UnknownKey section.Top 0)
+  changes ← section_items section.Change members
+  ports ← section_items section.Port members
   some ← provided (not (is_empty ports)) fault.NoPorts
-  vlans ← items_of section.Vlan members
-  statics ← items_of section.Static members
-  streams ← items_of section.Stream members
-  gates ← items_of section.Gate members
-  meters ← items_of section.Meter members
-  filters ← items_of section.Filter members
+  vlans ← section_items section.Vlan members
+  statics ← section_items section.Static members
+  streams ← section_items section.Stream members
+  gates ← section_items section.Gate members
+  meters ← section_items section.Meter members
+  filters ← section_items section.Filter members
   Ok (record { changes = changes; ports = ports; vlans = vlans; statics = statics; streams = streams; gates = gates; meters = meters; filters = filters })
 
--- the first item, where there is one
+-- First item, if there is one.
 abbrev pub first_item : Items → Option Data
 first_item no_items = None
 first_item (item d _) = Some d
 
--- the moment of the change of schedules of a table, where there is one
-abbrev pub change_in : Option Data → Result (Option ℕ) PlanFault
-change_in (Some (table ms)) = change_at 1 ms >>= λ moment. Ok (Some moment)
-change_in _ = Ok None
+-- Time of the schedule change in a table, if there is one.
+abbrev pub item_change : Option Data → Result (Option ℕ) PlanFault
+item_change (Some (table ms)) = read_change_time 1 ms >>= λ moment. Ok (Some moment)
+item_change _ = Ok None
 
--- the moment of the change of schedules, where the plan has one: there is no second one
-unfoldable pub change_of : Items → Result (Option ℕ) PlanFault
-change_of items = change_in (first_item items)
+-- Time of the plan's schedule change, if it has one. The limit of the section is one.
+unfoldable pub read_change : Items → Result (Option ℕ) PlanFault
+read_change items = item_change (first_item items)
 
--- the gates, meters and filters, by the change of schedules, the filters also by the gates and meters
-unfoldable pub policing_of : {A : Type 0} → Option ℕ → Arrays → Result (Policing A) PlanFault
-policing_of change arrays = do
-  gates ← instances (gate_at change) arrays.gates
-  meters ← instances meter_at arrays.meters
-  filters ← instances (filter_at gates meters) arrays.filters
+-- Gates, meters and filters. Lists depend on the schedule change, and filters on the gates and meters.
+unfoldable pub read_policing : {A : Type 0} → Option ℕ → SectionItems → Result (Policing A) PlanFault
+read_policing change arrays = do
+  gates ← instances (read_gate change) arrays.gates
+  meters ← instances read_meter arrays.meters
+  filters ← instances (read_filter gates meters) arrays.filters
   Ok (record { gates = gates; meters = meters; filters = filters })
 
--- second pass: the instances, section by section, each by what stands before
-unfoldable pub second_pass : {A : Type 0} → Arrays → Result (Plan A) PlanFault
-second_pass arrays = do
-  change ← change_of arrays.changes
-  ports ← instances (port_at change) arrays.ports
-  vlans ← instances (vlan_at (port_set ports)) arrays.vlans
-  statics ← instances (static_at (port_set ports) vlans) arrays.statics
-  streams ← instances (stream_at ports) arrays.streams
-  policing ← policing_of change arrays
+-- Second pass: reads the instances section by section. Each section depends on earlier sections.
+unfoldable pub read_plan : {A : Type 0} → SectionItems → Result (Plan A) PlanFault
+read_plan arrays = do
+  change ← read_change arrays.changes
+  ports ← instances (read_port change) arrays.ports
+  vlans ← instances (read_vlan (port_set ports)) arrays.vlans
+  statics ← instances (read_static (port_set ports) vlans) arrays.statics
+  streams ← instances (read_stream ports) arrays.streams
+  policing ← read_policing change arrays
   Ok (record { ports = ports; database = record { vlans = vlans; statics = statics }; streams = streams; gates = policing.gates; meters = policing.meters; filters = policing.filters })
 
--- the plan of a document
-abbrev pub plan_of_document : {A : Type 0} → Members → Result (Plan A) PlanFault
-plan_of_document members = first_pass members >>= second_pass
+-- Plan in a document.
+abbrev pub document_plan : {A : Type 0} → Members → Result (Plan A) PlanFault
+document_plan members = read_arrays members >>= read_plan
 
--- the document of a text, which is not too long and is UTF-8
-unfoldable pub document_of : List ℕ → Result Members PlanFault
-document_of = reading.document_of fault.TooLong fault.Syntax
+-- Document in a text of at most 1,048,576 octets of UTF-8.
+unfoldable pub read_document : List ℕ → Result Members PlanFault
+read_document = reading.document_of fault.TooLong fault.Syntax
 
--- the plan of a text
-abbrev pub plan_of_text : {A : Type 0} → List ℕ → Result (Plan A) PlanFault
-plan_of_text text = document_of text >>= plan_of_document
+-- Plan in a text.
+abbrev pub text_plan : {A : Type 0} → List ℕ → Result (Plan A) PlanFault
+text_plan text = read_document text >>= document_plan
 
--- the items of the one section of a document of commands
+-- Items of the only section of a document of commands.
 unfoldable pub command_items : Members → Result Items PlanFault
 command_items members = do
-  keys ← provided (are_sections (section.Command ∷ []) members) (fault.UnknownKey section.Top 0)
-  items_of section.Command members
+  keys ← provided (has_only_sections (section.Command ∷ []) members) (fault.UnknownKey section.Top 0)
+  section_items section.Command members
 
--- the commands of a document, by the plan: its section as an array of tables, then command by command
-abbrev pub commands_of_document : {A : Type 0} → Plan A → Members → Result (List Command) PlanFault
-commands_of_document plan members = command_items members >>= instances (command_at plan)
+-- Commands in a document for a plan: first the array of tables, then each command.
+abbrev pub document_commands : {A : Type 0} → Plan A → Members → Result (List Command) PlanFault
+document_commands plan members = command_items members >>= instances (read_command plan)
 
--- the commands of a text, by the plan
-abbrev pub commands_of_text : {A : Type 0} → Plan A → List ℕ → Result (List Command) PlanFault
-commands_of_text plan text = document_of text >>= commands_of_document plan
+-- Commands in a text for a plan.
+abbrev pub text_commands : {A : Type 0} → Plan A → List ℕ → Result (List Command) PlanFault
+text_commands plan text = read_document text >>= document_commands plan

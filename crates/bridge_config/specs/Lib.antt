@@ -6,4 +6,4 @@ pub mod Commands
 pub mod Document
 pub mod Arrays
 pub mod Lists
-pub mod Taken
+pub mod FirstFaults

@@ -1,8 +1,8 @@
--- What the parts of a list stand for. No public clause speaks of it.
+-- Parts of a list. No public clause uses them.
 use Rattle.std.specs.Prelude.{option_map}
-use Rattle.bridge_config.specs.declared.lists.Parts.{Parts}
+use Rattle.bridge_config.specs.declared.lists.ListParts.{ListParts}
 use Rattle.bridge_config.specs.Sections as sections
 
--- the base, the cycle and the entries that were read
-abbrev pub parts_in : {X A : Type 0} → Parts X A → sections.Parts X
-parts_in p = record { base = p.base; cycle = p.cycle; entries = option_map (λ v. v.items) p.entries }
+-- Base time, cycle time and entries that were read.
+abbrev pub list_parts_view : {X A : Type 0} → ListParts X A → sections.ListParts X
+list_parts_view p = record { base = p.base; cycle = p.cycle; entries = option_map (λ v. v.items) p.entries }

@@ -4,41 +4,41 @@ use Rattle.std.specs.List.{list_any}
 use Rattle.std.specs.List.Sorted.{IsPermutation, IsStrictlyIncreasing}
 use Rattle.std.specs.Option.{ForSome}
 use Rattle.bridge_limits.specs.declared.TheConstants.{END_OF_TIME}
-use Rattle.bridge_limits.specs.Members.{are_own}
+use Rattle.bridge_limits.specs.Members.{has_no_duplicate}
 use Rattle.bridge_cycle.specs.Cyclic.{Cyclic, IsLawful}
-use Rattle.bridge_cycle.specs.declared.egress.Egress.{Egress}
-use Rattle.bridge_cycle.specs.declared.egress.Egress.TheVariants as egress
+use Rattle.bridge_cycle.specs.declared.gate_control_lists.Egress.{Egress}
+use Rattle.bridge_cycle.specs.declared.gate_control_lists.Egress.TheVariants as egress
 use Rattle.bridge_meter.specs.declared.MeterPlan.{MeterPlan}
 use Rattle.bridge_gate.specs.declared.schedule.GateEntry.{GateEntry}
 use Rattle.bridge_gate.specs.declared.schedule.GatePlan.{GatePlan}
 use Rattle.bridge_gate.specs.Schedules as schedules
 use Rattle.bridge_ident.specs.declared.StreamEntry.{StreamEntry}
 use Rattle.bridge_filter.specs.declared.FilterPlan.{FilterPlan}
-use Rattle.bridge_filter.specs.Plans.{are_distinct, have_instances, all_have_priorities, all_within_limits}
+use Rattle.bridge_filter.specs.Plans.{are_numbers_distinct, have_instances, all_have_priorities, all_within_limits}
 use Rattle.std.specs.Str.{bytes_eq}
 use Rattle.bridge_forward.specs.declared.Vlan.{Vlan}
 use Rattle.bridge_forward.specs.declared.StaticEntry.{StaticEntry}
-use Rattle.bridge_schema.specs.Readers.{are_within, is_subset, set_with}
+use Rattle.bridge_schema.specs.Readers.{are_numbers_in_range, is_subset, add_to_set}
 use Rattle.bridge_config.specs.declared.ports.PortPlan.{PortPlan}
 use Rattle.bridge_config.specs.Model.{Policing, Plan}
 
 -- Statement: The list `ns` contains exactly the numbers of the list `all`, each once, in strictly increasing order.
-pub record IsInOrder (all ns : List ℕ) : Type 0 where
+pub record IsSortedCopy (all ns : List ℕ) : Type 0 where
   pub rises : IsStrictlyIncreasing ns
   pub same : IsPermutation all ns
 
--- the moment of a change of schedules, where there is one, is before the end of time
-abbrev pub IsBeforeEnd : Option ℕ → Type 0
-IsBeforeEnd change = ForSome change (λ t. t < END_OF_TIME)
+-- Statement: The time of the schedule change, if there is one, is before END_OF_TIME.
+abbrev pub IsChangeInTime : Option ℕ → Type 0
+IsChangeInTime change = ForSome change (λ t. t < END_OF_TIME)
 
 -- True if at least one port of the list has the number `n`.
 abbrev pub has_port : {A : Type 0} → List (PortPlan A) → ℕ → Bool
 has_port ports n = list_any (λ p. nat_eq p.number n) ports
 
 -- First port of the list with the number `n`; `None` if no port has this number.
-abbrev pub port_at : {A : Type 0} → List (PortPlan A) → ℕ → Option (PortPlan A)
-port_at [] n = None
-port_at (p ∷ ps) n = if nat_eq p.number n then Some p else port_at ps n
+abbrev pub find_port : {A : Type 0} → List (PortPlan A) → ℕ → Option (PortPlan A)
+find_port [] n = None
+find_port (p ∷ ps) n = if nat_eq p.number n then Some p else find_port ps n
 
 -- Statement: The gate control list is valid, and each gate state is a number below 256; bit c of a state opens class c.
 pub record IsPortList (l : Cyclic ℕ) : Type 0 where
@@ -47,9 +47,9 @@ pub record IsPortList (l : Cyclic ℕ) : Type 0 where
 
 -- Statement: The property `P` holds for each gate control list of the port: the only list, or both the old and the new
 -- list.
-abbrev pub ForEachList : {A : Type 0} → (Cyclic ℕ → Type 0) → Egress A → Type 0
-ForEachList P (egress.Cyclic l) = P l
-ForEachList P (egress.Joined j) = P j.old × P j.new
+abbrev pub HoldsOfLists : {A : Type 0} → (Cyclic ℕ → Type 0) → Egress A → Type 0
+HoldsOfLists P (egress.Cyclic l) = P l
+HoldsOfLists P (egress.Joined j) = P j.old × P j.new
 
 -- Statement: The port's number, VLAN, priority, eight classes, eight queue capacities and gate control lists are within
 -- the bounds that the fields state.
@@ -59,20 +59,20 @@ pub record IsPort {A : Type 0} (p : PortPlan A) : Type 0 where
   pub vid_from : 1 ≤ p.vid
   pub vid_to : p.vid ≤ 4094
   pub priority : p.priority ≤ 7
-  pub classes : are_within 0 7 p.classes ≡ true
+  pub classes : are_numbers_in_range 0 7 p.classes ≡ true
   pub eight_classes : length p.classes ≡ 8
-  pub rooms : are_within 1 4096 p.rooms ≡ true
+  pub rooms : are_numbers_in_range 1 4096 p.rooms ≡ true
   pub eight_rooms : length p.rooms ≡ 8
-  pub list : ForSome p.list (ForEachList IsPortList)
+  pub list : ForSome p.list (HoldsOfLists IsPortList)
 
 -- Statement: Each port follows IsPort, and no two ports have the same number.
 pub record ArePorts {A : Type 0} (ports : List (PortPlan A)) : Type 0 where
   pub each : All IsPort ports
-  pub own : are_own (λ p q. nat_eq p.number q.number) ports ≡ true
+  pub own : has_no_duplicate (λ p q. nat_eq p.number q.number) ports ≡ true
 
 -- Set of the numbers of all ports in the list; bit n - 1 of the set stands for port n.
 abbrev pub port_set : {A : Type 0} → List (PortPlan A) → ℕ
-port_set ports = set_with 1 0 (map (λ p. p.number) ports)
+port_set ports = add_to_set 1 0 (map (λ p. p.number) ports)
 
 -- True if at least one VLAN of the list has the identifier `n`.
 abbrev pub has_vlan : List Vlan → ℕ → Bool
@@ -88,9 +88,9 @@ pub record IsVlan (all : ℕ) (v : Vlan) : Type 0 where
 -- identifier.
 pub record AreVlans (all : ℕ) (vlans : List Vlan) : Type 0 where
   pub each : All (IsVlan all) vlans
-  pub own : are_own (λ v w. nat_eq v.vid w.vid) vlans ≡ true
+  pub own : has_no_duplicate (λ v w. nat_eq v.vid w.vid) vlans ≡ true
 
--- whether a static entry has the VLAN and the address
+-- True if a static entry has this VLAN and this address.
 abbrev pub has_static : List StaticEntry → ℕ → List ℕ → Bool
 has_static statics vid address = list_any (λ s. nat_eq s.vid vid && bytes_eq s.address address) statics
 
@@ -104,7 +104,7 @@ pub record IsStatic (all : ℕ) (vlans : List Vlan) (s : StaticEntry) : Type 0 w
 -- Statement: Each static entry follows IsStatic, and no two entries have the same VLAN and the same address.
 pub record AreStatics (all : ℕ) (vlans : List Vlan) (statics : List StaticEntry) : Type 0 where
   pub each : All (IsStatic all vlans) statics
-  pub own : are_own (λ s t. nat_eq s.vid t.vid && bytes_eq s.address t.address) statics ≡ true
+  pub own : has_no_duplicate (λ s t. nat_eq s.vid t.vid && bytes_eq s.address t.address) statics ≡ true
 
 -- Statement: The stream entry has a port of the plan, a VLAN identifier from 1 to 4094, and an address of six octets.
 pub record IsStream {A : Type 0} (ports : List (PortPlan A)) (s : StreamEntry) : Type 0 where
@@ -115,21 +115,21 @@ pub record IsStream {A : Type 0} (ports : List (PortPlan A)) (s : StreamEntry) :
   pub vid_to : s.vid ≤ 4094
   pub address : length s.address ≡ 6
 
--- a list of a gate is lawful, and its internal priority values are priorities
+-- Statement: The gate's list is valid, and its internal priority values are 0 to 7 or absent.
 pub record IsGateList (l : Cyclic GateEntry) : Type 0 where
   pub lawful : IsLawful l
-  pub priorities : All (λ e. schedules.is_priority e.0.ipv ≡ true) l.entries
+  pub priorities : All (λ e. schedules.is_valid_priority e.0.ipv ≡ true) l.entries
 
 -- Statement: The stream gates have different numbers, valid schedules, and internal priority values that are absent
 -- (`None`) or at most 7.
 pub record AreGates {A : Type 0} (gates : List (ℕ × GatePlan A)) : Type 0 where
-  pub own : IsTrue (are_distinct gates)
+  pub own : IsTrue (are_numbers_distinct gates)
   pub priorities : IsTrue (all_have_priorities gates)
   pub lawful : All (λ g. schedules.IsLawful g.1.schedule) gates
 
 -- Statement: The meters have different numbers, rates up to 100 Gbit/s and burst sizes below 2^32 octets.
 pub record AreMeters (meters : List (ℕ × MeterPlan)) : Type 0 where
-  pub own : IsTrue (are_distinct meters)
+  pub own : IsTrue (are_numbers_distinct meters)
   pub limits : IsTrue (all_within_limits meters)
 
 -- Statement: The filter's priority is at most 7, and its maximum SDU is at most 65,535 octets; an absent value (`None`)
@@ -142,10 +142,10 @@ pub record IsFilter (f : ℕ × FilterPlan) : Type 0 where
 -- filter names.
 pub record AreFilters {A : Type 0} (gates : List (ℕ × GatePlan A)) (meters : List (ℕ × MeterPlan)) (filters : List (ℕ × FilterPlan)) : Type 0 where
   pub each : All IsFilter filters
-  pub own : IsTrue (are_distinct filters)
+  pub own : IsTrue (are_numbers_distinct filters)
   pub instances : IsTrue (have_instances filters gates meters)
 
--- the rules of gates, meters and filters
+-- Statement: The gates, meters and filters follow their rules, and there are at most 1,024 of each.
 pub record IsPolicing {A : Type 0} (p : Policing A) : Type 0 where
   pub few_gates : length p.gates ≤ 1024
   pub few_meters : length p.meters ≤ 1024

@@ -1,4 +1,4 @@
--- What the texts of streams, meters and commands stand for.
+-- Meanings of texts in streams, meters and commands.
 use Rattle.std.specs.Prelude.{ℕ, Bool, true, false, List, codes, Option, Some, None, nat_eq, if◌then◌else◌}
 use Rattle.std.specs.Cmp.Lexicographic.{pointwise}
 use Rattle.bridge_ident.specs.declared.Kind.{Kind}
@@ -8,25 +8,25 @@ use Rattle.bridge_ident.specs.declared.TagKind.TheVariants as tag
 use Rattle.bridge_filter.specs.declared.Clear.{Clear}
 use Rattle.bridge_filter.specs.declared.Clear.TheVariants as clear
 
--- which address an identification compares
-abbrev pub kind_of : List ℕ → Option Kind
-kind_of s = if pointwise nat_eq s (codes "null") then Some kind.Null else if pointwise nat_eq s (codes "source") then Some kind.Source else None
+-- Kind of identification: the address that an entry compares.
+abbrev pub parse_ident_kind : List ℕ → Option Kind
+parse_ident_kind s = if pointwise nat_eq s (codes "null") then Some kind.Null else if pointwise nat_eq s (codes "source") then Some kind.Source else None
 
--- which frames an identification takes, by their tag
-abbrev pub tag_of : List ℕ → Option TagKind
-tag_of s =
+-- Tags of the frames that an entry matches.
+abbrev pub parse_tag_kind : List ℕ → Option TagKind
+parse_tag_kind s =
     if pointwise nat_eq s (codes "tagged") then Some tag.Tagged
     else if pointwise nat_eq s (codes "priority") then Some tag.Priority
     else if pointwise nat_eq s (codes "all") then Some tag.All
     else None
 
--- whether a meter looks at the colour that a frame has already
-abbrev pub awareness_of : List ℕ → Option Bool
-awareness_of s = if pointwise nat_eq s (codes "aware") then Some true else if pointwise nat_eq s (codes "blind") then Some false else None
+-- Whether a meter is colour-aware: it uses the drop eligible indication of a frame.
+abbrev pub parse_awareness : List ℕ → Option Bool
+parse_awareness s = if pointwise nat_eq s (codes "aware") then Some true else if pointwise nat_eq s (codes "blind") then Some false else None
 
--- which flag a command clears: a filter's, one of the two of a gate, or a meter's
-abbrev pub clear_of : List ℕ → Option Clear
-clear_of s =
+-- Flag that a command clears: of a filter, a gate or a meter.
+abbrev pub parse_flag : List ℕ → Option Clear
+parse_flag s =
     if pointwise nat_eq s (codes "blocked") then Some clear.Blocked
     else if pointwise nat_eq s (codes "rx") then Some clear.Rx
     else if pointwise nat_eq s (codes "octets") then Some clear.Octets

@@ -1,42 +1,44 @@
-//! The change of schedules of a plan.
+//! Schedule change of a plan.
 ghost use Rattle.std.specs.Prelude.{◌≡◌, ◌<◌, IfErr, IfOk, option_map};
 ghost use Rattle.toml.specs.View.{items_view, table_view, view};
-ghost use Rattle.bridge_schema.specs.declared.fault.PlanFault.TheVariants.{NoMemory};
-ghost use Rattle.bridge_schema.specs.Readers.{Gives};
+ghost use Rattle.bridge_schema.specs.declared.plan_fault.PlanFault.TheVariants.{NoMemory};
+ghost use Rattle.bridge_schema.specs.Readers.{MatchesReading};
 ghost use Rattle.bridge_config.specs.Document as doc;
 ghost use Rattle.bridge_config.specs.Rules as rules;
 ghost use Rattle.bridge_config.specs.Sections as sections;
 
 use bridge_limits::END_OF_TIME;
-use bridge_schema::{CHANGE_KEYS, Field, MOMENT, PlanFault, Row, Section, are_known};
+use bridge_schema::{
+    CHANGE_KEYS, Field, InstanceTable, PlanFault, Section, TIME, has_allowed_keys,
+};
 use toml::{Table, Value};
 
-/// Whether a table has the keys of a change of schedules alone.
-fn has_keys(table: &Table) -> bool
+/// Whether a table has only keys of a schedule change.
+fn has_change_keys(table: &Table) -> bool
     ensures { result ≡ sections.has_change_keys (table_view table.now) }
 {
-    are_known(table, &CHANGE_KEYS, false)
+    has_allowed_keys(table, &CHANGE_KEYS, false)
 }
 
-/// The moment of the change of schedules of a table.
-#[tactic(auto, unfolding(crate::specs::Sections::change_at))]
-fn moment_of(index: u32, table: &Table) -> Result<u64, PlanFault>
-    ensures reads { Gives result (sections.change_at index (table_view table.now)) }
+/// Reads the time of the schedule change from a table.
+#[tactic(auto, unfolding(crate::specs::Sections::read_change_time))]
+fn read_change_time(index: u32, table: &Table) -> Result<u64, PlanFault>
+    ensures reads { MatchesReading result (sections.read_change_time index (table_view table.now)) }
     ensures bounded { IfOk result (λ t. t < END_OF_TIME) }
     ensures takes_no_memory { IfErr result (λ e. ¬ (e ≡ NoMemory)) }
 {
-    if !has_keys(table) {
+    if !has_change_keys(table) {
         return Err(PlanFault::UnknownKey(Section::Change, index));
     }
-    let row = Row {
+    let row = InstanceTable {
         table,
         section: Section::Change,
         index,
     };
-    row.required(Field::At, &MOMENT)
+    row.read_required(Field::At, &TIME)
 }
 
-/// The first item, where there is one.
+/// Returns the first item, if there is one.
 fn first_item(items: &[Value]) -> Option<&Value>
     ensures { option_map (λ v. view v.now) result ≡ doc.first_item (items_view items.now) }
 {
@@ -46,14 +48,14 @@ fn first_item(items: &[Value]) -> Option<&Value>
     }
 }
 
-/// The moment of the change of schedules of a table, where there is one.
-fn change_in(value: Option<&Value>) -> Result<Option<u64>, PlanFault>
-    ensures reads { Gives result (doc.change_in (option_map (λ v. view v.now) value.entry)) }
-    ensures bounded { IfOk result rules.IsBeforeEnd }
+/// Reads the time of the schedule change from an item, if it is a table.
+fn item_change(value: Option<&Value>) -> Result<Option<u64>, PlanFault>
+    ensures reads { MatchesReading result (doc.item_change (option_map (λ v. view v.now) value.entry)) }
+    ensures bounded { IfOk result rules.IsChangeInTime }
     ensures takes_no_memory { IfErr result (λ e. ¬ (e ≡ NoMemory)) }
 {
     match value {
-        Some(Value::Table(table)) => match moment_of(1, table) {
+        Some(Value::Table(table)) => match read_change_time(1, table) {
             Ok(moment) => Ok(Some(moment)),
             Err(fault) => Err(fault),
         },
@@ -61,12 +63,12 @@ fn change_in(value: Option<&Value>) -> Result<Option<u64>, PlanFault>
     }
 }
 
-/// The moment of the change of schedules of a section, where it has one. Takes no memory.
-#[tactic(auto, unfolding(crate::specs::Document::change_of))]
-pub(crate) fn change_of(items: &[Value]) -> Result<Option<u64>, PlanFault>
-    ensures reads { Gives result (doc.change_of (items_view items.now)) }
-    ensures bounded { IfOk result rules.IsBeforeEnd }
+/// Reads the time of the plan's schedule change, if it has one. Allocates no memory.
+#[tactic(auto, unfolding(crate::specs::Document::read_change))]
+pub(crate) fn read_change(items: &[Value]) -> Result<Option<u64>, PlanFault>
+    ensures reads { MatchesReading result (doc.read_change (items_view items.now)) }
+    ensures bounded { IfOk result rules.IsChangeInTime }
     ensures takes_no_memory { IfErr result (λ e. ¬ (e ≡ NoMemory)) }
 {
-    change_in(first_item(items))
+    item_change(first_item(items))
 }

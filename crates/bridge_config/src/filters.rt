@@ -3,115 +3,117 @@ ghost use Rattle.std.specs.Prelude.{◌≡◌, ◌≤◌, IfOk, false, true, len
 ghost use Rattle.std.specs.Option.{ForSome};
 ghost use Rattle.toml.specs.View.{table_view, items_view};
 ghost use Rattle.bridge_filter.specs.Plans.{has_instances};
-ghost use Rattle.bridge_schema.specs.Readers.{Gives, GivesAs, instances};
+ghost use Rattle.bridge_schema.specs.Readers.{MatchesReading, MatchesReadingView, instances};
 ghost use Rattle.bridge_config.specs.Sections as sections;
 ghost use Rattle.bridge_config.specs.Rules as rules;
 
-use crate::first::FirstFault;
-use crate::numbers::{NumbersOf, in_8_bits, in_32_bits};
+use crate::first_fault::FirstFault;
+use crate::numbers::{InstanceNumbers, optional_u8, optional_u32};
 use bridge_filter::FilterPlan;
 use bridge_gate::GatePlan;
 use bridge_meter::MeterPlan;
 use bridge_schema::{
-    FILTER_KEYS, Field, Finds, Known, MAX_SDU, NUMBER, PRIORITY, PlanFault, Row, Section,
-    SectionReader, Switch, are_known, read_instances,
+    FILTER_KEYS, Field, InstanceTable, KnownNumber, MAX_SDU, NUMBER, NumberLookup, PRIORITY,
+    PlanFault, Section, SectionReader, Switch, has_allowed_keys, read_instances,
 };
 use std::alloc::Allocator;
 use toml::{Table, Value};
 
-/// Whether a table has the keys of a filter alone.
-fn has_keys(table: &Table) -> bool
+/// Whether a table has only keys of a filter.
+fn has_filter_keys(table: &Table) -> bool
     ensures { result ≡ sections.has_filter_keys (table_view table.now) }
 {
-    are_known(table, &FILTER_KEYS, false)
+    has_allowed_keys(table, &FILTER_KEYS, false)
 }
 
-/// The filter of a table with its number, by what finds the numbers of gates, meters and the filters before it.
-fn filter_among<G: Finds + Copy, M: Finds + Copy, F: Finds + Copy>(
+/// Reads a filter with its number. `gates`, `meters` and `filters` look up numbers of gates, meters and earlier filters.
+fn read_filter_by_lookup<G: NumberLookup + Copy, M: NumberLookup + Copy, F: NumberLookup + Copy>(
     gates: G,
     meters: M,
     filters: F,
     index: u32,
     table: &Table,
 ) -> Result<(u32, FilterPlan), PlanFault>
-    ensures reads { Gives result (sections.filter_among (G.among gates) (M.among meters) (F.among filters) index
+    ensures reads { MatchesReading result (sections.read_filter_by_lookup (G.among gates) (M.among meters)
+        (F.among filters) index
         (table_view table.now)) }
     ensures own { IfOk result (λ f. F.among filters f.0 ≡ false) }
     ensures filter { IfOk result (λ f. rules.IsFilter f) }
     ensures gate { IfOk result (λ f. G.among gates f.1.gate ≡ true) }
     ensures meter { IfOk result (λ f. ForSome f.1.meter (λ n. M.among meters n ≡ true)) }
 {
-    let row = Row {
+    let row = InstanceTable {
         table,
         section: Section::Filter,
         index,
     };
     let unknown = PlanFault::UnknownKey(Section::Filter, index);
-    let mut first = FirstFault::unless(has_keys(table), unknown);
-    let number = first.required(row, Field::Number, &NUMBER, 0);
-    let handle = first.optional(row, Field::Handle, &NUMBER);
-    let priority = first.optional(row, Field::Priority, &PRIORITY);
-    let known_gates = Known {
+    let mut first = FirstFault::begin(has_filter_keys(table), unknown);
+    let number = first.read_required(row, Field::Number, &NUMBER, 0);
+    let handle = first.read_optional(row, Field::Handle, &NUMBER);
+    let priority = first.read_optional(row, Field::Priority, &PRIORITY);
+    let known_gates = KnownNumber {
         among: gates,
         range: NUMBER,
     };
-    let gate = first.required(row, Field::Gate, &known_gates, 0);
-    let max_sdu = first.optional(row, Field::MaxSdu, &MAX_SDU);
-    let known_meters = Known {
+    let gate = first.read_required(row, Field::Gate, &known_gates, 0);
+    let max_sdu = first.read_optional(row, Field::MaxSdu, &MAX_SDU);
+    let known_meters = KnownNumber {
         among: meters,
         range: NUMBER,
     };
-    let meter = first.optional(row, Field::Meter, &known_meters);
-    let block_oversize = first.default_to(row, Field::BlockOversize, &Switch, false);
-    let protected = first.default_to(row, Field::Protected, &Switch, false);
+    let meter = first.read_optional(row, Field::Meter, &known_meters);
+    let block_oversize = first.read_or_default(row, Field::BlockOversize, &Switch, false);
+    let protected = first.read_or_default(row, Field::Protected, &Switch, false);
     first.expect(
         !filters.has(number),
         PlanFault::Duplicate(Section::Filter, index),
     );
     let plan = FilterPlan {
-        handle: in_32_bits(handle),
-        priority: in_8_bits(priority),
+        handle: optional_u32(handle),
+        priority: optional_u8(priority),
         gate: gate as u32,
-        max_sdu: in_32_bits(max_sdu),
-        meter: in_32_bits(meter),
+        max_sdu: optional_u32(max_sdu),
+        meter: optional_u32(meter),
         block_oversize,
         protected,
     };
-    first.done((number as u32, plan))
+    first.finish((number as u32, plan))
 }
 
-/// The filter of a table with its number, by those before it, where these are the gates and meters.
-fn filter_of<A: Allocator + Copy>(
+/// Reads a filter with its number, after the earlier filters.
+fn read_filter<A: Allocator + Copy>(
     gates: &[(u32, GatePlan<A>)],
     meters: &[(u32, MeterPlan)],
     filters: &[(u32, FilterPlan)],
     index: u32,
     table: &Table,
 ) -> Result<(u32, FilterPlan), PlanFault>
-    ensures reads { Gives result (sections.filter_at gates.now meters.now filters.now index (table_view table.now)) }
+    ensures reads { MatchesReading result (sections.read_filter gates.now meters.now filters.now index
+        (table_view table.now)) }
     ensures own { IfOk result (λ f. sections.has_number filters.now f.0 ≡ false) }
     ensures filter { IfOk result (λ f. rules.IsFilter f) }
     ensures instances { IfOk result (λ f. has_instances gates.now meters.now f.1 ≡ true) }
 {
-    let gates = NumbersOf { instances: gates };
-    let meters = NumbersOf { instances: meters };
-    let filters = NumbersOf { instances: filters };
-    filter_among(gates, meters, filters, index, table)
+    let gates = InstanceNumbers { instances: gates };
+    let meters = InstanceNumbers { instances: meters };
+    let filters = InstanceNumbers { instances: filters };
+    read_filter_by_lookup(gates, meters, filters, index, table)
 }
 
-/// The section of filters, where these are the gates and meters.
+/// Reader of the filters, for these gates and meters.
 #[derive(Clone, Copy)]
-struct Filters<'a, A: Allocator + Copy> {
+struct FilterSection<'a, A: Allocator + Copy> {
     gates: &'a [(u32, GatePlan<A>)],
     meters: &'a [(u32, MeterPlan)],
 }
 
-impl<'a, A: Allocator + Copy> SectionReader<A> for Filters<'a, A> {
+impl<'a, A: Allocator + Copy> SectionReader<A> for FilterSection<'a, A> {
     type Fault = PlanFault;
 
     type Instance = (u32, FilterPlan);
 
-    ghost reading = { λ s. sections.filter_at s.gates.now s.meters.now };
+    ghost reading = { λ s. sections.read_filter s.gates.now s.meters.now };
 
     ghost Keeps = { λ s. rules.AreFilters s.gates.now s.meters.now };
 
@@ -123,22 +125,22 @@ impl<'a, A: Allocator + Copy> SectionReader<A> for Filters<'a, A> {
         index: u32,
         table: &Table,
     ) -> Result<(u32, FilterPlan), PlanFault> {
-        filter_of(self.gates, self.meters, earlier, index, table)
+        read_filter(self.gates, self.meters, earlier, index, table)
     }
 }
 
-/// The filters of an array, where these are the gates and meters.
-pub(crate) fn filters_of<A: Allocator + Copy>(
+/// Reads the filters of an array, for these gates and meters.
+pub(crate) fn read_filters<A: Allocator + Copy>(
     alloc: A,
     gates: &[(u32, GatePlan<A>)],
     meters: &[(u32, MeterPlan)],
     items: &[Value],
 ) -> Result<Vec<(u32, FilterPlan), A>, PlanFault>
     requires { length items.now ≤ 1024 }
-    ensures reads { GivesAs (λ v. v.items) result
-        (instances (sections.filter_at gates.now meters.now) (items_view items.now)) }
+    ensures reads { MatchesReadingView (λ v. v.items) result
+        (instances (sections.read_filter gates.now meters.now) (items_view items.now)) }
     ensures keeps { IfOk result (λ v. rules.AreFilters gates.now meters.now v.items) }
     ensures few { IfOk result (λ v. length v.items ≤ 1024) }
 {
-    read_instances(alloc, &Filters { gates, meters }, items)
+    read_instances(alloc, &FilterSection { gates, meters }, items)
 }

@@ -1,24 +1,24 @@
 #![tactic(auto)]
-//! The plan of a bridge: its ports, VLANs, streams, gates, meters and filters; and the commands that come to it.
+//! Plan of a bridge: ports, VLANs, streams, gates, meters and filters. Also commands to the bridge.
 
-mod arrays;
 mod changes;
 mod command;
 mod commands;
 mod filters;
-mod first;
+mod first_fault;
 mod gates;
 mod lists;
 mod meters;
 mod numbers;
 mod plan;
 mod ports;
+mod section_arrays;
 mod statics;
 mod streams;
 mod vlans;
 
 pub use bridge_forward::PortSet;
-pub use bridge_schema::{PlanFault, limit_of};
+pub use bridge_schema::{PlanFault, max_instances};
 pub use command::Command;
 pub use commands::commands_of;
 pub use plan::{Plan, plan_of};

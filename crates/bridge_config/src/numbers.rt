@@ -3,10 +3,10 @@ ghost use Rattle.std.specs.Prelude.{◌≡◌, ◌≤◌, ◌<◌};
 ghost use Rattle.std.specs.Option.{ForSome};
 ghost use Rattle.bridge_config.specs.Sections as sections;
 
-use bridge_schema::Finds;
+use bridge_schema::NumberLookup;
 use std::alloc::AllocError;
 
-/// Whether an instance has a number.
+/// Whether an instance has this number.
 pub(crate) fn has_number<X>(instances: &[(u32, X)], number: u64) -> bool
     ensures { result ≡ sections.has_number instances.now number }
 {
@@ -18,24 +18,24 @@ pub(crate) fn has_number<X>(instances: &[(u32, X)], number: u64) -> bool
     false
 }
 
-/// The numbers of the instances of a section.
-pub(crate) struct NumbersOf<'a, X> {
+/// Numbers of a section's instances.
+pub(crate) struct InstanceNumbers<'a, X> {
     pub instances: &'a [(u32, X)],
 }
 
-impl<'a, X> Clone for NumbersOf<'a, X> {
+impl<'a, X> Clone for InstanceNumbers<'a, X> {
     ghost is_clone = { λ x y. y ≡ x };
 
     ghost is_infallible = { λ _. Unit {0} };
 
-    fn clone(&self) -> Result<NumbersOf<'a, X>, AllocError> {
+    fn clone(&self) -> Result<InstanceNumbers<'a, X>, AllocError> {
         Ok(*self)
     }
 }
 
-impl<'a, X> Copy for NumbersOf<'a, X> {}
+impl<'a, X> Copy for InstanceNumbers<'a, X> {}
 
-impl<'a, X> Finds for NumbersOf<'a, X> {
+impl<'a, X> NumberLookup for InstanceNumbers<'a, X> {
     ghost among = { λ s. sections.has_number s.instances.now };
 
     fn has(&self, number: u64) -> bool {
@@ -43,8 +43,8 @@ impl<'a, X> Finds for NumbersOf<'a, X> {
     }
 }
 
-/// A number that may be none, in 32 bits.
-pub(crate) fn in_32_bits(number: Option<u64>) -> Option<u32>
+/// Converts an optional number to 32 bits.
+pub(crate) fn optional_u32(number: Option<u64>) -> Option<u32>
     requires { ForSome number (λ n. n ≤ u32.MAX) }
     ensures { result ≡ number }
 {
@@ -54,8 +54,8 @@ pub(crate) fn in_32_bits(number: Option<u64>) -> Option<u32>
     }
 }
 
-/// A number that may be none, in 8 bits.
-pub(crate) fn in_8_bits(number: Option<u64>) -> Option<u8>
+/// Converts an optional number to 8 bits.
+pub(crate) fn optional_u8(number: Option<u64>) -> Option<u8>
     requires { ForSome number (λ n. n ≤ 255) }
     ensures { result ≡ number }
 {

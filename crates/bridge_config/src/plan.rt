@@ -1,26 +1,26 @@
-//! A plan, and how it is made of a text.
+//! Reads plans.
 ghost use Rattle.std.specs.Prelude.{◌≡◌, ◌<◌, ◌≤◌, ◌↔◌, ℕ, Some, true, false, IfOk, map, nat_eq, option_map};
 ghost use Rattle.std.specs.Map.{lookup};
 ghost use Rattle.toml.specs.View.{table_view};
-ghost use Rattle.bridge_limits.specs.Members.{Rising};
+ghost use Rattle.bridge_limits.specs.Members.{IsOrdered};
 ghost use Rattle.bridge_forward.specs.Forward.{forward};
-ghost use Rattle.bridge_forward.specs.Ports.{has, IsEmpty};
-ghost use Rattle.bridge_schema.specs.Readers.{Gives, GivesAs};
+ghost use Rattle.bridge_forward.specs.Ports.{has_port, IsEmpty};
+ghost use Rattle.bridge_schema.specs.Readers.{MatchesReading, MatchesReadingView};
 ghost use Rattle.bridge_config.specs.declared.ports.PortPlan.{PortPlan};
 ghost use Rattle.bridge_config.specs.Model as model;
 ghost use Rattle.bridge_config.specs.Rules as rules;
 ghost use Rattle.bridge_config.specs.Document as doc;
-ghost use Rattle.bridge_config.specs.Arrays.{items_of_arrays, AreFew};
+ghost use Rattle.bridge_config.specs.Arrays.{array_items, AreWithinLimits};
 
-use crate::arrays::{Arrays, first_pass};
-use crate::changes::change_of;
-use crate::filters::filters_of;
-use crate::gates::Gates;
-use crate::meters::Meters;
-use crate::ports::{PortPlan, Ports};
-use crate::statics::Statics;
-use crate::streams::Streams;
-use crate::vlans::Vlans;
+use crate::changes::read_change;
+use crate::filters::read_filters;
+use crate::gates::GateSection;
+use crate::meters::MeterSection;
+use crate::ports::{PortPlan, PortSection};
+use crate::section_arrays::{SectionArrays, read_arrays};
+use crate::statics::StaticSection;
+use crate::streams::StreamSection;
+use crate::vlans::VlanSection;
 use bridge_filter::FilterPlan;
 use bridge_forward::{Forwarding, PortSet, StaticEntry, Vlan};
 use bridge_gate::GatePlan;
@@ -32,7 +32,7 @@ use std::alloc::{Allocator, Global};
 use std::marker::Model;
 use toml::Table;
 
-/// A plan. It comes from `plan_of` alone, and keeps the rules of plans.
+/// Plan of a bridge. Only `plan_of` makes plans, and each plan follows the rules of plans.
 #[derive(Drop)]
 pub struct Plan<A: Allocator + Copy> {
     ports: Vec<PortPlan<A>, A>,
@@ -66,7 +66,7 @@ impl<A: Allocator + Copy> Model for Plan<A> {
 }
 
 impl<A: Allocator + Copy> Plan<A> {
-    /// The ports, in the order of the text.
+    /// Returns the ports, in file order.
     pub fn ports(&self) -> &[PortPlan<A>]
         ensures ports { result.now ≡ self.now.ports }
         ensures rules { rules.IsPlan self.now }
@@ -74,38 +74,38 @@ impl<A: Allocator + Copy> Plan<A> {
         &self.ports
     }
 
-    /// The port of a number, where the plan has it.
+    /// Returns the port with this number, if the plan has it.
     pub fn port(&self, number: u8) -> Option<&PortPlan<A>>
-        ensures port { option_map (λ p. p.now) result ≡ rules.port_at self.now.ports number }
+        ensures port { option_map (λ p. p.now) result ≡ rules.find_port self.now.ports number }
         ensures rules { rules.IsPlan self.now }
     {
-        port_in(&self.ports, number)
+        find_port(&self.ports, number)
     }
 
-    /// The numbers of the ports in rising order, as many as there are ports.
+    /// Returns the numbers of the ports in rising order.
     pub fn port_numbers<B: Allocator + Copy>(&self, alloc: B) -> Result<Vec<u8, B>, NoMemory>
-        ensures { IfOk result (λ v. rules.IsInOrder (map (λ p. p.number) self.now.ports) v.items) }
+        ensures { IfOk result (λ v. rules.IsSortedCopy (map (λ p. p.number) self.now.ports) v.items) }
     {
-        let mut ports = numbers_of_ports(alloc, &self.ports)?;
+        let mut ports = collect_port_numbers(alloc, &self.ports)?;
         ports.sort()?;
         Ok(ports)
     }
 
-    /// The VLANs, in the order of the text.
+    /// Returns the VLANs, in file order.
     pub fn vlans(&self) -> &[Vlan]
         ensures { result.now ≡ self.now.database.vlans }
     {
         self.forwarding.vlans()
     }
 
-    /// The static filtering entries, in the order of the text.
+    /// Returns the static filtering entries, in file order.
     pub fn statics(&self) -> &[StaticEntry]
         ensures { result.now ≡ self.now.database.statics }
     {
         self.forwarding.statics()
     }
 
-    /// The stream identifications, in the order of the text.
+    /// Returns the stream identifications, in file order.
     pub fn streams(&self) -> &[StreamEntry]
         ensures streams { result.now ≡ self.now.streams }
         ensures rules { rules.IsPlan self.now }
@@ -113,7 +113,7 @@ impl<A: Allocator + Copy> Plan<A> {
         &self.streams
     }
 
-    /// The stream gates with their numbers, in the order of the text.
+    /// Returns the stream gates with their numbers, in file order.
     pub fn gates(&self) -> &[(u32, GatePlan<A>)]
         ensures gates { result.now ≡ self.now.gates }
         ensures rules { rules.IsPlan self.now }
@@ -121,7 +121,7 @@ impl<A: Allocator + Copy> Plan<A> {
         &self.gates
     }
 
-    /// The flow meters with their numbers, in the order of the text.
+    /// Returns the flow meters with their numbers, in file order.
     pub fn meters(&self) -> &[(u32, MeterPlan)]
         ensures meters { result.now ≡ self.now.meters }
         ensures rules { rules.IsPlan self.now }
@@ -129,7 +129,7 @@ impl<A: Allocator + Copy> Plan<A> {
         &self.meters
     }
 
-    /// The stream filters with their numbers, in the order of the text.
+    /// Returns the stream filters with their numbers, in file order.
     pub fn filters(&self) -> &[(u32, FilterPlan)]
         ensures filters { result.now ≡ self.now.filters }
         ensures rules { rules.IsPlan self.now }
@@ -137,12 +137,12 @@ impl<A: Allocator + Copy> Plan<A> {
         &self.filters
     }
 
-    /// The stream filters with their numbers, by rising number.
+    /// Returns the stream filters with their numbers, by rising number.
     pub fn filters_in_order<B: Allocator + Copy>(
         &self,
         alloc: B,
     ) -> Result<Vec<(u32, FilterPlan), B>, NoMemory>
-        ensures rises { IfOk result (λ v. Rising (λ x y. x.0 < y.0) v.items) }
+        ensures rises { IfOk result (λ v. IsOrdered (λ x y. x.0 < y.0) v.items) }
         ensures same { IfOk result (λ v. (n : ℕ) → lookup (nat_eq n) v.items ≡ lookup (nat_eq n) self.now.filters) }
     {
         let mut filters = Vec::from_slice(alloc, &self.filters)?;
@@ -150,29 +150,29 @@ impl<A: Allocator + Copy> Plan<A> {
         Ok(filters)
     }
 
-    /// The ports to which a frame to `da` goes that came on `port`, 1 to 16, and was classified in the VLAN `vid`
-    /// (IEEE 802.1Q-2018, 8.6.2 to 8.6.4). Each is a port of the plan, and none is `port` itself. It takes two look-ups,
-    /// however large the plan is, and no memory.
+    /// Returns the egress ports of a frame to `da` in VLAN `vid` that arrived on `port` (IEEE 802.1Q-2018, 8.6.2 to 8.6.4).
+    ///
+    /// The call takes two look-ups and no memory.
     pub fn forward(&self, port: u8, vid: u16, da: &[u8; 6]) -> PortSet
         requires from { 1 ≤ port }
         requires to { port ≤ 16 }
         ensures ports { result ≡ forward self.now.database port vid da.now }
         ensures of_plan { (q : ℕ)
             → 1 ≤ q
-            → has result q ≡ true
-            → (out : PortPlan A) × (rules.port_at self.now.ports q ≡ Some out) }
-        ensures not_back { has result port ≡ false }
+            → has_port result q ≡ true
+            → (out : PortPlan A) × (rules.find_port self.now.ports q ≡ Some out) }
+        ensures not_back { has_port result port ≡ false }
         ensures empty { IsEmpty result ↔ ((q : ℕ) (out : PortPlan A)
-            → rules.port_at self.now.ports q ≡ Some out
-            → has result q ≡ false) }
+            → rules.find_port self.now.ports q ≡ Some out
+            → has_port result q ≡ false) }
     {
         self.forwarding.forward(port, vid, da)
     }
 }
 
-/// The port of a number.
-fn port_in<A: Allocator + Copy>(ports: &[PortPlan<A>], number: u8) -> Option<&PortPlan<A>>
-    ensures { option_map (λ p. p.now) result ≡ rules.port_at ports.now number }
+/// Returns the first port with this number.
+fn find_port<A: Allocator + Copy>(ports: &[PortPlan<A>], number: u8) -> Option<&PortPlan<A>>
+    ensures { option_map (λ p. p.now) result ≡ rules.find_port ports.now number }
 {
     for port in ports {
         if port.number == number {
@@ -182,8 +182,8 @@ fn port_in<A: Allocator + Copy>(ports: &[PortPlan<A>], number: u8) -> Option<&Po
     None
 }
 
-/// The numbers of ports, in their order.
-fn numbers_of_ports<A: Allocator + Copy, B: Allocator + Copy>(
+/// Returns the numbers of the ports, in file order.
+fn collect_port_numbers<A: Allocator + Copy, B: Allocator + Copy>(
     alloc: B,
     ports: &[PortPlan<A>],
 ) -> Result<Vec<u8, B>, NoMemory>
@@ -198,7 +198,7 @@ fn numbers_of_ports<A: Allocator + Copy, B: Allocator + Copy>(
     Ok(numbers)
 }
 
-/// The set of the numbers of all ports.
+/// Returns the set of the numbers of all ports.
 fn port_set<A: Allocator + Copy>(ports: &[PortPlan<A>]) -> u16
     requires { rules.ArePorts ports.now }
     ensures { result ≡ rules.port_set ports.now }
@@ -210,7 +210,7 @@ fn port_set<A: Allocator + Copy>(ports: &[PortPlan<A>]) -> u16
     bits
 }
 
-/// The gates, meters and filters of a plan.
+/// Gates, meters and filters of a plan.
 #[derive(Drop)]
 struct Policing<A: Allocator + Copy> {
     gates: Vec<(u32, GatePlan<A>), A>,
@@ -230,20 +230,20 @@ impl<A: Allocator + Copy> Model for Policing<A> {
     }) };
 }
 
-/// The gates, meters and filters of the arrays of a document, by the moment of the change of schedules.
-#[tactic(auto, unfolding(crate::specs::Document::policing_of))]
-fn policing_of<A: Allocator + Copy>(
+/// Reads the gates, meters and filters. `change` is the time of the schedule change in ns.
+#[tactic(auto, unfolding(crate::specs::Document::read_policing))]
+fn read_policing<A: Allocator + Copy>(
     alloc: A,
     change: Option<u64>,
-    arrays: Arrays<'_>,
+    arrays: SectionArrays<'_>,
 ) -> Result<Policing<A>, PlanFault>
-    requires change { rules.IsBeforeEnd change }
-    requires few { AreFew arrays }
-    ensures { Gives result (doc.policing_of change (items_of_arrays arrays.entry)) }
+    requires change { rules.IsChangeInTime change }
+    requires few { AreWithinLimits arrays }
+    ensures { MatchesReading result (doc.read_policing change (array_items arrays.entry)) }
 {
-    let gates = read_instances(alloc, &Gates { change }, arrays.gates)?;
-    let meters = read_instances(alloc, &Meters, arrays.meters)?;
-    let filters = filters_of(alloc, &gates, &meters, arrays.filters)?;
+    let gates = read_instances(alloc, &GateSection { change }, arrays.gates)?;
+    let meters = read_instances(alloc, &MeterSection, arrays.meters)?;
+    let filters = read_filters(alloc, &gates, &meters, arrays.filters)?;
     Ok(Policing {
         gates,
         meters,
@@ -251,19 +251,19 @@ fn policing_of<A: Allocator + Copy>(
     })
 }
 
-/// The plan of the arrays of a document.
-#[tactic(auto, unfolding(crate::specs::Document::second_pass))]
-fn second_pass<A: Allocator + Copy>(alloc: A, arrays: Arrays<'_>) -> Result<Plan<A>, PlanFault>
-    requires { AreFew arrays }
-    ensures { Gives result (doc.second_pass (items_of_arrays arrays.entry)) }
+/// Reads a plan from the arrays of a document.
+#[tactic(auto, unfolding(crate::specs::Document::read_plan))]
+fn read_plan<A: Allocator + Copy>(alloc: A, arrays: SectionArrays<'_>) -> Result<Plan<A>, PlanFault>
+    requires { AreWithinLimits arrays }
+    ensures { MatchesReading result (doc.read_plan (array_items arrays.entry)) }
 {
-    let change = change_of(arrays.changes)?;
-    let ports = read_instances(alloc, &Ports { change }, arrays.ports)?;
+    let change = read_change(arrays.changes)?;
+    let ports = read_instances(alloc, &PortSection { change }, arrays.ports)?;
     let all = port_set(&ports);
-    let vlans = read_instances(alloc, &Vlans { all }, arrays.vlans)?;
-    let statics = read_instances(alloc, &Statics { all, vlans: &vlans }, arrays.statics)?;
-    let streams = read_instances(alloc, &Streams { ports: &ports }, arrays.streams)?;
-    let policing = policing_of(alloc, change, arrays)?;
+    let vlans = read_instances(alloc, &VlanSection { all }, arrays.vlans)?;
+    let statics = read_instances(alloc, &StaticSection { all, vlans: &vlans }, arrays.statics)?;
+    let streams = read_instances(alloc, &StreamSection { ports: &ports }, arrays.streams)?;
+    let policing = read_policing(alloc, change, arrays)?;
     let Ok(forwarding) = Forwarding::new(alloc, vlans, statics) else {
         return Err(PlanFault::NoMemory);
     };
@@ -277,28 +277,29 @@ fn second_pass<A: Allocator + Copy>(alloc: A, arrays: Arrays<'_>) -> Result<Plan
     })
 }
 
-/// The document of a text.
-#[tactic(auto, unfolding(crate::specs::Document::document_of))]
-pub(crate) fn document_of(heap: Global, text: &[u8]) -> Result<Table, PlanFault>
-    ensures { GivesAs table_view result (doc.document_of text.now) }
+/// Parses a text as a TOML document.
+#[tactic(auto, unfolding(crate::specs::Document::read_document))]
+pub(crate) fn read_document(heap: Global, text: &[u8]) -> Result<Table, PlanFault>
+    ensures { MatchesReadingView table_view result (doc.read_document text.now) }
 {
-    bridge_schema::document_of(heap, text)
+    bridge_schema::read_document(heap, text)
 }
 
-/// The plan of a TOML text, or its first fault: `TooLong`, `Syntax`, an unknown key at the top, then the sections in
-/// the order change, port, VLAN, static entry, stream, gate, meter, filter, first each as an array (`NotAList`,
-/// `TooMany`, `NoPorts`), then instance by instance and key by key. `NoMemory` comes only where a growth was refused.
+/// Reads the plan of a TOML text, or returns its first fault. The document uses `heap`, the plan `alloc`.
 ///
-/// The document is read in `heap`, the plan is made in `alloc`.
+/// Order of faults: `TooLong`, `Syntax`, an unknown section, then `NotAList`, `TooMany` and `NoPorts` of the sections, then each
+/// instance key by key.
+///
+/// Sections follow the order of `PLAN_SECTIONS`.
 pub fn plan_of<A: Allocator + Copy>(
     alloc: A,
     heap: Global,
     text: &[u8],
 ) -> Result<Plan<A>, PlanFault>
-    ensures reads { Gives result (doc.plan_of_text text.now) }
+    ensures reads { MatchesReading result (doc.text_plan text.now) }
     ensures rules { IfOk result rules.IsPlan }
 {
-    let document = document_of(heap, text)?;
-    let arrays = first_pass(&document)?;
-    second_pass(alloc, arrays)
+    let document = read_document(heap, text)?;
+    let arrays = read_arrays(&document)?;
+    read_plan(alloc, arrays)
 }

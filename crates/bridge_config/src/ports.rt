@@ -3,22 +3,23 @@ ghost use Rattle.std.specs.Prelude.{◌≡◌, ◌<◌, IfOk, All, false};
 ghost use Rattle.std.specs.Option.{ForSome};
 ghost use Rattle.toml.specs.Data.{get_member};
 ghost use Rattle.toml.specs.View.{table_view};
-ghost use Rattle.bridge_schema.specs.Keys.{key_of};
-ghost use Rattle.bridge_schema.specs.Readers.{Gives, GivesAs, are_known, are_known_at};
-ghost use Rattle.bridge_config.specs.Lists.{parts_in};
+ghost use Rattle.bridge_schema.specs.Keys.{key_name};
+ghost use Rattle.bridge_schema.specs.Readers.{MatchesReading, MatchesReadingView, has_known_keys, has_known_entry_keys};
+ghost use Rattle.bridge_config.specs.Lists.{list_parts_view};
 ghost use Rattle.bridge_config.specs.Sections as sections;
 ghost use Rattle.bridge_config.specs.Rules as rules;
-ghost use Rattle.bridge_config.specs.Taken.{Reads};
+ghost use Rattle.bridge_config.specs.FirstFaults.{ReadsLists};
 
-use crate::first::FirstFault;
-use crate::lists::{Parts, list_if, parts_of};
+use crate::first_fault::FirstFault;
+use crate::lists::{ListParts, optional_list, read_list_parts};
 use bridge_cycle::{CyclicList, Egress, Joined};
 use bridge_frame::Speed;
 use bridge_limits::END_OF_TIME;
 use bridge_schema::{
-    Classes, Entry, Field, Finds, GATES, LENGTH, ListKeys, Mbps, NEXT_GATES, PORT, PORT_ENTRY_KEYS,
-    PORT_KEYS, PRIORITY, Place, PlanFault, Rooms, Row, Section, SectionReader, SetOf, VID,
-    are_known, are_known_at, required, value_at,
+    Classes, Field, InstanceTable, KeyLocation, LENGTH, ListEntry, ListKeys, Mbps, NEXT_PORT_LIST,
+    NumberLookup, NumberSet, PORT, PORT_ENTRY_KEYS, PORT_KEYS, PORT_LIST, PRIORITY, PlanFault,
+    Rooms, Section, SectionReader, VID, get_value, has_allowed_entry_keys, has_allowed_keys,
+    read_required,
 };
 use std::alloc::Allocator;
 use toml::Table;
@@ -26,80 +27,86 @@ use toml::Table;
 /// Settings of a port of a plan.
 #[derive(Drop)]
 pub struct PortPlan<A: Allocator + Copy> {
-    /// Its number, 1 to 16.
+    /// Number, 1 to 16.
     pub number: u8,
-    /// The speed of its link.
+    /// Speed of the link.
     pub speed: Speed,
-    /// The VLAN of frames that name none, 1 to 4094 (IEEE 802.1Q-2018 6.9).
+    /// VLAN of untagged and priority-tagged frames, 1 to 4094 (IEEE 802.1Q-2018, 6.9).
     pub vid: u16,
-    /// The priority of untagged frames, 0 to 7.
+    /// Priority of untagged frames, 0 to 7.
     pub priority: u8,
-    /// The class of each priority, from priority 0 (IEEE 802.1Q-2018 8.6.6).
+    /// Class of each priority, from priority 0 (IEEE 802.1Q-2018, 8.6.6).
     pub classes: [u8; 8],
-    /// The frames that each class's queue holds at most, from class 0; 1 to 4096.
+    /// Queue capacity of each class in frames, from class 0; 1 to 4,096.
     pub rooms: [u16; 8],
-    /// The open classes, as bits from class 0 on, by time, also where another list takes over at the change of
-    /// schedules; all are always open without one (IEEE 802.1Q-2018 8.6.8, 8.6.9.4).
+    /// Gate control lists; bit c of a state opens class c. Without a list, all classes are always open (IEEE 802.1Q-2018, 8.6.8,
+    /// 8.6.9.4).
     pub list: Option<Egress<A>>,
 }
 
-/// An entry of a port's list: its open classes as bits, and its interval in ns.
+/// Reader of an entry of a port's list: open classes as bits, and the interval in ns.
 #[derive(Clone, Copy)]
-struct PortEntry {
-    place: Place,
+struct PortEntryReader {
+    place: KeyLocation,
 }
 
-impl Entry for PortEntry {
+impl ListEntry for PortEntryReader {
     type Out = (u8, u64);
 
-    ghost reading = { λ e. sections.port_entry e.place };
+    ghost reading = { λ e. sections.read_port_entry e.place };
 
     ghost Fits = { λ _ x. x.0 < 256 };
 
     fn read(&self, table: &Table) -> Result<(u8, u64), PlanFault> {
-        let classes = required(table, self.place, Field::Open, &SetOf { low: 0, high: 7 })?;
-        let ns = required(table, self.place, Field::Ns, &LENGTH)?;
+        let classes = read_required(
+            table,
+            self.place,
+            Field::Open,
+            &NumberSet { low: 0, high: 7 },
+        )?;
+        let ns = read_required(table, self.place, Field::Ns, &LENGTH)?;
         Ok((classes as u8, ns))
     }
 }
 
-/// Whether a table has no key but those of a port, where the plan may have a change of schedules.
-fn are_port_keys(change: Option<u64>, table: &Table) -> bool
-    ensures { result ≡ are_known (sections.port_keys change (table_view table.now)) (table_view table.now) }
+/// Whether a table has only keys of a port. Some keys need a plan with a schedule change.
+fn has_only_port_keys(change: Option<u64>, table: &Table) -> bool
+    ensures { result ≡ has_known_keys (sections.port_keys change (table_view table.now)) (table_view table.now) }
 {
-    are_known(table, &PORT_KEYS, change.is_some())
+    has_allowed_keys(table, &PORT_KEYS, change.is_some())
 }
 
-/// Whether no entry of a list has a key but its own.
-fn are_entry_keys(key: Field, table: &Table) -> bool
-    ensures { result ≡ are_known_at sections.port_entry_keys (get_member (key_of key) (table_view table.now)) }
+/// Whether the entries of the list at `key` have only their keys.
+fn has_only_port_entry_keys(key: Field, table: &Table) -> bool
+    ensures { result ≡ has_known_entry_keys sections.port_entry_keys (get_member (key_name key)
+        (table_view table.now)) }
 {
-    are_known_at(value_at(table, key.key()), &PORT_ENTRY_KEYS)
+    has_allowed_entry_keys(get_value(table, key.key()), &PORT_ENTRY_KEYS)
 }
 
-/// Whether a table has the keys of a port alone.
-fn has_keys(change: Option<u64>, table: &Table) -> bool
+/// Whether a table and the entries of its lists have only keys of a port.
+fn has_port_keys(change: Option<u64>, table: &Table) -> bool
     ensures { result ≡ sections.has_port_keys change (table_view table.now) }
 {
-    are_port_keys(change, table)
-        && are_entry_keys(Field::Gates, table)
-        && are_entry_keys(Field::NextGates, table)
+    has_only_port_keys(change, table)
+        && has_only_port_entry_keys(Field::Gates, table)
+        && has_only_port_entry_keys(Field::NextGates, table)
 }
 
-/// Whether a port has a number.
+/// Whether a port has this number.
 pub(crate) fn has_port<A: Allocator + Copy>(ports: &[PortPlan<A>], number: u64) -> bool
     ensures { result ≡ rules.has_port ports.now number }
 {
     ports.iter().any(|p| p.number as u64 == number)
 }
 
-/// The numbers of the ports of a plan.
+/// Numbers of a plan's ports.
 #[derive(Clone, Copy)]
 pub(crate) struct PortNumbers<'a, A: Allocator + Copy> {
     pub ports: &'a [PortPlan<A>],
 }
 
-impl<'a, A: Allocator + Copy> Finds for PortNumbers<'a, A> {
+impl<'a, A: Allocator + Copy> NumberLookup for PortNumbers<'a, A> {
     ghost among = { λ s. rules.has_port s.ports.now };
 
     fn has(&self, number: u64) -> bool {
@@ -107,44 +114,45 @@ impl<'a, A: Allocator + Copy> Finds for PortNumbers<'a, A> {
     }
 }
 
-/// The parts of the list that stands at three keys of a port's table.
-fn port_parts<A: Allocator + Copy>(
+/// Reads the parts of a port's list from three keys.
+fn read_port_parts<A: Allocator + Copy>(
     alloc: A,
     index: u32,
     keys: ListKeys,
     table: &Table,
-) -> Result<Parts<(u8, u64), A>, PlanFault>
-    ensures reads { GivesAs parts_in result (sections.port_parts index keys.base keys.cycle keys.entries
+) -> Result<ListParts<(u8, u64), A>, PlanFault>
+    ensures reads { MatchesReadingView list_parts_view result
+        (sections.read_port_parts index keys.base keys.cycle keys.entries
         (table_view table.now)) }
     ensures base { IfOk result (λ p. p.base < END_OF_TIME) }
     ensures classes { IfOk result (λ p. ForSome p.entries (λ v. All (λ e. e.0 < 256) v.items)) }
 {
-    let place = Place {
+    let place = KeyLocation {
         section: Section::Port,
         index,
         field: keys.entries,
     };
-    parts_of(
+    read_list_parts(
         alloc,
         Section::Port,
         index,
         keys,
-        &PortEntry { place },
+        &PortEntryReader { place },
         table,
     )
 }
 
-/// The gate control lists of a port, by the moment of the change of schedules.
-fn egress_of<A: Allocator + Copy>(
+/// Returns the gate control lists of a port. `change` is the time of the schedule change in ns.
+fn port_lists<A: Allocator + Copy>(
     old: Option<CyclicList<u8, A>>,
     change: Option<u64>,
     new: Option<CyclicList<u8, A>>,
 ) -> Option<Egress<A>>
     requires old { ForSome old rules.IsPortList }
-    requires change { rules.IsBeforeEnd change }
+    requires change { rules.IsChangeInTime change }
     requires new { ForSome new rules.IsPortList }
-    ensures lists { result ≡ sections.egress_of old change new }
-    ensures each { ForSome result (rules.ForEachList rules.IsPortList) }
+    ensures lists { result ≡ sections.port_lists old change new }
+    ensures each { ForSome result (rules.HoldsOfLists rules.IsPortList) }
 {
     let Some(old) = old else {
         return None;
@@ -158,40 +166,42 @@ fn egress_of<A: Allocator + Copy>(
     }
 }
 
-/// The gate control lists of a table, by the moment of the change of schedules.
-fn port_list<A: Allocator + Copy>(
+/// Reads the gate control lists of a port. `change` is the time of the schedule change in ns.
+fn read_port_lists<A: Allocator + Copy>(
     alloc: A,
     change: Option<u64>,
     index: u32,
     table: &Table,
 ) -> Result<Option<Egress<A>>, PlanFault>
-    requires { rules.IsBeforeEnd change }
-    ensures reads { Gives result (sections.port_list change index (table_view table.now)) }
-    ensures list { IfOk result (λ l. ForSome l (rules.ForEachList rules.IsPortList)) }
+    requires { rules.IsChangeInTime change }
+    ensures reads { MatchesReading result (sections.read_port_lists change index (table_view table.now)) }
+    ensures list { IfOk result (λ l. ForSome l (rules.HoldsOfLists rules.IsPortList)) }
 {
-    let first = port_parts(alloc, index, GATES, table)?;
-    let next = port_parts(alloc, index, NEXT_GATES, table)?;
-    let old = list_if(alloc, Section::Port, index, first)?;
-    let new = list_if(alloc, Section::Port, index, next)?;
-    Ok(egress_of(old, change, new))
+    let first = read_port_parts(alloc, index, PORT_LIST, table)?;
+    let next = read_port_parts(alloc, index, NEXT_PORT_LIST, table)?;
+    let old = optional_list(alloc, Section::Port, index, first)?;
+    let new = optional_list(alloc, Section::Port, index, next)?;
+    Ok(port_lists(old, change, new))
 }
 
-/// The gate control lists of a table, or none behind a fault or where they have one.
-fn list_or<A: Allocator + Copy>(
+/// Reads the gate control lists of a port. Returns `None` after an earlier fault. If reading fails, stores the fault and returns
+/// `None`.
+fn take_port_lists<A: Allocator + Copy>(
     first: &mut FirstFault,
     alloc: A,
     change: Option<u64>,
     index: u32,
     table: &Table,
 ) -> Option<Egress<A>>
-    requires { rules.IsBeforeEnd change }
-    ensures reads { Reads first.old (sections.port_list change index (table_view table.now)) first.new result }
-    ensures list { ForSome result (rules.ForEachList rules.IsPortList) }
+    requires { rules.IsChangeInTime change }
+    ensures reads { ReadsLists first.old (sections.read_port_lists change index
+        (table_view table.now)) first.new result }
+    ensures list { ForSome result (rules.HoldsOfLists rules.IsPortList) }
 {
     if first.fault().is_some() {
         return None;
     }
-    match port_list(alloc, change, index, table) {
+    match read_port_lists(alloc, change, index, table) {
         Ok(list) => list,
         Err(fault) => {
             first.expect(false, fault);
@@ -200,39 +210,40 @@ fn list_or<A: Allocator + Copy>(
     }
 }
 
-/// The port of a table, by the moment of the change of schedules and what finds the numbers of the ports before it.
-fn port_among<A: Allocator + Copy, P: Finds + Copy>(
+/// Reads a port. `change` is the time of the schedule change in ns, and `ports` looks up numbers of earlier ports.
+fn read_port_by_lookup<A: Allocator + Copy, P: NumberLookup + Copy>(
     alloc: A,
     change: Option<u64>,
     ports: P,
     index: u32,
     table: &Table,
 ) -> Result<PortPlan<A>, PlanFault>
-    requires { rules.IsBeforeEnd change }
-    ensures reads { Gives result (sections.port_among change (P.among ports) index (table_view table.now)) }
+    requires { rules.IsChangeInTime change }
+    ensures reads { MatchesReading result (sections.read_port_by_lookup change (P.among ports) index
+        (table_view table.now)) }
     ensures own { IfOk result (λ p. P.among ports p.number ≡ false) }
     ensures port { IfOk result (λ p. rules.IsPort p) }
 {
-    let row = Row {
+    let row = InstanceTable {
         table,
         section: Section::Port,
         index,
     };
     let unknown = PlanFault::UnknownKey(Section::Port, index);
-    let mut first = FirstFault::unless(has_keys(change, table), unknown);
-    let number = first.required(row, Field::Number, &PORT, 1);
-    let speed = first.required(row, Field::Mbps, &Mbps, Speed::Mbps10);
-    let vid = first.default_to(row, Field::Vid, &VID, 1);
-    let priority = first.default_to(row, Field::Priority, &PRIORITY, 0);
+    let mut first = FirstFault::begin(has_port_keys(change, table), unknown);
+    let number = first.read_required(row, Field::Number, &PORT, 1);
+    let speed = first.read_required(row, Field::Mbps, &Mbps, Speed::Mbps10);
+    let vid = first.read_or_default(row, Field::Vid, &VID, 1);
+    let priority = first.read_or_default(row, Field::Priority, &PRIORITY, 0);
     let in_order = [0, 1, 2, 3, 4, 5, 6, 7];
-    let classes = first.default_to(row, Field::Classes, &Classes, in_order);
-    let rooms = first.default_to(row, Field::Rooms, &Rooms, [64; 8]);
-    let list = list_or(&mut first, alloc, change, index, table);
+    let classes = first.read_or_default(row, Field::Classes, &Classes, in_order);
+    let rooms = first.read_or_default(row, Field::Rooms, &Rooms, [64; 8]);
+    let list = take_port_lists(&mut first, alloc, change, index, table);
     first.expect(
         !ports.has(number),
         PlanFault::Duplicate(Section::Port, index),
     );
-    first.done(PortPlan {
+    first.finish(PortPlan {
         number: number as u8,
         speed,
         vid: vid as u16,
@@ -243,36 +254,36 @@ fn port_among<A: Allocator + Copy, P: Finds + Copy>(
     })
 }
 
-/// The port of a table, by the moment of the change of schedules and the ports before it.
-fn port_of<A: Allocator + Copy>(
+/// Reads a port, after the earlier ports. `change` is the time of the schedule change in ns.
+fn read_port<A: Allocator + Copy>(
     alloc: A,
     change: Option<u64>,
     ports: &[PortPlan<A>],
     index: u32,
     table: &Table,
 ) -> Result<PortPlan<A>, PlanFault>
-    requires { rules.IsBeforeEnd change }
-    ensures reads { Gives result (sections.port_at change ports.now index (table_view table.now)) }
+    requires { rules.IsChangeInTime change }
+    ensures reads { MatchesReading result (sections.read_port change ports.now index (table_view table.now)) }
     ensures own { IfOk result (λ p. rules.has_port ports.now p.number ≡ false) }
     ensures port { IfOk result (λ p. rules.IsPort p) }
 {
-    port_among(alloc, change, PortNumbers { ports }, index, table)
+    read_port_by_lookup(alloc, change, PortNumbers { ports }, index, table)
 }
 
-/// The section of ports, by the moment of the change of schedules.
+/// Reader of the ports. `change` is the time of the schedule change in ns.
 #[derive(Clone, Copy)]
-pub(crate) struct Ports {
+pub(crate) struct PortSection {
     pub change: Option<u64>,
 }
 
-impl<A: Allocator + Copy> SectionReader<A> for Ports {
+impl<A: Allocator + Copy> SectionReader<A> for PortSection {
     type Fault = PlanFault;
 
     type Instance = PortPlan<A>;
 
-    ghost reading = { λ s. sections.port_at s.change };
+    ghost reading = { λ s. sections.read_port s.change };
 
-    ghost Keeps = { λ s ports. rules.IsBeforeEnd s.change × rules.ArePorts ports };
+    ghost Keeps = { λ s ports. rules.IsChangeInTime s.change × rules.ArePorts ports };
 
     fn read(
         &self,
@@ -281,6 +292,6 @@ impl<A: Allocator + Copy> SectionReader<A> for Ports {
         index: u32,
         table: &Table,
     ) -> Result<PortPlan<A>, PlanFault> {
-        port_of(alloc, self.change, earlier, index, table)
+        read_port(alloc, self.change, earlier, index, table)
     }
 }

@@ -2,23 +2,23 @@
 ghost use Rattle.std.specs.Prelude.{◌≡◌, ◌&&◌, nat_eq, IfOk, false};
 ghost use Rattle.std.specs.Str.{bytes_eq};
 ghost use Rattle.toml.specs.View.{table_view};
-ghost use Rattle.bridge_schema.specs.Readers.{Gives};
+ghost use Rattle.bridge_schema.specs.Readers.{MatchesReading};
 ghost use Rattle.bridge_config.specs.Sections as sections;
 ghost use Rattle.bridge_config.specs.Rules as rules;
 
-use crate::first::FirstFault;
+use crate::first_fault::FirstFault;
 use crate::vlans::VlanNumbers;
 use bridge_forward::{PortSet, StaticEntry, Vlan};
 use bridge_schema::{
-    Address, Field, Known, PlanFault, PortsOf, Row, STATIC_KEYS, Section, SectionReader, Text, VID,
-    are_known,
+    Address, Field, InstanceTable, KnownNumber, KnownPorts, PlanFault, STATIC_KEYS, Section,
+    SectionReader, TextValue, VID, has_allowed_keys,
 };
 use std::alloc::Allocator;
 use toml::Table;
 
-/// Whether an entry has a VLAN and an address. The last octets of two addresses differ most often, and go first.
+/// Whether an entry has this VLAN and this address. The last two octets are compared first because they differ most often.
 #[inline(always)]
-fn is_static(entry: &StaticEntry, vid: u64, address: &[u8; 6]) -> bool
+fn has_vlan_and_address(entry: &StaticEntry, vid: u64, address: &[u8; 6]) -> bool
     ensures { result ≡ (nat_eq entry.now.vid vid && bytes_eq entry.now.address address.now) }
 {
     if entry.address[4] != address[4] || entry.address[5] != address[5] {
@@ -27,71 +27,74 @@ fn is_static(entry: &StaticEntry, vid: u64, address: &[u8; 6]) -> bool
     entry.vid as u64 == vid && entry.address == *address
 }
 
-/// Whether one of these entries has a VLAN and an address.
+/// Whether one of the entries has this VLAN and this address.
 fn has_static(statics: &[StaticEntry], vid: u64, address: &[u8; 6]) -> bool
     ensures { result ≡ rules.has_static statics.now vid address.now }
 {
-    statics.iter().any(|s| is_static(s, vid, address))
+    statics
+        .iter()
+        .any(|s| has_vlan_and_address(s, vid, address))
 }
 
-/// Whether a table has the keys of a static entry alone.
-fn has_keys(table: &Table) -> bool
+/// Whether a table has only keys of a static entry.
+fn has_static_keys(table: &Table) -> bool
     ensures { result ≡ sections.has_static_keys (table_view table.now) }
 {
-    are_known(table, &STATIC_KEYS, false)
+    has_allowed_keys(table, &STATIC_KEYS, false)
 }
 
-/// The static entry of a table, by those before it, where these are all ports and VLANs.
-fn static_of(
+/// Reads a static entry, after the earlier entries; `all` is the set of the plan's ports.
+fn read_static(
     all: u16,
     vlans: &[Vlan],
     statics: &[StaticEntry],
     index: u32,
     table: &Table,
 ) -> Result<StaticEntry, PlanFault>
-    ensures reads { Gives result (sections.static_at all vlans.now statics.now index (table_view table.now)) }
+    ensures reads { MatchesReading result (sections.read_static all vlans.now statics.now index
+        (table_view table.now)) }
     ensures own { IfOk result (λ s. rules.has_static statics.now s.vid s.address ≡ false) }
     ensures entry { IfOk result (λ s. rules.IsStatic all vlans.now s) }
 {
-    let row = Row {
+    let row = InstanceTable {
         table,
         section: Section::Static,
         index,
     };
     let unknown = PlanFault::UnknownKey(Section::Static, index);
-    let mut first = FirstFault::unless(has_keys(table), unknown);
-    let known_vlans = Known {
+    let mut first = FirstFault::begin(has_static_keys(table), unknown);
+    let known_vlans = KnownNumber {
         among: VlanNumbers { vlans },
         range: VID,
     };
-    let vid = first.required(row, Field::Vid, &known_vlans, 1);
-    let addresses = Text { meaning: Address };
-    let address = first.required(row, Field::Address, &addresses, [0; 6]);
-    let ports = first.required(row, Field::Ports, &PortsOf { all }, 0);
+    let vid = first.read_required(row, Field::Vid, &known_vlans, 1);
+    let addresses = TextValue { meaning: Address };
+    let address = first.read_required(row, Field::Address, &addresses, [0; 6]);
+    let ports = first.read_required(row, Field::Ports, &KnownPorts { all }, 0);
     first.expect(
         !has_static(statics, vid, &address),
         PlanFault::Duplicate(Section::Static, index),
     );
-    first.done(StaticEntry {
+    first.finish(StaticEntry {
         vid: vid as u16,
         address,
-        ports: PortSet::of_bits(ports),
+        ports: PortSet::from_bits(ports),
     })
 }
 
-/// The section of static entries, where these are all ports and VLANs.
+/// Reader of the static entries; `all` is the set of the plan's ports.
 #[derive(Clone, Copy)]
-pub(crate) struct Statics<'a> {
+pub(crate) struct StaticSection<'a> {
     pub all: u16,
     pub vlans: &'a [Vlan],
 }
 
-impl<'a, A: Allocator + Copy> SectionReader<A> for Statics<'a> {
+impl<'a, A: Allocator + Copy> SectionReader<A> for StaticSection<'a> {
     type Fault = PlanFault;
 
     type Instance = StaticEntry;
 
-    ghost reading = { λ s. sections.static_at s.all s.vlans.now };
+    ghost reading = { λ s. sections.read_static s.all s.vlans.now };
 
     ghost Keeps = { λ s. rules.AreStatics s.all s.vlans.now };
 
@@ -103,6 +106,6 @@ impl<'a, A: Allocator + Copy> SectionReader<A> for Statics<'a> {
         index: u32,
         table: &Table,
     ) -> Result<StaticEntry, PlanFault> {
-        static_of(self.all, self.vlans, earlier, index, table)
+        read_static(self.all, self.vlans, earlier, index, table)
     }
 }

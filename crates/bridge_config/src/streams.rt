@@ -1,31 +1,31 @@
 //! Stream identifications of a plan.
 ghost use Rattle.std.specs.Prelude.{◌≡◌, ◌≤◌, true, IfOk, All};
 ghost use Rattle.toml.specs.View.{table_view};
-ghost use Rattle.bridge_schema.specs.Readers.{Gives};
+ghost use Rattle.bridge_schema.specs.Readers.{MatchesReading};
 ghost use Rattle.bridge_config.specs.Sections as sections;
 ghost use Rattle.bridge_config.specs.Texts as texts;
 ghost use Rattle.bridge_config.specs.Rules as rules;
 
-use crate::first::FirstFault;
+use crate::first_fault::FirstFault;
 use crate::ports::{PortNumbers, PortPlan};
 use bridge_ident::{Kind, StreamEntry, TagKind};
 use bridge_schema::{
-    Address, Field, Finds, Known, Meaning, NUMBER, PORT, PlanFault, Row, STREAM_KEYS, Section,
-    SectionReader, Text, VID, are_known,
+    Address, Field, InstanceTable, KnownNumber, NUMBER, NumberLookup, PORT, PlanFault, STREAM_KEYS,
+    Section, SectionReader, TextMeaning, TextValue, VID, has_allowed_keys,
 };
 use std::alloc::Allocator;
 use toml::Table;
 
-/// Which address is compared: `null` or `source`.
+/// Kind of identification, by the compared address: `null` or `source`.
 #[derive(Clone, Copy)]
 struct KindText;
 
-impl Meaning for KindText {
+impl TextMeaning for KindText {
     type Out = Kind;
 
-    ghost meaning = { λ _. texts.kind_of };
+    ghost meaning = { λ _. texts.parse_ident_kind };
 
-    fn meaning_of(&self, text: &str) -> Option<Kind> {
+    fn parse_text(&self, text: &str) -> Option<Kind> {
         if text == "null" {
             Some(Kind::Null)
         } else if text == "source" {
@@ -36,16 +36,16 @@ impl Meaning for KindText {
     }
 }
 
-/// Which frames are taken: `tagged`, `priority` or `all`.
+/// Tags of matching frames: `tagged`, `priority` or `all`.
 #[derive(Clone, Copy)]
 struct TagText;
 
-impl Meaning for TagText {
+impl TextMeaning for TagText {
     type Out = TagKind;
 
-    ghost meaning = { λ _. texts.tag_of };
+    ghost meaning = { λ _. texts.parse_tag_kind };
 
-    fn meaning_of(&self, text: &str) -> Option<TagKind> {
+    fn parse_text(&self, text: &str) -> Option<TagKind> {
         if text == "tagged" {
             Some(TagKind::Tagged)
         } else if text == "priority" {
@@ -58,47 +58,48 @@ impl Meaning for TagText {
     }
 }
 
-/// Whether a table has the keys of a stream identification alone.
-fn has_keys(table: &Table) -> bool
+/// Whether a table has only keys of a stream identification.
+fn has_stream_keys(table: &Table) -> bool
     ensures { result ≡ sections.has_stream_keys (table_view table.now) }
 {
-    are_known(table, &STREAM_KEYS, false)
+    has_allowed_keys(table, &STREAM_KEYS, false)
 }
 
-/// The stream identification of a table, by what finds the numbers of ports.
-fn stream_among<P: Finds + Copy>(
+/// Reads a stream identification. `ports` looks up numbers of ports.
+fn read_stream_by_lookup<P: NumberLookup + Copy>(
     ports: P,
     index: u32,
     table: &Table,
 ) -> Result<StreamEntry, PlanFault>
-    ensures reads { Gives result (sections.stream_among (P.among ports) index (table_view table.now)) }
+    ensures reads { MatchesReading result (sections.read_stream_by_lookup (P.among ports) index
+        (table_view table.now)) }
     ensures port { IfOk result (λ s. P.among ports s.port ≡ true) }
     ensures port_from { IfOk result (λ s. 1 ≤ s.port) }
     ensures port_to { IfOk result (λ s. s.port ≤ 16) }
     ensures vid_from { IfOk result (λ s. 1 ≤ s.vid) }
     ensures vid_to { IfOk result (λ s. s.vid ≤ 4094) }
 {
-    let row = Row {
+    let row = InstanceTable {
         table,
         section: Section::Stream,
         index,
     };
     let unknown = PlanFault::UnknownKey(Section::Stream, index);
-    let mut first = FirstFault::unless(has_keys(table), unknown);
-    let handle = first.required(row, Field::Handle, &NUMBER, 0);
-    let known_ports = Known {
+    let mut first = FirstFault::begin(has_stream_keys(table), unknown);
+    let handle = first.read_required(row, Field::Handle, &NUMBER, 0);
+    let known_ports = KnownNumber {
         among: ports,
         range: PORT,
     };
-    let port = first.required(row, Field::Port, &known_ports, 1);
-    let kinds = Text { meaning: KindText };
-    let kind = first.required(row, Field::Kind, &kinds, Kind::Null);
-    let addresses = Text { meaning: Address };
-    let address = first.required(row, Field::Address, &addresses, [0; 6]);
-    let vid = first.required(row, Field::Vid, &VID, 1);
-    let tags = Text { meaning: TagText };
-    let tag = first.required(row, Field::Tag, &tags, TagKind::All);
-    first.done(StreamEntry {
+    let port = first.read_required(row, Field::Port, &known_ports, 1);
+    let kinds = TextValue { meaning: KindText };
+    let kind = first.read_required(row, Field::Kind, &kinds, Kind::Null);
+    let addresses = TextValue { meaning: Address };
+    let address = first.read_required(row, Field::Address, &addresses, [0; 6]);
+    let vid = first.read_required(row, Field::Vid, &VID, 1);
+    let tags = TextValue { meaning: TagText };
+    let tag = first.read_required(row, Field::Tag, &tags, TagKind::All);
+    first.finish(StreamEntry {
         handle: handle as u32,
         port: port as u8,
         kind,
@@ -108,31 +109,31 @@ fn stream_among<P: Finds + Copy>(
     })
 }
 
-/// The stream identification of a table, where these are the ports.
-fn stream_of<A: Allocator + Copy>(
+/// Reads a stream identification, for these ports.
+fn read_stream<A: Allocator + Copy>(
     ports: &[PortPlan<A>],
     earlier: &[StreamEntry],
     index: u32,
     table: &Table,
 ) -> Result<StreamEntry, PlanFault>
-    ensures reads { Gives result (sections.stream_at ports.now earlier.now index (table_view table.now)) }
+    ensures reads { MatchesReading result (sections.read_stream ports.now earlier.now index (table_view table.now)) }
     ensures stream { IfOk result (λ s. rules.IsStream ports.now s) }
 {
-    stream_among(PortNumbers { ports }, index, table)
+    read_stream_by_lookup(PortNumbers { ports }, index, table)
 }
 
-/// The section of stream identifications, where these are the ports.
+/// Reader of the stream identifications, for these ports.
 #[derive(Clone, Copy)]
-pub(crate) struct Streams<'a, A: Allocator + Copy> {
+pub(crate) struct StreamSection<'a, A: Allocator + Copy> {
     pub ports: &'a [PortPlan<A>],
 }
 
-impl<'a, A: Allocator + Copy> SectionReader<A> for Streams<'a, A> {
+impl<'a, A: Allocator + Copy> SectionReader<A> for StreamSection<'a, A> {
     type Fault = PlanFault;
 
     type Instance = StreamEntry;
 
-    ghost reading = { λ s. sections.stream_at s.ports.now };
+    ghost reading = { λ s. sections.read_stream s.ports.now };
 
     ghost Keeps = { λ s streams. All (rules.IsStream s.ports.now) streams };
 
@@ -144,6 +145,6 @@ impl<'a, A: Allocator + Copy> SectionReader<A> for Streams<'a, A> {
         index: u32,
         table: &Table,
     ) -> Result<StreamEntry, PlanFault> {
-        stream_of(self.ports, earlier, index, table)
+        read_stream(self.ports, earlier, index, table)
     }
 }

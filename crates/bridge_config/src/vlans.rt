@@ -1,32 +1,33 @@
 //! VLANs of a plan.
 ghost use Rattle.std.specs.Prelude.{◌≡◌, IfOk, false};
 ghost use Rattle.toml.specs.View.{table_view};
-ghost use Rattle.bridge_schema.specs.Readers.{Gives};
+ghost use Rattle.bridge_schema.specs.Readers.{MatchesReading};
 ghost use Rattle.bridge_config.specs.Sections as sections;
 ghost use Rattle.bridge_config.specs.Rules as rules;
 
-use crate::first::FirstFault;
+use crate::first_fault::FirstFault;
 use bridge_forward::{PortSet, Vlan};
 use bridge_schema::{
-    Field, Finds, PlanFault, PortsOf, Row, Section, SectionReader, VID, VLAN_KEYS, are_known,
+    Field, InstanceTable, KnownPorts, NumberLookup, PlanFault, Section, SectionReader, VID,
+    VLAN_KEYS, has_allowed_keys,
 };
 use std::alloc::Allocator;
 use toml::Table;
 
-/// Whether a VLAN has a number.
+/// Whether a VLAN has the identifier `vid`.
 pub(crate) fn has_vlan(vlans: &[Vlan], vid: u64) -> bool
     ensures { result ≡ rules.has_vlan vlans.now vid }
 {
     vlans.iter().any(|v| v.vid as u64 == vid)
 }
 
-/// The numbers of the VLANs of a plan.
+/// Identifiers of a plan's VLANs.
 #[derive(Clone, Copy)]
 pub(crate) struct VlanNumbers<'a> {
     pub vlans: &'a [Vlan],
 }
 
-impl<'a> Finds for VlanNumbers<'a> {
+impl<'a> NumberLookup for VlanNumbers<'a> {
     ghost among = { λ s. rules.has_vlan s.vlans.now };
 
     fn has(&self, number: u64) -> bool {
@@ -34,50 +35,50 @@ impl<'a> Finds for VlanNumbers<'a> {
     }
 }
 
-/// Whether a table has the keys of a VLAN alone.
-fn has_keys(table: &Table) -> bool
+/// Whether a table has only keys of a VLAN.
+fn has_vlan_keys(table: &Table) -> bool
     ensures { result ≡ sections.has_vlan_keys (table_view table.now) }
 {
-    are_known(table, &VLAN_KEYS, false)
+    has_allowed_keys(table, &VLAN_KEYS, false)
 }
 
-/// The VLAN of a table, by those before it, where these are all ports.
-fn vlan_of(all: u16, vlans: &[Vlan], index: u32, table: &Table) -> Result<Vlan, PlanFault>
-    ensures reads { Gives result (sections.vlan_at all vlans.now index (table_view table.now)) }
+/// Reads a VLAN, after the earlier VLANs; `all` is the set of the plan's ports.
+fn read_vlan(all: u16, vlans: &[Vlan], index: u32, table: &Table) -> Result<Vlan, PlanFault>
+    ensures reads { MatchesReading result (sections.read_vlan all vlans.now index (table_view table.now)) }
     ensures own { IfOk result (λ v. rules.has_vlan vlans.now v.vid ≡ false) }
     ensures vlan { IfOk result (λ v. rules.IsVlan all v) }
 {
-    let row = Row {
+    let row = InstanceTable {
         table,
         section: Section::Vlan,
         index,
     };
     let unknown = PlanFault::UnknownKey(Section::Vlan, index);
-    let mut first = FirstFault::unless(has_keys(table), unknown);
-    let vid = first.required(row, Field::Vid, &VID, 1);
-    let members = first.required(row, Field::Members, &PortsOf { all }, 0);
+    let mut first = FirstFault::begin(has_vlan_keys(table), unknown);
+    let vid = first.read_required(row, Field::Vid, &VID, 1);
+    let members = first.read_required(row, Field::Members, &KnownPorts { all }, 0);
     first.expect(
         !has_vlan(vlans, vid),
         PlanFault::Duplicate(Section::Vlan, index),
     );
-    first.done(Vlan {
+    first.finish(Vlan {
         vid: vid as u16,
-        members: PortSet::of_bits(members),
+        members: PortSet::from_bits(members),
     })
 }
 
-/// The section of VLANs, where these are all ports.
+/// Reader of the VLANs; `all` is the set of the plan's ports.
 #[derive(Clone, Copy)]
-pub(crate) struct Vlans {
+pub(crate) struct VlanSection {
     pub all: u16,
 }
 
-impl<A: Allocator + Copy> SectionReader<A> for Vlans {
+impl<A: Allocator + Copy> SectionReader<A> for VlanSection {
     type Fault = PlanFault;
 
     type Instance = Vlan;
 
-    ghost reading = { λ s. sections.vlan_at s.all };
+    ghost reading = { λ s. sections.read_vlan s.all };
 
     ghost Keeps = { λ s. rules.AreVlans s.all };
 
@@ -89,6 +90,6 @@ impl<A: Allocator + Copy> SectionReader<A> for Vlans {
         index: u32,
         table: &Table,
     ) -> Result<Vlan, PlanFault> {
-        vlan_of(self.all, earlier, index, table)
+        read_vlan(self.all, earlier, index, table)
     }
 }

@@ -1,11 +1,11 @@
--- Answers and faults that are not one another.
+-- Different answers and faults are unequal.
 use Rattle.std.proofs.Common.{◌≡◌, ℕ, Result, Ok, Err}
 use Rattle.std.specs.Prelude.{OnErr}
-use Rattle.bridge_capture.specs.declared.fault.CaptureFault.{CaptureFault}
-use Rattle.bridge_capture.specs.declared.fault.CaptureFault.TheVariants as faults
-use Rattle.bridge_capture.specs.declared.run_fault.RunFault.{RunFault}
-use Rattle.bridge_capture.specs.declared.run_fault.RunFault.TheVariants as run
-use Rattle.bridge_capture.specs.Lanes.{fault_at}
+use Rattle.bridge_capture.specs.declared.capture_fault.CaptureFault.{CaptureFault}
+use Rattle.bridge_capture.specs.declared.capture_fault.CaptureFault.TheVariants as faults
+use Rattle.bridge_capture.specs.declared.fault.RunFault.{RunFault}
+use Rattle.bridge_capture.specs.declared.fault.RunFault.TheVariants as run
+use Rattle.bridge_capture.specs.CaptureReaders.{run_fault}
 
 pub ok_err : {X Y : Type 0} (x : X) (y : Y) → ◌≡◌ {A = Result X Y} (Ok x) (Err y) → ⊥
 ok_err x y e = cc
@@ -19,7 +19,7 @@ memory_written port e = cc
 pub written_read : {X : Type 0} (r : Result X RunFault) (q port : ℕ) (why : CaptureFault) → r ≡ Err (run.Write q) → r ≡ Err (run.Capture port why) → ⊥
 written_read r q port why w e = cc
 
-pub at_written : {X : Type 0} (q port : ℕ) (fault : CaptureFault) → ◌≡◌ {A = Result X RunFault} (Err (fault_at q fault)) (Err (run.Write port)) → ⊥
+pub at_written : {X : Type 0} (q port : ℕ) (fault : CaptureFault) → ◌≡◌ {A = Result X RunFault} (Err (run_fault q fault)) (Err (run.Write port)) → ⊥
 at_written q port faults.BadMagic e = cc
 at_written q port faults.BadVersion e = cc
 at_written q port faults.BadLinkType e = cc

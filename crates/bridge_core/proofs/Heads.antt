@@ -1,4 +1,4 @@
--- The agenda of the frames ahead.
+-- The agenda of the readers' next frames.
 use Rattle.std.proofs.Common.{◌≡◌, ◌≢◌, ℕ, zero, suc, Bool, true, false, ◌+◌, ◌-◌, ◌<◌, ◌≤◌, nat_eq, List, length, slice_get, slice_set, arith, refl, ap, sym, subst, ◌∙◌, inl, inr, Option, Some, None}
 use Rattle.std.specs.Prelude.{IfSome, if◌then◌else◌, option_and_then, option_map}
 use Rattle.std.proofs.lemmas.Bool.{cases_lt, eqb-true, eqb-false}
@@ -7,13 +7,13 @@ use Rattle.bridge_limits.proofs.Cases.{by_bool}
 use Rattle.bridge_limits.proofs.Lists.{set_there}
 use Rattle.bridge_capture.specs.declared.packet.Packet.{Packet}
 use Rattle.bridge_events.specs.Least.{IsLeast}
-use Rattle.bridge_capture.specs.declared.lane.CaptureReader.{CaptureReader}
-use Rattle.bridge_capture.specs.Lanes.{IsFirstAt}
-use Rattle.bridge_core.specs.Taking.{AreHeads, AreLater, IsBefore, moment_at, moment_of}
+use Rattle.bridge_capture.specs.declared.capture_reader.CaptureReader.{CaptureReader}
+use Rattle.bridge_capture.specs.CaptureReaders.{IsEarliestReader}
+use Rattle.bridge_core.specs.Running.{AreHeads, AreHeadsLater, IsHeadEarlier, nth_head_time, head_time}
 
--- The least moment.
+-- THE LEAST TIME
 
--- the frame ahead at the place of a port, and its moment
+-- Holds if the reader of entry `port` has a next frame at time `moment`.
 pub record IsHead {A : Type 0} (lanes : List (CaptureReader A)) (port moment : ℕ) : Type 0 where
   pub from : 1 ≤ port
   pub lane : CaptureReader A
@@ -33,27 +33,27 @@ head_of lanes i moment l (Some p) there ahead is = record {
   time = same_Some p.time moment is;
 }
 
-head_there : {A : Type 0} (lanes : List (CaptureReader A)) (i moment : ℕ) (o : Option (CaptureReader A)) → slice_get lanes i ≡ o → option_and_then moment_of o ≡ Some moment → IsHead lanes (suc i) moment
+head_there : {A : Type 0} (lanes : List (CaptureReader A)) (i moment : ℕ) (o : Option (CaptureReader A)) → slice_get lanes i ≡ o → option_and_then head_time o ≡ Some moment → IsHead lanes (suc i) moment
 head_there lanes i moment None there is = absurd (none-some moment is)
 head_there lanes i moment (Some l) there is = head_of lanes i moment l l.ahead there refl is
 
-head_at : {A : Type 0} (lanes : List (CaptureReader A)) (port moment : ℕ) → moment_at lanes port ≡ Some moment → IsHead lanes port moment
+head_at : {A : Type 0} (lanes : List (CaptureReader A)) (port moment : ℕ) → nth_head_time lanes port ≡ Some moment → IsHead lanes port moment
 head_at lanes zero moment is = absurd (none-some moment is)
 head_at lanes (suc i) moment is = head_there lanes i moment (slice_get lanes i) refl is
 
--- the least moment is that of a frame ahead
+-- The least time is the time of a next frame.
 pub head_is : {A : Type 0} (held : ℕ → Option ℕ) (lanes : List (CaptureReader A)) (port moment : ℕ) → AreHeads held lanes → IsLeast held (Some (port, moment)) → IsHead lanes port moment
 head_is held lanes port moment heads least = head_at lanes port moment (sym (heads.each port) ∙ least.0)
 
-moment_there : {A : Type 0} (lanes : List (CaptureReader A)) (i : ℕ) (l : CaptureReader A) (p : Packet A) → slice_get lanes i ≡ Some l → l.ahead ≡ Some p → moment_at lanes (suc i) ≡ Some p.time
-moment_there {A} lanes i l p there ahead = ap (λ (o : Option (CaptureReader A)). option_and_then moment_of o) there ∙ ap (λ (o : Option (Packet A)). option_map (λ (d : Packet A). d.time) o) ahead
+moment_there : {A : Type 0} (lanes : List (CaptureReader A)) (i : ℕ) (l : CaptureReader A) (p : Packet A) → slice_get lanes i ≡ Some l → l.ahead ≡ Some p → nth_head_time lanes (suc i) ≡ Some p.time
+moment_there {A} lanes i l p there ahead = ap (λ (o : Option (CaptureReader A)). option_and_then head_time o) there ∙ ap (λ (o : Option (Packet A)). option_map (λ (d : Packet A). d.time) o) ahead
 
--- the moment of each frame ahead is there
+-- The agenda has the time of each next frame.
 held_there : {A : Type 0} (held : ℕ → Option ℕ) (lanes : List (CaptureReader A)) (i : ℕ) (l : CaptureReader A) (p : Packet A) → AreHeads held lanes → slice_get lanes i ≡ Some l → l.ahead ≡ Some p → held (suc i) ≡ Some p.time
 held_there held lanes i l p heads there ahead = heads.each (suc i) ∙ moment_there lanes i l p there ahead
 
--- the frame of the least moment comes first
-pub first_at : {A : Type 0} (held : ℕ → Option ℕ) (lanes : List (CaptureReader A)) (port moment : ℕ) → AreHeads held lanes → IsLeast held (Some (port, moment)) → IsFirstAt lanes (port - 1)
+-- The frame with the least time is the earliest.
+pub first_at : {A : Type 0} (held : ℕ → Option ℕ) (lanes : List (CaptureReader A)) (port moment : ℕ) → AreHeads held lanes → IsLeast held (Some (port, moment)) → IsEarliestReader lanes (port - 1)
 first_at held lanes port moment heads least =
     let h = head_is held lanes port moment heads least in
     let is = h.time in
@@ -68,16 +68,16 @@ first_at held lanes port moment heads least =
       ];
     }
 
--- it comes before a moment where the least one does
-pub before_at : {A : Type 0} (until : Option ℕ) (lanes : List (CaptureReader A)) (port moment : ℕ) → IsHead lanes port moment → IfSome until (λ t. moment < t) → IsBefore until lanes (port - 1)
+-- The frame is before a limit if the least time is.
+pub before_at : {A : Type 0} (until : Option ℕ) (lanes : List (CaptureReader A)) (port moment : ℕ) → IsHead lanes port moment → IfSome until (λ t. moment < t) → IsHeadEarlier until lanes (port - 1)
 before_at {A} until lanes port moment h before l c there ahead =
     let lane : h.lane ≡ l = same_Some h.lane l (sym h.there ∙ there) in
     let packet : h.packet ≡ c = same_Some h.packet c (sym h.ahead ∙ (ap (λ (z : CaptureReader A). z.ahead) lane ∙ ahead)) in
     let same : moment ≡ c.time = sym h.time ∙ ap (λ (z : Packet A). z.time) packet in
     subst (λ (n : ℕ). IfSome until (λ t. n < t)) same before
 
--- no frame comes before a moment where the least one does not
-pub later_at : {A : Type 0} (held : ℕ → Option ℕ) (until : Option ℕ) (lanes : List (CaptureReader A)) (port moment : ℕ) → AreHeads held lanes → IsLeast held (Some (port, moment)) → (t : ℕ) × (until ≡ Some t) × (t ≤ moment) → AreLater until lanes
+-- No frame is before a limit if the least time isn't.
+pub later_at : {A : Type 0} (held : ℕ → Option ℕ) (until : Option ℕ) (lanes : List (CaptureReader A)) (port moment : ℕ) → AreHeads held lanes → IsLeast held (Some (port, moment)) → (t : ℕ) × (until ≡ Some t) × (t ≤ moment) → AreHeadsLater until lanes
 later_at held until lanes port moment heads least (t, is, low) i l p there ahead = (
   t,
   is,
@@ -87,68 +87,68 @@ later_at held until lanes port moment heads least (t, is, low) i l p there ahead
   ],
 )
 
--- no frame is ahead where there is no moment
-pub none_later : {A : Type 0} (held : ℕ → Option ℕ) (until : Option ℕ) (lanes : List (CaptureReader A)) → AreHeads held lanes → IsLeast held None → AreLater until lanes
+-- If the agenda is empty, no reader has a next frame.
+pub none_later : {A : Type 0} (held : ℕ → Option ℕ) (until : Option ℕ) (lanes : List (CaptureReader A)) → AreHeads held lanes → IsLeast held None → AreHeadsLater until lanes
 none_later held until lanes heads none i l p there ahead = absurd (none-some p.time (sym (none (suc i)) ∙ held_there held lanes i l p heads there ahead))
 
--- One place more.
+-- ONE ENTRY MORE
 
--- what is there at the place that was set, and at another
-set_here : {A : Type 0} (was now : ℕ → Option ℕ) (lanes : List (CaptureReader A)) (place : ℕ) (l : CaptureReader A) (q : ℕ) → slice_get lanes place ≡ Some l → now q ≡ (if nat_eq q (place + 1) then moment_of l else was q) → nat_eq q (place + 1) ≡ true → now q ≡ moment_at lanes q
+-- The entry that was set, and the other entries.
+set_here : {A : Type 0} (was now : ℕ → Option ℕ) (lanes : List (CaptureReader A)) (place : ℕ) (l : CaptureReader A) (q : ℕ) → slice_get lanes place ≡ Some l → now q ≡ (if nat_eq q (place + 1) then head_time l else was q) → nat_eq q (place + 1) ≡ true → now q ≡ nth_head_time lanes q
 set_here {A} was now lanes place l q there set here =
     let same = eqb-true q (place + 1) here in
     let is : q ≡ suc place = omega (arith, same) in
-    let own : moment_of l ≡ moment_at lanes q = subst (λ (n : ℕ). moment_of l ≡ moment_at lanes n) (sym is) (sym (ap (λ (o : Option (CaptureReader A)). option_and_then moment_of o) there)) in
-    set ∙ (ap (λ (b : Bool). if b then moment_of l else was q) here ∙ own)
+    let own : head_time l ≡ nth_head_time lanes q = subst (λ (n : ℕ). head_time l ≡ nth_head_time lanes n) (sym is) (sym (ap (λ (o : Option (CaptureReader A)). option_and_then head_time o) there)) in
+    set ∙ (ap (λ (b : Bool). if b then head_time l else was q) here ∙ own)
 
 set_elsewhere : (was now : ℕ → Option ℕ) (place : ℕ) (o : Option ℕ) (q : ℕ) → now q ≡ (if nat_eq q (place + 1) then o else was q) → nat_eq q (place + 1) ≡ false → now q ≡ was q
 set_elsewhere was now place o q set other = set ∙ ap (λ (b : Bool). if b then o else was q) other
 
--- all places are right once the last one is
-pub heads_noted : {A : Type 0} (was now : ℕ → Option ℕ) (lanes : List (CaptureReader A)) (place : ℕ) (l : CaptureReader A) → length lanes ≤ 16 → slice_get lanes place ≡ Some l → ((q : ℕ) → q ≢ place + 1 → was q ≡ moment_at lanes q) → ((q : ℕ) → now q ≡ (if nat_eq q (place + 1) then moment_of l else was q)) → AreHeads now lanes
+-- All entries are right once the last one is.
+pub heads_noted : {A : Type 0} (was now : ℕ → Option ℕ) (lanes : List (CaptureReader A)) (place : ℕ) (l : CaptureReader A) → length lanes ≤ 16 → slice_get lanes place ≡ Some l → ((q : ℕ) → q ≢ place + 1 → was q ≡ nth_head_time lanes q) → ((q : ℕ) → now q ≡ (if nat_eq q (place + 1) then head_time l else was q)) → AreHeads now lanes
 heads_noted was now lanes place l few there others set = record {
   few = few;
   each = λ q. by_bool (nat_eq q (place + 1))
       (λ e. set_here was now lanes place l q there (set q) e)
-      (λ e. set_elsewhere was now place (moment_of l) q (set q) e ∙ others q (eqb-false q (place + 1) e));
+      (λ e. set_elsewhere was now place (head_time l) q (set q) e ∙ others q (eqb-false q (place + 1) e));
 }
 
--- another place has the frame ahead that it had
-moment_but : {A : Type 0} (lanes : List (CaptureReader A)) (place : ℕ) (m : CaptureReader A) (q : ℕ) → q ≢ place + 1 → moment_at (slice_set lanes place m) q ≡ moment_at lanes q
+-- The other entries keep their frames.
+moment_but : {A : Type 0} (lanes : List (CaptureReader A)) (place : ℕ) (m : CaptureReader A) (q : ℕ) → q ≢ place + 1 → nth_head_time (slice_set lanes place m) q ≡ nth_head_time lanes q
 moment_but lanes place m zero n = refl
-moment_but {A} lanes place m (suc i) n = ap (λ (o : Option (CaptureReader A)). option_and_then moment_of o) (set_there lanes place i m (λ e. n (omega (arith, e))))
+moment_but {A} lanes place m (suc i) n = ap (λ (o : Option (CaptureReader A)). option_and_then head_time o) (set_there lanes place i m (λ e. n (omega (arith, e))))
 
--- where one lane changed, what there is of all other places is right still
-pub heads_but : {A : Type 0} (held : ℕ → Option ℕ) (lanes new : List (CaptureReader A)) (place : ℕ) (m : CaptureReader A) → new ≡ slice_set lanes place m → AreHeads held lanes → (q : ℕ) → q ≢ place + 1 → held q ≡ moment_at new q
-heads_but {A} held lanes new place m is heads q n = heads.each q ∙ sym (ap (λ (ls : List (CaptureReader A)). moment_at ls q) is ∙ moment_but lanes place m q n)
+-- If one reader changed, the entries of the others are still right.
+pub heads_but : {A : Type 0} (held : ℕ → Option ℕ) (lanes new : List (CaptureReader A)) (place : ℕ) (m : CaptureReader A) → new ≡ slice_set lanes place m → AreHeads held lanes → (q : ℕ) → q ≢ place + 1 → held q ≡ nth_head_time new q
+heads_but {A} held lanes new place m is heads q n = heads.each q ∙ sym (ap (λ (ls : List (CaptureReader A)). nth_head_time ls q) is ∙ moment_but lanes place m q n)
 
--- Place by place.
+-- ENTRY BY ENTRY
 
--- an agenda has the moments of the first lanes, and no other
+-- Holds if the agenda has exactly the times of the first `n` readers.
 pub record AreFirstHeads {A : Type 0} (held : ℕ → Option ℕ) (lanes : List (CaptureReader A)) (n : ℕ) : Type 0 where
-  pub so_far : (q : ℕ) → q ≤ n → held q ≡ moment_at lanes q
+  pub so_far : (q : ℕ) → q ≤ n → held q ≡ nth_head_time lanes q
   pub none : (q : ℕ) → n < q → held q ≡ None
 
-none_at : {A : Type 0} (lanes : List (CaptureReader A)) (q : ℕ) → q ≤ 0 → None ≡ moment_at lanes q
+none_at : {A : Type 0} (lanes : List (CaptureReader A)) (q : ℕ) → q ≤ 0 → None ≡ nth_head_time lanes q
 none_at lanes zero l = refl
 none_at lanes (suc i) l = absurd (omega (arith, l))
 
 pub heads_none : {A : Type 0} (held : ℕ → Option ℕ) (lanes : List (CaptureReader A)) → ((q : ℕ) → held q ≡ None) → AreFirstHeads held lanes 0
 heads_none held lanes none = record { so_far = λ q l. none q ∙ none_at lanes q l; none = λ q l. none q }
 
-pub heads_more : {A : Type 0} (was now : ℕ → Option ℕ) (lanes : List (CaptureReader A)) (place : ℕ) (l : CaptureReader A) → slice_get lanes place ≡ Some l → ((q : ℕ) → now q ≡ (if nat_eq q (place + 1) then moment_of l else was q)) → AreFirstHeads was lanes place → AreFirstHeads now lanes (place + 1)
+pub heads_more : {A : Type 0} (was now : ℕ → Option ℕ) (lanes : List (CaptureReader A)) (place : ℕ) (l : CaptureReader A) → slice_get lanes place ≡ Some l → ((q : ℕ) → now q ≡ (if nat_eq q (place + 1) then head_time l else was q)) → AreFirstHeads was lanes place → AreFirstHeads now lanes (place + 1)
 heads_more was now lanes place l there set h = record {
   so_far = λ q within. by_bool (nat_eq q (place + 1))
       (λ e. set_here was now lanes place l q there (set q) e)
-      (λ e. let other = eqb-false q (place + 1) e in set_elsewhere was now place (moment_of l) q (set q) e ∙ h.so_far q (omega (arith, within, other)));
+      (λ e. let other = eqb-false q (place + 1) e in set_elsewhere was now place (head_time l) q (set q) e ∙ h.so_far q (omega (arith, within, other)));
   none = λ q past. by_bool (nat_eq q (place + 1))
       (λ e. absurd (let same = eqb-true q (place + 1) e in omega (arith, past, same)))
-      (λ e. set_elsewhere was now place (moment_of l) q (set q) e ∙ h.none q (omega (arith, past)));
+      (λ e. set_elsewhere was now place (head_time l) q (set q) e ∙ h.none q (omega (arith, past)));
 }
 
-none_past : {A : Type 0} (lanes : List (CaptureReader A)) (n q : ℕ) → length lanes ≤ n → n < q → None ≡ moment_at lanes q
+none_past : {A : Type 0} (lanes : List (CaptureReader A)) (n q : ℕ) → length lanes ≤ n → n < q → None ≡ nth_head_time lanes q
 none_past lanes n zero all past = absurd (omega (arith, past))
-none_past {A} lanes n (suc i) all past = sym (ap (λ (o : Option (CaptureReader A)). option_and_then moment_of o) (slice_get_past lanes i (omega (arith, all, past))))
+none_past {A} lanes n (suc i) all past = sym (ap (λ (o : Option (CaptureReader A)). option_and_then head_time o) (slice_get_past lanes i (omega (arith, all, past))))
 
 pub heads_all : {A : Type 0} (held : ℕ → Option ℕ) (lanes : List (CaptureReader A)) (n : ℕ) → length lanes ≤ n → length lanes ≤ 16 → AreFirstHeads held lanes n → AreHeads held lanes
 heads_all held lanes n all few h = record {

@@ -1,4 +1,4 @@
-pub mod Lines
-pub mod Taking
-pub mod Simulated
+pub mod CaptureWriters
+pub mod Running
+pub mod WholeRuns
 pub mod Bridges

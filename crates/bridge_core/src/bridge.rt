@@ -1,44 +1,44 @@
-//! A bridge to which frames and commands come one by one.
+//! A bridge that receives frames and commands one by one.
 ghost use Rattle.std.specs.Prelude.{◌≡◌, ℕ, true, ◌<◌, ◌≤◌, ◌+◌, ◌*◌, ◌^◌, List, [], ◌∷◌, Some, None, Option, length, max, nat_eq, IfOk, IfErr, OnOk, IsTrue};
 ghost use Rattle.std.specs.Map.{lookup};
-ghost use Rattle.bridge_limits.specs.Members.{In};
-ghost use Rattle.bridge_capture.specs.Grammar.{Captured};
+ghost use Rattle.bridge_limits.specs.Members.{IsMember};
+ghost use Rattle.bridge_capture.specs.Grammar.{CapturedFrame};
 ghost use Rattle.bridge_config.specs.Model as config;
 ghost use Rattle.bridge_config.specs.declared.ports.PortPlan.{PortPlan};
-ghost use Rattle.bridge_config.specs.Rules.{port_at};
+ghost use Rattle.bridge_config.specs.Rules.{find_port};
 ghost use Rattle.bridge_config.specs.Commands.{has_instance};
 ghost use Rattle.bridge_events.specs.Least.{IsLeast};
 ghost use Rattle.bridge_filter.specs.declared.FilterPlan.{FilterPlan};
 ghost use Rattle.bridge_port.specs.Schedule.{Copy};
-ghost use Rattle.bridge_port.specs.Standing.{limit};
-ghost use Rattle.bridge_semantics.specs.Events.{Arrived, arrival, Cleared, Event, own};
-ghost use Rattle.bridge_semantics.specs.Offers.{Carried};
-ghost use Rattle.bridge_semantics.specs.Next.{AreNext, IsNextAfter, ReachesStart, SendsHead};
-ghost use Rattle.bridge_semantics.specs.Outputs.{Ends, HasRun, Reaches};
-ghost use Rattle.bridge_semantics.specs.Runs.{IsOutcome, IsSoloView, TellTheSame};
-ghost use Rattle.bridge_relay.specs.Ports.{NotBefore, IsAfter};
-ghost use Rattle.bridge_relay.specs.Relays.{captured, one_more};
-ghost use Rattle.bridge_core.specs.Bridges.{arrived_in, earliest_in, IsReady, next_start, plan_in, queued_in, StandsAfter};
+ghost use Rattle.bridge_port.specs.StandsFor.{time_limit};
+ghost use Rattle.bridge_semantics.specs.Events.{Arrived, arrival, Cleared, Event, own_events};
+ghost use Rattle.bridge_semantics.specs.Offers.{CarriedFrame};
+ghost use Rattle.bridge_semantics.specs.NextStarts.{AreNextStarts, IsNextBridgeStart, ReachesStart, SendsHead};
+ghost use Rattle.bridge_semantics.specs.Outputs.{EndsRun, HasRun, ReachesTime};
+ghost use Rattle.bridge_semantics.specs.Runs.{IsOutcome, IsSoloView, AreSameViews};
+ghost use Rattle.bridge_relay.specs.Ports.{StartsNoEarlier, HasLaterStarts};
+ghost use Rattle.bridge_relay.specs.RelayState.{sent_record, with_sent_frame};
+ghost use Rattle.bridge_core.specs.Bridges.{bridge_arrivals, bridge_earliest, IsReady, next_start, bridge_plan, bridge_queued, BridgeStandsFor};
 
-use bridge_capture::{Packet, Spares};
+use bridge_capture::{BufferPool, Packet};
 use bridge_check::Accepted;
 use bridge_config::Command;
 use bridge_events::Agenda;
 use bridge_filter::FilterPlan;
-use bridge_limits::{END_OF_TIME, LONGEST_FRAME, MOST_ARRIVALS, MOST_CAPTURED};
+use bridge_limits::{END_OF_TIME, LONGEST_FRAME, MAX_ARRIVALS, MAX_CAPTURED_OCTETS};
 use bridge_relay::{NoMemory, Relay, Sent};
 use bridge_semantics::{Outcome, PortCount, View};
 use std::alloc::Allocator;
 use std::marker::Model;
 
-/// A bridge of an accepted plan, which it borrows: frames and commands come, and frames leave.
+/// Bridge of an accepted plan, which it borrows. It receives frames and commands, and sends frames.
 ///
-/// It stands for the list of what came by a run that is not finished: each frame policed once and offered on each port to
-/// which it goes, each port with a lawful schedule, and exactly the frames that have left.
+/// The bridge stands for a list of events and departures: an unfinished run, in which each frame is policed once and offered to each egress
+/// port.
 #[derive(Drop)]
 pub struct Bridge<'a, G: Agenda + Drop, A: Allocator + Copy> {
     relay: Relay<'a, G, A>,
-    spares: Spares<A>,
+    spares: BufferPool<A>,
     order: Vec<(u32, FilterPlan), A>,
     views: Vec<(u32, View<A>), A>,
     counts: Vec<(u8, PortCount), A>,
@@ -56,10 +56,11 @@ impl<'a, G: Agenda + Drop, A: Allocator + Copy> Model for Bridge<'a, G, A> {
 }
 
 impl<'a, G: Agenda + Drop, A: Allocator + Copy> Bridge<'a, G, A> {
-    /// A bridge of an accepted plan, to which nothing has come.
+    /// Makes the bridge of an accepted plan, before any event.
     pub fn new(alloc: A, accepted: &'a Accepted<A>) -> Result<Bridge<'a, G, A>, NoMemory>
-        ensures stands { IfOk result (λ b. StandsAfter accepted.now b [] (λ _. [])) }
-        ensures start { IfOk result (λ b. (plan_in b ≡ accepted.now) × (arrived_in b ≡ 0) × (earliest_in b ≡ 0)
+        ensures stands { IfOk result (λ b. BridgeStandsFor accepted.now b [] (λ _. [])) }
+        ensures start { IfOk result (λ b. (bridge_plan b ≡ accepted.now) × (bridge_arrivals b ≡ 0)
+            × (bridge_earliest b ≡ 0)
             × (b.command ≡ 0)) }
         ensures none_due { IfOk result (λ b. (q : ℕ) → next_start G.held b q ≡ None) }
     {
@@ -77,7 +78,7 @@ impl<'a, G: Agenda + Drop, A: Allocator + Copy> Bridge<'a, G, A> {
         };
         Ok(Bridge {
             relay,
-            spares: Spares::none(alloc),
+            spares: BufferPool::without_capacity(alloc),
             order,
             views,
             counts,
@@ -85,21 +86,23 @@ impl<'a, G: Agenda + Drop, A: Allocator + Copy> Bridge<'a, G, A> {
         })
     }
 
-    /// Takes a frame that came on a port of the plan: not before what came earlier, after the last start and not after
-    /// the next one. Where memory runs out the frame comes back, and the bridge is as before.
+    /// Handles a frame that arrives on port `port`: not earlier than previous events, after the last start and not after the next. If
+    /// memory runs out, returns the frame and leaves the bridge unchanged.
     pub fn arrive(&mut self, port: u8, packet: Packet<A>) -> Result<(), (Packet<A>, NoMemory)>
-        requires known { (out : PortPlan A) × (port_at (plan_in self.old).ports port ≡ Some out) }
-        requires time { (earliest_in self.old ≤ packet.time) × (packet.time < END_OF_TIME) }
-        requires due { NotBefore (next_start G.held self.old) packet.time }
-        requires octets { (length packet.octets.items ≤ MOST_CAPTURED) × (length packet.octets.items ≤ packet.len) }
-        requires few { arrived_in self.old < MOST_ARRIVALS }
-        ensures stands { OnOk result ((p : config.Plan A) (es : List Event) (left : ℕ → List Captured)
-            → StandsAfter p self.old es left
-            → StandsAfter p self.new (Arrived (arrival packet.time port packet.octets.items packet.len) ∷ es) left) }
-        ensures moved { OnOk result ((arrived_in self.new ≡ arrived_in self.old + 1)
-            × (earliest_in self.new ≡ packet.time) × (self.new.command ≡ packet.time + 1)
-            × (plan_in self.new ≡ plan_in self.old)) }
-        ensures waits { OnOk result (NotBefore (next_start G.held self.new) packet.time) }
+        requires known { (out : PortPlan A) × (find_port (bridge_plan self.old).ports port ≡ Some out) }
+        requires time { (bridge_earliest self.old ≤ packet.time) × (packet.time < END_OF_TIME) }
+        requires due { StartsNoEarlier (next_start G.held self.old) packet.time }
+        requires octets { (length packet.octets.items ≤ MAX_CAPTURED_OCTETS) × (length packet.octets.items
+            ≤ packet.len) }
+        requires few { bridge_arrivals self.old < MAX_ARRIVALS }
+        ensures stands { OnOk result ((p : config.Plan A) (es : List Event) (left : ℕ → List CapturedFrame)
+            → BridgeStandsFor p self.old es left
+            → BridgeStandsFor p self.new (Arrived (arrival packet.time port packet.octets.items packet.len)
+            ∷ es) left) }
+        ensures moved { OnOk result ((bridge_arrivals self.new ≡ bridge_arrivals self.old + 1)
+            × (bridge_earliest self.new ≡ packet.time) × (self.new.command ≡ packet.time + 1)
+            × (bridge_plan self.new ≡ bridge_plan self.old)) }
+        ensures waits { OnOk result (StartsNoEarlier (next_start G.held self.new) packet.time) }
         ensures err { IfErr result (λ e. (self.new ≡ self.old) × (e.0 ≡ packet)) }
     {
         let after = packet.time + 1;
@@ -112,56 +115,57 @@ impl<'a, G: Agenda + Drop, A: Allocator + Copy> Bridge<'a, G, A> {
         }
     }
 
-    /// Does a command: not before an earlier one, and after the last frame and the last start. It takes no memory.
+    /// Carries out a command: not earlier than the last command, after the last frame and after the last start. Allocates no memory.
     pub fn command(&mut self, command: &Command)
         requires time { self.old.command ≤ command.now.at }
-        requires instance { IsTrue (has_instance (plan_in self.old) command.now.clear command.now.number) }
-        ensures stands { (p : config.Plan A) (es : List Event) (left : ℕ → List Captured)
-            → StandsAfter p self.old es left
-            → StandsAfter p self.new (Cleared command.now.clear command.now.number ∷ es) left }
-        ensures moved { (arrived_in self.new ≡ arrived_in self.old) × (earliest_in self.new ≡ command.now.at)
-            × (self.new.command ≡ command.now.at) × (plan_in self.new ≡ plan_in self.old) }
+        requires instance { IsTrue (has_instance (bridge_plan self.old) command.now.clear command.now.number) }
+        ensures stands { (p : config.Plan A) (es : List Event) (left : ℕ → List CapturedFrame)
+            → BridgeStandsFor p self.old es left
+            → BridgeStandsFor p self.new (Cleared command.now.clear command.now.number ∷ es) left }
+        ensures moved { (bridge_arrivals self.new ≡ bridge_arrivals self.old)
+            × (bridge_earliest self.new ≡ command.now.at)
+            × (self.new.command ≡ command.now.at) × (bridge_plan self.new ≡ bridge_plan self.old) }
         ensures same { (q : ℕ) → next_start G.held self.new q ≡ next_start G.held self.old q }
     {
         self.relay.clear(command.at, command.clear, command.number);
         self.command = command.at;
     }
 
-    /// The port with the next start and its moment in ns, the least port where several have it; `None` where nothing is
-    /// queued. It takes no memory.
+    /// Returns the port and time in ns of the next start; `None` if no copy is queued. At equal times, the lowest port is next. Allocates
+    /// no memory.
     ///
-    /// In the words of schedules (`next`): up to that moment no port has missed a start, ports below it have made theirs of
-    /// the moment too, and there the link of this port is free and the head of one of its classes fits.
+    /// Before this start, no port has missed one, and the port's link is free for a head that fits (`next`).
     pub fn due(&self) -> Option<(u8, u64)>
-        ensures next { (p : config.Plan A) (es : List Event) (left : ℕ → List Captured)
-            → StandsAfter p self.now es left
-            → IsNextAfter p es left result }
+        ensures next { (p : config.Plan A) (es : List Event) (left : ℕ → List CapturedFrame)
+            → BridgeStandsFor p self.now es left
+            → IsNextBridgeStart p es left result }
         ensures least { IsLeast (next_start G.held self.now) result }
     {
-        self.relay.reached();
+        self.relay.assert_reached();
         self.relay.due()
     }
 
-    /// Makes the next start, and gives the frame that leaves: of the classes of its port whose head fits, the head of the
-    /// highest (`sends`). Then all starts up to it were made, by moment and then by port (`reaches`). It takes no memory.
+    /// Makes the next start and returns the frame: the head of the highest class whose head fits (`sends`). All starts up to this one are
+    /// then made, by time and port (`reaches`). Allocates no memory.
     pub fn advance(&mut self) -> Sent<A>
         requires { (q k : ℕ) × (next_start G.held self.old q ≡ Some k) }
-        ensures sends { (p : config.Plan A) (es : List Event) (left : ℕ → List Captured)
-            → StandsAfter p self.old es left
-            → SendsHead p es left result.port result.class result.start (captured result) }
-        ensures reaches { (p : config.Plan A) (es : List Event) (left : ℕ → List Captured)
-            → StandsAfter p self.old es left
-            → ReachesStart p es result.start result.port (one_more left result) }
-        ensures stands { (p : config.Plan A) (es : List Event) (left : ℕ → List Captured)
-            → StandsAfter p self.old es left → StandsAfter p self.new es (one_more left result) }
+        ensures sends { (p : config.Plan A) (es : List Event) (left : ℕ → List CapturedFrame)
+            → BridgeStandsFor p self.old es left
+            → SendsHead p es left result.port result.class result.start (sent_record result) }
+        ensures reaches { (p : config.Plan A) (es : List Event) (left : ℕ → List CapturedFrame)
+            → BridgeStandsFor p self.old es left
+            → ReachesStart p es result.start result.port (with_sent_frame left result) }
+        ensures stands { (p : config.Plan A) (es : List Event) (left : ℕ → List CapturedFrame)
+            → BridgeStandsFor p self.old es left → BridgeStandsFor p self.new es (with_sent_frame left result) }
         ensures which { IsLeast (next_start G.held self.old) (Some (result.port, result.start)) }
-        ensures later { IsAfter (next_start G.held self.new) result.port result.start }
-        ensures bounded { (p : config.Plan A) (es : List Event) (left : ℕ → List Captured)
-            → StandsAfter p self.old es left → result.done < limit (length (left result.port) + 1) }
-        ensures fewer { queued_in self.new + 1 ≡ queued_in self.old }
-        ensures moved { (arrived_in self.new ≡ arrived_in self.old)
-            × (earliest_in self.new ≡ max (earliest_in self.old) (result.start + 1))
-            × (self.new.command ≡ max self.old.command (result.start + 1)) × (plan_in self.new ≡ plan_in self.old) }
+        ensures later { HasLaterStarts (next_start G.held self.new) result.port result.start }
+        ensures bounded { (p : config.Plan A) (es : List Event) (left : ℕ → List CapturedFrame)
+            → BridgeStandsFor p self.old es left → result.done < time_limit (length (left result.port) + 1) }
+        ensures fewer { bridge_queued self.new + 1 ≡ bridge_queued self.old }
+        ensures moved { (bridge_arrivals self.new ≡ bridge_arrivals self.old)
+            × (bridge_earliest self.new ≡ max (bridge_earliest self.old) (result.start + 1))
+            × (self.new.command ≡ max self.old.command (result.start + 1))
+            × (bridge_plan self.new ≡ bridge_plan self.old) }
         ensures writable { (result.done < 2 ^ 32 * 10 ^ 9) × (length result.octets.items ≤ result.len)
             × (result.len ≤ LONGEST_FRAME) }
     {
@@ -170,71 +174,73 @@ impl<'a, G: Agenda + Drop, A: Allocator + Copy> Bridge<'a, G, A> {
         sent
     }
 
-    /// The frames that came.
+    /// Returns the number of frames that have arrived.
     pub fn arrived(&self) -> u64
-        ensures { result ≡ arrived_in self.now }
+        ensures { result ≡ bridge_arrivals self.now }
     {
         self.relay.arrived()
     }
 
-    /// The starts of a port of the plan.
+    /// Returns the number of starts of port `port`.
     pub fn started(&self, port: u8) -> u64
-        requires { (out : PortPlan A) × (port_at (plan_in self.now).ports port ≡ Some out) }
-        ensures { (p : config.Plan A) (es : List Event) (left : ℕ → List Captured) → StandsAfter p self.now es left
+        requires { (out : PortPlan A) × (find_port (bridge_plan self.now).ports port ≡ Some out) }
+        ensures { (p : config.Plan A) (es : List Event) (left : ℕ → List CapturedFrame)
+            → BridgeStandsFor p self.now es left
             → result ≡ length (left port) }
     {
         self.relay.started(port)
     }
 
-    /// The least moment in ns at which the next frame may come.
+    /// Returns the earliest time in ns at which the next frame may arrive.
     pub fn earliest(&self) -> u64
-        ensures { result ≡ earliest_in self.now }
+        ensures { result ≡ bridge_earliest self.now }
     {
         self.relay.earliest()
     }
 
-    /// The least moment in ns at which the next command may come: one more than that of the last frame and than that of
-    /// the last start, and not before the last command; 0 in a new bridge.
+    /// Returns the earliest time in ns of the next command: 1 ns after the last frame and start, and not before the last command.
     pub fn earliest_command(&self) -> u64
         ensures { result ≡ self.now.command }
     {
         self.command
     }
 
-    /// What the bridge stands for is a run: up to each moment before which no start is due, and each port up to a moment
-    /// of its own whatever is due. What is due of each port is the next start of its schedule (`next`).
-    pub fn reached(&self)
-        ensures reaches { (p : config.Plan A) (es : List Event) (left : ℕ → List Captured) (h : ℕ)
-            → StandsAfter p self.now es left → earliest_in self.now ≤ h → NotBefore (next_start G.held self.now) h
-            → Reaches p es h left }
-        ensures ran { (p : config.Plan A) (es : List Event) (left : ℕ → List Captured) (until : Option ℕ)
-            → StandsAfter p self.now es left → ((t : ℕ) → until ≡ Some t → earliest_in self.now ≤ t)
+    /// States that the bridge's events form a run, up to any time before the next due start. Each port has run up to its own time, and its
+    /// due start is its schedule's next start (`next`).
+    pub fn assert_reached(&self)
+        ensures reaches { (p : config.Plan A) (es : List Event) (left : ℕ → List CapturedFrame) (h : ℕ)
+            → BridgeStandsFor p self.now es left → bridge_earliest self.now ≤ h
+            → StartsNoEarlier (next_start G.held self.now) h
+            → ReachesTime p es h left }
+        ensures ran { (p : config.Plan A) (es : List Event) (left : ℕ → List CapturedFrame) (until : Option ℕ)
+            → BridgeStandsFor p self.now es left → ((t : ℕ) → until ≡ Some t → bridge_earliest self.now ≤ t)
             → HasRun p es until left }
-        ensures next { (p : config.Plan A) (es : List Event) (left : ℕ → List Captured)
-            → StandsAfter p self.now es left
-            → AreNext p es left (next_start G.held self.now) }
+        ensures next { (p : config.Plan A) (es : List Event) (left : ℕ → List CapturedFrame)
+            → BridgeStandsFor p self.now es left
+            → AreNextStarts p es left (next_start G.held self.now) }
     {
-        self.relay.reached();
+        self.relay.assert_reached();
     }
 
-    /// Ends a bridge at which no start is due, and gives what the whole run tells of each filter and each port, by rising
-    /// number. It takes no memory.
+    /// Ends a run in which no start is due, and returns the records of filters and the counts of ports, by rising number. Allocates no
+    /// memory.
     ///
-    /// What it tells of a protected filter is what the filter's own events alone tell, each of its queues alone on an idle
-    /// bridge; so a run in which the filter's own events are the same tells the same of it, whatever else came.
+    /// A protected filter's record depends on its own events only.
     pub fn finish(self) -> Outcome<A>
         requires idle { (q : ℕ) → next_start G.held self q ≡ None }
-        ensures ends { (p : config.Plan A) (es : List Event) (left : ℕ → List Captured)
-            → StandsAfter p self.entry es left → Ends p es left result }
-        ensures isolated { (p : config.Plan A) (es : List Event) (left : ℕ → List Captured) (n : ℕ) (f : FilterPlan)
-            (v : View A) → StandsAfter p self.entry es left → In (n, f) p.filters → f.protected ≡ true
-            → lookup (nat_eq n) result.filters.items ≡ Some v → IsSoloView p n f (own p n f es) v }
-        ensures others_change_nothing { (p : config.Plan A) (es others : List Event) (left : ℕ → List Captured) (n : ℕ)
-            (f : FilterPlan) (lists : ℕ → List (Copy Carried)) (o : Outcome A) (u v : View A)
-            → StandsAfter p self.entry es left → In (n, f) p.filters → f.protected ≡ true
-            → own p n f es ≡ own p n f others → IsOutcome p others lists o
+        ensures ends { (p : config.Plan A) (es : List Event) (left : ℕ → List CapturedFrame)
+            → BridgeStandsFor p self.entry es left → EndsRun p es left result }
+        ensures isolated { (p : config.Plan A) (es : List Event) (left : ℕ
+            → List CapturedFrame) (n : ℕ) (f : FilterPlan)
+            (v : View A) → BridgeStandsFor p self.entry es left → IsMember (n, f) p.filters → f.protected ≡ true
+            → lookup (nat_eq n) result.filters.items ≡ Some v → IsSoloView p n f (own_events p n f es) v }
+        ensures others_change_nothing { (p : config.Plan A) (es others : List Event) (left : ℕ
+            → List CapturedFrame) (n : ℕ)
+            (f : FilterPlan) (lists : ℕ → List (Copy CarriedFrame)) (o : Outcome A) (u v : View A)
+            → BridgeStandsFor p self.entry es left → IsMember (n, f) p.filters → f.protected ≡ true
+            → own_events p n f es ≡ own_events p n f others → IsOutcome p others lists o
             → lookup (nat_eq n) result.filters.items ≡ Some u → lookup (nat_eq n) o.filters.items ≡ Some v
-            → TellTheSame u v }
+            → AreSameViews u v }
     {
         let Bridge {
             relay,

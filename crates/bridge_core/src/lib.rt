@@ -1,11 +1,12 @@
 #![tactic(auto)]
-//! Time-aware bridges: one that receives frames and commands one by one, whole runs of captures and commands, one record of each
-//! port ahead, and the one queue of `wire`.
+//! Runs time-aware bridges: a bridge that receives frames and commands one by one, and whole runs of captures and commands.
+//!
+//! A run reads each capture one record ahead.
 
 mod bridge;
-mod line;
+mod capture_writer;
+mod run;
 mod simulation;
-mod taking;
 
 pub use bridge::Bridge;
 pub use bridge_capture::RunFault;
@@ -14,4 +15,4 @@ pub use bridge_limits::NoMemory;
 pub use bridge_relay::Sent;
 pub use bridge_semantics::{Departure, Dropped, Outcome, PortCount, View};
 pub use bridge_wire::{WireCount, wire};
-pub use simulation::{simulate, simulate_over};
+pub use simulation::{simulate, simulate_with_agenda};

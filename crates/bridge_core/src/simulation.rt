@@ -1,15 +1,15 @@
-//! Captures through a bridge, from their texts to what is written.
+//! Runs captures through a bridge, from their octets to the output captures.
 ghost use Rattle.std.specs.Prelude.{◌≡◌, ◌≢◌, ℕ, ◌<◌, List, Option, [], length, Err, IfOk, IfErr};
 ghost use Rattle.bridge_config.specs.Commands.{AreCommands};
-ghost use Rattle.bridge_capture.specs.Devices.{HasFailed, NeverFail};
-ghost use Rattle.bridge_capture.specs.Lanes.{AreAheadOf, AreRests, AreTexts};
-ghost use Rattle.bridge_core.specs.Lines.{HasRunOut};
-ghost use Rattle.bridge_core.specs.Simulated.{AreListsOf, AreNumbers, IsSetUp, Isolates, OthersChangeNothing, Runs, Stops, WritesFew};
+ghost use Rattle.bridge_capture.specs.Devices.{HasFailed, AreUnfailing};
+ghost use Rattle.bridge_capture.specs.CaptureReaders.{AreOneAhead, HaveRests, HaveTexts};
+ghost use Rattle.bridge_core.specs.CaptureWriters.{IsOutOfMemory};
+ghost use Rattle.bridge_core.specs.WholeRuns.{AreRunLists, ArePortNumbers, IsReadyToRun, IsolatesFilters, OthersChangeNothing, IsWholeRun, StopsRun, WritesFew};
 
-use crate::line::{Line, begin_all};
-use crate::taking::{heads_of, run};
+use crate::capture_writer::{CaptureWriter, begin_writers};
+use crate::run::{make_heads, run};
 use bridge_capture::{
-    ByteSink, ByteSource, CaptureFault, CaptureReader, RunFault, Spares, look_at_all,
+    BufferPool, ByteSink, ByteSource, CaptureFault, CaptureReader, RunFault, begin_readers,
 };
 use bridge_check::Accepted;
 use bridge_config::{Command, Plan};
@@ -20,20 +20,19 @@ use bridge_relay::Relay;
 use bridge_semantics::{Outcome, PortCount, View};
 use std::alloc::Allocator;
 
-/// What a run needs beside the bridge itself: the numbers of the ports and the filters in their order, and room for the
-/// captures that are written and for what is told of filters and ports.
+/// Lists that a run needs: port numbers, filters in order, and space for output captures, records and counts.
 #[derive(Drop)]
-struct Lists<A: Allocator + Copy> {
+struct RunLists<A: Allocator + Copy> {
     ports: Vec<u8, A>,
     order: Vec<(u32, FilterPlan), A>,
-    lines: Vec<Line, A>,
+    lines: Vec<CaptureWriter, A>,
     views: Vec<(u32, View<A>), A>,
     counts: Vec<(u8, PortCount), A>,
 }
 
-/// The lists that a run under a plan needs.
-fn lists_of<A: Allocator + Copy>(alloc: A, plan: &Plan<A>) -> Result<Lists<A>, NoMemory>
-    ensures { IfOk result (AreListsOf plan.now) }
+/// Makes the lists that a run of `plan` needs.
+fn make_run_lists<A: Allocator + Copy>(alloc: A, plan: &Plan<A>) -> Result<RunLists<A>, NoMemory>
+    ensures { IfOk result (AreRunLists plan.now) }
 {
     let Ok(ports) = plan.port_numbers(alloc) else {
         return Err(NoMemory);
@@ -50,7 +49,7 @@ fn lists_of<A: Allocator + Copy>(alloc: A, plan: &Plan<A>) -> Result<Lists<A>, N
     let Ok(counts) = Vec::with_capacity(alloc, 16) else {
         return Err(NoMemory);
     };
-    Ok(Lists {
+    Ok(RunLists {
         ports,
         order,
         lines,
@@ -59,55 +58,54 @@ fn lists_of<A: Allocator + Copy>(alloc: A, plan: &Plan<A>) -> Result<Lists<A>, N
     })
 }
 
-/// Room for octets that are used again.
-fn spares_in<A: Allocator + Copy>(alloc: A) -> Result<Spares<A>, NoMemory> {
-    match Spares::new(alloc) {
+/// Makes an empty pool of buffers.
+fn make_buffer_pool<A: Allocator + Copy>(alloc: A) -> Result<BufferPool<A>, NoMemory> {
+    match BufferPool::new(alloc) {
         Ok(spares) => Ok(spares),
         Err(_) => Err(NoMemory),
     }
 }
 
-/// Goes on from what was set up to the end of a run: writes the header of each capture, takes all frames, the first of
-/// which are ahead of their lanes, and all commands in their order, and writes what leaves.
-fn run_from<R: ByteSource, W: ByteSink, G: Agenda + Drop, A: Allocator + Copy>(
+/// Completes a prepared run: writes the captures' headers, handles all frames and commands in order, and writes all departures.
+fn run_prepared<R: ByteSource, W: ByteSink, G: Agenda + Drop, A: Allocator + Copy>(
     commands: &[Command],
     mut relay: Relay<'_, G, A>,
-    lists: Lists<A>,
+    lists: RunLists<A>,
     mut lanes: Vec<CaptureReader<A>, A>,
-    mut spares: Spares<A>,
+    mut spares: BufferPool<A>,
     sources: &mut [R],
     sinks: &mut [W],
 ) -> Result<Outcome<A>, RunFault>
-    requires set_up { IsSetUp relay.plan relay lists lanes.items }
+    requires set_up { IsReadyToRun relay.plan relay lists lanes.items }
     requires sources { length sources.old ≡ length relay.plan.ports }
     requires sinks { length sinks.old ≡ length relay.plan.ports }
     requires commands { AreCommands relay.plan commands.now }
-    ensures ok { (ports : List ℕ) (texts : ℕ → List ℕ) → AreNumbers relay.entry.plan ports
-        → AreAheadOf R.remaining texts (λ _. []) lanes.items sources.old →
-        IfOk result (Runs relay.entry.plan ports commands.now texts W.contents sinks.old sinks.new) }
+    ensures ok { (ports : List ℕ) (texts : ℕ → List ℕ) → ArePortNumbers relay.entry.plan ports
+        → AreOneAhead R.remaining texts (λ _. []) lanes.items sources.old →
+        IfOk result (IsWholeRun relay.entry.plan ports commands.now texts W.contents sinks.old sinks.new) }
     ensures err { (ports : List ℕ) (texts : ℕ → List ℕ) (rests : ℕ → Option (List ℕ))
-        → AreNumbers relay.entry.plan ports → AreAheadOf R.remaining texts (λ _. []) lanes.items sources.old
-        → AreRests R.remaining ports rests sources.new →
-        IfErr result (Stops relay.entry.plan ports commands.now texts rests W.contents W.has_failed
+        → ArePortNumbers relay.entry.plan ports → AreOneAhead R.remaining texts (λ _. []) lanes.items sources.old
+        → HaveRests R.remaining ports rests sources.new →
+        IfErr result (StopsRun relay.entry.plan ports commands.now texts rests W.contents W.has_failed
         sinks.old sinks.new) }
-    ensures read { (ports : List ℕ) (port : ℕ) → AreNumbers relay.entry.plan ports →
+    ensures read { (ports : List ℕ) (port : ℕ) → ArePortNumbers relay.entry.plan ports →
         result ≡ Err (RunFault.Capture port CaptureFault.Read) → HasFailed R.has_failed ports port sources.new }
-    ensures sure { NeverFail R.never_fails sources.old → (port : ℕ)
+    ensures sure { AreUnfailing R.never_fails sources.old → (port : ℕ)
         → result ≢ Err (RunFault.Capture port CaptureFault.Read) }
-    ensures wrote { (ports : List ℕ) (port : ℕ) → AreNumbers relay.entry.plan ports →
+    ensures wrote { (ports : List ℕ) (port : ℕ) → ArePortNumbers relay.entry.plan ports →
         result ≡ Err (RunFault.Write port) → HasFailed W.has_failed ports port sinks.new }
-    ensures sound { (ports : List ℕ) (port : ℕ) → AreNumbers relay.entry.plan ports
-        → NeverFail W.never_fails sinks.old → result ≡ Err (RunFault.Write port)
-        → HasRunOut W.ran_out ports port sinks.new }
+    ensures sound { (ports : List ℕ) (port : ℕ) → ArePortNumbers relay.entry.plan ports
+        → AreUnfailing W.never_fails sinks.old → result ≡ Err (RunFault.Write port)
+        → IsOutOfMemory W.ran_out ports port sinks.new }
 {
-    let Lists {
+    let RunLists {
         ports,
         order,
         lines,
         views,
         counts,
     } = lists;
-    let mut lines = match begin_all(&ports, lines, sinks) {
+    let mut lines = match begin_writers(&ports, lines, sinks) {
         Ok(lines) => lines,
         Err(fault) => {
             drop(spares);
@@ -116,7 +114,7 @@ fn run_from<R: ByteSource, W: ByteSink, G: Agenda + Drop, A: Allocator + Copy>(
             return Err(fault);
         }
     };
-    let mut heads = heads_of::<G, A>(&lanes);
+    let mut heads = make_heads::<G, A>(&lanes);
     let done = run(
         commands,
         &mut relay,
@@ -139,12 +137,11 @@ fn run_from<R: ByteSource, W: ByteSink, G: Agenda + Drop, A: Allocator + Copy>(
     }
 }
 
-/// Sends captures, one for each port by rising number, and commands through a bridge of an accepted plan over an agenda,
-/// and writes the capture of what leaves each port, each frame with the moment at which it was done.
+/// Runs captures and commands through the bridge of an accepted plan, with agenda type `G`. Captures stand by rising port. Writes one
+/// capture for each port; a frame's time is its end of transmission.
 ///
-/// What it tells of a protected filter is what the filter's own events alone tell, each of its queues alone on an idle
-/// bridge; so captures and commands in which the filter's own are the same tell the same of it, whatever else came.
-pub fn simulate_over<R: ByteSource, W: ByteSink, G: Agenda + Drop, A: Allocator + Copy>(
+/// A protected filter's record depends on its own frames and commands only.
+pub fn simulate_with_agenda<R: ByteSource, W: ByteSink, G: Agenda + Drop, A: Allocator + Copy>(
     alloc: A,
     accepted: &Accepted<A>,
     commands: &[Command],
@@ -154,35 +151,38 @@ pub fn simulate_over<R: ByteSource, W: ByteSink, G: Agenda + Drop, A: Allocator 
     requires sources { length sources.old ≡ length accepted.now.ports }
     requires sinks { length sinks.old ≡ length accepted.now.ports }
     requires commands { AreCommands accepted.now commands.now }
-    ensures ok { (ports : List ℕ) (texts : ℕ → List ℕ) → AreNumbers accepted.now ports
-        → AreTexts R.remaining ports texts sources.old →
-        IfOk result (Runs accepted.now ports commands.now texts W.contents sinks.old sinks.new) }
-    ensures err { (ports : List ℕ) (texts : ℕ → List ℕ) (rests : ℕ → Option (List ℕ)) → AreNumbers accepted.now ports →
-        AreTexts R.remaining ports texts sources.old → AreRests R.remaining ports rests sources.new →
-        IfErr result (Stops accepted.now ports commands.now texts rests W.contents W.has_failed sinks.old sinks.new) }
+    ensures ok { (ports : List ℕ) (texts : ℕ → List ℕ) → ArePortNumbers accepted.now ports
+        → HaveTexts R.remaining ports texts sources.old →
+        IfOk result (IsWholeRun accepted.now ports commands.now texts W.contents sinks.old sinks.new) }
+    ensures err { (ports : List ℕ) (texts : ℕ → List ℕ) (rests : ℕ → Option (List ℕ))
+        → ArePortNumbers accepted.now ports →
+        HaveTexts R.remaining ports texts sources.old → HaveRests R.remaining ports rests sources.new →
+        IfErr result (StopsRun accepted.now ports commands.now texts rests W.contents W.has_failed sinks.old
+        sinks.new) }
     ensures isolated { (ports : List ℕ) (texts : ℕ → List ℕ) →
-        IfOk result (Isolates accepted.now ports commands.now texts W.contents sinks.old sinks.new) }
+        IfOk result (IsolatesFilters accepted.now ports commands.now texts W.contents sinks.old sinks.new) }
     ensures others_change_nothing { (ports : List ℕ) (texts : ℕ → List ℕ) →
         IfOk result (OthersChangeNothing accepted.now ports commands.now texts W.contents sinks.old sinks.new) }
     ensures few { (ports : List ℕ) (texts : ℕ → List ℕ) →
         IfOk result (WritesFew accepted.now ports commands.now texts W.contents sinks.old sinks.new) }
-    ensures read { (ports : List ℕ) (port : ℕ) → AreNumbers accepted.now ports →
+    ensures read { (ports : List ℕ) (port : ℕ) → ArePortNumbers accepted.now ports →
         result ≡ Err (RunFault.Capture port CaptureFault.Read) → HasFailed R.has_failed ports port sources.new }
-    ensures sure { NeverFail R.never_fails sources.old → (port : ℕ)
+    ensures sure { AreUnfailing R.never_fails sources.old → (port : ℕ)
         → result ≢ Err (RunFault.Capture port CaptureFault.Read) }
-    ensures wrote { (ports : List ℕ) (port : ℕ) → AreNumbers accepted.now ports →
+    ensures wrote { (ports : List ℕ) (port : ℕ) → ArePortNumbers accepted.now ports →
         result ≡ Err (RunFault.Write port) → HasFailed W.has_failed ports port sinks.new }
-    ensures sound { (ports : List ℕ) (port : ℕ) → AreNumbers accepted.now ports → NeverFail W.never_fails sinks.old →
-        result ≡ Err (RunFault.Write port) → HasRunOut W.ran_out ports port sinks.new }
+    ensures sound { (ports : List ℕ) (port : ℕ) → ArePortNumbers accepted.now ports
+        → AreUnfailing W.never_fails sinks.old →
+        result ≡ Err (RunFault.Write port) → IsOutOfMemory W.ran_out ports port sinks.new }
 {
-    let Ok(lists) = lists_of(alloc, accepted.plan()) else {
+    let Ok(lists) = make_run_lists(alloc, accepted.plan()) else {
         return Err(RunFault::NoMemory);
     };
-    let Ok(spares) = spares_in(alloc) else {
+    let Ok(spares) = make_buffer_pool(alloc) else {
         drop(lists);
         return Err(RunFault::NoMemory);
     };
-    let lanes = match look_at_all(alloc, &lists.ports, sources) {
+    let lanes = match begin_readers(alloc, &lists.ports, sources) {
         Ok(lanes) => lanes,
         Err(fault) => {
             drop(lists);
@@ -196,11 +196,10 @@ pub fn simulate_over<R: ByteSource, W: ByteSink, G: Agenda + Drop, A: Allocator 
         drop(lanes);
         return Err(RunFault::NoMemory);
     };
-    run_from(commands, relay, lists, lanes, spares, sources, sinks)
+    run_prepared(commands, relay, lists, lanes, spares, sources, sinks)
 }
 
-/// Sends captures, one for each port by rising number, and commands through a bridge of an accepted plan, as
-/// `simulate_over` does over an agenda that is an ordered tree.
+/// Runs captures and commands through the bridge of an accepted plan. Uses an ordered tree as the agenda of `simulate_with_agenda`.
 pub fn simulate<R: ByteSource, W: ByteSink, A: Allocator + Copy>(
     alloc: A,
     accepted: &Accepted<A>,
@@ -211,26 +210,29 @@ pub fn simulate<R: ByteSource, W: ByteSink, A: Allocator + Copy>(
     requires sources { length sources.old ≡ length accepted.now.ports }
     requires sinks { length sinks.old ≡ length accepted.now.ports }
     requires commands { AreCommands accepted.now commands.now }
-    ensures ok { (ports : List ℕ) (texts : ℕ → List ℕ) → AreNumbers accepted.now ports
-        → AreTexts R.remaining ports texts sources.old →
-        IfOk result (Runs accepted.now ports commands.now texts W.contents sinks.old sinks.new) }
-    ensures err { (ports : List ℕ) (texts : ℕ → List ℕ) (rests : ℕ → Option (List ℕ)) → AreNumbers accepted.now ports →
-        AreTexts R.remaining ports texts sources.old → AreRests R.remaining ports rests sources.new →
-        IfErr result (Stops accepted.now ports commands.now texts rests W.contents W.has_failed sinks.old sinks.new) }
+    ensures ok { (ports : List ℕ) (texts : ℕ → List ℕ) → ArePortNumbers accepted.now ports
+        → HaveTexts R.remaining ports texts sources.old →
+        IfOk result (IsWholeRun accepted.now ports commands.now texts W.contents sinks.old sinks.new) }
+    ensures err { (ports : List ℕ) (texts : ℕ → List ℕ) (rests : ℕ → Option (List ℕ))
+        → ArePortNumbers accepted.now ports →
+        HaveTexts R.remaining ports texts sources.old → HaveRests R.remaining ports rests sources.new →
+        IfErr result (StopsRun accepted.now ports commands.now texts rests W.contents W.has_failed sinks.old
+        sinks.new) }
     ensures isolated { (ports : List ℕ) (texts : ℕ → List ℕ) →
-        IfOk result (Isolates accepted.now ports commands.now texts W.contents sinks.old sinks.new) }
+        IfOk result (IsolatesFilters accepted.now ports commands.now texts W.contents sinks.old sinks.new) }
     ensures others_change_nothing { (ports : List ℕ) (texts : ℕ → List ℕ) →
         IfOk result (OthersChangeNothing accepted.now ports commands.now texts W.contents sinks.old sinks.new) }
     ensures few { (ports : List ℕ) (texts : ℕ → List ℕ) →
         IfOk result (WritesFew accepted.now ports commands.now texts W.contents sinks.old sinks.new) }
-    ensures read { (ports : List ℕ) (port : ℕ) → AreNumbers accepted.now ports →
+    ensures read { (ports : List ℕ) (port : ℕ) → ArePortNumbers accepted.now ports →
         result ≡ Err (RunFault.Capture port CaptureFault.Read) → HasFailed R.has_failed ports port sources.new }
-    ensures sure { NeverFail R.never_fails sources.old → (port : ℕ)
+    ensures sure { AreUnfailing R.never_fails sources.old → (port : ℕ)
         → result ≢ Err (RunFault.Capture port CaptureFault.Read) }
-    ensures wrote { (ports : List ℕ) (port : ℕ) → AreNumbers accepted.now ports →
+    ensures wrote { (ports : List ℕ) (port : ℕ) → ArePortNumbers accepted.now ports →
         result ≡ Err (RunFault.Write port) → HasFailed W.has_failed ports port sinks.new }
-    ensures sound { (ports : List ℕ) (port : ℕ) → AreNumbers accepted.now ports → NeverFail W.never_fails sinks.old →
-        result ≡ Err (RunFault.Write port) → HasRunOut W.ran_out ports port sinks.new }
+    ensures sound { (ports : List ℕ) (port : ℕ) → ArePortNumbers accepted.now ports
+        → AreUnfailing W.never_fails sinks.old →
+        result ≡ Err (RunFault.Write port) → IsOutOfMemory W.ran_out ports port sinks.new }
 {
-    simulate_over::<R, W, TreeAgenda, A>(alloc, accepted, commands, sources, sinks)
+    simulate_with_agenda::<R, W, TreeAgenda, A>(alloc, accepted, commands, sources, sinks)
 }

@@ -1,22 +1,22 @@
 use Rattle.std.proofs.Common.{◌≡◌, ℕ, Bool, ◌+◌, ◌-◌, ◌*◌, ◌/◌, ◌%◌, ◌<◌, ◌≤◌, arith, ap, ◌∙◌, sym, subst, zero, suc}
 use Rattle.std.proofs.Math.Nat.{mod-lt}
-use Rattle.bridge_cycle.specs.Moments.{Fits, Repeats}
+use Rattle.bridge_cycle.specs.Fits.{Fits, IsPeriodic}
 
-pub turns : (opens : ℕ → Bool) (c n u : ℕ) → Repeats opens c → opens (u + n * c) ≡ opens u
+pub turns : (opens : ℕ → Bool) (c n u : ℕ) → IsPeriodic opens c → opens (u + n * c) ≡ opens u
 turns opens c zero u r = ap opens (omega arith)
 turns opens c (suc n) u r = let e : u + suc n * c ≡ u + n * c + c = omega arith in ap opens e ∙ (r (u + n * c) ∙ turns opens c n u r)
 
-pub fits_up : (opens : ℕ → Bool) (c occ n t : ℕ) → Repeats opens c → Fits opens occ t → Fits opens occ (t + n * c)
+pub fits_up : (opens : ℕ → Bool) (c occ n t : ℕ) → IsPeriodic opens c → Fits opens occ t → Fits opens occ (t + n * c)
 fits_up opens c occ n t r f u a b =
     let w = u - n * c in
     let e : w + n * c ≡ u = omega arith in
     ap opens (sym e) ∙ (turns opens c n w r ∙ f w (omega arith) (omega arith))
 
-pub fits_down : (opens : ℕ → Bool) (c occ n t : ℕ) → Repeats opens c → Fits opens occ (t + n * c) → Fits opens occ t
+pub fits_down : (opens : ℕ → Bool) (c occ n t : ℕ) → IsPeriodic opens c → Fits opens occ (t + n * c) → Fits opens occ t
 fits_down opens c occ n t r f u a b = sym (turns opens c n u r) ∙ f (u + n * c) (omega arith) (omega arith)
 
--- what fits once fits within a cycle of any moment
-pub fits_near : (opens : ℕ → Bool) (c occ t from : ℕ) → 0 < c → Repeats opens c → Fits opens occ t → (u : ℕ) × (from ≤ u) × (u < from + c) × Fits opens occ u
+-- A transmission that fits once fits within a cycle of any time.
+pub fits_near : (opens : ℕ → Bool) (c occ t from : ℕ) → 0 < c → IsPeriodic opens c → Fits opens occ t → (u : ℕ) × (from ≤ u) × (u < from + c) × Fits opens occ u
 fits_near opens c occ t from some r f =
     let far = t + from * c in
     let ahead : from ≤ far = grind arith in

@@ -3,11 +3,11 @@ use Rattle.std.proofs.lemmas.Bool.{cases_lt, both_ways}
 use Rattle.std.proofs.Math.Nat.{mod-lt}
 use Rattle.std.specs.Prelude.{◌↔◌}
 use Rattle.bridge_limits.proofs.Cases.{by_bool}
-use Rattle.bridge_cycle.specs.Moments.{Fits, Repeats}
-use Rattle.bridge_cycle.specs.Runs.{IsLongestBefore}
+use Rattle.bridge_cycle.specs.Fits.{Fits, IsPeriodic}
+use Rattle.bridge_cycle.specs.Runs.{IsLongestFit}
 use Rattle.bridge_cycle.proofs.Repeats.{turns, fits_near}
 
--- what was seen up to a moment: the longest time open without a break, and the one that lasts there
+-- Statement: Up to time `seen`, the class was open without a break for at most `longest` ns, and for the last `run` ns.
 pub record Ran (opens : ℕ → Bool) (longest run seen : ℕ) : Type 0 where
   pub fits : (t : ℕ) × Fits opens longest t
   pub most : (occ t : ℕ) → t + occ ≤ seen → Fits opens occ t → occ ≤ longest
@@ -77,15 +77,15 @@ ran_closed opens longest run seen end r h o =
       below = omega arith;
     }
 
-pub ran_done : (opens : ℕ → Bool) (longest run seen n : ℕ) → Ran opens longest run seen → n ≤ seen → IsLongestBefore opens n longest
+pub ran_done : (opens : ℕ → Bool) (longest run seen n : ℕ) → Ran opens longest run seen → n ≤ seen → IsLongestFit opens n longest
 ran_done opens longest run seen n r h = record { fits = r.fits; most = λ occ t k f. r.most occ t (omega arith) f }
 
--- where a length fits, a shorter one does
+-- A shorter transmission fits wherever a longer one does.
 pub fits_less : (opens : ℕ → Bool) (occ less t : ℕ) → less ≤ occ → Fits opens occ t → Fits opens less t
 fits_less opens occ less t h f u p q = f u p (omega arith)
 
--- what fits somewhere is within a length that two cycles show
-most_of_all : (opens : ℕ → Bool) (c longest occ t : ℕ) → 0 < c → Repeats opens c → IsLongestBefore opens (2 * c) longest → longest < c → Fits opens occ t → occ ≤ longest
+-- A transmission that fits somewhere is at most as long as the longest fit in two cycles.
+most_of_all : (opens : ℕ → Bool) (c longest occ t : ℕ) → 0 < c → IsPeriodic opens c → IsLongestFit opens (2 * c) longest → longest < c → Fits opens occ t → occ ≤ longest
 most_of_all opens c longest occ t some r l less f =
     let near : (u : ℕ) × (0 ≤ u) × (u < 0 + c) × Fits opens occ u = fits_near opens c occ t 0 some r f in
     elim (cases_lt c occ) [
@@ -96,16 +96,16 @@ most_of_all opens c longest occ t some r l less f =
 one_fits : (opens : ℕ → Bool) (t : ℕ) → opens t ≡ true → Fits opens 1 t
 one_fits opens t h u p q = let e : u ≡ t = omega arith in ap opens e ∙ h
 
-pub run_never : (opens : ℕ → Bool) (c longest : ℕ) → 0 < c → Repeats opens c → IsLongestBefore opens (2 * c) longest → longest ≡ 0 → (t : ℕ) → opens t ≡ false
+pub run_never : (opens : ℕ → Bool) (c longest : ℕ) → 0 < c → IsPeriodic opens c → IsLongestFit opens (2 * c) longest → longest ≡ 0 → (t : ℕ) → opens t ≡ false
 run_never opens c longest some r l none t = by_bool (opens t)
     (λ e. let k = most_of_all opens c longest 1 t some r l (omega arith) (one_fits opens t e) in absurd (omega arith))
     (λ e. e)
 
-pub run_for : (opens : ℕ → Bool) (c longest : ℕ) → 0 < c → Repeats opens c → IsLongestBefore opens (2 * c) longest → longest < c → (occ : ℕ) → ((t : ℕ) × Fits opens occ t) ↔ (occ ≤ longest)
+pub run_for : (opens : ℕ → Bool) (c longest : ℕ) → 0 < c → IsPeriodic opens c → IsLongestFit opens (2 * c) longest → longest < c → (occ : ℕ) → ((t : ℕ) × Fits opens occ t) ↔ (occ ≤ longest)
 run_for opens c longest some r l less occ =
     (λ f. most_of_all opens c longest occ f.0 some r l less f.1, λ h. (l.fits.0, fits_less opens longest occ l.fits.0 h l.fits.1))
 
-pub run_always : (opens : ℕ → Bool) (c longest : ℕ) → 0 < c → Repeats opens c → IsLongestBefore opens (2 * c) longest → c ≤ longest → (t : ℕ) → opens t ≡ true
+pub run_always : (opens : ℕ → Bool) (c longest : ℕ) → 0 < c → IsPeriodic opens c → IsLongestFit opens (2 * c) longest → c ≤ longest → (t : ℕ) → opens t ≡ true
 run_always opens c longest some r l all t =
     let from = l.fits.0 in
     let far = t + from * c in

@@ -1,8 +1,8 @@
 use Rattle.std.proofs.Common.{◌≡◌, ℕ, Bool, true, false, ◌+◌, ◌<◌, ◌≤◌, arith, inl, inr}
 use Rattle.std.proofs.lemmas.Bool.{cases_lt, both_ways}
-use Rattle.bridge_cycle.specs.Moments.{Fits, IsFirst}
+use Rattle.bridge_cycle.specs.Fits.{Fits, IsFirstFit}
 
--- no moment before start fits, and from start up to seen the class is open
+-- Statement: No time before `start` fits, and the class is open from `start` to `seen`.
 pub record Searched (opens : ℕ → Bool) (occ from start seen : ℕ) : Type 0 where
   pub after : from ≤ start
   pub upto : start ≤ seen
@@ -36,10 +36,10 @@ searched_closed opens occ from start seen end s h room o =
       ];
     }
 
-pub searched_found : (opens : ℕ → Bool) (occ from start seen : ℕ) → Searched opens occ from start seen → start + occ ≤ seen → IsFirst opens occ from start
+pub searched_found : (opens : ℕ → Bool) (occ from start seen : ℕ) → Searched opens occ from start seen → start + occ ≤ seen → IsFirstFit opens occ from start
 searched_found opens occ from start seen s h =
     record { after = s.after; fits = λ u p q. s.open_so_far u p (omega arith); least = s.none }
 
--- the start stays below each fitting moment
+-- No fitting time precedes `start`.
 pub searched_below : (opens : ℕ → Bool) (occ from start seen u : ℕ) → Searched opens occ from start seen → from ≤ u → Fits opens occ u → start ≤ u
 searched_below opens occ from start seen u s h f = elim (cases_lt u start) [ inl a ↦ absurd (s.none u h a f) | inr b ↦ b ]

@@ -3,9 +3,9 @@ use Rattle.std.specs.Prelude.{◌≡◌, ℕ, Bool, false, ◌<◌, ◌≤◌, �
 use Rattle.std.specs.Prelude.{nat_eq, ◌||◌}
 use Rattle.std.specs.List.{list_any}
 use Rattle.bridge_limits.specs.declared.TheConstants.{END_OF_TIME}
-use Rattle.bridge_cycle.specs.declared.cyclic.TheConstants.{LONGEST_CYCLE, MOST_ENTRIES}
-use Rattle.bridge_cycle.specs.declared.cyclic.ListFault.{ListFault}
-use Rattle.bridge_cycle.specs.declared.cyclic.ListFault.TheVariants.{Empty, ZeroInterval, OverCycle, CycleOutOfRange, TooManyEntries, NoMemory}
+use Rattle.bridge_cycle.specs.declared.cyclic_list.TheConstants.{LONGEST_CYCLE, MAX_ENTRIES}
+use Rattle.bridge_cycle.specs.declared.cyclic_list.ListFault.{ListFault}
+use Rattle.bridge_cycle.specs.declared.cyclic_list.ListFault.TheVariants.{Empty, ZeroInterval, OverCycle, CycleOutOfRange, TooManyEntries, NoMemory}
 use Rattle.bridge_cycle.specs.declared.timeline.Turn.{Turn}
 
 -- List that repeats: its base time and cycle time in ns, and its entries, each a state with the length of its interval
@@ -20,67 +20,65 @@ abbrev pub phase : ℕ → ℕ → ℕ → ℕ
 phase base cycle t = (t + (cycle - base % cycle)) % cycle
 
 -- Entry within one cycle: its state, and the offsets in ns from the cycle start at which its interval starts and ends.
-pub record Place (S : Type 0) : Type 0 where
+pub record EntryInterval (S : Type 0) : Type 0 where
   pub state : S
   pub start : ℕ
   pub end : ℕ
 
--- Entry in force at offset `p` ns of the cycle if the first entry starts at `start`; the last entry lasts until the
--- cycle ends.
--- Each entry starts where the entry before it ends.
--- An empty list gives `None`.
-abbrev pub place : {S : Type 0} → List (S × ℕ) → ℕ → ℕ → ℕ → Option (Place S)
-place [] start cycle p = None
-place (e ∷ []) start cycle p = Some (record { state = e.0; start = start; end = cycle })
-place (e ∷ f ∷ es) start cycle p = if nat_lt p (start + e.1) then Some (record { state = e.0; start = start; end = start + e.1 }) else place (f ∷ es) (start + e.1) cycle p
+-- Entry in force at offset `p` ns of the cycle; `None` without entries. The first entry starts at `start`, each other entry after its predecessor.
+-- The last entry lasts until the cycle ends.
+abbrev pub entry_interval : {S : Type 0} → List (S × ℕ) → ℕ → ℕ → ℕ → Option (EntryInterval S)
+entry_interval [] start cycle p = None
+entry_interval (e ∷ []) start cycle p = Some (record { state = e.0; start = start; end = cycle })
+entry_interval (e ∷ f ∷ es) start cycle p = if nat_lt p (start + e.1) then Some (record { state = e.0; start = start; end = start + e.1 }) else entry_interval (f ∷ es) (start + e.1) cycle p
 
 -- Interval of an entry in ns, converted from its offsets in the cycle; time `t` has offset `p`, and the start may be
 -- negative.
-abbrev pub turn_of : {S : Type 0} → ℕ → ℕ → Option (Place S) → Option (Turn S)
-turn_of t p None = None
-turn_of t p (Some x) = Some (record { state = x.state; start = pos t -ℤ pos (p - x.start); end = t + (x.end - p) })
+abbrev pub interval_turn : {S : Type 0} → ℕ → ℕ → Option (EntryInterval S) → Option (Turn S)
+interval_turn t p None = None
+interval_turn t p (Some x) = Some (record { state = x.state; start = pos t -ℤ pos (p - x.start); end = t + (x.end - p) })
 
 -- Interval of the repeating list `l` that contains time `t`, in ns, with its state, start and end; `None` if the list
 -- has no entries.
-abbrev pub turn_at : {S : Type 0} → Cyclic S → ℕ → Option (Turn S)
-turn_at l t = let p = phase l.base l.cycle t in turn_of t p (place l.entries 0 l.cycle p)
+abbrev pub turn_by_time : {S : Type 0} → Cyclic S → ℕ → Option (Turn S)
+turn_by_time l t = let p = phase l.base l.cycle t in interval_turn t p (entry_interval l.entries 0 l.cycle p)
 
 -- Sum of the intervals of all entries of the list, in ns; 0 for the empty list.
-abbrev pub total : {S : Type 0} → List (S × ℕ) → ℕ
-total [] = 0
-total (e ∷ es) = e.1 + total es
+abbrev pub interval_sum : {S : Type 0} → List (S × ℕ) → ℕ
+interval_sum [] = 0
+interval_sum (e ∷ es) = e.1 + interval_sum es
 
 -- True if at least one entry of the list has an interval of 0 ns.
-abbrev pub has_zero : {S : Type 0} → List (S × ℕ) → Bool
-has_zero es = list_any (λ e. nat_eq e.1 0) es
+abbrev pub has_zero_interval : {S : Type 0} → List (S × ℕ) → Bool
+has_zero_interval es = list_any (λ e. nat_eq e.1 0) es
 
--- the first fault of the parts of a list, in the order of the tests
-abbrev pub fault_of : {S : Type 0} → ℕ → List (S × ℕ) → Option ListFault
-fault_of cycle es =
+-- First fault of a list, in the order of the tests.
+abbrev pub first_fault : {S : Type 0} → ℕ → List (S × ℕ) → Option ListFault
+first_fault cycle es =
     if nat_eq (length es) 0 then Some Empty
-    else if nat_lt MOST_ENTRIES (length es) then Some TooManyEntries
+    else if nat_lt MAX_ENTRIES (length es) then Some TooManyEntries
     else if nat_eq cycle 0 || nat_lt LONGEST_CYCLE cycle then Some CycleOutOfRange
-    else if has_zero es then Some ZeroInterval
-    else if nat_lt cycle (total es) then Some OverCycle
+    else if has_zero_interval es then Some ZeroInterval
+    else if nat_lt cycle (interval_sum es) then Some OverCycle
     else None
 
--- the numbers of the faults
-abbrev pub number_of : ListFault → ℕ
-number_of Empty = 1
-number_of ZeroInterval = 2
-number_of OverCycle = 3
-number_of CycleOutOfRange = 4
-number_of TooManyEntries = 5
-number_of NoMemory = 6
+-- Numbers of the faults.
+abbrev pub fault_code : ListFault → ℕ
+fault_code Empty = 1
+fault_code ZeroInterval = 2
+fault_code OverCycle = 3
+fault_code CycleOutOfRange = 4
+fault_code TooManyEntries = 5
+fault_code NoMemory = 6
 
 -- Statement: The list has 1 to 256 entries, positive intervals with a sum within the cycle time (up to 1 s), a base
 -- time before END_OF_TIME.
 -- The sum is at most the cycle time.
 pub record IsLawful {S : Type 0} (l : Cyclic S) : Type 0 where
   pub some : 0 < length l.entries
-  pub few : length l.entries ≤ MOST_ENTRIES
+  pub few : length l.entries ≤ MAX_ENTRIES
   pub base : l.base < END_OF_TIME
   pub cycle : l.cycle ≤ LONGEST_CYCLE
   pub cycle_some : 0 < l.cycle
-  pub intervals : has_zero l.entries ≡ false
-  pub within : total l.entries ≤ l.cycle
+  pub intervals : has_zero_interval l.entries ≡ false
+  pub within : interval_sum l.entries ≤ l.cycle

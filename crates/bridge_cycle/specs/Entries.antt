@@ -1,2 +1,2 @@
--- Members of a list: the words that all crates share.
-pub use Rattle.bridge_limits.specs.Members.{In}
+-- Members of a list, as all crates define them.
+pub use Rattle.bridge_limits.specs.Members.{IsMember}

@@ -1,6 +1,6 @@
 -- Open classes and offsets in a cycle, computed.
 use Rattle.std.specs.Prelude.{◌≡◌, true, false, refl}
-use Rattle.bridge_cycle.specs.Moments.{is_open}
+use Rattle.bridge_cycle.specs.Fits.{is_open}
 use Rattle.bridge_cycle.specs.Cyclic.{phase}
 
 -- The gate state 80 (hexadecimal) opens class 7 only.

@@ -1,26 +1,26 @@
 ghost use Rattle.std.specs.Prelude.{◌*◌, ◌<◌, ◌≡◌, ◌↔◌, true};
-ghost use Rattle.bridge_cycle.specs.Cyclic.{turn_at};
-ghost use Rattle.bridge_cycle.specs.Opens.{opens_in};
-ghost use Rattle.bridge_cycle.specs.Runs.{Allows, FitsSoon, IsLongestRun, IsLongestBefore, IsShorter};
+ghost use Rattle.bridge_cycle.specs.Cyclic.{turn_by_time};
+ghost use Rattle.bridge_cycle.specs.Opens.{turn_opens};
+ghost use Rattle.bridge_cycle.specs.Runs.{Allows, FitsSoon, IsLongestRun, IsLongestFit, IsShorterThanCycle};
 
-use crate::cyclic::CyclicList;
-use crate::fit::is_open;
+use crate::cyclic_list::CyclicList;
+use crate::fit_search::is_open;
 use crate::timeline::Timeline;
 use std::alloc::Allocator;
 
-/// How long a class stays open without a break, at most.
+/// Longest time for which a class is open without a break.
 #[derive(Clone, Copy, Debug, PartialEq, Eq)]
 pub enum Run {
-    /// It is never open.
+    /// The class is never open.
     Never,
-    /// It is open for that many ns, and no longer.
+    /// The class is open for this number of ns, and no longer.
     For(u64),
-    /// It is always open.
+    /// The class is always open.
     Always,
 }
 
 impl Run {
-    /// Whether a frame that occupies the link for so many ns fits in it.
+    /// Whether a transmission of `occupied` ns fits within the run.
     pub fn allows(self, occupied: u64) -> bool
         ensures { (result ≡ true) ↔ Allows self occupied }
     {
@@ -32,16 +32,16 @@ impl Run {
     }
 }
 
-/// The longest time for which a list keeps `class` open without a break, also over the end of the
-/// cycle. A frame that occupies the link for no longer fits at most a second after any moment.
+/// Returns the longest time for which `class` is open without a break, also across the end of a cycle. A transmission of this
+/// length fits at most 1 s after any time.
 pub fn longest_run<A: Allocator + Copy>(list: &CyclicList<u8, A>, class: u8) -> Run
     requires { class < 8 }
-    ensures longest { IsLongestRun (λ v. opens_in (turn_at list.now v) class) result }
-    ensures shorter { IsShorter result list.now.cycle }
-    ensures soon { FitsSoon (λ v. opens_in (turn_at list.now v) class) result }
+    ensures longest { IsLongestRun (λ v. turn_opens (turn_by_time list.now v) class) result }
+    ensures shorter { IsShorterThanCycle result list.now.cycle }
+    ensures soon { FitsSoon (λ v. turn_opens (turn_by_time list.now v) class) result }
 {
     let cycle = list.cycle();
-    let longest = longest_open(list, class);
+    let longest = longest_open_time(list, class);
     if longest == 0 {
         Run::Never
     } else if longest < cycle {
@@ -51,10 +51,11 @@ pub fn longest_run<A: Allocator + Copy>(list: &CyclicList<u8, A>, class: u8) -> 
     }
 }
 
-/// The longest time without a break for which the class is open in the first two cycles or a little more.
-fn longest_open<L: Timeline<State = u8>>(timeline: &L, class: u8) -> u64
+/// Returns the longest time in ns for which `class` is open without a break in the first two cycles. The last interval counts to
+/// its end.
+fn longest_open_time<L: Timeline<State = u8>>(timeline: &L, class: u8) -> u64
     requires { class < 8 }
-    ensures { IsLongestBefore (λ v. opens_in (L.turn_at timeline.now v) class) (2 * L.cycle_of timeline.now) result }
+    ensures { IsLongestFit (λ v. turn_opens (L.turn_at timeline.now v) class) (2 * L.cycle_of timeline.now) result }
 {
     let end = 2 * timeline.cycle();
     let mut longest = 0;

@@ -9,41 +9,41 @@ use Rattle.bridge_meter.proofs.Stands.{held_red}
 use Rattle.bridge_gate.specs.Gates as gates
 use Rattle.bridge_filter.specs.declared.FilterPlan.{FilterPlan}
 use Rattle.bridge_filter.specs.declared.Flags.{Flags}
-use Rattle.bridge_filter.specs.declared.filter.Filter.{Filter}
-use Rattle.bridge_filter.specs.Verdicts.{Plans, Step, gate_share, meter_share, is_blocked}
-use Rattle.bridge_filter.specs.Counts.{flags_of, red_by, buckets_by}
-use Rattle.bridge_filter.specs.Plans.{is_there}
-use Rattle.bridge_filter.specs.Steps.{plans_in}
+use Rattle.bridge_filter.specs.declared.filter_state.FilterState.{FilterState}
+use Rattle.bridge_filter.specs.Verdicts.{PolicePlans, FilterStep, gate_share, meter_share, is_blocked}
+use Rattle.bridge_filter.specs.Counts.{filter_flags, is_meter_red, filter_buckets}
+use Rattle.bridge_filter.specs.Plans.{is_listed}
+use Rattle.bridge_filter.specs.Steps.{filter_plans}
 use Rattle.bridge_filter.proofs.Flows.{is_there-lookup}
 use Rattle.bridge_filter.proofs.Judging.{lookup-plans_in}
 
--- a filter that is there is kept
-pub not_kept : (n : ℕ) (fs : List (ℕ × Filter)) → None ≡ lookup (nat_eq n) fs → IsTrue (is_there n (plans_in fs)) → ⊥
+-- A listed filter has a state.
+pub not_kept : (n : ℕ) (fs : List (ℕ × FilterState)) → None ≡ lookup (nat_eq n) fs → IsTrue (is_listed n (filter_plans fs)) → ⊥
 not_kept n fs h there =
-    let e : is_there n (plans_in fs) ≡ false = is_there-lookup n (plans_in fs) ∙ ap is_some (lookup-plans_in n fs ∙ ap (option_map (λ (f : Filter). f.plan)) (sym h)) in
+    let e : is_listed n (filter_plans fs) ≡ false = is_there-lookup n (filter_plans fs) ∙ ap is_some (lookup-plans_in n fs ∙ ap (option_map (λ (f : FilterState). f.plan)) (sym h)) in
     cc
 
--- the plan of what is kept is that of the filters shown
-pub plan_shown : (n : ℕ) (fs : List (ℕ × Filter)) (f : Filter) → Some f ≡ lookup (nat_eq n) fs → lookup (nat_eq n) (plans_in fs) ≡ Some f.plan
-plan_shown n fs f h = lookup-plans_in n fs ∙ ap (option_map (λ (x : Filter). x.plan)) (sym h)
+-- The plan in a filter's state is the plan in the list.
+pub plan_shown : (n : ℕ) (fs : List (ℕ × FilterState)) (f : FilterState) → Some f ≡ lookup (nat_eq n) fs → lookup (nat_eq n) (filter_plans fs) ≡ Some f.plan
+plan_shown n fs f h = lookup-plans_in n fs ∙ ap (option_map (λ (x : FilterState). x.plan)) (sym h)
 
 pub same_plan : (n : ℕ) (fs gs : List (ℕ × FilterPlan)) (f g : FilterPlan) → fs ≡ gs → lookup (nat_eq n) fs ≡ Some f → lookup (nat_eq n) gs ≡ Some g → f ≡ g
 same_plan n fs gs f g e h k = same_Some f g (sym h ∙ (ap (λ (z : List (ℕ × FilterPlan)). lookup (nat_eq n) z) e ∙ k))
 
-pub buckets_shown : (p : Plans) (ss : List Step) (f : FilterPlan) (m : ℕ) (b : Buckets) → f.meter ≡ Some m → b ≡ meter.buckets_after (p.meters m) (meter.past (p.meters m) (meter_share m ss)) → Some b ≡ buckets_by p f.meter ss
-buckets_shown p ss f m b h e = ap Some e ∙ ap (λ (o : Option ℕ). buckets_by p o ss) (sym h)
+pub buckets_shown : (p : PolicePlans) (ss : List FilterStep) (f : FilterPlan) (m : ℕ) (b : Buckets) → f.meter ≡ Some m → b ≡ meter.history_buckets (p.meters m) (meter.meter_history (p.meters m) (meter_share m ss)) → Some b ≡ filter_buckets p f.meter ss
+buckets_shown p ss f m b h e = ap Some e ∙ ap (λ (o : Option ℕ). filter_buckets p o ss) (sym h)
 
-pub red_shown : (p : Plans) (ss : List Step) (f : FilterPlan) (m : ℕ) (b : Buckets) → f.meter ≡ Some m → b ≡ meter.buckets_after (p.meters m) (meter.past (p.meters m) (meter_share m ss)) → b.all_red ≡ red_by p f.meter ss
+pub red_shown : (p : PolicePlans) (ss : List FilterStep) (f : FilterPlan) (m : ℕ) (b : Buckets) → f.meter ≡ Some m → b ≡ meter.history_buckets (p.meters m) (meter.meter_history (p.meters m) (meter_share m ss)) → b.all_red ≡ is_meter_red p f.meter ss
 red_shown p ss f m b h e =
-    let x = meter.past (p.meters m) (meter_share m ss) in
-    ap (λ (z : Buckets). z.all_red) e ∙ (held_red (meter.limits (p.meters m)) x.all_red x.judged ∙ ap (λ (o : Option ℕ). red_by p o ss) (sym h))
+    let x = meter.meter_history (p.meters m) (meter_share m ss) in
+    ap (λ (z : Buckets). z.all_red) e ∙ (held_red (meter.meter_limits (p.meters m)) x.all_red x.judged ∙ ap (λ (o : Option ℕ). is_meter_red p o ss) (sym h))
 
-pub no_red_shown : (p : Plans) (ss : List Step) (f : FilterPlan) → f.meter ≡ None → false ≡ red_by p f.meter ss
-no_red_shown p ss f h = ap (λ (o : Option ℕ). red_by p o ss) (sym h)
+pub no_red_shown : (p : PolicePlans) (ss : List FilterStep) (f : FilterPlan) → f.meter ≡ None → false ≡ is_meter_red p f.meter ss
+no_red_shown p ss f h = ap (λ (o : Option ℕ). is_meter_red p o ss) (sym h)
 
-pub no_buckets_shown : (p : Plans) (ss : List Step) (f : FilterPlan) → f.meter ≡ None → None ≡ buckets_by p f.meter ss
-no_buckets_shown p ss f h = ap (λ (o : Option ℕ). buckets_by p o ss) (sym h)
+pub no_buckets_shown : (p : PolicePlans) (ss : List FilterStep) (f : FilterPlan) → f.meter ≡ None → None ≡ filter_buckets p f.meter ss
+no_buckets_shown p ss f h = ap (λ (o : Option ℕ). filter_buckets p o ss) (sym h)
 
--- the flags of a filter by the answers of its instances
-pub flags_shown : (p : Plans) (n : ℕ) (f : FilterPlan) (ss : List Step) (blocked rx octets red : Bool) → blocked ≡ f.block_oversize && is_blocked n ss → rx ≡ (p.gates f.gate).shut_on_rx && gates.is_shut_by_rx (gates.steps (p.gates f.gate) (gate_share f.gate ss)) → octets ≡ (p.gates f.gate).shut_on_octets && gates.is_shut_by_octets (gates.steps (p.gates f.gate) (gate_share f.gate ss)) → red ≡ red_by p f.meter ss → (let z : Flags = record { blocked = blocked; rx = rx; octets = octets; red = red } in z) ≡ flags_of p n f ss
+-- Flags of a filter, from the flags of its gate and meter.
+pub flags_shown : (p : PolicePlans) (n : ℕ) (f : FilterPlan) (ss : List FilterStep) (blocked rx octets red : Bool) → blocked ≡ f.block_oversize && is_blocked n ss → rx ≡ (p.gates f.gate).shut_on_rx && gates.is_shut_by_rx (gates.gate_steps (p.gates f.gate) (gate_share f.gate ss)) → octets ≡ (p.gates f.gate).shut_on_octets && gates.is_shut_by_octets (gates.gate_steps (p.gates f.gate) (gate_share f.gate ss)) → red ≡ is_meter_red p f.meter ss → (let z : Flags = record { blocked = blocked; rx = rx; octets = octets; red = red } in z) ≡ filter_flags p n f ss
 flags_shown p n f ss blocked rx octets red a b c d = rw (a, b, c, d) refl

@@ -8,68 +8,68 @@ use Rattle.bridge_filter.specs.declared.Verdict.{Verdict}
 use Rattle.bridge_filter.specs.declared.Verdict.TheVariants as verdict
 use Rattle.bridge_filter.specs.declared.Counters.{Counters}
 use Rattle.bridge_filter.specs.declared.Flags.{Flags}
-use Rattle.bridge_filter.specs.Verdicts.{Event, Came, Cleared, Plans, Step, Unfiltered, Judged, Commanded, gate_share, meter_share, is_blocked, is_oversize, reached_gate, passed_gate}
+use Rattle.bridge_filter.specs.Verdicts.{FilterEvent, Arrived, Cleared, PolicePlans, FilterStep, Unfiltered, Judged, Commanded, gate_share, meter_share, is_blocked, is_oversize, has_reached_gate, has_passed_gate}
 
 -- Verdicts of filter `n`, oldest first, from a list of results that is newest first.
-abbrev pub verdicts_of : ℕ → List Step → List Verdict
-verdicts_of n [] = []
-verdicts_of n (Unfiltered c ∷ ss) = verdicts_of n ss
-verdicts_of n (Judged c m f v ∷ ss) = verdicts_of n ss ++ (if nat_eq m n then v ∷ [] else [])
-verdicts_of n (Commanded c m ∷ ss) = verdicts_of n ss
+abbrev pub filter_verdicts : ℕ → List FilterStep → List Verdict
+filter_verdicts n [] = []
+filter_verdicts n (Unfiltered c ∷ ss) = filter_verdicts n ss
+filter_verdicts n (Judged c m f v ∷ ss) = filter_verdicts n ss ++ (if nat_eq m n then v ∷ [] else [])
+filter_verdicts n (Commanded c m ∷ ss) = filter_verdicts n ss
 
 -- True if the stream gate refused the frame: the gate was closed, a flag had shut it, or the octet limit was exceeded.
-abbrev pub refused_by_gate : Verdict → Bool
-refused_by_gate verdict.GateClosed = true
-refused_by_gate verdict.ShutByRx = true
-refused_by_gate verdict.ShutByOctets = true
-refused_by_gate verdict.OctetsExceeded = true
-refused_by_gate v = false
+abbrev pub is_refused_by_gate : Verdict → Bool
+is_refused_by_gate verdict.GateClosed = true
+is_refused_by_gate verdict.ShutByRx = true
+is_refused_by_gate verdict.ShutByOctets = true
+is_refused_by_gate verdict.OctetsExceeded = true
+is_refused_by_gate v = false
 
 -- True if the meter refused the frame: it was red, or it was yellow and the meter refuses yellow frames.
-abbrev pub dropped_by_meter : Verdict → Bool
-dropped_by_meter verdict.Red = true
-dropped_by_meter verdict.YellowDropped = true
-dropped_by_meter v = false
+abbrev pub is_dropped_by_meter : Verdict → Bool
+is_dropped_by_meter verdict.Red = true
+is_dropped_by_meter verdict.YellowDropped = true
+is_dropped_by_meter v = false
 
 -- Counters of a stream filter from the list of its verdicts; a frame with the verdict Blocked raises only the counter
 -- `matching`.
-abbrev pub counters_of : List Verdict → Counters
-counters_of vs = record {
+abbrev pub verdict_counters : List Verdict → Counters
+verdict_counters vs = record {
   matching = length vs;
-  sdu_passed = count_by reached_gate vs;
+  sdu_passed = count_by has_reached_gate vs;
   sdu_refused = count_by is_oversize vs;
-  gate_passed = count_by passed_gate vs;
-  gate_refused = count_by refused_by_gate vs;
-  red = count_by dropped_by_meter vs;
+  gate_passed = count_by has_passed_gate vs;
+  gate_refused = count_by is_refused_by_gate vs;
+  red = count_by is_dropped_by_meter vs;
 }
 
 -- True if the red flag of the filter's meter is set after the results `ss`; false if the filter has no meter (`None`).
-abbrev pub red_by : Plans → Option ℕ → List Step → Bool
-red_by p None ss = false
-red_by p (Some m) ss = (meter.past (p.meters m) (meter_share m ss)).all_red
+abbrev pub is_meter_red : PolicePlans → Option ℕ → List FilterStep → Bool
+is_meter_red p None ss = false
+is_meter_red p (Some m) ss = (meter.meter_history (p.meters m) (meter_share m ss)).all_red
 
 -- Flags of filter `n`, its gate and its meter after the results `ss`; a flag that the plan doesn't enable is false.
-abbrev pub flags_of : Plans → ℕ → FilterPlan → List Step → Flags
-flags_of p n f ss = record {
+abbrev pub filter_flags : PolicePlans → ℕ → FilterPlan → List FilterStep → Flags
+filter_flags p n f ss = record {
   blocked = f.block_oversize && is_blocked n ss;
-  rx = (p.gates f.gate).shut_on_rx && gates.is_shut_by_rx (gates.steps (p.gates f.gate) (gate_share f.gate ss));
-  octets = (p.gates f.gate).shut_on_octets && gates.is_shut_by_octets (gates.steps (p.gates f.gate) (gate_share f.gate ss));
-  red = red_by p f.meter ss;
+  rx = (p.gates f.gate).shut_on_rx && gates.is_shut_by_rx (gates.gate_steps (p.gates f.gate) (gate_share f.gate ss));
+  octets = (p.gates f.gate).shut_on_octets && gates.is_shut_by_octets (gates.gate_steps (p.gates f.gate) (gate_share f.gate ss));
+  red = is_meter_red p f.meter ss;
 }
 
 -- Bucket levels of the filter's meter after the results `ss`, in units; `None` if the filter has no meter.
-abbrev pub buckets_by : Plans → Option ℕ → List Step → Option Buckets
-buckets_by p None ss = None
-buckets_by p (Some m) ss = Some (meter.buckets_after (p.meters m) (meter.past (p.meters m) (meter_share m ss)))
+abbrev pub filter_buckets : PolicePlans → Option ℕ → List FilterStep → Option Buckets
+filter_buckets p None ss = None
+filter_buckets p (Some m) ss = Some (meter.history_buckets (p.meters m) (meter.meter_history (p.meters m) (meter_share m ss)))
 
--- how many frames these events hold
-abbrev pub frames_in : List Event → ℕ
-frames_in [] = 0
-frames_in (Came c ∷ es) = frames_in es + 1
-frames_in (Cleared c n ∷ es) = frames_in es
+-- Number of frames in a list of events.
+abbrev pub count_arrivals : List FilterEvent → ℕ
+count_arrivals [] = 0
+count_arrivals (Arrived c ∷ es) = count_arrivals es + 1
+count_arrivals (Cleared c n ∷ es) = count_arrivals es
 
--- the moment of the newest frame, 0 before the first
-abbrev pub last_moment : List Event → ℕ
-last_moment [] = 0
-last_moment (Came c ∷ es) = c.at
-last_moment (Cleared c n ∷ es) = last_moment es
+-- Arrival time in ns of the newest frame, or 0 before the first frame.
+abbrev pub last_frame_time : List FilterEvent → ℕ
+last_frame_time [] = 0
+last_frame_time (Arrived c ∷ es) = c.at
+last_frame_time (Cleared c n ∷ es) = last_frame_time es

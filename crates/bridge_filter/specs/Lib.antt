@@ -1,8 +1,8 @@
 pub mod Verdicts
 pub mod Counts
 pub mod Plans
-pub mod Standing
-pub mod Finding
+pub mod StandsFor
+pub mod Routes
 pub mod Steps
-pub mod Own
+pub mod OwnEvents
 pub mod Examples

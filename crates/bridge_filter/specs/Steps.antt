@@ -1,51 +1,51 @@
--- What the private functions of the police keep and do in one step. No public clause speaks of it.
+-- State of the police and one step of it. No public clause uses these definitions.
 use Rattle.std.specs.Prelude.{◌≡◌, ℕ, Bool, ◌+◌, ◌≤◌, ◌&&◌, ◌||◌, nat_eq, map, true, false, Option, Some, None, List, [], IsSome, if◌then◌else◌}
 use Rattle.std.specs.Map.{lookup, keys_of}
 use Rattle.bridge_meter.specs.declared.MeterPlan.{MeterPlan}
-use Rattle.bridge_meter.specs.Standing as meter
+use Rattle.bridge_meter.specs.StandsFor as meter
 use Rattle.bridge_gate.specs.declared.schedule.GatePlan.{GatePlan}
-use Rattle.bridge_gate.specs.Schedules.{rules_of}
-use Rattle.bridge_gate.specs.Standing as gate
+use Rattle.bridge_gate.specs.Schedules.{gate_rules}
+use Rattle.bridge_gate.specs.StandsFor as gate
 use Rattle.bridge_filter.specs.declared.FilterPlan.{FilterPlan}
 use Rattle.bridge_filter.specs.declared.Verdict.{Verdict}
 use Rattle.bridge_filter.specs.declared.Verdict.TheVariants as verdict
 use Rattle.bridge_filter.specs.declared.Counters.{Counters}
-use Rattle.bridge_filter.specs.declared.filter.Filter.{Filter}
-use Rattle.bridge_filter.specs.Verdicts.{Plans, Step, gate_share, meter_share, is_above, is_oversize, reached_gate, passed_gate}
-use Rattle.bridge_filter.specs.Standing.{GatesStand, MetersStand}
-use Rattle.bridge_filter.specs.Counts.{refused_by_gate, dropped_by_meter}
-use Rattle.bridge_filter.specs.Plans.{are_distinct}
-use Rattle.bridge_filter.specs.declared.find.Route.{Route}
-use Rattle.bridge_filter.specs.Finding.{AreRows, HaveRoutes}
+use Rattle.bridge_filter.specs.declared.filter_state.FilterState.{FilterState}
+use Rattle.bridge_filter.specs.Verdicts.{PolicePlans, FilterStep, gate_share, meter_share, is_above_max, is_oversize, has_reached_gate, has_passed_gate}
+use Rattle.bridge_filter.specs.StandsFor.{GatesStand, MetersStand}
+use Rattle.bridge_filter.specs.Counts.{is_refused_by_gate, is_dropped_by_meter}
+use Rattle.bridge_filter.specs.Plans.{are_numbers_distinct}
+use Rattle.bridge_filter.specs.declared.route.Route.{Route}
+use Rattle.bridge_filter.specs.Routes.{AreRouteRows, HaveRoutes}
 
--- why a filter refuses a frame before the gate is asked
-abbrev pub refusal : Filter → ℕ → Option Verdict
+-- Reason why a filter refuses a frame before the gate answers; `None` if the frame reaches the gate.
+abbrev pub refusal : FilterState → ℕ → Option Verdict
 refusal f sdu =
     if f.blocked then Some verdict.Blocked
-    else if is_above f.plan.max_sdu sdu then Some verdict.Oversize
+    else if is_above_max f.plan.max_sdu sdu then Some verdict.Oversize
     else None
 
--- one where something holds, else nothing
-abbrev pub one_if : Bool → ℕ
-one_if b = if b then 1 else 0
+-- 1 if the condition holds, otherwise 0.
+abbrev pub count_if : Bool → ℕ
+count_if b = if b then 1 else 0
 
--- counters after one more verdict
-abbrev pub counted : Counters → Verdict → Counters
-counted c v = record {
+-- Counters after one more verdict.
+abbrev pub counters_with_verdict : Counters → Verdict → Counters
+counters_with_verdict c v = record {
   matching = c.matching + 1;
-  sdu_passed = c.sdu_passed + one_if (reached_gate v);
-  sdu_refused = c.sdu_refused + one_if (is_oversize v);
-  gate_passed = c.gate_passed + one_if (passed_gate v);
-  gate_refused = c.gate_refused + one_if (refused_by_gate v);
-  red = c.red + one_if (dropped_by_meter v);
+  sdu_passed = c.sdu_passed + count_if (has_reached_gate v);
+  sdu_refused = c.sdu_refused + count_if (is_oversize v);
+  gate_passed = c.gate_passed + count_if (has_passed_gate v);
+  gate_refused = c.gate_refused + count_if (is_refused_by_gate v);
+  red = c.red + count_if (is_dropped_by_meter v);
 }
 
--- what is kept of a filter after one more verdict
-abbrev pub noted : Filter → Verdict → Filter
-noted f v = record f { counters = counted f.counters v; blocked = f.blocked || (f.plan.block_oversize && is_oversize v) }
+-- State of a filter after one more verdict.
+abbrev pub state_with_verdict : FilterState → Verdict → FilterState
+state_with_verdict f v = record f { counters = counters_with_verdict f.counters v; blocked = f.blocked || (f.plan.block_oversize && is_oversize v) }
 
--- no counter is above a number
-pub record AreAtMost (c : Counters) (n : ℕ) : Type 0 where
+-- Statement: No counter exceeds `n`.
+pub record AreBounded (c : Counters) (n : ℕ) : Type 0 where
   pub matching : c.matching ≤ n
   pub sdu_passed : c.sdu_passed ≤ n
   pub sdu_refused : c.sdu_refused ≤ n
@@ -53,90 +53,91 @@ pub record AreAtMost (c : Counters) (n : ℕ) : Type 0 where
   pub gate_refused : c.gate_refused ≤ n
   pub red : c.red ≤ n
 
--- no gate was asked after a moment
-abbrev pub GatesBefore : {A : Type 0} → List (ℕ × gate.Gate A) → ℕ → Type 0
-GatesBefore {A} gates t = (n : ℕ) (g : gate.Gate A) → lookup (nat_eq n) gates ≡ Some g → g.earliest ≤ t
+-- Statement: No gate answered a frame later than time `t`.
+abbrev pub NoGateAskedLater : {A : Type 0} → List (ℕ × gate.GateState A) → ℕ → Type 0
+NoGateAskedLater {A} gates t = (n : ℕ) (g : gate.GateState A) → lookup (nat_eq n) gates ≡ Some g → g.earliest ≤ t
 
--- no meter judged a frame after a moment
-abbrev pub MetersBefore : List (ℕ × meter.MeterState) → ℕ → Type 0
-MetersBefore meters t = (n : ℕ) (m : meter.MeterState) → lookup (nat_eq n) meters ≡ Some m → m.buckets.at ≤ t
+-- Statement: No meter judged a frame later than time `t`.
+abbrev pub NoMeterUsedLater : List (ℕ × meter.MeterState) → ℕ → Type 0
+NoMeterUsedLater meters t = (n : ℕ) (m : meter.MeterState) → lookup (nat_eq n) meters ≡ Some m → m.buckets.at ≤ t
 
--- gates and meters that stand for their shares of these steps
-pub record ArePoliced {A : Type 0} (p : Plans) (gates : List (ℕ × gate.Gate A)) (meters : List (ℕ × meter.MeterState)) (ss : List Step) : Type 0 where
+-- Statement: Each gate and each meter stands for its share of the results `ss`.
+pub record StandForShares {A : Type 0} (p : PolicePlans) (gates : List (ℕ × gate.GateState A)) (meters : List (ℕ × meter.MeterState)) (ss : List FilterStep) : Type 0 where
   pub gates_stand : GatesStand p.gates gates (λ n. gate_share n ss)
   pub meters_stand : MetersStand p.meters meters (λ n. meter_share n ss)
 
--- the meter that a filter names is there, where it names one
+-- Statement: The meter with the optional number exists, or there is no number.
 abbrev pub HasMeter : {X : Type 0} → Option ℕ → List (ℕ × X) → Type 0
 HasMeter None meters = Unit {0}
 HasMeter (Some n) meters = IsSome (lookup (nat_eq n) meters)
 
--- the instances that a filter names are there, and its counters are at most the frames that came
-pub record HasInstances {A : Type 0} (f : Filter) (gates : List (ℕ × gate.Gate A)) (meters : List (ℕ × meter.MeterState)) (calls : ℕ) : Type 0 where
+-- Statement: The filter's gate and meter exist, and its counters are at most `calls`.
+pub record HasInstances {A : Type 0} (f : FilterState) (gates : List (ℕ × gate.GateState A)) (meters : List (ℕ × meter.MeterState)) (calls : ℕ) : Type 0 where
   pub gate : IsSome (lookup (nat_eq f.plan.gate) gates)
   pub meter : HasMeter f.plan.meter meters
-  pub few : AreAtMost f.counters calls
+  pub few : AreBounded f.counters calls
 
--- each filter has its instances
-abbrev pub HaveInstances : {A : Type 0} → List (ℕ × Filter) → List (ℕ × gate.Gate A) → List (ℕ × meter.MeterState) → ℕ → Type 0
-HaveInstances filters gates meters calls = (n : ℕ) (f : Filter) → lookup (nat_eq n) filters ≡ Some f → HasInstances f gates meters calls
+-- Statement: Each filter obeys `HasInstances`.
+abbrev pub HaveInstances : {A : Type 0} → List (ℕ × FilterState) → List (ℕ × gate.GateState A) → List (ℕ × meter.MeterState) → ℕ → Type 0
+HaveInstances filters gates meters calls = (n : ℕ) (f : FilterState) → lookup (nat_eq n) filters ≡ Some f → HasInstances f gates meters calls
 
--- the gate that each filter names is there
-abbrev pub HaveGates : {X : Type 0} → List (ℕ × Filter) → List (ℕ × X) → Type 0
-HaveGates filters gates = (n : ℕ) (f : Filter) → lookup (nat_eq n) filters ≡ Some f → IsSome (lookup (nat_eq f.plan.gate) gates)
+-- Statement: The gate of each filter exists.
+abbrev pub HaveGates : {X : Type 0} → List (ℕ × FilterState) → List (ℕ × X) → Type 0
+HaveGates filters gates = (n : ℕ) (f : FilterState) → lookup (nat_eq n) filters ≡ Some f → IsSome (lookup (nat_eq f.plan.gate) gates)
 
--- and the meter, where it names one
-abbrev pub HaveMeters : {X : Type 0} → List (ℕ × Filter) → List (ℕ × X) → Type 0
-HaveMeters filters meters = (n : ℕ) (f : Filter) → lookup (nat_eq n) filters ≡ Some f → HasMeter f.plan.meter meters
+-- Statement: The meter of each filter with a meter exists.
+abbrev pub HaveMeters : {X : Type 0} → List (ℕ × FilterState) → List (ℕ × X) → Type 0
+HaveMeters filters meters = (n : ℕ) (f : FilterState) → lookup (nat_eq n) filters ≡ Some f → HasMeter f.plan.meter meters
 
--- a filter with the plan and the counters of the one at that number
-pub record IsSameFilter (old : List (ℕ × Filter)) (n : ℕ) (g : Filter) : Type 0 where
-  pub was : Filter
+-- Statement: The filter had the same plan and counters before.
+pub record IsSameFilter (old : List (ℕ × FilterState)) (n : ℕ) (g : FilterState) : Type 0 where
+  pub was : FilterState
   pub found : lookup (nat_eq n) old ≡ Some was
   pub plan : g.plan ≡ was.plan
   pub counters : g.counters ≡ was.counters
 
--- each filter names the instances that it named, and has counted no more
-abbrev pub InstancesStay : List (ℕ × Filter) → List (ℕ × Filter) → Type 0
-InstancesStay old new = (n : ℕ) (g : Filter) → lookup (nat_eq n) new ≡ Some g → IsSameFilter old n g
+-- Statement: Each filter has the plan and counters that it had before.
+abbrev pub InstancesUnchanged : List (ℕ × FilterState) → List (ℕ × FilterState) → Type 0
+InstancesUnchanged old new = (n : ℕ) (g : FilterState) → lookup (nat_eq n) new ≡ Some g → IsSameFilter old n g
 
--- the plans of the filters, by number
-abbrev pub plans_in : List (ℕ × Filter) → List (ℕ × FilterPlan)
-plans_in fs = map (λ f. (f.0, f.1.plan)) fs
+-- Plans of the filters, by number.
+abbrev pub filter_plans : List (ℕ × FilterState) → List (ℕ × FilterPlan)
+filter_plans fs = map (λ f. (f.0, f.1.plan)) fs
 
--- what the police keeps goes together
-pub record IsSound {A : Type 0} (filters : List (ℕ × Filter)) (rows : List (ℕ × List (Option Route))) (any : List (Option Route)) (gates : List (ℕ × gate.Gate A)) (meters : List (ℕ × meter.MeterState)) (calls earliest : ℕ) : Type 0 where
-  pub distinct : are_distinct (plans_in filters) ≡ true
-  pub found : AreRows rows any (plans_in filters)
-  pub routes : HaveRoutes rows any (plans_in filters) (keys_of gates) (keys_of meters)
+-- Statement: The parts of the police are consistent: distinct numbers, right rows and routes, existing gates and meters, and no later event than
+-- `earliest`.
+pub record IsSound {A : Type 0} (filters : List (ℕ × FilterState)) (rows : List (ℕ × List (Option Route))) (any : List (Option Route)) (gates : List (ℕ × gate.GateState A)) (meters : List (ℕ × meter.MeterState)) (calls earliest : ℕ) : Type 0 where
+  pub distinct : are_numbers_distinct (filter_plans filters) ≡ true
+  pub found : AreRouteRows rows any (filter_plans filters)
+  pub routes : HaveRoutes rows any (filter_plans filters) (keys_of gates) (keys_of meters)
   pub instances : HaveInstances filters gates meters calls
-  pub asked : GatesBefore gates earliest
-  pub judged : MetersBefore meters earliest
+  pub asked : NoGateAskedLater gates earliest
+  pub judged : NoMeterUsedLater meters earliest
 
--- what is made of each plan, where there is one
-abbrev pub Made : {P X : Type 0} → (P → X → Type 0) → Option P → Option X → Type 0
-Made R None None = Unit {0}
-Made R None (Some x) = ⊥
-Made R (Some p) None = ⊥
-Made R (Some p) (Some x) = R p x
+-- Statement: An instance exists exactly if its plan exists, and has the relation `R` to the plan.
+abbrev pub IsMadeIfAny : {P X : Type 0} → (P → X → Type 0) → Option P → Option X → Type 0
+IsMadeIfAny R None None = Unit {0}
+IsMadeIfAny R None (Some x) = ⊥
+IsMadeIfAny R (Some p) None = ⊥
+IsMadeIfAny R (Some p) (Some x) = R p x
 
--- by each number, one was made of each plan
+-- Statement: Each number with a plan has an instance with the relation `R` to the plan, and no other number has one.
 abbrev pub AreMade : {P X : Type 0} → (P → X → Type 0) → List (ℕ × P) → List (ℕ × X) → Type 0
-AreMade R plans made = (n : ℕ) → Made R (lookup (nat_eq n) plans) (lookup (nat_eq n) made)
+AreMade R plans made = (n : ℕ) → IsMadeIfAny R (lookup (nat_eq n) plans) (lookup (nat_eq n) made)
 
--- a gate of a plan that no frame has reached
-pub record IsNewGate {A : Type 0} (plan : GatePlan A) (g : gate.Gate A) : Type 0 where
-  pub stands : gate.StandsFor (rules_of plan) g []
+-- Statement: The gate has this plan and no events.
+pub record IsNewGate {A : Type 0} (plan : GatePlan A) (g : gate.GateState A) : Type 0 where
+  pub stands : gate.StandsFor (gate_rules plan) g []
   pub earliest : g.earliest ≡ 0
 
--- a meter of a plan that no frame has reached
+-- Statement: The meter has this plan and no events.
 pub record IsNewMeter (plan : MeterPlan) (m : meter.MeterState) : Type 0 where
   pub stands : meter.StandsFor plan m []
 
--- a filter that no frame has reached
-abbrev pub new_filter : FilterPlan → Filter
+-- State of a filter without frames.
+abbrev pub new_filter : FilterPlan → FilterState
 new_filter plan = record { plan = plan; counters = record { matching = 0; sdu_passed = 0; sdu_refused = 0; gate_passed = 0; gate_refused = 0; red = 0 }; blocked = false }
 
--- filters that have counted nothing
-abbrev pub new_filters : List (ℕ × FilterPlan) → List (ℕ × Filter)
+-- States of filters without frames.
+abbrev pub new_filters : List (ℕ × FilterPlan) → List (ℕ × FilterState)
 new_filters fs = map (λ f. (f.0, new_filter f.1)) fs

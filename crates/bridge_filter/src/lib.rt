@@ -1,82 +1,81 @@
 #![tactic(auto)]
-//! Stream filters with their gates and meters (IEEE 802.1Q-2018, 8.6.5.1: per-stream filtering and policing): what
-//! becomes of each frame, and what is counted.
+//! Stream filters with their gates and meters (per-stream filtering and policing, IEEE 802.1Q-2018, 8.6.5.1): verdicts on frames,
+//! and counters.
 
-mod clearing;
-mod filter;
-mod find;
-mod instances;
-mod judge;
+mod clear_flags;
+mod filter_state;
+mod frame_verdict;
+mod gates_and_meters;
 pub mod laws;
-mod making;
+mod make_instances;
 mod police;
-mod rows;
+mod route;
+mod route_rows;
 
 pub use bridge_cycle::NoMemory;
-pub use find::{Route, takes_handle, takes_priority};
 pub use police::Police;
+pub use route::{Route, is_handle_match, is_priority_match};
 
 /// Settings of a stream filter (IEEE 802.1Q-2018, 8.6.5.1.1).
 #[derive(Clone, Copy, Debug, PartialEq, Eq)]
 pub struct FilterPlan {
-    /// The stream handle that it asks for; `None` takes every frame, also one without a handle.
+    /// Stream handle of matching frames; `None` matches all frames, also frames without a handle.
     pub handle: Option<u32>,
-    /// The priority that it asks for, 0 to 7; `None` takes every frame.
+    /// Priority of matching frames, 0 to 7; `None` matches all priorities.
     pub priority: Option<u8>,
-    /// The number of its stream gate.
+    /// Number of the stream gate.
     pub gate: u32,
-    /// The most octets that the service data unit of a frame may have.
+    /// Largest SDU of a frame in octets.
     pub max_sdu: Option<u32>,
-    /// The number of its meter.
+    /// Number of the meter.
     pub meter: Option<u32>,
-    /// Whether one frame above the maximum blocks all later ones.
+    /// Whether an oversize frame blocks all later frames.
     pub block_oversize: bool,
-    /// Whether the planner asks that other streams don't touch this one. It changes no verdict.
+    /// Whether the plan asks for isolation of this filter. It changes no verdict.
     pub protected: bool,
 }
 
 /// Frame that the stream filters judge (IEEE 802.1Q-2018, 8.6.5.1.1).
 #[derive(Clone, Copy, Debug, PartialEq, Eq)]
-pub struct Call {
-    /// When it came, in ns.
+pub struct FilterInput {
+    /// Arrival time in ns.
     pub at: u64,
-    /// Its stream handle, where it has one.
+    /// Stream handle, if the frame has one.
     pub handle: Option<u32>,
-    /// Its priority, 0 to 7.
+    /// Priority, 0 to 7.
     pub priority: u8,
-    /// Its drop eligible indication.
+    /// Drop eligible indication.
     pub dei: bool,
-    /// The octets of its service data unit.
+    /// Octets of the SDU.
     pub sdu: u32,
-    /// The octets that a meter counts.
+    /// Octets that a meter counts.
     pub octets: u32,
 }
 
 /// Verdict of a stream filter on a frame: it passes, or the reason of a refusal.
 #[derive(Clone, Copy, Debug, PartialEq, Eq)]
 pub enum Verdict {
-    /// An earlier frame above the maximum blocked the filter.
+    /// An earlier oversize frame blocked the filter.
     Blocked,
-    /// Its service data unit is above the maximum.
+    /// The SDU exceeds the maximum.
     Oversize,
     /// The gate is closed.
     GateClosed,
-    /// The gate was shut by an earlier frame that came while it was closed.
+    /// An earlier frame at the closed gate shut the gate.
     ShutByRx,
-    /// The gate was shut by an earlier frame over its limit of octets.
+    /// An earlier frame over the octet limit shut the gate.
     ShutByOctets,
-    /// It is over the limit of octets of the gate's turn.
+    /// The frame exceeds the octet limit of the gate's interval.
     OctetsExceeded,
-    /// The meter made it red.
+    /// The meter made the frame red.
     Red,
-    /// The meter made it yellow, and drops yellow frames.
+    /// The meter made the frame yellow, and the plan drops yellow frames.
     YellowDropped,
-    /// It passes, with the internal priority value of the gate, if any, and drop eligible where the meter made it
-    /// yellow.
+    /// The frame passes. `ipv` is the gate's internal priority value, if any. `eligible` marks a yellow frame as drop eligible.
     Pass { ipv: Option<u8>, eligible: bool },
 }
 
-/// The filter of a frame, by its number, and its verdict.
+/// Filter number and verdict of a frame.
 #[derive(Clone, Copy, Debug, PartialEq, Eq)]
 pub struct Ruling {
     pub filter: u32,
@@ -86,42 +85,42 @@ pub struct Ruling {
 /// Counters of a stream filter (IEEE 802.1Q-2018, 8.6.5.1.1).
 #[derive(Clone, Copy, Debug, PartialEq, Eq)]
 pub struct Counters {
-    /// All its frames.
+    /// All frames of the filter.
     pub matching: u64,
-    /// Those that passed the test of the maximum; a blocked one didn't reach it.
+    /// Frames that reached the gate: neither blocked nor oversize.
     pub sdu_passed: u64,
-    /// Those above the maximum.
+    /// Oversize frames.
     pub sdu_refused: u64,
-    /// Those that the gate let through.
+    /// Frames that the gate passed.
     pub gate_passed: u64,
-    /// Those that the gate refused.
+    /// Frames that the gate refused.
     pub gate_refused: u64,
-    /// Those that the meter made red, or yellow where it drops yellow frames.
+    /// Frames that the meter refused: red frames, and yellow ones if the meter drops them.
     pub red: u64,
 }
 
 /// Flags of a filter, its gate and its meter, which stay set until a command clears them.
 #[derive(Clone, Copy, Debug, PartialEq, Eq)]
 pub struct Flags {
-    /// The filter is blocked by a frame above its maximum.
+    /// An oversize frame blocked the filter.
     pub blocked: bool,
-    /// The gate is shut by a frame that came while it was closed.
+    /// A frame at the closed gate shut the gate.
     pub rx: bool,
-    /// The gate is shut by a frame over its limit of octets.
+    /// A frame over the octet limit shut the gate.
     pub octets: bool,
-    /// The meter makes every further frame red.
+    /// The meter makes all later frames red.
     pub red: bool,
 }
 
 /// Flag that a command clears: the blocked flag of a filter, a flag of a stream gate, or the red flag of a meter.
 #[derive(Clone, Copy, Debug, PartialEq, Eq)]
 pub enum Clear {
-    /// The blocked flag of a filter.
+    /// Blocked flag of a filter.
     Blocked,
-    /// The receive flag of a gate.
+    /// Receive flag of a gate.
     Rx,
-    /// The octets flag of a gate.
+    /// Octets flag of a gate.
     Octets,
-    /// The red flag of a meter.
+    /// Red flag of a meter.
     Red,
 }

@@ -1,51 +1,51 @@
-//! The police: all filters with their gates and meters.
+//! Police: all stream filters of a bridge with their gates and meters.
 
 ghost use Rattle.std.specs.Prelude.{◌≡◌, ℕ, Bool, List, [], ◌∷◌, ◌+◌, ◌<◌, ◌≤◌, ◌^◌, nat_eq, Option, Some, IsSome, IfSome, IfOk, true};
 ghost use Rattle.std.specs.Option.{option_map};
 ghost use Rattle.std.specs.Map.{lookup};
 ghost use Rattle.bridge_filter.specs.declared.FilterPlan.{FilterPlan};
 ghost use Rattle.bridge_filter.specs.declared.Ruling.{Ruling};
-ghost use Rattle.bridge_filter.specs.Verdicts.{Plans, Event, Came, Cleared, call, flow, judged, told, ruled, HasPriority};
-ghost use Rattle.bridge_filter.specs.Counts.{verdicts_of, counters_of, flags_of, buckets_by, frames_in, last_moment};
-ghost use Rattle.bridge_filter.specs.Plans.{KeepsNumbers, is_there, are_distinct, have_instances, all_have_priorities, all_within_limits, plans_of};
-ghost use Rattle.bridge_filter.specs.Standing.{Stands, has_instance, shown_counters, shown_flags, shown_buckets};
+ghost use Rattle.bridge_filter.specs.Verdicts.{PolicePlans, FilterEvent, Arrived, Cleared, filter_input, frame_filter, input_step, filter_steps, step_ruling, HasValidPriority};
+ghost use Rattle.bridge_filter.specs.Counts.{filter_verdicts, verdict_counters, filter_flags, filter_buckets, count_arrivals, last_frame_time};
+ghost use Rattle.bridge_filter.specs.Plans.{KeepsNumbers, is_listed, are_numbers_distinct, have_instances, all_have_priorities, all_within_limits, police_plans};
+ghost use Rattle.bridge_filter.specs.StandsFor.{StandsFor, has_instance, state_counters, state_filter_flags, state_buckets};
 ghost use Rattle.bridge_filter.specs.Steps.{HasMeter};
-ghost use Rattle.bridge_filter.specs.Finding.{IsFound};
+ghost use Rattle.bridge_filter.specs.Routes.{IsFoundRoute};
 
-use crate::clearing::{clear_blocked, clear_octets, clear_red, clear_rx};
-use crate::filter::Filter;
-use crate::find::{Route, Row, Rows, route_of};
-use crate::instances::{Numbered, gate_flags, meter_state};
-use crate::judge::judge;
-use crate::making::{filters_of, gates_of, meters_of};
-use crate::rows::{any_of, rows_of};
-use crate::{Call, Clear, Counters, FilterPlan, Flags, Ruling};
+use crate::clear_flags::{clear_blocked, clear_octets, clear_red, clear_rx};
+use crate::filter_state::FilterState;
+use crate::frame_verdict::judge_frame;
+use crate::gates_and_meters::{ByNumber, gate_flags, meter_buckets};
+use crate::make_instances::{make_filters, make_gates, make_meters};
+use crate::route::{HandleRows, PriorityRow, Route, look_up_route};
+use crate::route_rows::{default_row, handle_rows};
+use crate::{Clear, Counters, FilterInput, FilterPlan, Flags, Ruling};
 use bridge_gate::{GatePlan, StreamGate};
 use bridge_limits::{END_OF_TIME, NoMemory};
 use bridge_meter::{Buckets, Meter, MeterPlan};
 use std::alloc::Allocator;
 use std::marker::Model;
 
-/// The stream filters of a bridge, with their gates and meters, all by number.
+/// Stream filters of a bridge, with their gates and meters, by number.
 #[derive(Drop)]
 pub struct Police<A: Allocator + Copy> {
-    filters: Numbered<Filter, A>,
-    rows: Rows<A>,
-    any: Row,
-    gates: Numbered<StreamGate<A>, A>,
-    meters: Numbered<Meter, A>,
+    filters: ByNumber<FilterState, A>,
+    rows: HandleRows<A>,
+    any: PriorityRow,
+    gates: ByNumber<StreamGate<A>, A>,
+    meters: ByNumber<Meter, A>,
     calls: u64,
     earliest: u64,
 }
 
 impl<A: Allocator + Copy> Model for Police<A> {
-    ghost use Rattle.bridge_filter.specs.Standing.{PoliceState};
-    ghost use Rattle.bridge_filter.specs.Steps.{IsSound, plans_in};
+    ghost use Rattle.bridge_filter.specs.StandsFor.{PoliceState};
+    ghost use Rattle.bridge_filter.specs.Steps.{IsSound, filter_plans};
 
     ghost Value = { PoliceState A };
 
     ghost view = { λ p. record {
-      filters = plans_in p.filters.entries;
+      filters = filter_plans p.filters.entries;
       kept = p.filters.entries;
       gates = p.gates.entries;
       meters = p.meters.entries;
@@ -58,40 +58,39 @@ impl<A: Allocator + Copy> Model for Police<A> {
 }
 
 impl<A: Allocator + Copy> Police<A> {
-    /// The police of these filters, gates and meters, each with its number; filters may come in any order. No frame
-    /// has come yet. What it was handed is dropped where it refuses.
+    /// Makes the police of numbered filters, gates and meters, in any order. If memory runs out, its arguments are dropped.
     ///
-    /// The filter of a frame is later found by one look-up of its handle, however many filters there are.
+    /// Finding the filter of a frame later takes one look-up of its handle.
     pub fn new(
         alloc: A,
         filters: Vec<(u32, FilterPlan), A>,
         gates: Vec<(u32, GatePlan<A>), A>,
         meters: Vec<(u32, MeterPlan), A>,
     ) -> Result<Police<A>, NoMemory>
-        requires filters { are_distinct filters.items ≡ true }
-        requires gates { are_distinct gates.items ≡ true }
-        requires meters { are_distinct meters.items ≡ true }
+        requires filters { are_numbers_distinct filters.items ≡ true }
+        requires gates { are_numbers_distinct gates.items ≡ true }
+        requires meters { are_numbers_distinct meters.items ≡ true }
         requires instances { have_instances filters.items gates.items meters.items ≡ true }
         requires priorities { all_have_priorities gates.items ≡ true }
         requires limits { all_within_limits meters.items ≡ true }
-        ensures stands { IfOk result (λ p. Stands (plans_of filters.items gates.items meters.items) p []) }
+        ensures stands { IfOk result (λ p. StandsFor (police_plans filters.items gates.items meters.items) p []) }
         ensures filters { IfOk result (λ p. p.filters ≡ filters.items) }
         ensures gates { IfOk result (λ p. KeepsNumbers gates.items p.gates) }
         ensures meters { IfOk result (λ p. KeepsNumbers meters.items p.meters) }
     {
-        let filters = filters_of(alloc, &filters)?;
-        let Ok(gates) = gates_of(alloc, gates) else {
+        let filters = make_filters(alloc, &filters)?;
+        let Ok(gates) = make_gates(alloc, gates) else {
             drop(filters);
             drop(meters);
             return Err(NoMemory);
         };
-        let Ok(meters) = meters_of(alloc, &meters) else {
+        let Ok(meters) = make_meters(alloc, &meters) else {
             drop(filters);
             drop(gates);
             return Err(NoMemory);
         };
-        let any = any_of(&filters, &gates, &meters);
-        let Ok(rows) = rows_of(alloc, &filters, &gates, &meters, &any) else {
+        let any = default_row(&filters, &gates, &meters);
+        let Ok(rows) = handle_rows(alloc, &filters, &gates, &meters, &any) else {
             drop(filters);
             drop(gates);
             drop(meters);
@@ -108,9 +107,8 @@ impl<A: Allocator + Copy> Police<A> {
         })
     }
 
-    /// What becomes of a frame that comes at `t` ns with this stream handle, priority (0 to 7) and drop eligible
-    /// indication, with `sdu` octets of service data unit and `octets` metered octets: its filter and its verdict, or
-    /// `None` where no filter matches. It takes no memory.
+    /// Judges a frame that arrives at `t` ns, with `sdu` octets of SDU and `octets` metered octets. Returns its filter and verdict,
+    /// or `None` if no filter matches. Allocates no memory.
     pub fn pass(
         &mut self,
         t: u64,
@@ -123,22 +121,22 @@ impl<A: Allocator + Copy> Police<A> {
         requires time { self.old.earliest ≤ t }
         requires range { t < END_OF_TIME }
         requires few { self.old.calls < 2 ^ 63 }
-        ensures stands { (p : Plans) (es : List Event) → Stands p self.old es
-            → Stands p self.new (Came (call t handle priority dei sdu octets) ∷ es) }
-        ensures answer { (p : Plans) (es : List Event) → Stands p self.old es
-            → result ≡ ruled (judged p (told p es) (call t handle priority dei sdu octets)
-            (flow p.filters (call t handle priority dei sdu octets))) }
+        ensures stands { (p : PolicePlans) (es : List FilterEvent) → StandsFor p self.old es
+            → StandsFor p self.new (Arrived (filter_input t handle priority dei sdu octets) ∷ es) }
+        ensures answer { (p : PolicePlans) (es : List FilterEvent) → StandsFor p self.old es
+            → result ≡ step_ruling (input_step p (filter_steps p es) (filter_input t handle priority dei sdu octets)
+            (frame_filter p.filters (filter_input t handle priority dei sdu octets))) }
         ensures filter { option_map (λ r. r.filter) result
-            ≡ option_map (λ f. f.0) (flow self.old.filters (call t handle priority dei sdu octets)) }
-        ensures priority { IfSome result (λ r. HasPriority r.verdict) }
+            ≡ option_map (λ f. f.0) (frame_filter self.old.filters (filter_input t handle priority dei sdu octets)) }
+        ensures priority { IfSome result (λ r. HasValidPriority r.verdict) }
         ensures filters { self.new.filters ≡ self.old.filters }
         ensures gates { KeepsNumbers self.old.gates self.new.gates }
         ensures meters { KeepsNumbers self.old.meters self.new.meters }
         ensures calls { self.new.calls ≡ self.old.calls + 1 }
         ensures earliest { self.new.earliest ≡ t }
     {
-        let found = self.find(handle, priority);
-        let call = Call {
+        let found = self.find_route(handle, priority);
+        let call = FilterInput {
             at: t,
             handle,
             priority,
@@ -146,16 +144,16 @@ impl<A: Allocator + Copy> Police<A> {
             sdu,
             octets,
         };
-        self.pass_by(call, found)
+        self.pass_routed(call, found)
     }
 
-    /// The filter of frames with this stream handle and priority (0 to 7), where one matches, for `pass_by`.
+    /// Returns the route of frames with this handle and priority, for `pass_routed`. `None` if no filter matches.
     #[inline(always)]
-    pub fn find(&self, handle: Option<u32>, priority: u8) -> Option<Route>
-        ensures found { IsFound self.now handle priority result }
-        ensures there { IfSome result (λ r. is_there r.number self.now.filters ≡ true) }
+    pub fn find_route(&self, handle: Option<u32>, priority: u8) -> Option<Route>
+        ensures found { IsFoundRoute self.now handle priority result }
+        ensures there { IfSome result (λ r. is_listed r.number self.now.filters ≡ true) }
     {
-        route_of(
+        look_up_route(
             &self.filters,
             &self.gates,
             &self.meters,
@@ -166,19 +164,21 @@ impl<A: Allocator + Copy> Police<A> {
         )
     }
 
-    /// What `pass` says of a frame whose filter was found by `find`. Frames and commands in between change nothing of that:
-    /// which filter a frame has stays the same. It takes no memory.
+    /// Judges a frame by the route that `find_route` returned. Frames and commands since then don't change the route. Allocates no
+    /// memory.
     #[inline(always)]
-    pub fn pass_by(&mut self, call: Call, found: Option<Route>) -> Option<Ruling>
-        requires found { IsFound self.old call.handle call.priority found }
+    pub fn pass_routed(&mut self, call: FilterInput, found: Option<Route>) -> Option<Ruling>
+        requires found { IsFoundRoute self.old call.handle call.priority found }
         requires time { self.old.earliest ≤ call.at }
         requires range { call.at < END_OF_TIME }
         requires few { self.old.calls < 2 ^ 63 }
-        ensures stands { (p : Plans) (es : List Event) → Stands p self.old es → Stands p self.new (Came call ∷ es) }
-        ensures answer { (p : Plans) (es : List Event) → Stands p self.old es
-            → result ≡ ruled (judged p (told p es) call (flow p.filters call)) }
-        ensures filter { option_map (λ r. r.filter) result ≡ option_map (λ f. f.0) (flow self.old.filters call) }
-        ensures priority { IfSome result (λ r. HasPriority r.verdict) }
+        ensures stands { (p : PolicePlans) (es : List FilterEvent) → StandsFor p self.old es
+            → StandsFor p self.new (Arrived call ∷ es) }
+        ensures answer { (p : PolicePlans) (es : List FilterEvent) → StandsFor p self.old es
+            → result ≡ step_ruling (input_step p (filter_steps p es) call (frame_filter p.filters call)) }
+        ensures filter { option_map (λ r. r.filter) result
+            ≡ option_map (λ f. f.0) (frame_filter self.old.filters call) }
+        ensures priority { IfSome result (λ r. HasValidPriority r.verdict) }
         ensures filters { self.new.filters ≡ self.old.filters }
         ensures gates { KeepsNumbers self.old.gates self.new.gates }
         ensures meters { KeepsNumbers self.old.meters self.new.meters }
@@ -188,7 +188,7 @@ impl<A: Allocator + Copy> Police<A> {
         self.calls += 1;
         self.earliest = call.at;
         let route = found?;
-        let verdict = judge(
+        let verdict = judge_frame(
             &mut self.filters,
             &mut self.gates,
             &mut self.meters,
@@ -201,26 +201,24 @@ impl<A: Allocator + Copy> Police<A> {
         })
     }
 
-    /// The number of the filter of a frame with this stream handle and priority (0 to 7), where one matches: the one that
-    /// `pass` gives.
-    pub fn filter_of(&self, handle: Option<u32>, priority: u8) -> Option<u32>
+    /// Returns the number of the filter that judges frames with this handle and priority. `None` if no filter matches.
+    pub fn filter_number(&self, handle: Option<u32>, priority: u8) -> Option<u32>
         ensures filter { (at sdu octets : ℕ) (dei : Bool)
-            → result ≡ option_map (λ f. f.0) (flow self.now.filters (call at handle priority dei sdu octets)) }
-        ensures there { IfSome result (λ n. is_there n self.now.filters ≡ true) }
+            → result ≡ option_map (λ f. f.0) (frame_filter self.now.filters
+            (filter_input at handle priority dei sdu octets)) }
+        ensures there { IfSome result (λ n. is_listed n self.now.filters ≡ true) }
     {
-        match self.find(handle, priority) {
+        match self.find_route(handle, priority) {
             Some(route) => Some(route.number),
             None => None,
         }
     }
 
-    /// Clears a flag of the instance with that number, so that frames are judged again as if it had never been set.
-    ///
-    /// Counters, the octets used in a turn and the buckets stay, and clearing a flag that isn't set changes nothing.
+    /// Clears a flag of the filter, gate or meter `number`. Counters, counted octets and bucket levels stay.
     pub fn clear(&mut self, clear: Clear, number: u32)
         requires { has_instance clear number self.old ≡ true }
-        ensures stands { (p : Plans) (es : List Event) → Stands p self.old es
-            → Stands p self.new (Cleared clear number ∷ es) }
+        ensures stands { (p : PolicePlans) (es : List FilterEvent) → StandsFor p self.old es
+            → StandsFor p self.new (Cleared clear number ∷ es) }
         ensures filters { self.new.filters ≡ self.old.filters }
         ensures gates { KeepsNumbers self.old.gates self.new.gates }
         ensures meters { KeepsNumbers self.old.meters self.new.meters }
@@ -235,43 +233,45 @@ impl<A: Allocator + Copy> Police<A> {
         }
     }
 
-    /// How many frames came.
+    /// Number of arrived frames.
     pub fn calls(&self) -> u64
         ensures calls { result ≡ self.now.calls }
-        ensures frames { (p : Plans) (es : List Event) → Stands p self.now es → result ≡ frames_in es }
+        ensures frames { (p : PolicePlans) (es : List FilterEvent) → StandsFor p self.now es → result
+            ≡ count_arrivals es }
     {
         self.calls
     }
 
-    /// The least moment at which a frame may still come, in ns: that of the last one, 0 before any.
+    /// Arrival time in ns of the last frame, or 0. Later frames arrive at this time or later.
     pub fn earliest(&self) -> u64
         ensures earliest { result ≡ self.now.earliest }
-        ensures last { (p : Plans) (es : List Event) → Stands p self.now es → result ≡ last_moment es }
+        ensures last { (p : PolicePlans) (es : List FilterEvent) → StandsFor p self.now es → result
+            ≡ last_frame_time es }
     {
         self.earliest
     }
 
-    /// The counters of the filter with that number.
+    /// Returns the counters of `filter`.
     pub fn counters(&self, filter: u32) -> Counters
-        requires { is_there filter self.now.filters ≡ true }
-        ensures shown { shown_counters filter self.now ≡ Some result }
-        ensures counters { (p : Plans) (es : List Event) → Stands p self.now es
-            → result ≡ counters_of (verdicts_of filter (told p es)) }
+        requires { is_listed filter self.now.filters ≡ true }
+        ensures shown { state_counters filter self.now ≡ Some result }
+        ensures counters { (p : PolicePlans) (es : List FilterEvent) → StandsFor p self.now es
+            → result ≡ verdict_counters (filter_verdicts filter (filter_steps p es)) }
     {
-        self.kept(filter).counters
+        self.filter_state(filter).counters
     }
 
-    /// The flags of the filter with that number, of its gate and of its meter.
+    /// Returns the flags of `filter`, its gate and its meter.
     pub fn flags(&self, filter: u32) -> Flags
-        requires { is_there filter self.now.filters ≡ true }
-        ensures shown { shown_flags filter self.now ≡ Some result }
-        ensures flags { (p : Plans) (es : List Event) (f : FilterPlan) → Stands p self.now es
-            → lookup (nat_eq filter) p.filters ≡ Some f → result ≡ flags_of p filter f (told p es) }
+        requires { is_listed filter self.now.filters ≡ true }
+        ensures shown { state_filter_flags filter self.now ≡ Some result }
+        ensures flags { (p : PolicePlans) (es : List FilterEvent) (f : FilterPlan) → StandsFor p self.now es
+            → lookup (nat_eq filter) p.filters ≡ Some f → result ≡ filter_flags p filter f (filter_steps p es) }
     {
-        let kept = self.kept(filter);
+        let kept = self.filter_state(filter);
         let (rx, octets) = gate_flags(&self.gates, kept.plan.gate);
         let red = match kept.plan.meter {
-            Some(meter) => meter_state(&self.meters, meter).all_red,
+            Some(meter) => meter_buckets(&self.meters, meter).all_red,
             None => false,
         };
         Flags {
@@ -282,22 +282,22 @@ impl<A: Allocator + Copy> Police<A> {
         }
     }
 
-    /// What the buckets of the meter of the filter with that number hold; `None` where it has no meter.
+    /// Returns the bucket levels of the filter's meter; `None` if it has no meter.
     pub fn buckets(&self, filter: u32) -> Option<Buckets>
-        requires { is_there filter self.now.filters ≡ true }
-        ensures shown { result ≡ shown_buckets filter self.now }
-        ensures buckets { (p : Plans) (es : List Event) (f : FilterPlan) → Stands p self.now es
-            → lookup (nat_eq filter) p.filters ≡ Some f → result ≡ buckets_by p f.meter (told p es) }
+        requires { is_listed filter self.now.filters ≡ true }
+        ensures shown { result ≡ state_buckets filter self.now }
+        ensures buckets { (p : PolicePlans) (es : List FilterEvent) (f : FilterPlan) → StandsFor p self.now es
+            → lookup (nat_eq filter) p.filters ≡ Some f → result ≡ filter_buckets p f.meter (filter_steps p es) }
     {
-        match self.kept(filter).plan.meter {
-            Some(meter) => Some(meter_state(&self.meters, meter)),
+        match self.filter_state(filter).plan.meter {
+            Some(meter) => Some(meter_buckets(&self.meters, meter)),
             None => None,
         }
     }
 
-    /// What is kept of the filter with that number.
-    fn kept(&self, filter: u32) -> Filter
-        requires { is_there filter self.now.filters ≡ true }
+    /// Returns the state of `filter`.
+    fn filter_state(&self, filter: u32) -> FilterState
+        requires { is_listed filter self.now.filters ≡ true }
         ensures kept { lookup (nat_eq filter) self.now.kept ≡ Some result }
         ensures plan { lookup (nat_eq filter) self.now.filters ≡ Some result.plan }
         ensures gate { IsSome (lookup (nat_eq result.plan.gate) self.now.gates) }

@@ -1,13 +1,13 @@
--- What is in a set of ports, port by port.
+-- Membership in sets of ports, port by port.
 use Rattle.std.proofs.Common.{◌≡◌, ◌≢◌, ℕ, zero, suc, ◌+◌, ◌-◌, ◌^◌, ◌<◌, ◌≤◌, Bool, true, false, not, ◌&&◌, nat_eq, min, Option, Some, None, cond, bit_and, inl, inr, refl, sym, ap, ◌∙◌, arith}
 use Rattle.std.specs.Int.{bit_at, w16}
 use Rattle.std.proofs.lemmas.Bool.{cases_Bool, cases_eq, and_parts, and_left, and_right, eq-eqb, ne_eqb, false≢true}
 use Rattle.std.proofs.lemmas.Bool.Decides.{nat_tests}
 use Rattle.std.proofs.lemmas.Nat.{and_le_r, pow_below}
 use Rattle.std.proofs.lemmas.Nat.Bits.{same_from_bits_below, bit_at-lt, bit_at_and, bit_at_not, bit_at-zero, bit_at-pow_same, bit_at-pow_other}
-use Rattle.bridge_forward.specs.Ports.{has, without, IsEmpty}
-use Rattle.bridge_forward.specs.Forward.{allowed, goes_to}
-use Rattle.bridge_forward.specs.Outs.{has_or}
+use Rattle.bridge_forward.specs.Ports.{has_port, without_port, IsEmpty}
+use Rattle.bridge_forward.specs.Forward.{allowed_members, output_ports}
+use Rattle.bridge_forward.specs.PortRule.{has_port_or}
 
 one_of_both : (x y : ℕ) → x < 2 → y < 2 → nat_eq (min x y) 1 ≡ (nat_eq x 1 && nat_eq y 1)
 one_of_both zero zero a b = refl
@@ -17,17 +17,17 @@ one_of_both (suc zero) (suc zero) a b = refl
 one_of_both (suc (suc x)) y a b = absurd (omega arith)
 one_of_both x (suc (suc y)) a b = absurd (omega arith)
 
--- a port is in what two sets share where both have it
-pub has_both : (a b q : ℕ) → has (bit_and a b) q ≡ (has a q && has b q)
+-- A port is in the intersection of two sets exactly if it is in both.
+pub has_both : (a b q : ℕ) → has_port (bit_and a b) q ≡ (has_port a q && has_port b q)
 has_both a b q =
     let i = q - 1 in
     ap (λ n. nat_eq n 1) (bit_at_and a b i) ∙ one_of_both (bit_at a i) (bit_at b i) (bit_at-lt a i) (bit_at-lt b i)
 
-pub has_none : (q : ℕ) → has 0 q ≡ false
+pub has_none : (q : ℕ) → has_port 0 q ≡ false
 has_none q = ap (λ n. nat_eq n 1) (bit_at-zero (q - 1))
 
--- all ports but one
-others : (port q : ℕ) → 1 ≤ port → port ≤ 16 → 1 ≤ q → q ≤ 16 → has (65535 - 2 ^ (port - 1)) q ≡ not (nat_eq q port)
+-- The set of all ports without `port` contains each other port.
+others : (port q : ℕ) → 1 ≤ port → port ≤ 16 → 1 ≤ q → q ≤ 16 → has_port (65535 - 2 ^ (port - 1)) q ≡ not (nat_eq q port)
 others port q p p' r r' =
     let k = port - 1 in
     let i = q - 1 in
@@ -44,9 +44,9 @@ others port q p p' r r' =
           rw (one, ne_eqb q port n) refl
     ]
 
--- a port is in a set without another one where it was there and is not that one
-pub has_without : (set port q : ℕ) → 1 ≤ port → port ≤ 16 → 1 ≤ q → q ≤ 16 → has (without set port) q ≡ (has set q && not (nat_eq q port))
-has_without set port q p p' r r' = has_both set (65535 - 2 ^ (port - 1)) q ∙ ap (λ b. has set q && b) (others port q p p' r r')
+-- A port is in a set without `port` exactly if it is in the set and isn't `port`.
+pub has_without : (set port q : ℕ) → 1 ≤ port → port ≤ 16 → 1 ≤ q → q ≤ 16 → has_port (without_port set port) q ≡ (has_port set q && not (nat_eq q port))
+has_without set port q p p' r r' = has_both set (65535 - 2 ^ (port - 1)) q ∙ ap (λ b. has_port set q && b) (others port q p p' r r')
 
 and_true : (b : Bool) → b ≡ (b && true)
 and_true true = refl
@@ -62,54 +62,54 @@ and_last : (a b c : Bool) → (a && b && c) ≡ (a && c && b)
 and_last true b c = and_swapped b c
 and_last false b c = refl
 
--- what is allowed are members that the entry, if any, has
-has_allowed : (members : ℕ) (entry : Option ℕ) (q : ℕ) → has (allowed members entry) q ≡ (has members q && has_or true entry q)
-has_allowed members None q = and_true (has members q)
-has_allowed members (Some ports) q = has_both ports members q ∙ and_swapped (has ports q) (has members q)
+-- An allowed egress port is a member and, if a static entry exists, a port of that entry.
+has_allowed : (members : ℕ) (entry : Option ℕ) (q : ℕ) → has_port (allowed_members members entry) q ≡ (has_port members q && has_port_or true entry q)
+has_allowed members None q = and_true (has_port members q)
+has_allowed members (Some ports) q = has_both ports members q ∙ and_swapped (has_port ports q) (has_port members q)
 
--- where a frame goes, port by port
+-- Decides for each port whether it is an egress port of a frame.
 pub has_goes_to : (reserved : Bool) (members entry : Option ℕ) (port q : ℕ) → 1 ≤ port → port ≤ 16 → 1 ≤ q → q ≤ 16 →
-    has (cond reserved 0 (goes_to members entry port)) q ≡ (not reserved && has_or false members port && has_or false members q && not (nat_eq q port) && has_or true entry q)
+    has_port (cond reserved 0 (output_ports members entry port)) q ≡ (not reserved && has_port_or false members port && has_port_or false members q && not (nat_eq q port) && has_port_or true entry q)
 has_goes_to true members entry port q p p' r r' = has_none q
 has_goes_to false None entry port q p p' r r' = has_none q
-has_goes_to false (Some m) entry port q p p' r r' = elim (cases_Bool (has m port)) [
-  | inl e ↦ rw e (has_without (allowed m entry) port q p p' r r' ∙ (ap (λ b. b && not (nat_eq q port)) (has_allowed m entry q) ∙ and_last (has m q) (has_or true entry q) (not (nat_eq q port))))
+has_goes_to false (Some m) entry port q p p' r r' = elim (cases_Bool (has_port m port)) [
+  | inl e ↦ rw e (has_without (allowed_members m entry) port q p p' r r' ∙ (ap (λ b. b && not (nat_eq q port)) (has_allowed m entry q) ∙ and_last (has_port m q) (has_port_or true entry q) (not (nat_eq q port))))
   | inr e ↦ rw e (has_none q)
 ]
 
--- a frame goes only to members
-pub members_only : (reserved : Bool) (members entry : Option ℕ) (port q : ℕ) → has (cond reserved 0 (goes_to members entry port)) q ≡ true → has_or false members q ≡ true
+-- A frame goes only to members of its VLAN.
+pub members_only : (reserved : Bool) (members entry : Option ℕ) (port q : ℕ) → has_port (cond reserved 0 (output_ports members entry port)) q ≡ true → has_port_or false members q ≡ true
 members_only true members entry port q h = absurd (false≢true (sym (has_none q) ∙ h))
 members_only false None entry port q h = sym (has_none q) ∙ h
 members_only false (Some m) entry port q h =
-    let kept : ℕ = without (allowed m entry) port in
-    elim (cases_Bool (has m port)) [
+    let kept : ℕ = without_port (allowed_members m entry) port in
+    elim (cases_Bool (has_port m port)) [
       | inl e ↦
-          let here : has kept q ≡ true = rw e at h in
-          let there = and_parts (has (allowed m entry) q) (has (65535 - 2 ^ (port - 1)) q) (sym (has_both (allowed m entry) (65535 - 2 ^ (port - 1)) q) ∙ here) in
-          (and_parts (has m q) (has_or true entry q) (sym (has_allowed m entry q) ∙ there.0)).0
+          let here : has_port kept q ≡ true = rw e at h in
+          let there = and_parts (has_port (allowed_members m entry) q) (has_port (65535 - 2 ^ (port - 1)) q) (sym (has_both (allowed_members m entry) (65535 - 2 ^ (port - 1)) q) ∙ here) in
+          (and_parts (has_port m q) (has_port_or true entry q) (sym (has_allowed m entry q) ∙ there.0)).0
       | inr e ↦
-          let none : has 0 q ≡ true = rw e at h in
+          let none : has_port 0 q ≡ true = rw e at h in
           absurd (false≢true (sym (has_none q) ∙ none))
     ]
 
--- a frame doesn't go to the port on which it came
-pub not_back : (reserved : Bool) (members entry : Option ℕ) (port : ℕ) → 1 ≤ port → port ≤ 16 → has (cond reserved 0 (goes_to members entry port)) port ≡ false
+-- A frame doesn't return to its ingress port.
+pub not_back : (reserved : Bool) (members entry : Option ℕ) (port : ℕ) → 1 ≤ port → port ≤ 16 → has_port (cond reserved 0 (output_ports members entry port)) port ≡ false
 not_back reserved members entry port p p' =
-    let before = not reserved && has_or false members port && has_or false members port in
+    let before = not reserved && has_port_or false members port && has_port_or false members port in
     let same : not (nat_eq port port) ≡ false = ap not (eq-eqb port port refl) in
-    has_goes_to reserved members entry port port p p' p p' ∙ and_left (before && not (nat_eq port port)) (has_or true entry port) (and_right before (not (nat_eq port port)) same)
+    has_goes_to reserved members entry port port p p' p p' ∙ and_left (before && not (nat_eq port port)) (has_port_or true entry port) (and_right before (not (nat_eq port port)) same)
 
--- where a frame goes is a set of the ports 1 to 16
-pub goes_to_fits : (reserved : Bool) (members entry : Option ℕ) (port : ℕ) → cond reserved 0 (goes_to members entry port) < 65536
+-- The egress ports are a set of the ports 1 to 16.
+pub goes_to_fits : (reserved : Bool) (members entry : Option ℕ) (port : ℕ) → cond reserved 0 (output_ports members entry port) < 65536
 goes_to_fits true members entry port = omega arith
 goes_to_fits false None entry port = omega arith
-goes_to_fits false (Some m) entry port = elim (cases_Bool (has m port)) [
-  | inl e ↦ rw e (omega (arith, and_le_r (allowed m entry) (65535 - 2 ^ (port - 1))))
+goes_to_fits false (Some m) entry port = elim (cases_Bool (has_port m port)) [
+  | inl e ↦ rw e (omega (arith, and_le_r (allowed_members m entry) (65535 - 2 ^ (port - 1))))
   | inr e ↦ rw e (omega arith)
 ]
 
--- a set without ports is the number 0
+-- A set without ports is the number 0.
 pub empty_is_zero : (set : ℕ) → set < 65536 → IsEmpty set → set ≡ 0
 empty_is_zero set small none = same_from_bits_below 16 set 0 small (omega arith) (λ i l. bit_zero i l ∙ sym (bit_at-zero i))
   where

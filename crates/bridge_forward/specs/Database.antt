@@ -11,11 +11,11 @@ pub record Database : Type 0 where
   pub statics : List StaticEntry
 
 -- Set of member ports of the first VLAN in the list with the identifier `vid`; `None` if no VLAN has this identifier.
-abbrev pub members_at : List Vlan → ℕ → Option ℕ
-members_at [] vid = None
-members_at (v ∷ vs) vid = if nat_eq v.vid vid then Some v.members else members_at vs vid
+abbrev pub vlan_members : List Vlan → ℕ → Option ℕ
+vlan_members [] vid = None
+vlan_members (v ∷ vs) vid = if nat_eq v.vid vid then Some v.members else vlan_members vs vid
 
 -- Set of ports of the first static entry with VLAN `vid` and the address `address`; `None` if no entry has both.
-abbrev pub entry_at : List StaticEntry → ℕ → List ℕ → Option ℕ
-entry_at [] vid address = None
-entry_at (e ∷ es) vid address = if nat_eq e.vid vid && bytes_eq e.address address then Some e.ports else entry_at es vid address
+abbrev pub static_ports : List StaticEntry → ℕ → List ℕ → Option ℕ
+static_ports [] vid address = None
+static_ports (e ∷ es) vid address = if nat_eq e.vid vid && bytes_eq e.address address then Some e.ports else static_ports es vid address

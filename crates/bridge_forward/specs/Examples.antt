@@ -1,19 +1,19 @@
--- Where frames go, computed: VLAN 10 of ports 1, 2 and 3, and a static entry of VLAN 10 that sends 02-00-00-00-00-0A to port 3.
+-- Examples of egress ports: VLAN 10 of ports 1, 2 and 3, and a static entry of VLAN 10 that sends 02-00-00-00-00-0A to port 3.
 use Rattle.std.specs.Prelude.{◌≡◌, ℕ, true, false, ◌+◌, ◌-◌, ◌^◌, List, [], ◌∷◌, map, refl}
-use Rattle.bridge_forward.specs.Ports.{has, without}
+use Rattle.bridge_forward.specs.Ports.{has_port, without_port}
 use Rattle.bridge_forward.specs.Database.{Database}
 use Rattle.bridge_forward.specs.Forward.{forward, is_reserved}
-use Rattle.bridge_forward.specs.Outs.{goes_out}
+use Rattle.bridge_forward.specs.PortRule.{is_output}
 
--- an address of this network by its last octet
+-- Unicast address with the last octet `n`.
 abbrev host : ℕ → List ℕ
 host n = 2 ∷ 0 ∷ 0 ∷ 0 ∷ 0 ∷ n ∷ []
 
--- an address of the block of the reserved ones by its last octet
+-- Address 01-80-C2-00-00-`n`; the reserved addresses have `n` from 00 to 0F.
 abbrev group : ℕ → List ℕ
 group n = 1 ∷ 0x80 ∷ 0xc2 ∷ 0 ∷ 0 ∷ n ∷ []
 
--- the set of different ports
+-- Set of different ports.
 abbrev ports : List ℕ → ℕ
 ports [] = 0
 ports (n ∷ ns) = 2 ^ (n - 1) + ports ns
@@ -54,7 +54,7 @@ no_vlan = refl
 no_member : forward db 4 10 (host 0x0a) ≡ ports []
 no_member = refl
 
--- The same VLAN a second time, with port 4; an entry of another VLAN, one whose ports aren't all members, and a second one of its key.
+-- Examples of precedence: VLAN 10 is listed twice, and so is a static entry. Only the first one of each applies.
 
 abbrev twice : Database
 twice = record {
@@ -71,20 +71,20 @@ first_entry_cut_to_members = refl
 entry_of_the_other_vlan : forward twice 1 20 (host 0x0a) ≡ ports (4 ∷ [])
 entry_of_the_other_vlan = refl
 
--- Port by port.
+-- Example of the rule for single ports.
 
-port_by_port : map (goes_out twice 1 10 (host 0x0a)) (1 ∷ 2 ∷ 3 ∷ 4 ∷ []) ≡ map (has (ports (3 ∷ []))) (1 ∷ 2 ∷ 3 ∷ 4 ∷ [])
+port_by_port : map (is_output twice 1 10 (host 0x0a)) (1 ∷ 2 ∷ 3 ∷ 4 ∷ []) ≡ map (has_port (ports (3 ∷ []))) (1 ∷ 2 ∷ 3 ∷ 4 ∷ [])
 port_by_port = refl
 
 -- The set 5 has the ports 1 and 3; the set 7 also has port 2.
 
-pub port_3_is_in_the_set : has 5 3 ≡ true
+pub port_3_is_in_the_set : has_port 5 3 ≡ true
 port_3_is_in_the_set = refl
 
-pub port_2_is_not_in_the_set : has 5 2 ≡ false
+pub port_2_is_not_in_the_set : has_port 5 2 ≡ false
 port_2_is_not_in_the_set = refl
 
-pub without_port_2 : without 7 2 ≡ 5
+pub without_port_2 : without_port 7 2 ≡ 5
 without_port_2 = refl
 
 pub last_reserved_address : is_reserved (1 ∷ 128 ∷ 194 ∷ 0 ∷ 0 ∷ 15 ∷ []) ≡ true

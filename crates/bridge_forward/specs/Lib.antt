@@ -1,6 +1,6 @@
 pub mod Ports
 pub mod Database
-pub mod Kept
+pub mod LookupTables
 pub mod Forward
-pub mod Outs
+pub mod PortRule
 pub mod Examples

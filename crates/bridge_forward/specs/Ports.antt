@@ -3,13 +3,13 @@ use Rattle.std.specs.Prelude.{◌≡◌, ◌≤◌, ℕ, Bool, false, ◌-◌, �
 use Rattle.std.specs.Int.{bit_at}
 
 -- True if the set of ports `set` contains port number `port`; bit n - 1 of the set stands for port n.
-abbrev pub has : ℕ → ℕ → Bool
-has set port = nat_eq (bit_at set (port - 1)) 1
+abbrev pub has_port : ℕ → ℕ → Bool
+has_port set port = nat_eq (bit_at set (port - 1)) 1
 
 -- The set of ports `set` after port number `port` is removed; the ports have the numbers 1 to 16.
-abbrev pub without : ℕ → ℕ → ℕ
-without set port = bit_and set (65535 - 2 ^ (port - 1))
+abbrev pub without_port : ℕ → ℕ → ℕ
+without_port set port = bit_and set (65535 - 2 ^ (port - 1))
 
--- none of the ports 1 to 16 is in a set
+-- Statement: The set contains none of the ports 1 to 16.
 abbrev pub IsEmpty : ℕ → Type 0
-IsEmpty set = (q : ℕ) → 1 ≤ q → q ≤ 16 → has set q ≡ false
+IsEmpty set = (q : ℕ) → 1 ≤ q → q ≤ 16 → has_port set q ≡ false

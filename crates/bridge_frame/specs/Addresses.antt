@@ -1,12 +1,12 @@
--- A VLAN identifier and an address as one number.
+-- Keys: a VLAN identifier and an address as one number.
 use Rattle.std.specs.Prelude.{◌≡◌, ◌<◌, ◌^◌, ℕ, List, ◌++◌, length, slice_index}
 use Rattle.std.specs.Int.{w16, w64, to_be_bytes, from_be_bytes}
 
--- a VLAN identifier and an address as one number: the two octets of the one and the six of the other, the first the highest
+-- Key of a VLAN identifier and an address: its 2 octets and then the 6 octets of the address, as one big-endian number.
 unfoldable pub address_key : ℕ → List ℕ → ℕ
 address_key vid address = from_be_bytes w64 (to_be_bytes w16 vid ++ address)
 
--- a VLAN identifier of 16 bits and an address of six octets
+-- Statement: The VLAN identifier has 16 bits, the address has 6 octets, and their key fits 64 bits.
 pub record IsKey (vid : ℕ) (address : List ℕ) : Type 0 where
   pub short : vid < 2 ^ 16
   pub six : length address ≡ 6

@@ -12,17 +12,17 @@ is_tagged octets = nat_eq (slice_index octets 12) 0x81 && nat_eq (slice_index oc
 
 -- C-VLAN tag in octets 14 and 15, highest bits first: priority code point (3 bits), drop eligible indication (1 bit),
 -- VLAN identifier (12 bits).
-abbrev pub tag_in : List ℕ → Tag
-tag_in octets = record {
+abbrev pub frame_tag : List ℕ → Tag
+frame_tag octets = record {
   pcp = slice_index octets 14 / 32 % 8;
   dei = nat_eq (slice_index octets 14 / 16 % 2) 1;
   vid = slice_index octets 14 % 16 * 256 + slice_index octets 15 % 256;
 }
 
--- the numbers of the faults
-abbrev pub number_of : FrameFault → ℕ
-number_of TooShort = 1
-number_of TooLong = 2
+-- Numbers of the faults.
+abbrev pub fault_code : FrameFault → ℕ
+fault_code TooShort = 1
+fault_code TooLong = 2
 
 -- Number of octets in the frame's header: 14 (two addresses and the EtherType), or 18 with a C-VLAN tag.
 abbrev pub head_octets : List ℕ → ℕ
@@ -35,15 +35,15 @@ sdu_octets octets len = if is_tagged octets then len - 16 else len - 12
 
 -- Header fields read from a frame's `octets`, or a fault: TooShort if the header is incomplete, TooLong if the frame's
 -- length `len` exceeds 9,216 octets.
-abbrev pub head : List ℕ → ℕ → Result Head FrameFault
-head octets len =
+abbrev pub parsed_head : List ℕ → ℕ → Result Head FrameFault
+parsed_head octets len =
     if nat_lt (length octets) 14 then Err TooShort
     else if nat_lt (length octets) (head_octets octets) then Err TooShort
     else if nat_lt LONGEST_FRAME len then Err TooLong
     else Ok (record {
       da = take 6 octets;
       sa = take 6 (drop 6 octets);
-      tag = (if is_tagged octets then Some (tag_in octets) else None);
+      tag = (if is_tagged octets then Some (frame_tag octets) else None);
       sdu = sdu_octets octets len;
     })
 
@@ -52,14 +52,14 @@ abbrev pub has_tag : List ℕ → Bool
 has_tag octets = nat_le 18 (length octets) && is_tagged octets
 
 -- The tag octet `octet` with its drop eligible bit (value 16) set to 1; all other bits keep their values.
-abbrev pub with_drop_eligible : ℕ → ℕ
-with_drop_eligible octet = if nat_eq (octet / 16 % 2) 1 then octet else octet + 16
+abbrev pub drop_eligible_octet : ℕ → ℕ
+drop_eligible_octet octet = if nat_eq (octet / 16 % 2) 1 then octet else octet + 16
 
 -- Frame octets with the drop eligible bit of the C-VLAN tag set to 1; a frame without a complete tagged header stays
 -- unchanged.
-abbrev pub drop_eligible : List ℕ → List ℕ
-drop_eligible octets = if has_tag octets then slice_set octets 14 (with_drop_eligible (slice_index octets 14)) else octets
+abbrev pub drop_eligible_frame : List ℕ → List ℕ
+drop_eligible_frame octets = if has_tag octets then slice_set octets 14 (drop_eligible_octet (slice_index octets 14)) else octets
 
--- a head whose tag, where it has one, is drop eligible
-abbrev pub marked : Head → Head
-marked h = record { da = h.da; sa = h.sa; tag = option_map (λ t. record { pcp = t.pcp; dei = true; vid = t.vid }) h.tag; sdu = h.sdu }
+-- Header with its tag, if it has one, marked drop eligible.
+abbrev pub drop_eligible_head : Head → Head
+drop_eligible_head h = record { da = h.da; sa = h.sa; tag = option_map (λ t. record { pcp = t.pcp; dei = true; vid = t.vid }) h.tag; sdu = h.sdu }

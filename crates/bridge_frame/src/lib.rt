@@ -1,16 +1,16 @@
 #![tactic(auto)]
-//! Ethernet frames as a time-aware bridge sees them: their heads (IEEE 802.1Q-2018, clause 9), the time for which
-//! they occupy a link, and the drop eligible indication. Nothing here takes memory.
+//! Ethernet frames in a time-aware bridge: headers (IEEE 802.1Q-2018, clause 9), transmission times, and the drop eligible
+//! indication. This crate allocates no memory.
 
 ghost use Rattle.std.specs.Prelude.{◌≡◌, ◌*◌, ◌^◌, ◌≤◌, ◌<◌, ℕ, List, length, Ok, Err, OnOk, IfOk};
 ghost use Rattle.std.specs.Option.{ForSome};
 ghost use Rattle.bridge_frame.specs.declared.FrameFault.{FrameFault};
 ghost use Rattle.bridge_frame.specs.declared.Head.{Head};
 ghost use Rattle.bridge_frame.specs.Addresses.{IsKey, address_key};
-ghost use Rattle.bridge_frame.specs.Frames.{drop_eligible, has_tag, head, is_tagged, marked, number_of, tag_in};
-ghost use Rattle.bridge_frame.specs.Link.{bits_per_second, occupied, speed_of};
+ghost use Rattle.bridge_frame.specs.Frames.{drop_eligible_frame, has_tag, parsed_head, is_tagged, drop_eligible_head, fault_code, frame_tag};
+ghost use Rattle.bridge_frame.specs.Link.{bits_per_second, transmission_time, speed_by_mbps};
 
-use bridge_limits::{LONGEST_FRAME, MOST_CAPTURED};
+use bridge_limits::{LONGEST_FRAME, MAX_CAPTURED_OCTETS};
 use thiserror::Error;
 
 /// C-VLAN tag: priority code point (0 to 7), drop eligible indication, VLAN identifier (0 to 4095; 0 in a priority
@@ -34,18 +34,18 @@ pub struct Head {
 /// Reason why a frame is malformed.
 #[derive(Clone, Copy, Debug, PartialEq, Eq, Error)]
 pub enum FrameFault {
-    /// Fewer octets than a head has: 14, or 18 with a tag.
+    /// Fewer octets than a header has: 14, or 18 with a tag.
     #[error("the frame is too short")]
     TooShort,
-    /// A length above 9,216 octets.
+    /// Length above 9,216 octets.
     #[error("the frame is too long")]
     TooLong,
 }
 
 impl FrameFault {
-    /// Its number: 1 for `TooShort`, 2 for `TooLong`.
+    /// Returns the number of the fault: 1 for `TooShort`, 2 for `TooLong`.
     pub fn number(self) -> u8
-        ensures { result ≡ number_of self }
+        ensures { result ≡ fault_code self }
     {
         match self {
             FrameFault::TooShort => 1,
@@ -65,9 +65,9 @@ pub enum Speed {
 }
 
 impl Speed {
-    /// The speed of 10, 100, 1000, 2500 or 10000 Mb/s; `None` for any other number.
+    /// Returns the speed for `mbps` Mb/s: 10, 100, 1000, 2500 or 10000. `None` for any other number.
     pub fn of(mbps: u32) -> Option<Speed>
-        ensures { result ≡ speed_of mbps }
+        ensures { result ≡ speed_by_mbps mbps }
     {
         match mbps {
             10 => Some(Speed::Mbps10),
@@ -79,7 +79,7 @@ impl Speed {
         }
     }
 
-    /// The speed in Mb/s, 10 to 10,000.
+    /// Speed in Mb/s, 10 to 10,000.
     pub fn megabits(self) -> u64
         ensures { result * 10 ^ 6 ≡ bits_per_second self }
     {
@@ -93,10 +93,10 @@ impl Speed {
     }
 }
 
-/// The tag of a frame whose octets 12 and 13 are 81 00.
+/// Reads the tag of a tagged frame.
 fn read_tag(octets: &[u8]) -> Tag
     requires { 18 ≤ length octets.now }
-    ensures { result ≡ tag_in octets.now }
+    ensures { result ≡ frame_tag octets.now }
 {
     let control = octets[14];
     Tag {
@@ -106,22 +106,22 @@ fn read_tag(octets: &[u8]) -> Tag
     }
 }
 
-/// Whether octets 12 and 13 are 81 00.
-fn carries_tag(octets: &[u8]) -> bool
+/// Whether octets 12 and 13 are 81 00, the EtherType of a C-VLAN tag.
+fn is_tagged(octets: &[u8]) -> bool
     requires { 14 ≤ length octets.now }
     ensures { result ≡ is_tagged octets.now }
 {
     octets[12] == 0x81 && octets[13] == 0x00
 }
 
-/// The head of a frame, from its captured octets and its length in octets without frame check sequence
-/// (IEEE 802.1Q-2018, clause 9.6).
+/// Reads the header of a frame from its captured octets. `len` is the frame's length without check sequence (IEEE 802.1Q-2018,
+/// clause 9.6).
 ///
-/// `TooShort` where fewer octets are captured than the head has, else `TooLong` where the length is above 9,216.
+/// `TooShort` if the captured octets end within the header; otherwise `TooLong` if `len` exceeds 9,216.
 pub fn parse(octets: &[u8], len: u32) -> Result<Head, FrameFault>
-    requires captured { length octets.now ≤ MOST_CAPTURED }
+    requires captured { length octets.now ≤ MAX_CAPTURED_OCTETS }
     requires original { length octets.now ≤ len }
-    ensures exact { result ≡ head octets.now len }
+    ensures exact { result ≡ parsed_head octets.now len }
     ensures short { OnOk result (len ≤ LONGEST_FRAME) }
     ensures priority { IfOk result (λ h. ForSome h.tag (λ t. t.pcp ≤ 7)) }
     ensures vlan { IfOk result (λ h. ForSome h.tag (λ t. t.vid ≤ 4095)) }
@@ -130,7 +130,7 @@ pub fn parse(octets: &[u8], len: u32) -> Result<Head, FrameFault>
     if octets.len() < 14 {
         return Err(FrameFault::TooShort);
     }
-    let tagged = carries_tag(octets);
+    let tagged = is_tagged(octets);
     if tagged && octets.len() < 18 {
         return Err(FrameFault::TooShort);
     }
@@ -161,15 +161,14 @@ pub fn parse(octets: &[u8], len: u32) -> Result<Head, FrameFault>
     }
 }
 
-/// Sets the drop eligible indication of a tagged frame, and says whether there was a tag. Every other bit stays.
-///
-/// Fewer than 18 octets count as untagged, and stay.
+/// Marks a tagged frame as drop eligible, and returns whether the frame has a tag. A frame of fewer than 18 octets counts as
+/// untagged.
 pub fn mark_drop_eligible(octets: &mut [u8]) -> bool
     ensures tagged { result ≡ has_tag octets.old }
-    ensures marked { octets.new ≡ drop_eligible octets.old }
+    ensures marked { octets.new ≡ drop_eligible_frame octets.old }
     ensures kept { length octets.new ≡ length octets.old }
 {
-    if octets.len() < 18 || !carries_tag(octets) {
+    if octets.len() < 18 || !is_tagged(octets) {
         return false;
     }
     let control = octets[14];
@@ -179,16 +178,15 @@ pub fn mark_drop_eligible(octets: &mut [u8]) -> bool
     true
 }
 
-/// What is read of a frame that was marked drop eligible: the head that it had before, with its tag drop eligible, or the same
-/// fault.
+/// A marked frame keeps its header, with the tag drop eligible, or its fault.
 pub fn marked_head()
-    ensures head { (octets : List ℕ) (len : ℕ) (h : Head) → head octets len ≡ Ok h
-        → head (drop_eligible octets) len ≡ Ok (marked h) }
-    ensures fault { (octets : List ℕ) (len : ℕ) (e : FrameFault) → head octets len ≡ Err e
-        → head (drop_eligible octets) len ≡ Err e }
+    ensures head { (octets : List ℕ) (len : ℕ) (h : Head) → parsed_head octets len ≡ Ok h
+        → parsed_head (drop_eligible_frame octets) len ≡ Ok (drop_eligible_head h) }
+    ensures fault { (octets : List ℕ) (len : ℕ) (e : FrameFault) → parsed_head octets len ≡ Err e
+        → parsed_head (drop_eligible_frame octets) len ≡ Err e }
 {}
 
-/// Key of a VLAN identifier and an address: their eight octets as one number, the first the highest.
+/// Key of a VLAN identifier and an address: their eight octets as one big-endian number.
 #[tactic(auto, unfolding(crate::specs::Addresses::address_key))]
 pub fn address_key(vid: u16, address: [u8; 6]) -> u64
     ensures number { result ≡ address_key vid address }
@@ -199,11 +197,11 @@ pub fn address_key(vid: u16, address: [u8; 6]) -> u64
     u64::from_be_bytes([high, low, a, b, c, d, e, f])
 }
 
-/// How long a frame of this length occupies a link, in nanoseconds, rounded up: padded to 60 octets, with frame check
-/// sequence (4 octets), preamble and delimiter (8) and gap (12).
-#[tactic(auto, unfolding(crate::specs::Link::occupied))]
+/// Transmission time in ns, rounded up, of a frame of `len` octets. It includes padding to 60 octets, check sequence (4), preamble
+/// and delimiter (8) and gap (12).
+#[tactic(auto, unfolding(crate::specs::Link::transmission_time))]
 pub fn occupation(len: u32, speed: Speed) -> u64
-    ensures exact { result ≡ occupied len speed }
+    ensures exact { result ≡ transmission_time len speed }
     ensures some { 0 < result }
     ensures bounded { len ≤ LONGEST_FRAME → result ≤ 7_392_000 }
 {

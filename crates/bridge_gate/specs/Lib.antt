@@ -1,4 +1,4 @@
 pub mod Gates
 pub mod Schedules
-pub mod Standing
+pub mod StandsFor
 pub mod Examples

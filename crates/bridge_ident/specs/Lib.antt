@@ -1,3 +1,3 @@
-pub mod Firsts
+pub mod StreamIndex
 pub mod Identification
 pub mod Examples

@@ -1,26 +1,25 @@
 #![tactic(auto)]
-//! Stream identification (IEEE 802.1CB-2017, 6.4 null and 6.5 source MAC and VLAN identification): which stream
-//! handle a frame has.
+//! Stream identification: the stream handle of a frame (IEEE 802.1CB-2017, 6.4 null and 6.5 source MAC and VLAN identification).
 
 ghost use Rattle.std.specs.Prelude.{◌≡◌, ℕ, List, Some, IfOk};
 ghost use Rattle.bridge_frame.specs.declared.Head.{Head};
 ghost use Rattle.bridge_ident.specs.declared.StreamEntry.{StreamEntry};
-ghost use Rattle.bridge_ident.specs.Identification.{handle_in, is_match, names_vlan, HasEntry};
+ghost use Rattle.bridge_ident.specs.Identification.{first_handle, is_match, has_vlan_tag, HasEntry};
 
-mod index;
+mod stream_index;
 
 use bridge_frame::{Head, Tag};
 pub use bridge_limits::NoMemory;
-use index::Index;
 use std::alloc::Allocator;
 use std::marker::Model;
+use stream_index::StreamIndex;
 
 /// Address that a stream entry compares: the destination (null) or the source.
 #[derive(Clone, Copy, Debug, PartialEq, Eq)]
 pub enum Kind {
-    /// The destination address.
+    /// Destination address.
     Null,
-    /// The source address.
+    /// Source address.
     Source,
 }
 
@@ -29,7 +28,7 @@ pub enum Kind {
 pub enum TagKind {
     /// Tagged frames whose VLAN identifier isn't 0.
     Tagged,
-    /// Untagged frames, and tagged ones whose VLAN identifier is 0.
+    /// Untagged frames, and tagged frames whose VLAN identifier is 0.
     Priority,
     /// All frames.
     All,
@@ -38,20 +37,20 @@ pub enum TagKind {
 /// Entry of the stream identity table (IEEE 802.1CB-2017, 9.1).
 #[derive(Clone, Copy, Debug, PartialEq, Eq)]
 pub struct StreamEntry {
-    /// The stream handle that it gives.
+    /// Stream handle of matching frames.
     pub handle: u32,
-    /// The ingress port on which it stands.
+    /// Ingress port of matching frames.
     pub port: u8,
     pub kind: Kind,
-    /// The address that it asks for.
+    /// Address of matching frames.
     pub address: [u8; 6],
-    /// The VLAN identifier in which a frame has to be classified.
+    /// VLAN identifier of matching frames.
     pub vid: u16,
     pub tag: TagKind,
 }
 
 impl StreamEntry {
-    /// Whether the entry matches a frame that came on a port and was classified in a VLAN.
+    /// Whether the entry matches a frame that arrived on `port` in the VLAN `vid`.
     fn matches(&self, port: u8, head: &Head, vid: u16) -> bool
         ensures { result ≡ is_match self.now port head.now vid }
     {
@@ -63,17 +62,17 @@ impl StreamEntry {
             Kind::Source => head.sa,
         };
         let takes_tag = match self.tag {
-            TagKind::Tagged => names_vlan(head.tag),
-            TagKind::Priority => !names_vlan(head.tag),
+            TagKind::Tagged => has_vlan_tag(head.tag),
+            TagKind::Priority => !has_vlan_tag(head.tag),
             TagKind::All => true,
         };
         self.address == address && takes_tag
     }
 }
 
-/// Whether a frame's tag names a VLAN: there is a tag, and its VLAN identifier isn't 0.
-pub fn names_vlan(tag: Option<Tag>) -> bool
-    ensures { result ≡ names_vlan tag }
+/// Whether a frame's tag names a VLAN: its VLAN identifier isn't 0.
+pub fn has_vlan_tag(tag: Option<Tag>) -> bool
+    ensures { result ≡ has_vlan_tag tag }
 {
     match tag {
         Some(tag) => tag.vid != 0,
@@ -81,9 +80,9 @@ pub fn names_vlan(tag: Option<Tag>) -> bool
     }
 }
 
-/// The handle of the first entry that matches.
+/// Returns the handle of the first matching entry.
 fn first_handle(entries: &[StreamEntry], port: u8, head: &Head, vid: u16) -> Option<u32>
-    ensures { result ≡ handle_in entries.now port head.now vid }
+    ensures { result ≡ first_handle entries.now port head.now vid }
 {
     for entry in entries {
         if entry.matches(port, head, vid) {
@@ -93,32 +92,32 @@ fn first_handle(entries: &[StreamEntry], port: u8, head: &Head, vid: u16) -> Opt
     None
 }
 
-/// A stream identification table. Contracts see it as the list of its entries, in the order given.
+/// Stream identity table. Contracts see the list of its entries.
 #[derive(Drop)]
 pub struct Ident<A: Allocator + Copy> {
     entries: Vec<StreamEntry, A>,
-    /// What finds the first entry that matches; without it the entries are walked.
-    index: Option<Index<A>>,
+    /// Index that finds the first matching entry. Without an index, the table searches its entries in order.
+    index: Option<StreamIndex<A>>,
 }
 
 impl<A: Allocator + Copy> Model for Ident<A> {
     ghost use Rattle.std.specs.Prelude.{List, IfSome, true, false};
     ghost use Rattle.bridge_ident.specs.declared.StreamEntry.{StreamEntry};
-    ghost use Rattle.bridge_ident.specs.Firsts.{AreByAddress};
+    ghost use Rattle.bridge_ident.specs.StreamIndex.{HasAddressEntries};
 
     ghost Value = { List StreamEntry };
 
     ghost view = { λ t. t.entries.items };
 
     ghost invariant = { λ t. IfSome t.index (λ i.
-        (AreByAddress true t.entries.items i.tagged.destinations i.tagged.destination_marks i.tagged.sources
+        (HasAddressEntries true t.entries.items i.tagged.destinations i.tagged.destination_marks i.tagged.sources
         i.tagged.source_marks)
-        × (AreByAddress false t.entries.items i.others.destinations i.others.destination_marks i.others.sources
+        × (HasAddressEntries false t.entries.items i.others.destinations i.others.destination_marks i.others.sources
         i.others.source_marks)) };
 }
 
 impl<A: Allocator + Copy> Ident<A> {
-    /// The table of these entries. It takes no memory.
+    /// Makes a table without index. Allocates no memory.
     pub fn new(entries: Vec<StreamEntry, A>) -> Ident<A>
         ensures { result ≡ entries.items }
     {
@@ -128,40 +127,39 @@ impl<A: Allocator + Copy> Ident<A> {
         }
     }
 
-    /// The table of these entries, with an index by which a handle is found in the same time however many entries
-    /// there are. What it was handed is dropped where memory runs out.
-    pub fn indexed(alloc: A, entries: Vec<StreamEntry, A>) -> Result<Ident<A>, NoMemory>
+    /// Makes a table with an index: finding a handle takes constant time. If memory runs out, the entries are dropped.
+    pub fn with_index(alloc: A, entries: Vec<StreamEntry, A>) -> Result<Ident<A>, NoMemory>
         ensures { IfOk result (λ t. t ≡ entries.items) }
     {
-        let index = Index::new(alloc, &entries)?;
+        let index = StreamIndex::new(alloc, &entries)?;
         Ok(Ident {
             entries,
             index: Some(index),
         })
     }
 
-    /// The entries, in the order given.
+    /// Returns the entries in the given order.
     pub fn entries(&self) -> &[StreamEntry]
         ensures { result.now ≡ self.now }
     {
         self.entries.as_slice()
     }
 
-    /// The stream handle of a frame that came on `port` and was classified in the VLAN `vid`: that of the first
-    /// entry that matches, and `None` where none does.
+    /// Returns the stream handle of a frame that arrived on `port` in the VLAN `vid`: the handle of the first matching entry.
+    /// `None` if no entry matches.
     pub fn handle_of(&self, port: u8, head: &Head, vid: u16) -> Option<u32>
-        ensures { result ≡ handle_in self.now port head.now vid }
+        ensures { result ≡ first_handle self.now port head.now vid }
     {
         match &self.index {
-            Some(index) => index.handle_of(port, head, vid),
+            Some(index) => index.find_handle(port, head, vid),
             None => first_handle(&self.entries, port, head, vid),
         }
     }
 }
 
-/// The law that a handle is given by an entry: where a frame has one, an entry of the table that matches the frame has it.
+/// The handle of a frame comes from an entry of the table that matches the frame.
 pub fn handle_is_of_an_entry()
     ensures { (entries : List StreamEntry) (port vid h : ℕ) (head : Head)
-        → handle_in entries port head vid ≡ Some h
+        → first_handle entries port head vid ≡ Some h
         → HasEntry entries port head vid h }
 {}

@@ -11,28 +11,28 @@ pub record Limits : Type 0 where
 
 -- Frame that the buckets judged: its arrival time in ns, and the units that it took from the committed (`green`) and
 -- excess (`yellow`) bucket.
-pub record Judged : Type 0 where
+pub record JudgedFrame : Type 0 where
   pub at : ℕ
   pub green : ℕ
   pub yellow : ℕ
 
 -- Smallest number among `a` and the numbers of the list; `a` if the list is empty.
-abbrev pub least : ℕ → List ℕ → ℕ
-least a [] = a
-least a (x ∷ xs) = min x (least a xs)
+abbrev pub least_bound : ℕ → List ℕ → ℕ
+least_bound a [] = a
+least_bound a (x ∷ xs) = min x (least_bound a xs)
 
 -- Upper bounds of the committed bucket, one per judged frame: size plus refill since that frame, minus units that it
 -- and newer frames took.
 -- Each bound is for time `now`, and assumes a full bucket just before its frame.
 -- The units `green` are those that newer green frames took.
-abbrev pub committed_bounds : Limits → ℕ → ℕ → List Judged → List ℕ
+abbrev pub committed_bounds : Limits → ℕ → ℕ → List JudgedFrame → List ℕ
 committed_bounds l now green [] = []
 committed_bounds l now green (f ∷ fs) = (l.cbs + l.cir * (now - f.at) - (green + f.green)) ∷ committed_bounds l now (green + f.green) fs
 
 -- Number of units in the committed bucket at time `now`: the smallest of the bucket size and the bounds from all judged
 -- frames.
-unfoldable pub committed : Limits → ℕ → List Judged → ℕ
-committed l now past = least l.cbs (committed_bounds l now 0 past)
+unfoldable pub committed : Limits → ℕ → List JudgedFrame → ℕ
+committed l now past = least_bound l.cbs (committed_bounds l now 0 past)
 
 -- Units that overflowed the committed bucket from `at` to `now`: level `then_held` at `at`, plus refill, minus taken
 -- units `green`, minus level `held` at `now`.
@@ -40,19 +40,19 @@ abbrev pub overflow : Limits → ℕ → ℕ → ℕ → ℕ → ℕ → ℕ
 overflow l at then_held green now held = then_held + l.cir * (now - at) - green - held
 
 -- Number of the `o` overflow units that enter the excess bucket: all of them if the coupling flag is set, otherwise 0.
-abbrev pub coupled : Limits → ℕ → ℕ
-coupled l o = if l.coupling then o else 0
+abbrev pub coupled_overflow : Limits → ℕ → ℕ
+coupled_overflow l o = if l.coupling then o else 0
 
 -- Upper bounds of the excess bucket, one per judged frame: size plus refill and coupled overflow since that frame,
 -- minus units taken since then.
 -- Each bound is for time `now`, and assumes a full bucket just before its frame.
 -- The units `held` are in the committed bucket at `now`, and newer frames took the units `green` and `yellow`.
-abbrev pub excess_bounds : Limits → ℕ → ℕ → ℕ → ℕ → List Judged → List ℕ
+abbrev pub excess_bounds : Limits → ℕ → ℕ → ℕ → ℕ → List JudgedFrame → List ℕ
 excess_bounds l now held green yellow [] = []
 excess_bounds l now held green yellow (f ∷ fs) =
-    (l.ebs + l.eir * (now - f.at) + coupled l (overflow l f.at (committed l f.at fs) (green + f.green) now held) - (yellow + f.yellow)) ∷ excess_bounds l now held (green + f.green) (yellow + f.yellow) fs
+    (l.ebs + l.eir * (now - f.at) + coupled_overflow l (overflow l f.at (committed l f.at fs) (green + f.green) now held) - (yellow + f.yellow)) ∷ excess_bounds l now held (green + f.green) (yellow + f.yellow) fs
 
 -- Number of units in the excess bucket at time `now`: the smallest of the bucket size and the bounds from all judged
 -- frames.
-unfoldable pub excess : Limits → ℕ → List Judged → ℕ
-excess l now past = least l.ebs (excess_bounds l now (committed l now past) 0 0 past)
+unfoldable pub excess : Limits → ℕ → List JudgedFrame → ℕ
+excess l now past = least_bound l.ebs (excess_bounds l now (committed l now past) 0 0 past)

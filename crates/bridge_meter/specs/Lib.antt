@@ -1,6 +1,6 @@
 pub mod Bounds
 pub mod Colours
 pub mod Covers
-pub mod Standing
+pub mod StandsFor
 pub mod Steps
 pub mod Examples

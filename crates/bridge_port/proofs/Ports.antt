@@ -1,4 +1,4 @@
--- What offers and starts do to the schedule that a port stands for.
+-- Effect of offers and starts on the schedule of a port.
 use Rattle.std.proofs.Common.{◌≡◌, ◌≢◌, ℕ, Bool, true, false, ◌+◌, ◌<◌, ◌≤◌, ◌++◌, List, [], ◌∷◌, length, arith, refl, ap, ◌∙◌, sym, subst, inl, inr, Option, Some, None, suc, zero, max, append-nil, length-append, get_or-set_same, get_or-set_other}
 use Rattle.std.proofs.lemmas.Bool.Decides.{nat_tests}
 use Rattle.std.proofs.lemmas.Bool.{cases_order, leb-true, leb-false}
@@ -8,36 +8,36 @@ use Rattle.std.proofs.lemmas.Option.{same_Some, none-some}
 use Rattle.std.proofs.Math.Bool.{and-false}
 use Rattle.bridge_limits.proofs.Cases.{by_bool}
 use Rattle.bridge_limits.proofs.Lists.{heads, tails}
-use Rattle.bridge_frame.specs.Link.{occupied}
-use Rattle.bridge_cycle.specs.Moments.{Fits}
+use Rattle.bridge_frame.specs.Link.{transmission_time}
+use Rattle.bridge_cycle.specs.Fits.{Fits}
 use Rattle.bridge_port.specs.declared.item.Item.{Item}
-use Rattle.bridge_port.specs.Opening.{ever, opens}
+use Rattle.bridge_port.specs.GateSchedule.{can_fit, opens}
 use Rattle.bridge_port.specs.declared.item.Refusal.{Refusal}
 use Rattle.bridge_port.specs.declared.item.Refusal.TheVariants as refusal
-use Rattle.bridge_port.specs.Schedule.{Fate, Never, Full, Queued, Started, Copy, Rules, is_there, occupies, waiting, is_free, head, IsAnswer, StartsFit, IsLawful, behind, count_started, is_queued, is_started, not_before, queue, Begun, here, there}
-use Rattle.bridge_port.specs.Solo.{IsWhole}
-use Rattle.bridge_port.specs.Standing.{State, rules_of, queue_of, StandsFor, NoStartBefore, IsNext, IsBegun, IsIdle, refusal_of, fate_of, queues_with, offered_state, copy_of, started_state}
+use Rattle.bridge_port.specs.Schedule.{Fate, Never, Full, Queued, Started, Copy, PortRules, is_waiting, is_on_link, count_waiting, is_link_free, queue_head, IsAnswer, AreLawfulStarts, IsLawful, time_after_start, count_started, is_queued, is_started, earliest_offer, queued_items, StartsOldest, here, there}
+use Rattle.bridge_port.specs.Solo.{IsFinished}
+use Rattle.bridge_port.specs.StandsFor.{EgressState, state_rules, class_queue, StandsFor, HasNoStartEarlier, IsNextStart, HasStartedOldest, IsIdle, offer_refusal, refusal_fate, queues_after_offer, offered_state, offered_copy, started_state}
 use Rattle.bridge_port.proofs.Laws.{IsUnstarted, Idle, lawful_later, lawful_offer, free_new, offered_later}
 use Rattle.bridge_port.proofs.Starts.{front, there_no, started_of, IsStarted, lawful_start, queue_begun, queue_other}
 
 pub nil_cons : {A : Type 0} (a : A) (xs : List A) → [] ≡ a ∷ xs → ⊥
 nil_cons a xs h = cc
 
--- up to t nothing is asked for
-pub idle_to : {T : Type 0} (p : State T) (xs : List (Copy (Item T))) (t : ℕ) → StandsFor p xs → NoStartBefore p t → Idle (rules_of p) p.earliest t xs
-idle_to p xs t st calm u h below free c q is fits = elim (front (rules_of p) c 0 p.earliest u xs h st.lawful.starts (offered_later p.earliest u xs h st.lawful.offers)) [
+-- Up to time `t`, no start is due.
+pub idle_to : {T : Type 0} (p : EgressState T) (xs : List (Copy (Item T))) (t : ℕ) → StandsFor p xs → HasNoStartEarlier p t → Idle (state_rules p) p.earliest t xs
+idle_to p xs t st calm u h below free c q is fits = elim (front (state_rules p) c 0 p.earliest u xs h st.lawful.starts (offered_later p.earliest u xs h st.lawful.offers)) [
   | inl b ↦ none-some q (sym b.no_head ∙ is)
   | inr f ↦
       let e = same_Some _ _ (sym f.is_head ∙ is) in
-      let fits2 : Fits (opens p.list c) (occupied f.item.len p.speed) u = rw (ap (λ (z : ℕ × _). occupied z.1.len p.speed) e) fits in
-      calm c f.item (queue c f.after) (sym (st.queues c) ∙ queue_begun c 0 f.place f.item xs f.after f.begun) u h (leb-true _ _ (sym (st.link u h) ∙ free)) below fits2
+      let fits2 : Fits (opens p.list c) (transmission_time f.item.len p.speed) u = rw (ap (λ (z : ℕ × _). transmission_time z.1.len p.speed) e) fits in
+      calm c f.item (queued_items c f.after) (sym (st.queues c) ∙ queue_begun c 0 f.place f.item xs f.after f.begun) u h (leb-true _ _ (sym (st.link u h) ∙ free)) below fits2
 ]
 
--- the schedule is lawful up to each moment before which no start is asked for
-pub up_to : {T : Type 0} (p : State T) (xs : List (Copy (Item T))) (t : ℕ) → StandsFor p xs → p.earliest ≤ t → NoStartBefore p t → IsLawful (rules_of p) t xs
-up_to p xs t st l calm = lawful_later (rules_of p) p.earliest t xs l st.lawful (idle_to p xs t st calm)
+-- The schedule is lawful up to each time before which no start is due.
+pub up_to : {T : Type 0} (p : EgressState T) (xs : List (Copy (Item T))) (t : ℕ) → StandsFor p xs → p.earliest ≤ t → HasNoStartEarlier p t → IsLawful (state_rules p) t xs
+up_to p xs t st l calm = lawful_later (state_rules p) p.earliest t xs l st.lawful (idle_to p xs t st calm)
 
--- An offer.
+-- Offers.
 
 one_more : {X : Type 0} (x : X) (xs : List X) (n : ℕ) → n ≡ length xs → n + 1 ≡ length (x ∷ xs)
 one_more x xs n h = grind arith
@@ -51,28 +51,28 @@ none_started_by (Started s) n h = absurd h
 none_started : {X : Type 0} (x : Copy X) (xs : List (Copy X)) → IsUnstarted x.fate → count_started (x ∷ xs) ≡ count_started xs
 none_started x xs new = none_started_by x.fate (count_started xs) new
 
-none_behind : (f : Fate) → IsUnstarted f → behind f ≡ 0
+none_behind : (f : Fate) → IsUnstarted f → time_after_start f ≡ 0
 none_behind Never h = refl
 none_behind Full h = refl
 none_behind Queued h = refl
 none_behind (Started s) h = absurd h
 
-offered_last : {X : Type 0} (x : Copy X) (xs : List (Copy X)) → IsUnstarted x.fate → not_before xs ≤ x.at → x.at ≡ not_before (x ∷ xs)
+offered_last : {X : Type 0} (x : Copy X) (xs : List (Copy X)) → IsUnstarted x.fate → earliest_offer xs ≤ x.at → x.at ≡ earliest_offer (x ∷ xs)
 offered_last x xs new le = let z = none_behind x.fate new in omega (arith, z)
 
-stands_offer : {T : Type 0} (p : State T) (qs : List (List (Item T))) (n : ℕ) (xs : List (Copy (Item T))) (x : Copy (Item T)) → StandsFor p xs → p.earliest ≤ x.at → NoStartBefore p x.at → IsUnstarted x.fate → IsAnswer (rules_of p) x xs x.fate → n ≡ p.offered + 1 → ((c : ℕ) → slice_index_or qs c [] ≡ queue_of p c ++ (if nat_eq x.class c && is_queued x.fate then x.item ∷ [] else [])) → StandsFor (record p { queues = qs; earliest = x.at; offered = n }) (x ∷ xs)
+stands_offer : {T : Type 0} (p : EgressState T) (qs : List (List (Item T))) (n : ℕ) (xs : List (Copy (Item T))) (x : Copy (Item T)) → StandsFor p xs → p.earliest ≤ x.at → HasNoStartEarlier p x.at → IsUnstarted x.fate → IsAnswer (state_rules p) x xs x.fate → n ≡ p.offered + 1 → ((c : ℕ) → slice_index_or qs c [] ≡ class_queue p c ++ (if nat_eq x.class c && is_queued x.fate then x.item ∷ [] else [])) → StandsFor (record p { queues = qs; earliest = x.at; offered = n }) (x ∷ xs)
 stands_offer p qs n xs x st le calm new answer more q =
     record {
-      lawful = lawful_offer (rules_of p) x.at x xs refl new answer (up_to p xs x.at st le calm);
+      lawful = lawful_offer (state_rules p) x.at x xs refl new answer (up_to p xs x.at st le calm);
       queues = λ c. rw (st.queues c) (sym (q c));
-      link = λ u h. free_new (rules_of p) u x xs new ∙ st.link u (omega arith);
+      link = λ u h. free_new (state_rules p) u x xs new ∙ st.link u (omega arith);
       offered = more ∙ one_more x xs p.offered st.offered;
       started = st.started ∙ sym (none_started x xs new);
       earliest = offered_last x xs new (let z = st.earliest in omega arith);
     }
 
--- how many copies wait is how many are queued
-there_is : (h u : ℕ) (f : Fate) → h ≤ u → IsStarted h f → is_there u f ≡ is_queued f
+-- The number of waiting copies is the number of queued copies.
+there_is : (h u : ℕ) (f : Fate) → h ≤ u → IsStarted h f → is_waiting u f ≡ is_queued f
 there_is h u Never l k = refl
 there_is h u Full l k = refl
 there_is h u Queued l k = refl
@@ -82,12 +82,12 @@ counted : {X : Type 0} (b : Bool) (x : X) (xs : List X) → (if b then 1 else 0)
 counted true x xs = grind (arith, length-append)
 counted false x xs = grind (arith, length-append)
 
-pub waiting_is : {X : Type 0} (r : Rules X) (h t c : ℕ) (xs : List (Copy X)) → h ≤ t → StartsFit r h xs → waiting c t xs ≡ length (queue c xs)
+pub waiting_is : {X : Type 0} (r : PortRules X) (h t c : ℕ) (xs : List (Copy X)) → h ≤ t → AreLawfulStarts r h xs → count_waiting c t xs ≡ length (queued_items c xs)
 waiting_is r h t c [] l s = refl
-waiting_is r h t c (x ∷ xs) l s = rw (there_is h t x.fate l (started_of r h x x.fate s.0), waiting_is r h t c xs l s.1) (counted (nat_eq x.class c && is_queued x.fate) x.item (queue c xs))
+waiting_is r h t c (x ∷ xs) l s = rw (there_is h t x.fate l (started_of r h x x.fate s.0), waiting_is r h t c xs l s.1) (counted (nat_eq x.class c && is_queued x.fate) x.item (queued_items c xs))
 
-waits : {T : Type 0} (p : State T) (xs : List (Copy (Item T))) (c t : ℕ) → StandsFor p xs → p.earliest ≤ t → waiting c t xs ≡ length (queue_of p c)
-waits p xs c t st h = waiting_is (rules_of p) p.earliest t c xs h st.lawful.starts ∙ ap length (st.queues c)
+waits : {T : Type 0} (p : EgressState T) (xs : List (Copy (Item T))) (c t : ℕ) → StandsFor p xs → p.earliest ≤ t → count_waiting c t xs ≡ length (class_queue p c)
+waits p xs c t st h = waiting_is (state_rules p) p.earliest t c xs h st.lawful.starts ∙ ap length (st.queues c)
 
 not_pushed : {X : Type 0} (b : Bool) (x : X) (q : List X) → q ≡ q ++ (if b && false then x ∷ [] else [])
 not_pushed b x q = rw (and-false b) (sym (append-nil q))
@@ -103,33 +103,33 @@ pushed {X} qs c x d l = by_bool (nat_eq c d)
     let other : d ≢ c = λ z. absurd (let w : nat_eq c d ≡ true = grind (arith, nat_tests) in cc) in
     rw (get_or-set_other, e) (sym (append-nil (slice_index_or qs d []))))
 
-offered_by : {T : Type 0} (p : State T) (xs : List (Copy (Item T))) (t c : ℕ) (x : Item T) (o : Option Refusal) → refusal_of p c x ≡ o → c < length p.queues → p.earliest ≤ t → NoStartBefore p t → StandsFor p xs → StandsFor (record p { queues = queues_with o p.queues c x; earliest = t; offered = p.offered + 1 }) (record { at = t; class = c; item = x; fate = fate_of o } ∷ xs)
-offered_by {T} p xs t c x o e l le calm st = by_bool (ever p.list c (occupied x.len p.speed))
+offered_by : {T : Type 0} (p : EgressState T) (xs : List (Copy (Item T))) (t c : ℕ) (x : Item T) (o : Option Refusal) → offer_refusal p c x ≡ o → c < length p.queues → p.earliest ≤ t → HasNoStartEarlier p t → StandsFor p xs → StandsFor (record p { queues = queues_after_offer o p.queues c x; earliest = t; offered = p.offered + 1 }) (record { at = t; class = c; item = x; fate = refusal_fate o } ∷ xs)
+offered_by {T} p xs t c x o e l le calm st = by_bool (can_fit p.list c (transmission_time x.len p.speed))
     (λ can.
-    let z : (if nat_le (slice_index_or p.rooms c 0) (length (queue_of p c)) then Some refusal.Full else None) ≡ o = rw can at e in
-    by_bool (nat_le (slice_index_or p.rooms c 0) (length (queue_of p c)))
+    let z : (if nat_le (slice_index_or p.rooms c 0) (length (class_queue p c)) then Some refusal.Full else None) ≡ o = rw can at e in
+    by_bool (nat_le (slice_index_or p.rooms c 0) (length (class_queue p c)))
     (λ full.
     let is : Some refusal.Full ≡ o = rw full at z in
     let copy : Copy (Item T) = record { at = t; class = c; item = x; fate = Full } in
-    let room : slice_index_or p.rooms c 0 ≤ length (queue_of p c) = leb-true _ _ full in
-    let P : Option Refusal → Type 0 = λ o. StandsFor (record p { queues = queues_with o p.queues c x; earliest = t; offered = p.offered + 1 }) (record { at = t; class = c; item = x; fate = fate_of o } ∷ xs) in
-    subst P is (stands_offer p p.queues (p.offered + 1) xs copy st le calm tt (can, rw (waits p xs c t st le) room) refl (λ n. not_pushed (nat_eq c n) x (queue_of p n))))
+    let room : slice_index_or p.rooms c 0 ≤ length (class_queue p c) = leb-true _ _ full in
+    let P : Option Refusal → Type 0 = λ o. StandsFor (record p { queues = queues_after_offer o p.queues c x; earliest = t; offered = p.offered + 1 }) (record { at = t; class = c; item = x; fate = refusal_fate o } ∷ xs) in
+    subst P is (stands_offer p p.queues (p.offered + 1) xs copy st le calm tt (can, rw (waits p xs c t st le) room) refl (λ n. not_pushed (nat_eq c n) x (class_queue p n))))
     (λ some.
     let is : None ≡ o = rw some at z in
     let copy : Copy (Item T) = record { at = t; class = c; item = x; fate = Queued } in
-    let room : length (queue_of p c) < slice_index_or p.rooms c 0 = leb-false _ _ some in
-    let P : Option Refusal → Type 0 = λ o. StandsFor (record p { queues = queues_with o p.queues c x; earliest = t; offered = p.offered + 1 }) (record { at = t; class = c; item = x; fate = fate_of o } ∷ xs) in
-    subst P is (stands_offer p (queues_with None p.queues c x) (p.offered + 1) xs copy st le calm tt (can, rw (waits p xs c t st le) room) refl (λ n. pushed p.queues c x n l))))
+    let room : length (class_queue p c) < slice_index_or p.rooms c 0 = leb-false _ _ some in
+    let P : Option Refusal → Type 0 = λ o. StandsFor (record p { queues = queues_after_offer o p.queues c x; earliest = t; offered = p.offered + 1 }) (record { at = t; class = c; item = x; fate = refusal_fate o } ∷ xs) in
+    subst P is (stands_offer p (queues_after_offer None p.queues c x) (p.offered + 1) xs copy st le calm tt (can, rw (waits p xs c t st le) room) refl (λ n. pushed p.queues c x n l))))
     (λ never.
     let is : Some refusal.NeverFits ≡ o = rw never at e in
     let copy : Copy (Item T) = record { at = t; class = c; item = x; fate = Never } in
-    let P : Option Refusal → Type 0 = λ o. StandsFor (record p { queues = queues_with o p.queues c x; earliest = t; offered = p.offered + 1 }) (record { at = t; class = c; item = x; fate = fate_of o } ∷ xs) in
-    subst P is (stands_offer p p.queues (p.offered + 1) xs copy st le calm tt never refl (λ n. not_pushed (nat_eq c n) x (queue_of p n))))
+    let P : Option Refusal → Type 0 = λ o. StandsFor (record p { queues = queues_after_offer o p.queues c x; earliest = t; offered = p.offered + 1 }) (record { at = t; class = c; item = x; fate = refusal_fate o } ∷ xs) in
+    subst P is (stands_offer p p.queues (p.offered + 1) xs copy st le calm tt never refl (λ n. not_pushed (nat_eq c n) x (class_queue p n))))
 
-pub stands_offered : {T : Type 0} (p : State T) (t c : ℕ) (x : Item T) (xs : List (Copy (Item T))) → c < length p.queues → p.earliest ≤ t → NoStartBefore p t → StandsFor p xs → StandsFor (offered_state p t c x) (copy_of p t c x ∷ xs)
-stands_offered p t c x xs l le calm st = offered_by p xs t c x (refusal_of p c x) refl l le calm st
+pub stands_offered : {T : Type 0} (p : EgressState T) (t c : ℕ) (x : Item T) (xs : List (Copy (Item T))) → c < length p.queues → p.earliest ≤ t → HasNoStartEarlier p t → StandsFor p xs → StandsFor (offered_state p t c x) (offered_copy p t c x ∷ xs)
+stands_offered p t c x xs l le calm st = offered_by p xs t c x (offer_refusal p c x) refl l le calm st
 
--- A start.
+-- Starts.
 
 and_swap : (a b d : Bool) → a && (b && d) ≡ b && (a && d)
 and_swap true true d = refl
@@ -137,9 +137,9 @@ and_swap true false d = refl
 and_swap false true d = refl
 and_swap false false d = refl
 
-free_begun : {X : Type 0} (r : Rules X) (c s u i : ℕ) (item : X) (xs ys : List (Copy X)) → Begun c s i item xs ys → is_free r u ys ≡ not (nat_lt s u && nat_lt u (s + r.occ item)) && is_free r u xs
+free_begun : {X : Type 0} (r : PortRules X) (c s u i : ℕ) (item : X) (xs ys : List (Copy X)) → StartsOldest c s i item xs ys → is_link_free r u ys ≡ not (nat_lt s u && nat_lt u (s + r.occ item)) && is_link_free r u xs
 free_begun r c s u i0 item0 xs0 ys0 (here t item xs n) = refl
-free_begun r c s u i item xs0 ys0 (there x {xs = vs} {ys = ws} b) = rw (free_begun r c s u i item vs ws b) (and_swap (not (occupies u (r.occ x.item) x.fate)) (not (nat_lt s u && nat_lt u (s + r.occ item))) (is_free r u vs))
+free_begun r c s u i item xs0 ys0 (there x {xs = vs} {ys = ws} b) = rw (free_begun r c s u i item vs ws b) (and_swap (not (is_on_link u (r.occ x.item) x.fate)) (not (nat_lt s u && nat_lt u (s + r.occ item))) (is_link_free r u vs))
 
 ended : (k u n : ℕ) → k < u → not (nat_lt k u && nat_lt u (k + n)) && true ≡ nat_le (k + n) u
 ended k u n h =
@@ -163,31 +163,31 @@ popped_other qs c d v e =
     let other : d ≢ c = λ z. absurd (let w : nat_eq c d ≡ true = grind (arith, nat_tests) in cc) in
     rw get_or-set_other refl
 
-begun_length : {X : Type 0} (c s i : ℕ) (item : X) (xs ys : List (Copy X)) → Begun c s i item xs ys → length ys ≡ length xs
+begun_length : {X : Type 0} (c s i : ℕ) (item : X) (xs ys : List (Copy X)) → StartsOldest c s i item xs ys → length ys ≡ length xs
 begun_length c s i0 item0 xs0 ys0 (here t item xs n) = refl
 begun_length c s i item xs0 ys0 (there x {xs = vs} {ys = ws} b) = ap suc (begun_length c s i item vs ws b)
 
-begun_more : {X : Type 0} (c s i : ℕ) (item : X) (xs ys : List (Copy X)) → Begun c s i item xs ys → count_started ys ≡ count_started xs + 1
+begun_more : {X : Type 0} (c s i : ℕ) (item : X) (xs ys : List (Copy X)) → StartsOldest c s i item xs ys → count_started ys ≡ count_started xs + 1
 begun_more c s i0 item0 xs0 ys0 (here t item xs n) = omega arith
 begun_more c s i item xs0 ys0 (there x {xs = vs} {ys = ws} b) = let z = begun_more c s i item vs ws b in omega (arith, z)
 
-begun_behind : {X : Type 0} (c s i : ℕ) (item : X) (xs ys : List (Copy X)) → Begun c s i item xs ys → max (s + 1) (not_before xs) ≡ not_before ys
+begun_behind : {X : Type 0} (c s i : ℕ) (item : X) (xs ys : List (Copy X)) → StartsOldest c s i item xs ys → max (s + 1) (earliest_offer xs) ≡ earliest_offer ys
 begun_behind c s i0 item0 xs0 ys0 (here t item xs n) = omega arith
 begun_behind c s i item xs0 ys0 (there x {xs = vs} {ys = ws} b) = let z = begun_behind c s i item vs ws b in omega (arith, z)
 
-begun_last : {X : Type 0} (c s i : ℕ) (item : X) (xs ys : List (Copy X)) → Begun c s i item xs ys → not_before xs ≤ s → s + 1 ≡ not_before ys
+begun_last : {X : Type 0} (c s i : ℕ) (item : X) (xs ys : List (Copy X)) → StartsOldest c s i item xs ys → earliest_offer xs ≤ s → s + 1 ≡ earliest_offer ys
 begun_last c s i item xs ys b le = let z = begun_behind c s i item xs ys b in omega (arith, z)
 
-pub stands_started : {T : Type 0} (p : State T) (k c : ℕ) (x : Item T) (xs : List (Copy (Item T))) → IsNext p k c x → StandsFor p xs → IsBegun (started_state p k c x) c k x xs
-stands_started {T} p k c x xs n st = elim (front (rules_of p) c k p.earliest k xs n.after st.lawful.starts (offered_later p.earliest k xs n.after st.lawful.offers)) [
+pub stands_started : {T : Type 0} (p : EgressState T) (k c : ℕ) (x : Item T) (xs : List (Copy (Item T))) → IsNextStart p k c x → StandsFor p xs → HasStartedOldest (started_state p k c x) c k x xs
+stands_started {T} p k c x xs n st = elim (front (state_rules p) c k p.earliest k xs n.after st.lawful.starts (offered_later p.earliest k xs n.after st.lawful.offers)) [
   | inl b ↦ absurd (nil_cons x n.rest (sym b.empty ∙ (st.queues c ∙ n.is_head)))
   | inr w ↦
-      let r = rules_of p in
-      let joined : w.item ∷ queue c w.after ≡ x ∷ n.rest = sym (queue_begun c k w.place w.item xs w.after w.begun) ∙ (st.queues c ∙ n.is_head) in
+      let r = state_rules p in
+      let joined : w.item ∷ queued_items c w.after ≡ x ∷ n.rest = sym (queue_begun c k w.place w.item xs w.after w.begun) ∙ (st.queues c ∙ n.is_head) in
       let same : w.item ≡ x = heads _ _ _ _ joined in
-      let begun : Begun c k w.place x xs w.after = subst (λ z. Begun c k w.place z xs w.after) same w.begun in
-      let is : head c k xs ≡ Some (w.place, x) = subst (λ z. head c k xs ≡ Some (w.place, z)) same w.is_head in
-      let open_link : is_free r k xs ≡ true = let m = n.free in st.link k n.after ∙ grind (arith, nat_tests) in
+      let begun : StartsOldest c k w.place x xs w.after = subst (λ z. StartsOldest c k w.place z xs w.after) same w.begun in
+      let is : queue_head c k xs ≡ Some (w.place, x) = subst (λ z. queue_head c k xs ≡ Some (w.place, z)) same w.is_head in
+      let open_link : is_link_free r k xs ≡ true = let m = n.free in st.link k n.after ∙ grind (arith, nat_tests) in
       record {
         place = w.place;
         after = w.after;
@@ -199,15 +199,15 @@ stands_started {T} p k c x xs n st = elim (front (rules_of p) c k p.earliest k x
                 | inr v ↦
                     let ey = same_Some _ _ (sym v.is_head ∙ h) in
                     let fits2 : Fits (r.opens d) (r.occ v.item) k = rw (ap (λ (z : ℕ × _). r.occ z.1) ey) fits in
-                    n.highest d v.item (queue d v.after) (sym (st.queues d) ∙ queue_begun d k v.place v.item xs v.after v.begun) fits2
+                    n.highest d v.item (queued_items d v.after) (sym (st.queues d) ∙ queue_begun d k v.place v.item xs v.after v.begun) fits2
               ]);
           queues = λ d. by_bool (nat_eq c d)
-              (λ same_class. let z : c ≡ d = grind (arith, nat_tests) in subst (λ (m : ℕ). queue m w.after ≡ slice_index_or (slice_set p.queues c (drop 1 (queue_of p c))) m []) z (tails _ _ _ _ joined ∙ sym (popped_same p.queues c x n.rest n.is_head)))
-              (λ other. queue_other c k w.place x xs w.after d begun other ∙ (st.queues d ∙ sym (popped_other p.queues c d (drop 1 (queue_of p c)) other)));
+              (λ same_class. let z : c ≡ d = grind (arith, nat_tests) in subst (λ (m : ℕ). queued_items m w.after ≡ slice_index_or (slice_set p.queues c (drop 1 (class_queue p c))) m []) z (tails _ _ _ _ joined ∙ sym (popped_same p.queues c x n.rest n.is_head)))
+              (λ other. queue_other c k w.place x xs w.after d begun other ∙ (st.queues d ∙ sym (popped_other p.queues c d (drop 1 (class_queue p c)) other)));
           link = λ u h.
               let m = n.free in
               let later : k < u = omega arith in
-              let before : is_free r u xs ≡ true = st.link u (let z = n.after in omega arith) ∙ grind (arith, nat_tests) in
+              let before : is_link_free r u xs ≡ true = st.link u (let z = n.after in omega arith) ∙ grind (arith, nat_tests) in
               free_begun r c k u w.place x xs w.after begun ∙ rw before (ended k u (r.occ x) later);
           offered = st.offered ∙ sym (begun_length c k w.place x xs w.after begun);
           started = ap (λ n. n + 1) st.started ∙ sym (begun_more c k w.place x xs w.after begun);
@@ -216,7 +216,7 @@ stands_started {T} p k c x xs n st = elim (front (rules_of p) c k p.earliest k x
       }
 ]
 
--- A port that is idle stands for whole schedules.
+-- An idle port stands for finished schedules.
 
 left_empty : {A : Type 0} (xs ys : List A) → xs ++ ys ≡ [] → xs ≡ []
 left_empty [] ys h = refl
@@ -226,35 +226,35 @@ right_empty : {A : Type 0} (xs ys : List A) → xs ++ ys ≡ [] → ys ≡ []
 right_empty [] ys h = h
 right_empty (x ∷ xs) ys h = cc
 
-pub whole_of_empty : {X : Type 0} (xs : List (Copy X)) → ((c : ℕ) → queue c xs ≡ []) → IsWhole xs
+pub whole_of_empty : {X : Type 0} (xs : List (Copy X)) → ((c : ℕ) → queued_items c xs ≡ []) → IsFinished xs
 whole_of_empty [] h = tt
 whole_of_empty {X} (x ∷ xs) h = (
   by_bool (is_queued x.fate)
       (λ k.
       let same : nat_eq x.class x.class ≡ true = grind (arith, nat_tests) in
-      let z : (if nat_eq x.class x.class && is_queued x.fate then x.item ∷ [] else []) ≡ [] = right_empty (queue x.class xs) (if nat_eq x.class x.class && is_queued x.fate then x.item ∷ [] else []) (h x.class) in
+      let z : (if nat_eq x.class x.class && is_queued x.fate then x.item ∷ [] else []) ≡ [] = right_empty (queued_items x.class xs) (if nat_eq x.class x.class && is_queued x.fate then x.item ∷ [] else []) (h x.class) in
       let y : x.item ∷ [] ≡ [] = rw (same, k) at z in cc)
       (λ k. k),
-  whole_of_empty xs (λ c. left_empty (queue c xs) (if nat_eq x.class c && is_queued x.fate then x.item ∷ [] else []) (h c)),
+  whole_of_empty xs (λ c. left_empty (queued_items c xs) (if nat_eq x.class c && is_queued x.fate then x.item ∷ [] else []) (h c)),
 )
 
-pub idle_whole : {T : Type 0} (p : State T) (xs : List (Copy (Item T))) → StandsFor p xs → IsIdle p → IsWhole xs
+pub idle_whole : {T : Type 0} (p : EgressState T) (xs : List (Copy (Item T))) → StandsFor p xs → IsIdle p → IsFinished xs
 idle_whole p xs st idle = whole_of_empty xs (λ c. st.queues c ∙ idle c)
 
--- An idle port asks for no start at all.
-pub idle_calm : {T : Type 0} (p : State T) (t : ℕ) → IsIdle p → NoStartBefore p t
+-- An idle port has no start.
+pub idle_calm : {T : Type 0} (p : EgressState T) (t : ℕ) → IsIdle p → HasNoStartEarlier p t
 idle_calm p t idle c x rest e u a b l = λ f. nil_cons x rest (sym (idle c) ∙ e)
 
--- The next start is one moment, one class and one item.
-pub next_one : {T : Type 0} (p : State T) (k c : ℕ) (x : Item T) (l d : ℕ) (y : Item T) → IsNext p k c x → IsNext p l d y → (k ≡ l) × (c ≡ d) × (x ≡ y)
+-- The next start has one time, one class and one item.
+pub next_one : {T : Type 0} (p : EgressState T) (k c : ℕ) (x : Item T) (l d : ℕ) (y : Item T) → IsNextStart p k c x → IsNextStart p l d y → (k ≡ l) × (c ≡ d) × (x ≡ y)
 next_one {T} p k c x l d y n m = elim (cases_order k l) [
   | inl e ↦
-      let fits_y : Fits (opens p.list d) (occupied y.len p.speed) k = subst (λ (t : ℕ). Fits (opens p.list d) (occupied y.len p.speed) t) (sym e) m.fits in
-      let fits_x : Fits (opens p.list c) (occupied x.len p.speed) l = subst (λ (t : ℕ). Fits (opens p.list c) (occupied x.len p.speed) t) e n.fits in
+      let fits_y : Fits (opens p.list d) (transmission_time y.len p.speed) k = subst (λ (t : ℕ). Fits (opens p.list d) (transmission_time y.len p.speed) t) (sym e) m.fits in
+      let fits_x : Fits (opens p.list c) (transmission_time x.len p.speed) l = subst (λ (t : ℕ). Fits (opens p.list c) (transmission_time x.len p.speed) t) e n.fits in
       let up : d ≤ c = n.highest d y m.rest m.is_head fits_y in
       let down : c ≤ d = m.highest c x n.rest n.is_head fits_x in
       let same : c ≡ d = omega arith in
-      (e, same, heads x y n.rest m.rest (sym n.is_head ∙ (ap (queue_of p) same ∙ m.is_head)))
+      (e, same, heads x y n.rest m.rest (sym n.is_head ∙ (ap (class_queue p) same ∙ m.is_head)))
   | inr b ↦ elim b [
     | inl a ↦ absurd (m.least c x n.rest n.is_head k n.after n.free a n.fits)
     | inr a ↦ absurd (n.least d y m.rest m.is_head l m.after m.free a m.fits)

@@ -1,8 +1,8 @@
-pub mod Opening
+pub mod GateSchedule
 pub mod Schedule
 pub mod Solo
-pub mod Standing
+pub mod StandsFor
 pub mod Rings
 pub mod Heads
-pub mod Seen
+pub mod MappedCopies
 pub mod Spans

@@ -1,12 +1,12 @@
--- What contracts see of the rings of a port.
+-- Rings of a port as contracts see them.
 use Rattle.std.specs.Prelude.{ℕ, List, map}
 use Rattle.circular_buffer.specs.Buffer.{Buffer}
 use Rattle.bridge_port.specs.declared.item.Item.{Item}
 
--- the queued items by class, the oldest first
-abbrev pub queues_of : {T : Type 0} → List (Buffer (Item T)) → List (List (Item T))
-queues_of rings = map (λ ring. ring.items) rings
+-- Queued items by class, oldest first.
+abbrev pub ring_queues : {T : Type 0} → List (Buffer (Item T)) → List (List (Item T))
+ring_queues rings = map (λ ring. ring.items) rings
 
--- the rooms by class
-abbrev pub rooms_of : {T : Type 0} → List (Buffer (Item T)) → List ℕ
-rooms_of rings = map (λ ring. ring.capacity) rings
+-- Queue capacities by class.
+abbrev pub ring_rooms : {T : Type 0} → List (Buffer (Item T)) → List ℕ
+ring_rooms rings = map (λ ring. ring.capacity) rings

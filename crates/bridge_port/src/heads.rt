@@ -1,21 +1,21 @@
-//! When the heads of a port may start, and which starts next.
+//! Earliest starts of a port's heads, and the next start.
 ghost use Rattle.std.specs.Prelude.{◌≡◌, ◌+◌, ◌<◌, ◌≤◌, ℕ, false, true, None, IsSome, [], vec_len, slice_index_or, slice_set};
-ghost use Rattle.bridge_port.specs.Opening.{ever};
-ghost use Rattle.bridge_port.specs.Rings.{queues_of};
-ghost use Rattle.bridge_port.specs.Standing.{AllStartable};
+ghost use Rattle.bridge_port.specs.GateSchedule.{can_fit};
+ghost use Rattle.bridge_port.specs.Rings.{ring_queues};
+ghost use Rattle.bridge_port.specs.StandsFor.{AreStartable};
 ghost use Rattle.bridge_port.specs.Heads as heads;
 
-use crate::gates::Gates;
 use crate::item::Item;
-use crate::queues::head;
+use crate::queues::queue_head;
+use crate::transmission_gates::TransmissionGates;
 use bridge_frame::{Speed, occupation};
 use circular_buffer::HeapCircularBuffer;
 use std::alloc::Allocator;
 
-/// The better of the best head so far and that of another class: the earlier one, at one moment that of the higher class.
+/// Returns the better head: the earlier one, or at equal times the one of the higher class.
 #[inline(always)]
-fn sooner(best: Option<(u64, usize)>, fit: u64, class: usize) -> Option<(u64, usize)>
-    ensures { result ≡ heads.sooner best fit class }
+fn sooner_head(best: Option<(u64, usize)>, fit: u64, class: usize) -> Option<(u64, usize)>
+    ensures { result ≡ heads.sooner_head best fit class }
 {
     match best {
         Some(found) if found.0 < fit || (found.0 == fit && class < found.1) => Some(found),
@@ -23,21 +23,25 @@ fn sooner(best: Option<(u64, usize)>, fit: u64, class: usize) -> Option<(u64, us
     }
 }
 
-/// The same for a class that may have no head.
-fn sooner_of(best: Option<(u64, usize)>, fit: Option<u64>, class: usize) -> Option<(u64, usize)>
-    ensures { result ≡ heads.sooner_of best fit class }
+/// Returns the better head, if the class has a head; otherwise returns `best`.
+fn sooner_optional_head(
+    best: Option<(u64, usize)>,
+    fit: Option<u64>,
+    class: usize,
+) -> Option<(u64, usize)>
+    ensures { result ≡ heads.sooner_optional_head best fit class }
 {
     match fit {
         None => best,
-        Some(fit) => sooner(best, fit, class),
+        Some(fit) => sooner_head(best, fit, class),
     }
 }
 
-/// The least moment in ns from `from` on at which the head of a class may start; `None` where nothing is queued.
-// Not inlined, so that the loop of `renew` stays small.
+/// Returns the earliest start in ns, `from` or later, of the head of `class`; `None` if the queue is empty.
+// Not inlined, so that the loop of `refresh_fits` stays small.
 #[inline(never)]
-fn fit_of<T: Drop, A: Allocator + Copy>(
-    gates: &mut Gates<A>,
+fn head_fit<T: Drop, A: Allocator + Copy>(
+    gates: &mut TransmissionGates<A>,
     speed: Speed,
     rings: &Vec<HeapCircularBuffer<Item<T>, A>, A>,
     class: usize,
@@ -46,11 +50,12 @@ fn fit_of<T: Drop, A: Allocator + Copy>(
     requires class { class < 8 }
     requires eight { vec_len rings.now ≡ 8 }
     requires from { from < 9_000_000_000_000_000_000 }
-    requires startable { AllStartable gates.old speed class (slice_index_or (queues_of rings.now.items) class []) }
-    ensures fit { heads.IsFit gates.old speed from class (slice_index_or (queues_of rings.now.items) class []) result }
+    requires startable { AreStartable gates.old speed class (slice_index_or (ring_queues rings.now.items) class []) }
+    ensures fit { heads.IsHeadFit gates.old speed from class (slice_index_or (ring_queues rings.now.items) class [])
+        result }
     ensures same { gates.new ≡ gates.old }
 {
-    match head(rings, class) {
+    match queue_head(rings, class) {
         None => None,
         Some(item) => {
             let occ = occupation(item.len, speed);
@@ -59,12 +64,12 @@ fn fit_of<T: Drop, A: Allocator + Copy>(
     }
 }
 
-/// Makes the fit of a class anew where it lies before `from`, and gives it. A class without one is left by one test: most have
-/// none.
+/// Recomputes the fit of `class` if it is before `from`, and returns it. Most classes have no head, so the first test returns
+/// early.
 #[inline(always)]
-fn renewed<T: Drop, A: Allocator + Copy>(
+fn refresh_fit<T: Drop, A: Allocator + Copy>(
     fits: &mut [Option<u64>; 8],
-    gates: &mut Gates<A>,
+    gates: &mut TransmissionGates<A>,
     speed: Speed,
     rings: &Vec<HeapCircularBuffer<Item<T>, A>, A>,
     class: usize,
@@ -73,11 +78,12 @@ fn renewed<T: Drop, A: Allocator + Copy>(
     requires class { class < 8 }
     requires eight { vec_len rings.now ≡ 8 }
     requires from { from < 9_000_000_000_000_000_000 }
-    requires startable { AllStartable gates.old speed class (slice_index_or (queues_of rings.now.items) class []) }
+    requires startable { AreStartable gates.old speed class (slice_index_or (ring_queues rings.now.items) class []) }
     requires kept { heads.is_past (slice_index_or fits.old class None) from ≡ false
-        → heads.IsFit gates.old speed from class (slice_index_or (queues_of rings.now.items) class [])
+        → heads.IsHeadFit gates.old speed from class (slice_index_or (ring_queues rings.now.items) class [])
         (slice_index_or fits.old class None) }
-    ensures fit { heads.IsFit gates.old speed from class (slice_index_or (queues_of rings.now.items) class []) result }
+    ensures fit { heads.IsHeadFit gates.old speed from class (slice_index_or (ring_queues rings.now.items) class [])
+        result }
     ensures fits { fits.new ≡ slice_set fits.old class result }
     ensures same { gates.new ≡ gates.old }
 {
@@ -85,48 +91,47 @@ fn renewed<T: Drop, A: Allocator + Copy>(
         None => None,
         Some(kept) if from <= kept => Some(kept),
         Some(_) => {
-            let fit = fit_of(gates, speed, rings, class, from);
+            let fit = head_fit(gates, speed, rings, class, from);
             fits[class] = fit;
             fit
         }
     }
 }
 
-/// Makes anew what lies before `from` of the fits of all classes, and gives the best of them.
-pub fn renew<T: Drop, A: Allocator + Copy>(
+/// Recomputes all fits before `from`, and returns the best head.
+pub fn refresh_fits<T: Drop, A: Allocator + Copy>(
     fits: &mut [Option<u64>; 8],
-    gates: &mut Gates<A>,
+    gates: &mut TransmissionGates<A>,
     speed: Speed,
     rings: &Vec<HeapCircularBuffer<Item<T>, A>, A>,
     from: u64,
 ) -> Option<(u64, usize)>
     requires eight { vec_len rings.now ≡ 8 }
     requires from { from < 9_000_000_000_000_000_000 }
-    requires startable { (c : ℕ) → AllStartable gates.old speed c (slice_index_or (queues_of rings.now.items) c []) }
+    requires startable { (c : ℕ) → AreStartable gates.old speed c (slice_index_or (ring_queues rings.now.items) c []) }
     requires kept { (c : ℕ) → heads.is_past (slice_index_or fits.old c None) from ≡ false
-        → heads.IsFit gates.old speed from c (slice_index_or (queues_of rings.now.items) c [])
+        → heads.IsHeadFit gates.old speed from c (slice_index_or (ring_queues rings.now.items) c [])
         (slice_index_or fits.old c None) }
     ensures fits { (c : ℕ)
-        → heads.IsFit gates.old speed from c (slice_index_or (queues_of rings.now.items) c [])
+        → heads.IsHeadFit gates.old speed from c (slice_index_or (ring_queues rings.now.items) c [])
         (slice_index_or fits.new c None) }
-    ensures best { heads.IsBest fits.new 8 result }
+    ensures best { heads.IsBestHead fits.new 8 result }
     ensures same { gates.new ≡ gates.old }
 {
     let mut best = None;
     for class in 0..8usize {
-        let fit = renewed(fits, gates, speed, rings, class, from);
-        best = sooner_of(best, fit, class);
+        let fit = refresh_fit(fits, gates, speed, rings, class, from);
+        best = sooner_optional_head(best, fit, class);
     }
     best
 }
 
-/// Keeps the fit from `from` on of an item that occupies the link for `occ` ns and comes to the queue of a class, where it
-/// is the head there, and gives the best of all.
+/// Stores the fit of an item with a transmission time of `occ` ns if the queue of `class` is empty. Returns the best head.
 #[inline(always)]
-pub fn with_item<A: Allocator + Copy>(
+pub fn add_item_fit<A: Allocator + Copy>(
     fits: &mut [Option<u64>; 8],
     best: Option<(u64, usize)>,
-    gates: &mut Gates<A>,
+    gates: &mut TransmissionGates<A>,
     class: usize,
     occ: u64,
     from: u64,
@@ -134,7 +139,7 @@ pub fn with_item<A: Allocator + Copy>(
     requires class { class < 8 }
     requires from { from < 9_000_000_000_000_000_000 }
     requires occ { occ ≤ 1_000_000_000 }
-    requires ever { ever gates.old class occ ≡ true }
+    requires ever { can_fit gates.old class occ ≡ true }
     ensures behind { IsSome (slice_index_or fits.old class None) → (fits.new ≡ fits.old) × (result ≡ best) }
     ensures gained { slice_index_or fits.old class None ≡ None
         → heads.GainsHead gates.old from class occ fits.old fits.new best result }
@@ -145,16 +150,16 @@ pub fn with_item<A: Allocator + Copy>(
         None => {
             let fit = gates.earliest_fit(class, occ, from);
             fits[class] = Some(fit);
-            sooner(best, fit, class)
+            sooner_head(best, fit, class)
         }
     }
 }
 
-/// What `renew` does once the head of a class left, with so many items still queued: where none is left, no class has a fit.
+/// Recomputes the fits after a start in `class` with `left` queued items. If no items are queued, no class has a fit.
 #[inline(always)]
-pub fn renew_left<T: Drop, A: Allocator + Copy>(
+pub fn refresh_after_start<T: Drop, A: Allocator + Copy>(
     fits: &mut [Option<u64>; 8],
-    gates: &mut Gates<A>,
+    gates: &mut TransmissionGates<A>,
     speed: Speed,
     rings: &Vec<HeapCircularBuffer<Item<T>, A>, A>,
     class: usize,
@@ -164,23 +169,23 @@ pub fn renew_left<T: Drop, A: Allocator + Copy>(
     requires class { class < 8 }
     requires eight { vec_len rings.now ≡ 8 }
     requires from { from < 9_000_000_000_000_000_000 }
-    requires startable { (c : ℕ) → AllStartable gates.old speed c (slice_index_or (queues_of rings.now.items) c []) }
+    requires startable { (c : ℕ) → AreStartable gates.old speed c (slice_index_or (ring_queues rings.now.items) c []) }
     requires kept { (c : ℕ) → heads.is_past (slice_index_or fits.old c None) from ≡ false
-        → heads.IsFit gates.old speed from c (slice_index_or (queues_of rings.now.items) c [])
+        → heads.IsHeadFit gates.old speed from c (slice_index_or (ring_queues rings.now.items) c [])
         (slice_index_or fits.old c None) }
     requires none { left ≡ 0 → (c : ℕ)
-        → heads.IsFit gates.old speed from c (slice_index_or (queues_of rings.now.items) c [])
+        → heads.IsHeadFit gates.old speed from c (slice_index_or (ring_queues rings.now.items) c [])
         (slice_index_or (slice_set fits.old class None) c None) }
     requires no_head { left ≡ 0 → (c : ℕ) → slice_index_or (slice_set fits.old class None) c None ≡ None }
     ensures fits { (c : ℕ)
-        → heads.IsFit gates.old speed from c (slice_index_or (queues_of rings.now.items) c [])
+        → heads.IsHeadFit gates.old speed from c (slice_index_or (ring_queues rings.now.items) c [])
         (slice_index_or fits.new c None) }
-    ensures best { heads.IsBest fits.new 8 result }
+    ensures best { heads.IsBestHead fits.new 8 result }
     ensures same { gates.new ≡ gates.old }
 {
     if left == 0 {
         fits[class] = None;
         return None;
     }
-    renew(fits, gates, speed, rings, from)
+    refresh_fits(fits, gates, speed, rings, from)
 }

@@ -1,10 +1,10 @@
-//! What a port queues, and why it does not.
+//! Queued items, and reasons why a port drops a copy.
 ghost use Rattle.std.specs.Prelude.{◌≡◌};
-ghost use Rattle.bridge_port.specs.Standing.{number_of};
+ghost use Rattle.bridge_port.specs.StandsFor.{refusal_code};
 
 use thiserror::Error;
 
-/// What is queued: a frame's length in octets, and what its owner wants back at its start.
+/// Queued item: the length of the frame in octets, and a load that the owner gets back when the frame starts.
 #[derive(Debug, Drop)]
 pub struct Item<T> {
     pub len: u32,
@@ -14,18 +14,18 @@ pub struct Item<T> {
 /// Reason why a port drops a copy of a frame.
 #[derive(Clone, Copy, Debug, PartialEq, Eq, Error)]
 pub enum Refusal {
-    /// Under a list of the port the class is open for so long at no moment.
+    /// Under a list of the port, the class is never open for the transmission time.
     #[error("the frame fits in no window")]
     NeverFits,
-    /// The queue of the class holds as many frames as its room.
+    /// The queue of the class is full.
     #[error("the queue is full")]
     Full,
 }
 
 impl Refusal {
-    /// Its number in the order of the tests: 1 for `NeverFits`, 2 for `Full`.
+    /// Returns the number of the refusal, in the order of the tests: 1 for `NeverFits`, 2 for `Full`.
     pub fn number(self) -> u8
-        ensures { result ≡ number_of self }
+        ensures { result ≡ refusal_code self }
     {
         match self {
             Refusal::NeverFits => 1,

@@ -1,40 +1,39 @@
 //! Laws of schedules.
 ghost use Rattle.std.specs.Prelude.{◌≡◌, ◌≢◌, ◌+◌, ◌*◌, ◌<◌, ◌≤◌, ◌↔◌, ◌∷◌, ℕ, List, Some, true};
 ghost use Rattle.bridge_cycle.specs.Cyclic.{Cyclic};
-ghost use Rattle.bridge_cycle.specs.Joined.{Joined};
-ghost use Rattle.bridge_cycle.specs.Moments.{Fits};
-ghost use Rattle.bridge_port.specs.Opening.{Always, ever, Exchanged, IsMade, list_opens, One, Opening, opens};
-ghost use Rattle.bridge_limits.specs.Members.{In};
-ghost use Rattle.bridge_port.specs.Schedule.{Begun, Copy, Rules, IsAnswer, IsLawful, OfferedUpTo, Started, head, is_free};
-ghost use Rattle.bridge_port.specs.Solo.{HasOwnWindow, IsSolo, IsWhole, SameOffers, only};
+ghost use Rattle.bridge_cycle.specs.ChangingList.{Joined};
+ghost use Rattle.bridge_cycle.specs.Fits.{Fits};
+ghost use Rattle.bridge_port.specs.GateSchedule.{Always, can_fit, Changing, HasLawfulLists, list_opens, One, GateSchedule, opens};
+ghost use Rattle.bridge_limits.specs.Members.{IsMember};
+ghost use Rattle.bridge_port.specs.Schedule.{StartsOldest, Copy, PortRules, IsAnswer, IsLawful, AreOffersInOrder, Started, queue_head, is_link_free};
+ghost use Rattle.bridge_port.specs.Solo.{HasOwnWindow, IsSolo, IsFinished, HaveSameOffers, class_copies};
 
 use crate::queues::LARGEST_ROOM;
 use bridge_cycle::LONGEST_CYCLE;
 
-/// A lawful schedule up to a moment is one up to each lower moment that is after its last start and not before its last
-/// offer.
+/// A schedule stays lawful up to an earlier time, if this time is after the last start and not before the last offer.
 pub fn lawful_up_to_a_lower_moment<X: Drop>()
-    ensures { (r : Rules X) (h k : ℕ) (xs : List (Copy X))
+    ensures { (r : PortRules X) (h k : ℕ) (xs : List (Copy X))
         → k ≤ h
-        → OfferedUpTo k xs
-        → ((s : ℕ) (x : Copy X) → In x xs → x.fate ≡ Started s → s < k)
+        → AreOffersInOrder k xs
+        → ((s : ℕ) (x : Copy X) → IsMember x xs → x.fate ≡ Started s → s < k)
         → IsLawful r h xs
         → IsLawful r k xs }
 {}
 
-/// It is one up to a later moment where no head fits at a free moment in between.
+/// A schedule is lawful up to a later time, if no head fits at a free time in between.
 pub fn lawful_up_to_a_later_moment<X: Drop>()
-    ensures { (r : Rules X) (h k : ℕ) (xs : List (Copy X))
+    ensures { (r : PortRules X) (h k : ℕ) (xs : List (Copy X))
         → h ≤ k
         → IsLawful r h xs
-        → ((u : ℕ) → h ≤ u → u < k → is_free r u xs ≡ true → (c : ℕ) (p : ℕ × X) → head c u xs ≡ Some p
+        → ((u : ℕ) → h ≤ u → u < k → is_link_free r u xs ≡ true → (c : ℕ) (p : ℕ × X) → queue_head c u xs ≡ Some p
         → ¬ Fits (r.opens c) (r.occ p.1) u)
         → IsLawful r k xs }
 {}
 
-/// An offer at that moment, answered as the rule says, keeps it lawful.
+/// An offer at time `h`, answered by the rule, keeps the schedule lawful.
 pub fn lawful_with_an_offer<X: Drop>()
-    ensures { (r : Rules X) (h : ℕ) (x : Copy X) (xs : List (Copy X))
+    ensures { (r : PortRules X) (h : ℕ) (x : Copy X) (xs : List (Copy X))
         → x.at ≡ h
         → ((s : ℕ) → x.fate ≢ Started s)
         → IsAnswer r x xs x.fate
@@ -42,56 +41,54 @@ pub fn lawful_with_an_offer<X: Drop>()
         → IsLawful r h (x ∷ xs) }
 {}
 
-/// The start that strict priority asks for at that moment makes it lawful up to the next one.
+/// The start that strict priority demands at time `h` makes the schedule lawful up to the next ns.
 pub fn lawful_with_a_start<X: Drop>()
-    ensures { (r : Rules X) (c h i : ℕ) (item : X) (xs ys : List (Copy X))
+    ensures { (r : PortRules X) (c h i : ℕ) (item : X) (xs ys : List (Copy X))
         → IsLawful r h xs
-        → is_free r h xs ≡ true
-        → Begun c h i item xs ys
-        → head c h xs ≡ Some (i, item)
+        → is_link_free r h xs ≡ true
+        → StartsOldest c h i item xs ys
+        → queue_head c h xs ≡ Some (i, item)
         → Fits (r.opens c) (r.occ item) h
-        → ((d : ℕ) (p : ℕ × X) → head d h xs ≡ Some p → Fits (r.opens d) (r.occ p.1) h → d ≤ c)
+        → ((d : ℕ) (p : ℕ × X) → queue_head d h xs ≡ Some p → Fits (r.opens d) (r.occ p.1) h → d ≤ c)
         → IsLawful r (h + 1) ys }
 {}
 
 /// A class whose window no other class shares is served as if it had the link alone.
 pub fn own_windows_isolate<X: Drop>()
-    ensures { (r : Rules X) (c h : ℕ) (xs : List (Copy X))
+    ensures { (r : PortRules X) (c h : ℕ) (xs : List (Copy X))
         → ((n : X) → 0 < r.occ n)
         → HasOwnWindow r c
         → IsLawful r h xs
-        → IsWhole xs
-        → IsSolo r (only c xs) }
+        → IsFinished xs
+        → IsSolo r (class_copies c xs) }
 {}
 
-/// The test of what fits says that the class is open for so long at some moment: without a list, under one list, and of
-/// lists that are exchanged under the old one and under the new one, each by itself.
-pub fn ever_is_fitting()
-    ensures none { (c n : ℕ) → (ever Always c n ≡ true) ↔ ((t : ℕ) × Fits (opens Always c) n t) }
+/// `can_fit` is exact: it is true exactly if the class stays open for `n` ns at some time, under each list by itself.
+pub fn can_fit_is_exact()
+    ensures none { (c n : ℕ) → (can_fit Always c n ≡ true) ↔ ((t : ℕ) × Fits (opens Always c) n t) }
     ensures one { (l : Cyclic ℕ) (c n : ℕ)
-        → IsMade (One l)
-        → (ever (One l) c n ≡ true) ↔ ((t : ℕ) × Fits (opens (One l) c) n t) }
+        → HasLawfulLists (One l)
+        → (can_fit (One l) c n ≡ true) ↔ ((t : ℕ) × Fits (opens (One l) c) n t) }
     ensures exchanged { (j : Joined ℕ) (c n : ℕ)
-        → IsMade (Exchanged j)
-        → (ever (Exchanged j) c n ≡ true)
+        → HasLawfulLists (Changing j)
+        → (can_fit (Changing j) c n ≡ true)
         ↔ (((t : ℕ) × Fits (list_opens j.old c) n t) × ((t : ℕ) × Fits (list_opens j.new c) n t)) }
 {}
 
-/// Where the test of what fits says so, the class is open for so long from some moment of the next two seconds on, also
-/// where the lists are exchanged before the frame is through.
-pub fn ever_fits_soon()
-    ensures { (list : Opening) (c n from : ℕ)
-        → IsMade list
-        → ever list c n ≡ true
+/// If `can_fit` is true, a fit starts within 2 s of any time, despite a schedule change.
+pub fn can_fit_soon()
+    ensures { (list : GateSchedule) (c n from : ℕ)
+        → HasLawfulLists list
+        → can_fit list c n ≡ true
         → (u : ℕ) × (from ≤ u) × (u ≤ from + 2 * LONGEST_CYCLE) × Fits (opens list c) n u }
 {}
 
-/// What becomes of the copies of a queue that has the link alone follows from its offers.
-pub fn alone_follows<X: Drop>()
-    ensures { (r : Rules X) (xs ys : List (Copy X)) → SameOffers xs ys → IsSolo r xs → IsSolo r ys → xs ≡ ys }
+/// The fates of a queue that has the link alone follow from its offers.
+pub fn solo_copies_follow<X: Drop>()
+    ensures { (r : PortRules X) (xs ys : List (Copy X)) → HaveSameOffers xs ys → IsSolo r xs → IsSolo r ys → xs ≡ ys }
 {}
 
-/// The figure of the limit: a queue holds at most 4,096 frames.
+/// The limit as a number, for proofs that use its value.
 pub fn the_limit()
     ensures room { LARGEST_ROOM ≡ 4_096 }
 {}

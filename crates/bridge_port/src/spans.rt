@@ -1,74 +1,74 @@
-//! For how long a list opens a class without a break, and the first fits by that.
+//! Spans: times for which a list opens a class without a break. They speed up the search for first fits.
 ghost use Rattle.std.specs.Prelude.{◌≡◌, ◌<◌, ◌≤◌, ◌+◌, ◌-◌, ◌*◌, ◌^◌, ◌%◌, true, length, IfOk, IfSome};
 ghost use Rattle.bridge_cycle.specs.Cyclic.{IsLawful};
-ghost use Rattle.bridge_cycle.specs.Moments.{IsFirst};
-ghost use Rattle.bridge_port.specs.Opening.{AreRuns, Exchanged, list_ever, list_opens, opens};
-ghost use Rattle.bridge_port.specs.Spans.{AreOf, HasSpans, end_at, until};
+ghost use Rattle.bridge_cycle.specs.Fits.{IsFirstFit};
+ghost use Rattle.bridge_port.specs.GateSchedule.{RunsMatchTest, Changing, list_can_fit, list_opens, opens};
+ghost use Rattle.bridge_port.specs.Spans.{AreListSpans, HasSpans, span_end, open_or_stopped};
 ghost use Rattle.bridge_port.specs.Spans as the_spans;
 
 use bridge_cycle::{CyclicList, Joined, Run, Timeline, is_open, longest_run};
 use std::alloc::{AllocError, Allocator};
 
-/// A stretch of time, in ns, for which a class is open. At its end it is closed.
+/// Time in ns for which a class is open. At its end, the class is closed.
 #[derive(Clone, Copy)]
-pub struct Span {
+pub struct OpenSpan {
     start: u32,
     end: u32,
 }
 
-/// For how long at most a list opens each class without a break, and when.
+/// Longest run and spans of each class of a list.
 #[derive(Drop)]
-pub struct Spans<A: Allocator + Copy> {
+pub struct ClassSpans<A: Allocator + Copy> {
     pub runs: [Run; 8],
-    pub each: Vec<Vec<Span, A>, A>,
+    pub each: Vec<Vec<OpenSpan, A>, A>,
 }
 
-/// The most spans that are walked over from the one found last before halving is faster.
-const MOST_WALKED: usize = 8;
+/// Largest number of spans that a linear search passes; beyond that, binary search is faster.
+const MAX_WALK: usize = 8;
 
-/// Where the last fit in a list was found: how many cycles came before its moment, and the place of the first span of each class
-/// that was looked at. It says where to look first, and nothing of what is found.
+/// Start of the next search in a list: the number of earlier cycles, and the index of the last span of each class. A hint changes
+/// no result.
 #[derive(Clone, Copy)]
-pub struct Last {
+pub struct SearchHint {
     laps: u64,
     places: [usize; 8],
 }
 
-/// The same of the one list of a port, or of the old one and the new one.
+/// Hints for a port's only list (`old`), or for its old and new list.
 #[derive(Clone, Copy)]
-pub struct LastOfBoth {
-    pub old: Last,
-    pub new: Last,
+pub struct SearchHints {
+    pub old: SearchHint,
+    pub new: SearchHint,
 }
 
-impl LastOfBoth {
-    /// Before anything was looked for.
-    pub fn none() -> LastOfBoth {
-        let last = Last {
+impl SearchHints {
+    /// Makes hints without a search.
+    pub fn new() -> SearchHints {
+        let last = SearchHint {
             laps: 0,
             places: [0; 8],
         };
-        LastOfBoth {
+        SearchHints {
             old: last,
             new: last,
         }
     }
 }
 
-impl<A: Allocator + Copy> Spans<A> {
-    /// Those of no list. It takes no memory.
-    pub fn none(alloc: A) -> Spans<A> {
-        Spans {
+impl<A: Allocator + Copy> ClassSpans<A> {
+    /// Makes the spans of no list. Allocates no memory.
+    pub fn empty(alloc: A) -> ClassSpans<A> {
+        ClassSpans {
             runs: [Run::Never; 8],
             each: Vec::new(alloc),
         }
     }
 }
 
-/// The longest runs of the classes of a list.
-fn runs_of<A: Allocator + Copy>(list: &CyclicList<u8, A>) -> [Run; 8]
+/// Returns the longest run of each class of a list.
+fn longest_runs<A: Allocator + Copy>(list: &CyclicList<u8, A>) -> [Run; 8]
     ensures lawful { IsLawful list.now }
-    ensures runs { AreRuns (list_ever list.now) result }
+    ensures runs { RunsMatchTest (list_can_fit list.now) result }
 {
     let _ = list.cycle();
     let mut runs = [Run::Always; 8];
@@ -78,12 +78,12 @@ fn runs_of<A: Allocator + Copy>(list: &CyclicList<u8, A>) -> [Run; 8]
     runs
 }
 
-/// The spans of a class in the first three cycles of a list, but for one that lasts over their end.
-fn spans_of<A: Allocator + Copy>(
+/// Returns the spans of `class` in the first three cycles of a list, except a span that outlasts them.
+fn open_spans<A: Allocator + Copy>(
     alloc: A,
     list: &CyclicList<u8, A>,
     class: u8,
-) -> Result<Vec<Span, A>, AllocError>
+) -> Result<Vec<OpenSpan, A>, AllocError>
     requires { class < 8 }
     ensures { IfOk result (λ v. HasSpans (list_opens list.now class) v.items) }
 {
@@ -97,7 +97,7 @@ fn spans_of<A: Allocator + Copy>(
         let turn = list.turn(seen);
         if !is_open(turn.state, class) {
             if start < seen {
-                let span = Span {
+                let span = OpenSpan {
                     start: start as u32,
                     end: seen as u32,
                 };
@@ -112,11 +112,11 @@ fn spans_of<A: Allocator + Copy>(
     Ok(spans)
 }
 
-/// The first moment from `from` on from which the spans are open for `occ` ns or up to the moment `stop`.
-fn fit_among(spans: &[Span], from: u64, occ: u64, stop: u64) -> Option<u64>
+/// Returns the first time, `from` or later, from which a span lasts for `occ` ns or up to time `stop`.
+fn fit_in_spans(spans: &[OpenSpan], from: u64, occ: u64, stop: u64) -> Option<u64>
     requires from { from < 9_000_000_000_000_000_000 }
     requires occ { occ ≤ 1_000_000_000 }
-    ensures fit { result ≡ the_spans.fit_among spans.now from occ stop }
+    ensures fit { result ≡ the_spans.fit_in_spans spans.now from occ stop }
     ensures near { IfSome result (λ t. t < from + 2 ^ 32) }
 {
     for span in spans {
@@ -128,11 +128,11 @@ fn fit_among(spans: &[Span], from: u64, occ: u64, stop: u64) -> Option<u64>
     None
 }
 
-/// How many of the first spans end before `t` or at it, by halving.
+/// Returns the number of first spans that end at `t` or earlier, by binary search.
 #[inline(never)]
-fn place_behind(spans: &[Span], t: u64) -> usize
+fn search_index(spans: &[OpenSpan], t: u64) -> usize
     ensures within { result ≤ length spans.now }
-    ensures behind { 0 < result → end_at spans.now (result - 1) ≤ t }
+    ensures behind { 0 < result → span_end spans.now (result - 1) ≤ t }
 {
     let mut low = 0;
     let mut high = spans.len();
@@ -147,11 +147,11 @@ fn place_behind(spans: &[Span], t: u64) -> usize
     low
 }
 
-/// Whether all spans before a place end at `t` or earlier.
+/// Whether all spans before index `place` end at `t` or earlier.
 #[inline(always)]
-fn end_before(spans: &[Span], place: usize, t: u64) -> bool
+fn have_ended(spans: &[OpenSpan], place: usize, t: u64) -> bool
     requires { place ≤ length spans.now }
-    ensures { result ≡ true → 0 < place → end_at spans.now (place - 1) ≤ t }
+    ensures { result ≡ true → 0 < place → span_end spans.now (place - 1) ≤ t }
 {
     if place == 0 {
         return true;
@@ -159,24 +159,24 @@ fn end_before(spans: &[Span], place: usize, t: u64) -> bool
     u64::from(spans[place - 1].end) <= t
 }
 
-/// Whether the first span that ends behind `t`, or the end of all, is at most `MOST_WALKED` places behind a place.
+/// Whether the first span that ends after `t`, or the end of the list, is at most `MAX_WALK` spans after index `place`.
 #[inline(always)]
-fn is_near(spans: &[Span], place: usize, t: u64) -> bool
+fn is_within_walk(spans: &[OpenSpan], place: usize, t: u64) -> bool
     requires { place ≤ length spans.now }
 {
-    if spans.len() - place <= MOST_WALKED {
+    if spans.len() - place <= MAX_WALK {
         return true;
     }
-    t < u64::from(spans[place + MOST_WALKED].end)
+    t < u64::from(spans[place + MAX_WALK].end)
 }
 
-/// The place of the first span that ends behind `t`, from a place on of which all before end at `t` or earlier.
+/// Returns the index of the first span that ends after `t`. The search starts at index `from`; all earlier spans have ended.
 #[inline(always)]
-fn walk(spans: &[Span], from: usize, t: u64) -> usize
+fn walk_spans(spans: &[OpenSpan], from: usize, t: u64) -> usize
     requires within { from ≤ length spans.now }
-    requires behind { 0 < from → end_at spans.now (from - 1) ≤ t }
+    requires behind { 0 < from → span_end spans.now (from - 1) ≤ t }
     ensures within { result ≤ length spans.now }
-    ensures behind { 0 < result → end_at spans.now (result - 1) ≤ t }
+    ensures behind { 0 < result → span_end spans.now (result - 1) ≤ t }
 {
     let mut place = from;
     while place < spans.len() && u64::from(spans[place].end) <= t {
@@ -185,22 +185,22 @@ fn walk(spans: &[Span], from: usize, t: u64) -> usize
     place
 }
 
-/// The place of the first span that ends behind `t`: looked for from the place of the last one on, where that is near, else
-/// by halving.
+/// Returns the index of the first span that ends after `t`. The search starts at index `last` if that is near, otherwise it is a
+/// binary search.
 #[inline(always)]
-fn place_from(spans: &[Span], last: usize, t: u64) -> usize
+fn find_index(spans: &[OpenSpan], last: usize, t: u64) -> usize
     ensures within { result ≤ length spans.now }
-    ensures behind { 0 < result → end_at spans.now (result - 1) ≤ t }
+    ensures behind { 0 < result → span_end spans.now (result - 1) ≤ t }
 {
-    if last <= spans.len() && end_before(spans, last, t) && is_near(spans, last, t) {
-        return walk(spans, last, t);
+    if last <= spans.len() && have_ended(spans, last, t) && is_within_walk(spans, last, t) {
+        return walk_spans(spans, last, t);
     }
-    place_behind(spans, t)
+    search_index(spans, t)
 }
 
-/// How far a moment is into its cycle. Nothing is divided where the cycle is the one of the last call.
+/// Returns the offset of `t` in its cycle. A cycle equal to the last call's needs no division.
 #[inline(always)]
-fn into_cycle(laps: &mut u64, cycle: u64, t: u64) -> u64
+fn phase_in_cycle(laps: &mut u64, cycle: u64, t: u64) -> u64
     requires cycle { 0 < cycle }
     requires early { t < 9_000_000_000_000_000_000 }
     ensures { result ≡ t % cycle }
@@ -213,34 +213,34 @@ fn into_cycle(laps: &mut u64, cycle: u64, t: u64) -> u64
     t % cycle
 }
 
-/// The spans of all classes of a list.
-pub fn spans_of_all<A: Allocator + Copy>(
+/// Makes the runs and spans of all classes of a list.
+pub fn class_spans<A: Allocator + Copy>(
     alloc: A,
     list: &CyclicList<u8, A>,
-) -> Result<Spans<A>, AllocError>
-    ensures { IfOk result (λ x. AreOf list.now x.runs x.each.items) }
+) -> Result<ClassSpans<A>, AllocError>
+    ensures { IfOk result (λ x. AreListSpans list.now x.runs x.each.items) }
 {
-    let runs = runs_of(list);
+    let runs = longest_runs(list);
     let Ok(mut each) = Vec::with_capacity(alloc, 8) else {
         return Err(AllocError);
     };
     for class in 0..8u8 {
-        let Ok(spans) = spans_of(alloc, list, class) else {
+        let Ok(spans) = open_spans(alloc, list, class) else {
             return Err(AllocError);
         };
         let Ok(()) = each.push(spans) else {
             return Err(AllocError);
         };
     }
-    Ok(Spans { runs, each })
+    Ok(ClassSpans { runs, each })
 }
 
-/// The least moment from `from` on from which a list opens the class for `occ` ns or up to the moment `stop`, where the spans
-/// show it.
-fn fit_until<A: Allocator + Copy>(
+/// Returns the earliest time, `from` or later, from which a list opens `class` for `occ` ns or up to `stop`. `None` if the spans
+/// show none.
+fn fit_until_stop<A: Allocator + Copy>(
     list: &CyclicList<u8, A>,
-    spans: &Spans<A>,
-    last: &mut Last,
+    spans: &ClassSpans<A>,
+    last: &mut SearchHint,
     class: usize,
     occ: u64,
     from: u64,
@@ -250,8 +250,8 @@ fn fit_until<A: Allocator + Copy>(
     requires occ { occ ≤ 1_000_000_000 }
     requires from { from < 9_000_000_000_000_000_000 }
     requires stop { from ≤ stop }
-    requires spans { AreOf list.now spans.now.runs spans.now.each.items }
-    ensures fit { IfSome result (λ t. IsFirst (until (list_opens list.now class) stop) occ from t) }
+    requires spans { AreListSpans list.now spans.now.runs spans.now.each.items }
+    ensures fit { IfSome result (λ t. IsFirstFit (open_or_stopped (list_opens list.now class) stop) occ from t) }
     ensures near { IfSome result (λ t. t < from + 2 ^ 32) }
 {
     let cycle = list.cycle();
@@ -261,22 +261,22 @@ fn fit_until<A: Allocator + Copy>(
     if occ == 0 {
         return Some(from);
     }
-    let into = into_cycle(&mut last.laps, cycle, from);
+    let into = phase_in_cycle(&mut last.laps, cycle, from);
     let lap = from - into;
     let own = spans.each[class].as_slice();
-    let place = place_from(own, last.places[class], into);
+    let place = find_index(own, last.places[class], into);
     last.places[class] = place;
-    match fit_among(&own[place..], into, occ, stop - lap) {
+    match fit_in_spans(&own[place..], into, occ, stop - lap) {
         Some(t) => Some(t + lap),
         None => None,
     }
 }
 
-/// The least moment from `from` on from which a list opens the class for `occ` ns, where the spans show it.
+/// Returns the earliest time, `from` or later, from which a list opens `class` for `occ` ns. `None` if the spans show none.
 pub fn fit_in_list<A: Allocator + Copy>(
     list: &CyclicList<u8, A>,
-    spans: &Spans<A>,
-    last: &mut Last,
+    spans: &ClassSpans<A>,
+    last: &mut SearchHint,
     class: usize,
     occ: u64,
     from: u64,
@@ -284,18 +284,19 @@ pub fn fit_in_list<A: Allocator + Copy>(
     requires class { class < 8 }
     requires occ { occ ≤ 1_000_000_000 }
     requires from { from < 9_000_000_000_000_000_000 }
-    requires spans { AreOf list.now spans.now.runs spans.now.each.items }
-    ensures { IfSome result (λ t. IsFirst (list_opens list.now class) occ from t) }
+    requires spans { AreListSpans list.now spans.now.runs spans.now.each.items }
+    ensures { IfSome result (λ t. IsFirstFit (list_opens list.now class) occ from t) }
 {
-    fit_until(list, spans, last, class, occ, from, u64::MAX)
+    fit_until_stop(list, spans, last, class, occ, from, u64::MAX)
 }
 
-/// The same of lists that are exchanged, by the spans of the old one and of the new one.
-pub fn fit_in_both<A: Allocator + Copy>(
+/// Returns the earliest time, `from` or later, from which two lists with a schedule change open `class` for `occ` ns. `None` if the
+/// spans show none.
+pub fn fit_in_changing_list<A: Allocator + Copy>(
     lists: &Joined<u8, A>,
-    old: &Spans<A>,
-    new: &Spans<A>,
-    last: &mut LastOfBoth,
+    old: &ClassSpans<A>,
+    new: &ClassSpans<A>,
+    last: &mut SearchHints,
     class: usize,
     occ: u64,
     from: u64,
@@ -303,16 +304,16 @@ pub fn fit_in_both<A: Allocator + Copy>(
     requires class { class < 8 }
     requires occ { occ ≤ 1_000_000_000 }
     requires from { from < 9_000_000_000_000_000_000 }
-    requires old { AreOf lists.now.old old.now.runs old.now.each.items }
-    requires new { AreOf lists.now.new new.now.runs new.now.each.items }
-    ensures { IfSome result (λ t. IsFirst (opens (Exchanged lists.now) class) occ from t) }
+    requires old { AreListSpans lists.now.old old.now.runs old.now.each.items }
+    requires new { AreListSpans lists.now.new new.now.runs new.now.each.items }
+    ensures { IfSome result (λ t. IsFirstFit (opens (Changing lists.now) class) occ from t) }
 {
     let (before, after) = lists.lists();
-    let at = lists.at();
+    let at = lists.change_time();
     if at <= from {
         return fit_in_list(after, new, &mut last.new, class, occ, from);
     }
-    match fit_until(before, old, &mut last.old, class, occ, from, at) {
+    match fit_until_stop(before, old, &mut last.old, class, occ, from, at) {
         Some(first) if first + occ <= at => Some(first),
         Some(first) if first <= at => {
             match fit_in_list(after, new, &mut last.new, class, first + occ - at, at) {

@@ -1,4 +1,4 @@
--- The table of one number changes.
+-- The recorder of one number changes.
 use Rattle.std.proofs.Common.{◌≡◌, ℕ, true, false, zero, suc, List, [], ◌∷◌, arith, refl, ap, ◌∙◌, sym, subst, Some}
 use Rattle.std.specs.Prelude.{OnOk, OnErr, Option, Result, Ok, Err, nat_eq, slice_get, length, is_some, IsSome, ◌<◌}
 use Rattle.std.specs.Cmp.{nat_eq_equiv}
@@ -11,9 +11,9 @@ use Rattle.bridge_limits.proofs.Orders.{same_eq}
 use Rattle.indexmap.specs.IndexMap.{IndexMap, IsUnique}
 use Rattle.indexmap.specs.Layout.{set_value_at}
 use Rattle.bridge_filter.proofs.Numbered.{found_at, number_is}
-use Rattle.bridge_relay.specs.Tables.{change}
+use Rattle.bridge_relay.specs.Recorders.{update_number}
 
-pub change_is : {X : Type 0} (n : ℕ) (f : X → X) (xs : List (ℕ × X)) (x y : X) → lookup (nat_eq n) xs ≡ Some x → y ≡ f x → set_value (nat_eq n) xs y ≡ change n f xs
+pub change_is : {X : Type 0} (n : ℕ) (f : X → X) (xs : List (ℕ × X)) (x y : X) → lookup (nat_eq n) xs ≡ Some x → y ≡ f x → set_value (nat_eq n) xs y ≡ update_number n f xs
 change_is n f [] x y h k = refl
 change_is {X} n f (e ∷ xs) x y h k = by_bool (nat_eq n e.0)
     (λ t.
@@ -52,25 +52,25 @@ set_first {X} (e ∷ es) (suc i) n x y distinct at =
     let other : nat_eq n e.0 ≡ false = nat_eq_equiv.symm n e.0 ∙ apart_at es i n e.0 x (IsDistinct-head nat_eq e.0 (keys_of es) distinct) at in
     rw other (ap (λ (z : List (ℕ × X)). e ∷ z) (set_first es i n x y (IsDistinct-tail nat_eq e.0 (keys_of es) distinct) at))
 
--- the value of a number that has a place
+-- The value of a number at its index.
 pub own_at : {X S : Type 0} (m : IndexMap ℕ X S) (i k n : ℕ) (x : X) → IsUnique nat_eq m → slice_get m.entries i ≡ Some (k, x) → slice_get (keys_of m.entries) i ≡ Some n → lookup (nat_eq n) m.entries ≡ Some x
 own_at m i k n x unique at is = subst (λ (j : ℕ). lookup (nat_eq j) m.entries ≡ Some x) (number_is m.entries i k n x at is) (found_at m i k x unique at)
 
 set_at : {X S : Type 0} (m : IndexMap ℕ X S) (i k n : ℕ) (x y : X) → IsUnique nat_eq m → slice_get m.entries i ≡ Some (k, x) → slice_get (keys_of m.entries) i ≡ Some n → set_value_at m.entries i y ≡ set_value (nat_eq n) m.entries y
 set_at m i k n x y unique at is = subst (λ (j : ℕ). set_value_at m.entries i y ≡ set_value (nat_eq j) m.entries y) (number_is m.entries i k n x at is) (set_first m.entries i k x y unique at)
 
--- it changes at its place
-pub change_at : {X S : Type 0} (m : IndexMap ℕ X S) (i k n : ℕ) (f : X → X) (x y : X) → IsUnique nat_eq m → slice_get m.entries i ≡ Some (k, x) → slice_get (keys_of m.entries) i ≡ Some n → y ≡ f x → set_value_at m.entries i y ≡ change n f m.entries
+-- The value of the number changes at its index.
+pub change_at : {X S : Type 0} (m : IndexMap ℕ X S) (i k n : ℕ) (f : X → X) (x y : X) → IsUnique nat_eq m → slice_get m.entries i ≡ Some (k, x) → slice_get (keys_of m.entries) i ≡ Some n → y ≡ f x → set_value_at m.entries i y ≡ update_number n f m.entries
 change_at m i k n f x y unique at is h = set_at m i k n x y unique at is ∙ change_is n f m.entries x y (own_at m i k n x unique at is) h
 
--- or it stays as it was
+-- An unchanged value leaves the map unchanged.
 pub same_at : {X S : Type 0} (m : IndexMap ℕ X S) (i k n : ℕ) (x y : X) → IsUnique nat_eq m → slice_get m.entries i ≡ Some (k, x) → slice_get (keys_of m.entries) i ≡ Some n → y ≡ x → set_value_at m.entries i y ≡ m.entries
 same_at m i k n x y unique at is h = set_at m i k n x y unique at is ∙ change_same n m.entries x y (own_at m i k n x unique at is) h
 
 pub there_by : {X : Type 0} (o : Option X) (x : X) → o ≡ Some x → IsSome o
 there_by o x e = ap is_some e
 
--- a number that has a place is within
+-- The index of a number is within the list.
 pub place_within : {X : Type 0} (xs : List (ℕ × X)) (i n : ℕ) → slice_get (keys_of xs) i ≡ Some n → i < length xs
 place_within [] i n e = absurd (cc)
 place_within (x ∷ xs) zero n e = omega arith

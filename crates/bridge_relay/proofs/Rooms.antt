@@ -1,8 +1,8 @@
--- Numbers of places and of what fits there.
+-- Numbers of items that fit the reserved capacity.
 use Rattle.std.proofs.Common.{◌≡◌, ℕ, Bool, true, false, ◌+◌, ◌<◌, ◌≤◌, arith}
 use Rattle.std.specs.Prelude.{if◌then◌else◌}
 
--- a list that is filled up to a place has room for one item more
+-- A list with fewer items than its limit has capacity for one more.
 pub room_left : (n p most cap : ℕ) → n ≤ p → p < most → most ≤ cap → n < cap
 room_left n p most cap few here room = omega arith
 
@@ -30,19 +30,19 @@ is_end p most to from = omega arith
 pub at_most : (n p most : ℕ) → n ≤ p → p ≤ most → n ≤ most
 at_most n p most low to = omega arith
 
--- one copy more is a number too
+-- One more sent copy doesn't overflow the counter.
 pub sent_fits : (sent dropped offered : ℕ) → sent + dropped ≡ offered → offered < 16000000 → sent + 1 < 18446744073709551616
 sent_fits sent dropped offered all few = omega arith
 
 pub dropped_fits : (sent dropped offered : ℕ) → sent + dropped ≡ offered → offered < 16000000 → dropped + 1 < 18446744073709551616
 dropped_fits sent dropped offered all few = omega arith
 
--- there is room for a verdict that is to come
+-- An open recorder has capacity for a verdict.
 pub room_open : (n k cap : ℕ) (b : Bool) → n + k + (if b then 1 else 0) ≤ cap → b ≡ true → n + k < cap
 room_open n k cap true room open_so = omega arith
 room_open n k cap false room open_so = absurd (cc)
 
--- and none is to come behind it
+-- After the verdict, the recorder is closed.
 pub room_closed : (n k cap m l more : ℕ) (b : Bool) → n + k + (if b then 1 else 0) ≤ cap → b ≡ true → m + l ≡ n + k + 1 → cap ≤ more → m + l + 0 ≤ more
 room_closed n k cap m l more true room open_so is kept = omega arith
 room_closed n k cap m l more false room open_so is kept = absurd (cc)

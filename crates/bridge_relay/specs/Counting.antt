@@ -1,15 +1,15 @@
--- What is counted of each port.
+-- Counts of the ports.
 use Rattle.std.specs.Prelude.{ℕ, zero, suc, ◌+◌, Option, Some, None, List, [], ◌∷◌, ◌++◌}
 use Rattle.bridge_semantics.specs.declared.outcome.PortCount.{PortCount}
-use Rattle.bridge_relay.specs.declared.slot.Slot.{Slot}
-use Rattle.bridge_relay.specs.Ports.{slot_in}
+use Rattle.bridge_relay.specs.declared.port_state.PortState.{PortState}
+use Rattle.bridge_relay.specs.Ports.{nth_port}
 
--- the count of a port, where it is there
-abbrev pub count_one : {A : Type 0} → ℕ → Option (Slot A) → List (ℕ × PortCount)
-count_one q None = []
-count_one q (Some s) = (q, s.count) ∷ []
+-- A list with the number and counts of port `q`; the empty list if the port is missing.
+abbrev pub optional_count : {A : Type 0} → ℕ → Option (PortState A) → List (ℕ × PortCount)
+optional_count q None = []
+optional_count q (Some s) = (q, s.count) ∷ []
 
--- the counts of the ports from 1 to n, by rising number
-abbrev pub counts_to : {A : Type 0} → List (Option (Slot A)) → ℕ → List (ℕ × PortCount)
-counts_to slots zero = []
-counts_to slots (suc n) = counts_to slots n ++ count_one (n + 1) (slot_in slots (n + 1))
+-- The counts of the existing ports from 1 to `n`, by rising number.
+abbrev pub port_counts : {A : Type 0} → List (Option (PortState A)) → ℕ → List (ℕ × PortCount)
+port_counts slots zero = []
+port_counts slots (suc n) = port_counts slots n ++ optional_count (n + 1) (nth_port slots (n + 1))

@@ -1,8 +1,8 @@
-pub mod Tables
-pub mod Slots
+pub mod Recorders
+pub mod PortStates
 pub mod Ports
-pub mod Told
+pub mod Records
 pub mod Counting
-pub mod Relays
-pub mod Relaying
-pub mod Ending
+pub mod RelayState
+pub mod RelayedFrames
+pub mod Finish

@@ -1,132 +1,132 @@
--- The ports of a bridge, and which of them starts next.
+-- The ports of a bridge, and their next starts.
 use Rattle.std.specs.Prelude.{◌≡◌, ℕ, zero, suc, Bool, true, false, ◌+◌, ◌-◌, ◌<◌, ◌≤◌, ◌&&◌, Option, Some, None, is_none, List, [], ◌∷◌, length, slice_set, slice_index, slice_index_or, if◌then◌else◌, Result, ◌⊎◌}
-use Rattle.bridge_limits.specs.declared.TheConstants.{END_OF_SENDING, LONGEST_FRAME, MOST_ARRIVALS}
-use Rattle.bridge_frame.specs.Link.{occupied}
-use Rattle.bridge_forward.specs.Ports.{has}
+use Rattle.bridge_limits.specs.declared.TheConstants.{END_OF_SENDING, LONGEST_FRAME, MAX_ARRIVALS}
+use Rattle.bridge_frame.specs.Link.{transmission_time}
+use Rattle.bridge_forward.specs.Ports.{has_port}
 use Rattle.bridge_config.specs.declared.ports.PortPlan.{PortPlan}
 use Rattle.bridge_port.specs.declared.item.Item.{Item}
 use Rattle.bridge_port.specs.declared.item.Refusal.{Refusal}
 use Rattle.bridge_port.specs.Schedule.{Copy}
-use Rattle.bridge_port.specs.Opening.{opening_of}
-use Rattle.bridge_port.specs.Standing.{StandsFor, IsDue, IsNext, IsBegun, refusal_of, copy_of, count_queued, limit}
-use Rattle.bridge_semantics.specs.declared.load.Load.{Load}
-use Rattle.bridge_relay.specs.declared.slot.Slot.{Slot}
-use Rattle.bridge_relay.specs.declared.slot.Begun.{Begun}
-use Rattle.bridge_relay.specs.Slots.{offered_slot, started_slot, refusal_to}
+use Rattle.bridge_port.specs.GateSchedule.{gate_schedule}
+use Rattle.bridge_port.specs.StandsFor.{StandsFor, IsNextStartTime, IsNextStart, HasStartedOldest, offer_refusal, offered_copy, count_queued, time_limit}
+use Rattle.bridge_semantics.specs.declared.queued_frame.QueuedFrame.{QueuedFrame}
+use Rattle.bridge_relay.specs.declared.port_state.PortState.{PortState}
+use Rattle.bridge_relay.specs.declared.port_state.StartedFrame.{StartedFrame}
+use Rattle.bridge_relay.specs.PortStates.{offered_port, started_port, offer_result}
 
--- the ports by number from 1, and when each has its next start
+-- The ports by number from 1, and an agenda with the next start of each port.
 pub record PortsState (G A : Type 0) : Type 0 where
-  pub slots : List (Option (Slot A))
+  pub slots : List (Option (PortState A))
   pub agenda : G
 
--- the port of a number from 1
-abbrev pub slot_in : {A : Type 0} → List (Option (Slot A)) → ℕ → Option (Slot A)
-slot_in slots q = slice_index_or slots (q - 1) None
+-- The port with number `q`, counted from 1; `None` if it is missing.
+abbrev pub nth_port : {A : Type 0} → List (Option (PortState A)) → ℕ → Option (PortState A)
+nth_port slots q = slice_index_or slots (q - 1) None
 
--- what is kept of the port of a number
-abbrev pub slot_at : {G A : Type 0} → PortsState G A → ℕ → Option (Slot A)
-slot_at p q = slot_in p.slots q
+-- The state of the port with number `q`; `None` if it is missing.
+abbrev pub port_state : {G A : Type 0} → PortsState G A → ℕ → Option (PortState A)
+port_state p q = nth_port p.slots q
 
--- what a port keeps
-pub record IsSlot {A : Type 0} (s : Slot A) : Type 0 where
+-- Holds if a port's state is consistent: classes are at most 7, queued and dropped copies add up to the offers, and counts of frames fit.
+pub record IsPortSound {A : Type 0} (s : PortState A) : Type 0 where
   pub classes : (k : ℕ) → k ≤ 7 → slice_index s.classes k < 8
   pub counted : s.count.sent + s.count.dropped ≡ s.port.offered
   pub came : s.count.malformed + s.count.nowhere + s.count.unfiltered ≤ s.count.frames
   pub pace : s.port.speed ≡ s.speed
 
--- the agenda has exactly the next start of each port
-pub record AreKept {G A : Type 0} (held : G → ℕ → Option ℕ) (slots : List (Option (Slot A))) (agenda : G) : Type 0 where
+-- Holds if there are 16 slots with consistent ports, and the agenda has exactly each port's next start.
+pub record ArePortsSound {G A : Type 0} (held : G → ℕ → Option ℕ) (slots : List (Option (PortState A))) (agenda : G) : Type 0 where
   pub size : length slots ≡ 16
-  pub due : (q : ℕ) (s : Slot A) → 1 ≤ q → slot_in slots q ≡ Some s → IsDue s.port (held agenda q)
-  pub others : (q k : ℕ) → held agenda q ≡ Some k → (1 ≤ q) × ((s : Slot A) × (slot_in slots q ≡ Some s))
-  pub each : (q : ℕ) (s : Slot A) → 1 ≤ q → slot_in slots q ≡ Some s → IsSlot s
+  pub due : (q : ℕ) (s : PortState A) → 1 ≤ q → nth_port slots q ≡ Some s → IsNextStartTime s.port (held agenda q)
+  pub others : (q k : ℕ) → held agenda q ≡ Some k → (1 ≤ q) × ((s : PortState A) × (nth_port slots q ≡ Some s))
+  pub each : (q : ℕ) (s : PortState A) → 1 ≤ q → nth_port slots q ≡ Some s → IsPortSound s
 
--- no held moment is before t
-abbrev pub NotBefore : (ℕ → Option ℕ) → ℕ → Type 0
-NotBefore held t = (q k : ℕ) → held q ≡ Some k → t ≤ k
+-- Holds if no start in the agenda is earlier than `t`.
+abbrev pub StartsNoEarlier : (ℕ → Option ℕ) → ℕ → Type 0
+StartsNoEarlier held t = (q k : ℕ) → held q ≡ Some k → t ≤ k
 
--- each held moment is after that of a port, or the same and of a later port
-abbrev pub IsAfter : (ℕ → Option ℕ) → ℕ → ℕ → Type 0
-IsAfter held p t = (q k : ℕ) → held q ≡ Some k → (t < k) ⊎ ((t ≡ k) × (p < q))
+-- Holds if each start in the agenda is after time `t`, or at time `t` on a port above `p`.
+abbrev pub HasLaterStarts : (ℕ → Option ℕ) → ℕ → ℕ → Type 0
+HasLaterStarts held p t = (q k : ℕ) → held q ≡ Some k → (t < k) ⊎ ((t ≡ k) × (p < q))
 
--- an offer may come to a port at t
-abbrev pub MayOffer : {G A : Type 0} → PortsState G A → ℕ → ℕ → Type 0
-MayOffer {G} {A} p q t = (s : Slot A) → slot_at p q ≡ Some s → (s.port.earliest ≤ t) × (s.port.offered < MOST_ARRIVALS)
+-- Holds if port `q` can be offered a copy at time `t`: time doesn't go back, and the limit of arrivals isn't reached.
+abbrev pub CanOffer : {G A : Type 0} → PortsState G A → ℕ → ℕ → Type 0
+CanOffer {G} {A} p q t = (s : PortState A) → port_state p q ≡ Some s → (s.port.earliest ≤ t) × (s.port.offered < MAX_ARRIVALS)
 
--- the port of a number was offered an item, and no other port changed
-pub record HasOffered {G A : Type 0} (old new : PortsState G A) (q : ℕ) (s : Slot A) (t c : ℕ) (x : Item (Load A)) (result : Result (Unit {0}) Refusal) : Type 0 where
-  pub slots : new.slots ≡ slice_set old.slots (q - 1) (Some (offered_slot s t c x))
-  pub answer : result ≡ refusal_to s c x
-  pub stands : (xs : List (Copy (Item (Load A)))) → StandsFor s.port xs → StandsFor (offered_slot s t c x).port (copy_of s.port t c x ∷ xs)
-  pub counts : (f : Item (Load A) → Bool) → count_queued f (offered_slot s t c x).port ≡ (if is_none (refusal_of s.port c x) && f x then 1 else 0) + count_queued f s.port
+-- Holds if port `q` was offered item `x`, answered `result`, and no other port changed.
+pub record HasOffered {G A : Type 0} (old new : PortsState G A) (q : ℕ) (s : PortState A) (t c : ℕ) (x : Item (QueuedFrame A)) (result : Result (Unit {0}) Refusal) : Type 0 where
+  pub slots : new.slots ≡ slice_set old.slots (q - 1) (Some (offered_port s t c x))
+  pub answer : result ≡ offer_result s c x
+  pub stands : (xs : List (Copy (Item (QueuedFrame A)))) → StandsFor s.port xs → StandsFor (offered_port s t c x).port (offered_copy s.port t c x ∷ xs)
+  pub counts : (f : Item (QueuedFrame A) → Bool) → count_queued f (offered_port s t c x).port ≡ (if is_none (offer_refusal s.port c x) && f x then 1 else 0) + count_queued f s.port
 
--- the port of a number made its next start, and no other port changed
-pub record HasStarted {G A : Type 0} (old new : PortsState G A) (q : ℕ) (s : Slot A) (k : ℕ) (b : Begun A) : Type 0 where
+-- Holds if port `q` made its next start, and no other port changed.
+pub record HasStarted {G A : Type 0} (old new : PortsState G A) (q : ℕ) (s : PortState A) (k : ℕ) (b : StartedFrame A) : Type 0 where
   pub from : 1 ≤ q
-  pub there : slot_at old q ≡ Some s
-  pub slots : new.slots ≡ slice_set old.slots (q - 1) (Some (started_slot s k b.class b.item))
-  pub next : IsNext s.port k b.class b.item
-  pub stands : (xs : List (Copy (Item (Load A)))) → StandsFor s.port xs → IsBegun (started_slot s k b.class b.item).port b.class k b.item xs
-  pub counts : (f : Item (Load A) → Bool) → count_queued f s.port ≡ (if f b.item then 1 else 0) + count_queued f (started_slot s k b.class b.item).port
-  pub done : b.done ≡ k + occupied b.item.len s.speed
-  pub bounded : b.done < limit (s.port.started + 1)
+  pub there : port_state old q ≡ Some s
+  pub slots : new.slots ≡ slice_set old.slots (q - 1) (Some (started_port s k b.class b.item))
+  pub next : IsNextStart s.port k b.class b.item
+  pub stands : (xs : List (Copy (Item (QueuedFrame A)))) → StandsFor s.port xs → HasStartedOldest (started_port s k b.class b.item).port b.class k b.item xs
+  pub counts : (f : Item (QueuedFrame A) → Bool) → count_queued f s.port ≡ (if f b.item then 1 else 0) + count_queued f (started_port s k b.class b.item).port
+  pub done : b.done ≡ k + transmission_time b.item.len s.speed
+  pub bounded : b.done < time_limit (s.port.started + 1)
   pub early : b.done < END_OF_SENDING
   pub short : b.item.len ≤ LONGEST_FRAME
 
--- the VLAN and the priority of a port's frames without a tag
-abbrev pub defaults_of : {A : Type 0} → Option (Slot A) → Option (ℕ × ℕ)
-defaults_of None = None
-defaults_of (Some s) = Some (s.vid, s.priority)
+-- The VLAN and the priority of a port's untagged frames; `None` if the port is missing.
+abbrev pub ingress_defaults : {A : Type 0} → Option (PortState A) → Option (ℕ × ℕ)
+ingress_defaults None = None
+ingress_defaults (Some s) = Some (s.vid, s.priority)
 
--- whether there is something
-abbrev pub is_there : {X : Type 0} → Option X → Bool
-is_there None = false
-is_there (Some x) = true
+-- True if the optional value is present.
+abbrev pub is_present : {X : Type 0} → Option X → Bool
+is_present None = false
+is_present (Some x) = true
 
--- whether a frame that goes to a set of ports goes to port q
-abbrev pub goes_out : {A : Type 0} → List (Option (Slot A)) → ℕ → ℕ → Bool
-goes_out slots set q = has set q && is_there (slot_in slots q)
+-- True if a frame with the egress ports `set` leaves by port `q`: the set has the port, and the port exists.
+abbrev pub is_output : {A : Type 0} → List (Option (PortState A)) → ℕ → ℕ → Bool
+is_output slots set q = has_port set q && is_present (nth_port slots q)
 
--- how many of the ports up to n are there and in a set
-abbrev pub outs : {A : Type 0} → List (Option (Slot A)) → ℕ → ℕ → ℕ
-outs slots set zero = 0
-outs slots set (suc n) = outs slots set n + (if goes_out slots set (n + 1) then 1 else 0)
+-- The number of ports from 1 to `n` that exist and are in `set`.
+abbrev pub count_outputs : {A : Type 0} → List (Option (PortState A)) → ℕ → ℕ → ℕ
+count_outputs slots set zero = 0
+count_outputs slots set (suc n) = count_outputs slots set n + (if is_output slots set (n + 1) then 1 else 0)
 
--- the last of them, 0 where there is none
-pub record IsLastOut {A : Type 0} (slots : List (Option (Slot A))) (set last : ℕ) : Type 0 where
-  pub is_in : 0 < last → (last ≤ 16) × (goes_out slots set last ≡ true)
-  pub none_after : (q : ℕ) → last < q → q ≤ 16 → goes_out slots set q ≡ false
+-- Holds if `last` is the highest port that exists and is in the set, or 0 if there is none.
+pub record IsLastOutput {A : Type 0} (slots : List (Option (PortState A))) (set last : ℕ) : Type 0 where
+  pub is_in : 0 < last → (last ≤ 16) × (is_output slots set last ≡ true)
+  pub none_after : (q : ℕ) → last < q → q ≤ 16 → is_output slots set q ≡ false
 
--- what a port does by the plan
-pub record IsMade {A : Type 0} (out : PortPlan A) (s : Slot A) : Type 0 where
+-- Holds if port state `s` has the settings of the plan's port `out`.
+pub record IsMadeByPlan {A : Type 0} (out : PortPlan A) (s : PortState A) : Type 0 where
   pub speed : s.speed ≡ out.speed
   pub vid : s.vid ≡ out.vid
   pub priority : s.priority ≡ out.priority
   pub classes : s.classes ≡ out.classes
   pub pace : s.port.speed ≡ out.speed
-  pub list : s.port.list ≡ opening_of out.list
+  pub list : s.port.list ≡ gate_schedule out.list
   pub rooms : s.port.rooms ≡ out.rooms
 
--- a port of the plan is there where a port is kept, and that is made of it
-abbrev pub AreAlike : {A : Type 0} → Option (PortPlan A) → Option (Slot A) → Type 0
-AreAlike None None = Unit {0}
-AreAlike None (Some s) = ⊥
-AreAlike (Some out) None = ⊥
-AreAlike (Some out) (Some s) = IsMade out s
+-- Holds if the port's state and its plan are both missing, or the state has the plan's settings.
+abbrev pub MatchesPlan : {A : Type 0} → Option (PortPlan A) → Option (PortState A) → Type 0
+MatchesPlan None None = Unit {0}
+MatchesPlan None (Some s) = ⊥
+MatchesPlan (Some out) None = ⊥
+MatchesPlan (Some out) (Some s) = IsMadeByPlan out s
 
--- a port of which nothing was asked yet
-pub record IsNew {A : Type 0} (s : Slot A) : Type 0 where
+-- Holds if no frame has arrived at port `s`, and no copy was offered to it.
+pub record IsIdlePort {A : Type 0} (s : PortState A) : Type 0 where
   pub stands : StandsFor s.port []
-  pub idle : IsDue s.port None
+  pub idle : IsNextStartTime s.port None
   pub earliest : s.port.earliest ≡ 0
   pub offered : s.port.offered ≡ 0
   pub started : s.port.started ≡ 0
-  pub empty : (f : Item (Load A) → Bool) → count_queued f s.port ≡ 0
+  pub empty : (f : Item (QueuedFrame A) → Bool) → count_queued f s.port ≡ 0
   pub count : s.count ≡ record { frames = 0; malformed = 0; nowhere = 0; unfiltered = 0; sent = 0; dropped = 0 }
 
--- a port as its plan makes it, where there is one
-abbrev pub IsFirst : {A : Type 0} → Option (PortPlan A) → Option (Slot A) → Type 0
-IsFirst None None = Unit {0}
-IsFirst None (Some s) = ⊥
-IsFirst (Some out) None = ⊥
-IsFirst (Some out) (Some s) = IsMade out s × IsNew s
+-- Holds if the port's state and its plan are both missing, or the state is the plan's port before any event.
+abbrev pub IsInitialPort : {A : Type 0} → Option (PortPlan A) → Option (PortState A) → Type 0
+IsInitialPort None None = Unit {0}
+IsInitialPort None (Some s) = ⊥
+IsInitialPort (Some out) None = ⊥
+IsInitialPort (Some out) (Some s) = IsMadeByPlan out s × IsIdlePort s

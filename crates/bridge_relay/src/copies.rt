@@ -1,16 +1,16 @@
 //! Copies of a frame's octets.
 ghost use Rattle.std.specs.Prelude.{◌≡◌, length, IfOk, All};
-ghost use Rattle.bridge_semantics.specs.Offers.{leaving};
+ghost use Rattle.bridge_semantics.specs.Offers.{leaving_octets};
 
-use bridge_capture::Spares;
+use bridge_capture::BufferPool;
 use bridge_cycle::NoMemory;
 use bridge_frame::mark_drop_eligible;
 use std::alloc::{AllocError, Allocator};
 
-/// A copy of octets, in a spare vector.
-fn copy_of<A: Allocator + Copy>(
+/// Copies `octets` into a spare buffer.
+fn copy_octets<A: Allocator + Copy>(
     octets: &[u8],
-    spares: &mut Spares<A>,
+    spares: &mut BufferPool<A>,
 ) -> Result<Vec<u8, A>, AllocError>
     ensures { IfOk result (λ v. v.items ≡ octets.now) }
 {
@@ -19,13 +19,13 @@ fn copy_of<A: Allocator + Copy>(
     Ok(copy)
 }
 
-/// So many copies of octets, in spare vectors as far as there are some.
+/// Makes `count` copies of `octets`, in spare buffers as far as the pool has any.
 #[inline(always)]
-pub fn copies_of<A: Allocator + Copy>(
+pub fn make_copies<A: Allocator + Copy>(
     alloc: A,
     octets: &[u8],
     count: usize,
-    spares: &mut Spares<A>,
+    spares: &mut BufferPool<A>,
 ) -> Result<Vec<Vec<u8, A>, A>, NoMemory>
     ensures count { IfOk result (λ copies. length copies.items ≡ count) }
     ensures octets { IfOk result (λ copies. All (λ v. v.items ≡ octets.now) copies.items) }
@@ -34,7 +34,7 @@ pub fn copies_of<A: Allocator + Copy>(
         return Err(NoMemory);
     };
     for _ in 0..count {
-        let Ok(copy) = copy_of(octets, spares) else {
+        let Ok(copy) = copy_octets(octets, spares) else {
             return Err(NoMemory);
         };
         copies.push_reserved(copy);
@@ -42,17 +42,17 @@ pub fn copies_of<A: Allocator + Copy>(
     Ok(copies)
 }
 
-/// Makes copies spare that are not offered.
-pub fn spare_all<A: Allocator + Copy>(copies: Vec<Vec<u8, A>, A>, spares: &mut Spares<A>) {
+/// Returns unused copies to the pool.
+pub fn return_copies<A: Allocator + Copy>(copies: Vec<Vec<u8, A>, A>, spares: &mut BufferPool<A>) {
     for octets in copies {
         spares.put(octets);
     }
 }
 
-/// A frame's octets as they leave: marked where the frame is drop eligible.
+/// Marks the frame's tag drop eligible, if `eligible` is true.
 #[inline(always)]
-pub fn leave<A: Allocator + Copy>(octets: Vec<u8, A>, eligible: bool) -> Vec<u8, A>
-    ensures marked { result.items ≡ leaving eligible octets.items }
+pub fn mark_if_eligible<A: Allocator + Copy>(octets: Vec<u8, A>, eligible: bool) -> Vec<u8, A>
+    ensures marked { result.items ≡ leaving_octets eligible octets.items }
     ensures kept { length result.items ≡ length octets.items }
 {
     let mut octets = octets;

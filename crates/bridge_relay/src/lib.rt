@@ -1,20 +1,18 @@
 #![tactic(auto)]
-//! The relay of a bridge: frames arrive, are policed and queued, and leave. It keeps the ports with their queues and next starts, and
+//! Relays frames through a bridge: frames arrive, are policed and queued, and leave. Keeps the ports with their queues and next starts, and
 //! the record of each stream filter.
 
 pub mod copies;
-mod end;
-mod made;
-mod newest;
+pub mod filter_recorder;
+pub mod filter_recorders;
+mod finish;
+mod item_buffer;
+mod new_relay;
+pub mod port_state;
 pub mod ports;
 mod relay;
-pub mod slot;
-pub mod table;
-pub mod tables;
 
 pub use bridge_limits::NoMemory;
+pub use port_state::Ingress;
 pub use ports::Ports;
 pub use relay::{Relay, Sent};
-pub use slot::{Begun, Came, Slot};
-pub use table::{Table, Told};
-pub use tables::Tables;

@@ -1,45 +1,45 @@
-//! The ports of a bridge, and which of them starts next.
+//! The ports of a bridge, and their next starts.
 ghost use Rattle.std.specs.Prelude.{◌≡◌, ℕ, false, ◌<◌, ◌≤◌, ◌+◌, ◌-◌, [], Some, None, Option, length, nat_eq, if◌then◌else◌, slice_set, slice_index, IfOk, vec_capacity};
 ghost use Rattle.bridge_events.specs.Least.{IsLeast};
-ghost use Rattle.bridge_forward.specs.Ports.{has};
-ghost use Rattle.bridge_config.specs.Rules.{port_at};
-ghost use Rattle.bridge_relay.specs.declared.slot.Slot.{Slot};
-ghost use Rattle.bridge_relay.specs.Slots.{counted_frame};
-ghost use Rattle.bridge_relay.specs.Counting.{counts_to};
-ghost use Rattle.bridge_relay.specs.Ports.{slot_at, defaults_of, is_there, outs, AreKept, IsFirst, IsLastOut, HasOffered, HasStarted, MayOffer, NotBefore, IsAfter};
+ghost use Rattle.bridge_forward.specs.Ports.{has_port};
+ghost use Rattle.bridge_config.specs.Rules.{find_port};
+ghost use Rattle.bridge_relay.specs.declared.port_state.PortState.{PortState};
+ghost use Rattle.bridge_relay.specs.PortStates.{count_ingress};
+ghost use Rattle.bridge_relay.specs.Counting.{port_counts};
+ghost use Rattle.bridge_relay.specs.Ports.{port_state, ingress_defaults, is_present, count_outputs, ArePortsSound, IsInitialPort, IsLastOutput, HasOffered, HasStarted, CanOffer, StartsNoEarlier, HasLaterStarts};
 
-use crate::slot::{Begun, Came, Slot};
+use crate::port_state::{Ingress, PortState, StartedFrame};
 use bridge_config::Plan;
 use bridge_cycle::NoMemory;
 use bridge_events::Agenda;
 use bridge_forward::PortSet;
-use bridge_limits::{END_OF_TIME, LONGEST_FRAME, MOST_ARRIVALS};
+use bridge_limits::{END_OF_TIME, LONGEST_FRAME, MAX_ARRIVALS};
 use bridge_port::{Item, Refusal};
-use bridge_semantics::{Load, PortCount};
+use bridge_semantics::{PortCount, QueuedFrame};
 use std::alloc::Allocator;
 use std::marker::Model;
 
-/// The ports of a bridge by number from 1 to 16, where the plan has them, and when each has its next start.
+/// Ports of a bridge by number, 1 to 16, and the time of each port's next start.
 #[derive(Drop)]
 pub struct Ports<G: Agenda + Drop, A: Allocator + Copy> {
-    slots: Vec<Option<Slot<A>>, A>,
+    slots: Vec<Option<PortState<A>>, A>,
     agenda: G,
 }
 
 impl<G: Agenda + Drop, A: Allocator + Copy> Model for Ports<G, A> {
-    ghost use Rattle.bridge_relay.specs.Slots.{counted_frame};
-    ghost use Rattle.bridge_relay.specs.Ports.{PortsState, AreKept};
+    ghost use Rattle.bridge_relay.specs.PortStates.{count_ingress};
+    ghost use Rattle.bridge_relay.specs.Ports.{PortsState, ArePortsSound};
 
     ghost Value = { PortsState G A };
 
     ghost view = { λ p. record { slots = p.slots.items; agenda = p.agenda } };
 
-    ghost invariant = { λ p. AreKept G.held p.slots.items p.agenda };
+    ghost invariant = { λ p. ArePortsSound G.held p.slots.items p.agenda };
 }
 
-/// Gives a port its next start, or none.
+/// Sets or clears the next start of port `port`.
 #[inline(always)]
-fn renew<G: Agenda>(agenda: &mut G, port: u8, due: Option<u64>)
+fn set_next_start<G: Agenda>(agenda: &mut G, port: u8, due: Option<u64>)
     requires from { 1 ≤ port }
     requires to { port ≤ 16 }
     ensures { (p : ℕ) → G.held agenda.new p ≡ (if nat_eq p port then due else G.held agenda.old p) }
@@ -50,9 +50,9 @@ fn renew<G: Agenda>(agenda: &mut G, port: u8, due: Option<u64>)
     }
 }
 
-/// Gives a port its next start, or none, in place of the one that it had.
+/// Changes the next start of port `port` from `before` to `due`. Does nothing if both are equal.
 #[inline(always)]
-fn renew_from<G: Agenda>(agenda: &mut G, port: u8, before: Option<u64>, due: Option<u64>)
+fn update_next_start<G: Agenda>(agenda: &mut G, port: u8, before: Option<u64>, due: Option<u64>)
     requires from { 1 ≤ port }
     requires to { port ≤ 16 }
     requires held { G.held agenda.old port ≡ before }
@@ -61,14 +61,14 @@ fn renew_from<G: Agenda>(agenda: &mut G, port: u8, before: Option<u64>, due: Opt
     if before == due {
         return;
     }
-    renew(agenda, port, due);
+    set_next_start(agenda, port, due);
 }
 
-/// How many ports stand before the first of a set, or none where the set has no port.
+/// Returns the number of ports below the first port of `set`, or 0 for an empty set.
 #[inline(always)]
-fn first_place(set: PortSet) -> u8
+fn ports_before_first(set: PortSet) -> u8
     ensures within { result ≤ 16 }
-    ensures none { (q : ℕ) → 1 ≤ q → q ≤ result → has set q ≡ false }
+    ensures none { (q : ℕ) → 1 ≤ q → q ≤ result → has_port set q ≡ false }
 {
     let bits = set.bits();
     if bits == 0 {
@@ -77,16 +77,16 @@ fn first_place(set: PortSet) -> u8
     bits.trailing_zeros() as u8
 }
 
-/// The port of a number as the plan has it, where it does.
-fn slot_of<A: Allocator + Copy>(
+/// Makes the port with number `number`, if the plan has it.
+fn make_port_state<A: Allocator + Copy>(
     alloc: A,
     plan: &Plan<A>,
     number: u8,
-) -> Result<Option<Slot<A>>, NoMemory>
-    ensures { IfOk result (λ o. IsFirst (port_at plan.now.ports number) o) }
+) -> Result<Option<PortState<A>>, NoMemory>
+    ensures { IfOk result (λ o. IsInitialPort (find_port plan.now.ports number) o) }
 {
     match plan.port(number) {
-        Some(port) => match Slot::new(alloc, port) {
+        Some(port) => match PortState::new(alloc, port) {
             Ok(slot) => Ok(Some(slot)),
             Err(_) => Err(NoMemory),
         },
@@ -95,9 +95,10 @@ fn slot_of<A: Allocator + Copy>(
 }
 
 impl<G: Agenda + Drop, A: Allocator + Copy> Ports<G, A> {
-    /// The ports of a plan, before anything came.
+    /// Makes the ports of a plan, before any event.
     pub fn new(alloc: A, plan: &Plan<A>) -> Result<Ports<G, A>, NoMemory>
-        ensures first { IfOk result (λ p. (q : ℕ) → 1 ≤ q → IsFirst (port_at plan.now.ports q) (slot_at p q)) }
+        ensures first { IfOk result (λ p. (q : ℕ) → 1 ≤ q
+            → IsInitialPort (find_port plan.now.ports q) (port_state p q)) }
         ensures none_held { IfOk result (λ p. (q : ℕ) → G.held p.agenda q ≡ None) }
         ensures size { IfOk result (λ p. length p.slots ≡ 16) }
     {
@@ -106,7 +107,7 @@ impl<G: Agenda + Drop, A: Allocator + Copy> Ports<G, A> {
             return Err(NoMemory);
         };
         for place in 0u8..16 {
-            let Ok(slot) = slot_of(alloc, plan, place + 1) else {
+            let Ok(slot) = make_port_state(alloc, plan, place + 1) else {
                 return Err(NoMemory);
             };
             slots.push_reserved(slot);
@@ -117,56 +118,56 @@ impl<G: Agenda + Drop, A: Allocator + Copy> Ports<G, A> {
         })
     }
 
-    /// The port with the next start and its moment, the least port where several have it; `None` where nothing is queued.
+    /// Returns the next start: port and time in ns. At equal times, the lowest port is next. Returns `None` if no copy is queued.
     pub fn due(&self) -> Option<(u8, u64)>
         ensures { IsLeast (G.held self.now.agenda) result }
     {
         self.agenda.least()
     }
 
-    /// Offers an item with a priority (0 to 7) to a port. The octets of one that is refused are handed back, in place of what
-    /// was there.
+    /// Offers `item` to port `number` with priority `priority`, 0 to 7, at time `t` in ns. If the port drops the copy, `back` receives the
+    /// octets.
     #[inline(always)]
     pub fn offer(
         &mut self,
         number: u8,
         t: u64,
         priority: u8,
-        item: Item<Load<A>>,
+        item: Item<QueuedFrame<A>>,
         back: &mut Option<Vec<u8, A>>,
     ) -> Result<(), Refusal>
         requires from { 1 ≤ number }
-        requires there { (s : Slot A) × (slot_at self.old number ≡ Some s) }
-        requires early { MayOffer self.old number t }
-        requires due { NotBefore (G.held self.old.agenda) t }
+        requires there { (s : PortState A) × (port_state self.old number ≡ Some s) }
+        requires early { CanOffer self.old number t }
+        requires due { StartsNoEarlier (G.held self.old.agenda) t }
         requires range { t < END_OF_TIME }
         requires length { item.len ≤ LONGEST_FRAME }
         requires priority { priority ≤ 7 }
-        ensures offered { (s : Slot A) → slot_at self.old number ≡ Some s
+        ensures offered { (s : PortState A) → port_state self.old number ≡ Some s
             → HasOffered self.old self.new number s t (slice_index s.classes priority) item result }
-        ensures due { NotBefore (G.held self.new.agenda) t }
+        ensures due { StartsNoEarlier (G.held self.new.agenda) t }
     {
         match &mut self.slots[number as usize - 1] {
             Some(slot) => {
                 let before = slot.port.next_start();
                 let answer = slot.offer(t, priority, item, back);
                 let due = slot.port.next_start();
-                renew_from(&mut self.agenda, number, before, due);
+                update_next_start(&mut self.agenda, number, before, due);
                 answer
             }
             None => unreachable!(),
         }
     }
 
-    /// Makes the next start: the port, its moment and what began to leave.
+    /// Makes the next start. Returns the port, the time in ns and the copy.
     #[inline(always)]
-    pub fn start(&mut self) -> (u8, u64, Begun<A>)
+    pub fn start(&mut self) -> (u8, u64, StartedFrame<A>)
         requires { (q k : ℕ) × (G.held self.old.agenda q ≡ Some k) }
         ensures which { IsLeast (G.held self.old.agenda) (Some (result.0, result.1)) }
-        ensures started { (s : Slot A) × HasStarted self.old self.new result.0 s result.1 result.2 }
-        ensures later { IsAfter (G.held self.new.agenda) result.0 result.1 }
-        ensures kept { AreKept G.held self.old.slots self.old.agenda }
-        ensures keeps { AreKept G.held self.new.slots self.new.agenda }
+        ensures started { (s : PortState A) × HasStarted self.old self.new result.0 s result.1 result.2 }
+        ensures later { HasLaterStarts (G.held self.new.agenda) result.0 result.1 }
+        ensures kept { ArePortsSound G.held self.old.slots self.old.agenda }
+        ensures keeps { ArePortsSound G.held self.new.slots self.new.agenda }
     {
         match self.agenda.least() {
             Some((number, start)) => {
@@ -174,7 +175,7 @@ impl<G: Agenda + Drop, A: Allocator + Copy> Ports<G, A> {
                     Some(slot) => {
                         let begun = slot.start(start);
                         let due = slot.port.next_start();
-                        renew(&mut self.agenda, number, due);
+                        set_next_start(&mut self.agenda, number, due);
                         (number, start, begun)
                     }
                     None => unreachable!(),
@@ -184,11 +185,11 @@ impl<G: Agenda + Drop, A: Allocator + Copy> Ports<G, A> {
         }
     }
 
-    /// The starts of a port so far.
+    /// Returns the number of starts of port `number`.
     pub fn started(&self, number: u8) -> u64
         requires from { 1 ≤ number }
-        requires there { (s : Slot A) × (slot_at self.now number ≡ Some s) }
-        ensures { (s : Slot A) → slot_at self.now number ≡ Some s → result ≡ s.port.started }
+        requires there { (s : PortState A) × (port_state self.now number ≡ Some s) }
+        ensures { (s : PortState A) → port_state self.now number ≡ Some s → result ≡ s.port.started }
     {
         match &self.slots[number as usize - 1] {
             Some(slot) => slot.port.started(),
@@ -196,11 +197,11 @@ impl<G: Agenda + Drop, A: Allocator + Copy> Ports<G, A> {
         }
     }
 
-    /// The VLAN and the priority of frames that come on a port and name none, where there is such a port.
-    pub fn ingress(&self, number: u8) -> Option<(u16, u8)>
+    /// Returns the VLAN and the priority of untagged frames at port `number`; `None` if the port is missing.
+    pub fn ingress_defaults(&self, number: u8) -> Option<(u16, u8)>
         requires from { 1 ≤ number }
         requires to { number ≤ 16 }
-        ensures { result ≡ defaults_of (slot_at self.now number) }
+        ensures { result ≡ ingress_defaults (port_state self.now number) }
     {
         match &self.slots[number as usize - 1] {
             Some(slot) => Some((slot.vid, slot.priority)),
@@ -208,11 +209,11 @@ impl<G: Agenda + Drop, A: Allocator + Copy> Ports<G, A> {
         }
     }
 
-    /// Whether there is a port of this number.
+    /// Whether port `number` exists.
     pub fn has(&self, number: u8) -> bool
         requires from { 1 ≤ number }
         requires to { number ≤ 16 }
-        ensures { result ≡ is_there (slot_at self.now number) }
+        ensures { result ≡ is_present (port_state self.now number) }
     {
         match &self.slots[number as usize - 1] {
             Some(_) => true,
@@ -220,17 +221,17 @@ impl<G: Agenda + Drop, A: Allocator + Copy> Ports<G, A> {
         }
     }
 
-    /// How many ports of a set there are, and the last of them.
+    /// Returns the number of existing ports in `set`, and the last of them; 0 and 0 if there are none.
     #[inline(always)]
-    pub fn outs(&self, set: PortSet) -> (usize, u8)
-        ensures count { result.0 ≡ outs self.now.slots set 16 }
+    pub fn count_outputs(&self, set: PortSet) -> (usize, u8)
+        ensures count { result.0 ≡ count_outputs self.now.slots set 16 }
         ensures few { result.0 ≤ 16 }
-        ensures last { IsLastOut self.now.slots set result.1 }
+        ensures last { IsLastOutput self.now.slots set result.1 }
     {
         let bits = set.bits();
         let mut count = 0;
         let mut last = 0;
-        let mut place = first_place(set);
+        let mut place = ports_before_first(set);
         while place < 16 && bits >> place != 0 {
             place += 1;
             if set.has(place) && self.has(place) {
@@ -241,15 +242,15 @@ impl<G: Agenda + Drop, A: Allocator + Copy> Ports<G, A> {
         (count, last)
     }
 
-    /// Counts a frame that came on a port.
+    /// Counts a frame that arrived at port `number`.
     #[inline(always)]
-    pub fn count(&mut self, number: u8, came: Came)
+    pub fn count_arrival(&mut self, number: u8, came: Ingress)
         requires from { 1 ≤ number }
-        requires there { (s : Slot A) × (slot_at self.old number ≡ Some s) × (s.count.frames < MOST_ARRIVALS) }
+        requires there { (s : PortState A) × (port_state self.old number ≡ Some s) × (s.count.frames < MAX_ARRIVALS) }
         ensures agenda { self.new.agenda ≡ self.old.agenda }
-        ensures slots { (s : Slot A) → slot_at self.old number ≡ Some s
+        ensures slots { (s : PortState A) → port_state self.old number ≡ Some s
             → self.new.slots ≡ slice_set self.old.slots (number - 1) (Some (record s
-            { count = counted_frame s.count came })) }
+            { count = count_ingress s.count came })) }
     {
         match &mut self.slots[number as usize - 1] {
             Some(slot) => slot.count_frame(came),
@@ -257,19 +258,19 @@ impl<G: Agenda + Drop, A: Allocator + Copy> Ports<G, A> {
         }
     }
 
-    /// The agenda has exactly the next start of each port.
-    pub fn keep(&self)
-        ensures { AreKept G.held self.now.slots self.now.agenda }
+    /// States that the agenda has exactly each port's next start.
+    pub fn assert_agenda(&self)
+        ensures { ArePortsSound G.held self.now.slots self.now.agenda }
     {
         let _slots = &self.slots;
     }
 
-    /// What is counted of each port, by rising number. It takes no memory.
+    /// Returns the counts of each port, by rising number. Allocates no memory.
     pub fn counts(&self, counts: Vec<(u8, PortCount), A>) -> Vec<(u8, PortCount), A>
         requires none { counts.items ≡ [] }
         requires room { 16 ≤ vec_capacity counts }
-        ensures counts { result.items ≡ counts_to self.now.slots 16 }
-        ensures kept { AreKept G.held self.now.slots self.now.agenda }
+        ensures counts { result.items ≡ port_counts self.now.slots 16 }
+        ensures kept { ArePortsSound G.held self.now.slots self.now.agenda }
     {
         let mut counts = counts;
         for place in 0u8..16 {

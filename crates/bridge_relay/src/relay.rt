@@ -1,57 +1,64 @@
-//! The bridge.
+//! The relay: ports, filters and records of one bridge.
 ghost use Rattle.std.specs.Option.{option_map};
-ghost use Rattle.bridge_filter.specs.Verdicts.{flow};
+ghost use Rattle.bridge_filter.specs.Verdicts.{frame_filter};
 ghost use Rattle.bridge_config.specs.declared.ports.PortPlan.{PortPlan};
-ghost use Rattle.bridge_relay.specs.declared.slot.Slot.{Slot};
-ghost use Rattle.bridge_filter.specs.Plans.{is_there};
-ghost use Rattle.bridge_filter.specs.Finding.{IsFound};
-ghost use Rattle.bridge_semantics.specs.declared.way.Way.TheVariants.{Goes};
-ghost use Rattle.bridge_semantics.specs.Events.{way_of};
-ghost use Rattle.bridge_relay.specs.Tables.{change_if, promised};
-ghost use Rattle.bridge_relay.specs.Ports.{outs, slot_at, goes_out};
-ghost use Rattle.bridge_filter.specs.Verdicts.{HasPriority};
+ghost use Rattle.bridge_relay.specs.declared.port_state.PortState.{PortState};
+ghost use Rattle.bridge_filter.specs.Plans.{is_listed};
+ghost use Rattle.bridge_filter.specs.Routes.{IsFoundRoute};
+ghost use Rattle.bridge_semantics.specs.declared.destination.Destination.TheVariants.{Forwarded};
+ghost use Rattle.bridge_semantics.specs.Events.{frame_destination};
+ghost use Rattle.bridge_relay.specs.Recorders.{update_if_some, with_room};
+ghost use Rattle.bridge_relay.specs.Ports.{count_outputs, port_state, is_output};
+ghost use Rattle.bridge_filter.specs.Verdicts.{HasValidPriority};
 ghost use Rattle.bridge_filter.specs.declared.Ruling.{Ruling};
-ghost use Rattle.bridge_relay.specs.Tables.{IsOpen};
-ghost use Rattle.bridge_relay.specs.Relaying.{classified, filter_number, one_less, releasing, HasRuled, IsFresh, IsNumbered, IsPending, HasWayPriority, IsRelayed, HasOfferedTo, IsPrepared, MayRelay, IsOffering, HasCopies, HasPassed, IsOver, leaves};
+ghost use Rattle.bridge_relay.specs.Recorders.{AwaitsVerdict};
+ghost use Rattle.bridge_relay.specs.RelayedFrames.{classify, input_filter_number, relay_before_frame, relay_with_release, HasPoliced, HasUncountedFrame, HasSequence, AwaitsCopies, HasDestinationPriority, IsForwarded, HasOfferedCopy, IsPrepared, CanRelay, IsOfferingSet, HasCopies, HasCountedFrame, IsUnforwarded, leaving_frame};
 ghost use Rattle.std.specs.Prelude.{true, false, IfSome, IsTrue, All, OnErr, max, slice_index, ◌≡◌, ℕ, ◌<◌, ◌≤◌, ◌+◌, ◌*◌, ◌^◌, List, ◌∷◌, Some, None, Option, length, OnOk, IfErr, IfOk};
 ghost use Rattle.bridge_config.specs.Model as config;
-ghost use Rattle.bridge_ident.specs.Identification.{handle_in};
-ghost use Rattle.bridge_config.specs.Rules.{port_at};
+ghost use Rattle.bridge_ident.specs.Identification.{first_handle};
+ghost use Rattle.bridge_config.specs.Rules.{find_port};
 ghost use Rattle.bridge_config.specs.Commands.{has_instance};
-ghost use Rattle.bridge_capture.specs.Grammar.{Captured};
+ghost use Rattle.bridge_capture.specs.Grammar.{CapturedFrame};
 ghost use Rattle.bridge_events.specs.Least.{IsLeast};
 ghost use Rattle.bridge_semantics.specs.Events.{Arrival, Event, Arrived, Cleared, arrival};
-ghost use Rattle.bridge_semantics.specs.Next.{ReachesStart, SendsHead};
-ghost use Rattle.bridge_relay.specs.Ports.{NotBefore, IsAfter};
-ghost use Rattle.bridge_relay.specs.Relays.{captured, one_more, RelayState, Stands, IsSent, waiting, IsAwaited, IsSound, is_flow_stray};
+ghost use Rattle.bridge_semantics.specs.NextStarts.{ReachesStart, SendsHead};
+ghost use Rattle.bridge_relay.specs.Ports.{StartsNoEarlier, HasLaterStarts};
+ghost use Rattle.bridge_relay.specs.RelayState.{sent_record, with_sent_frame, RelayState, RelayStandsFor, IsSent, count_waiting_copies, AwaitsCopy, IsSound, is_filter_unknown};
 
-use crate::copies::{copies_of, leave, spare_all};
+use crate::copies::{make_copies, mark_if_eligible, return_copies};
+use crate::filter_recorders::{
+    FilterRecorders, record_answer, record_departure, record_verdict, release_room, reserve_room,
+};
+use crate::port_state::{Ingress, StartedFrame};
 use crate::ports::Ports;
-use crate::slot::{Begun, Came};
-use crate::tables::{Tables, depart, judge, note, promise, release};
-use bridge_capture::{Packet, Spares};
+use bridge_capture::{BufferPool, Packet};
 use bridge_config::Plan;
 use bridge_cycle::NoMemory;
 use bridge_events::Agenda;
-use bridge_filter::{Call, Clear, Police, Route, Ruling, Verdict};
+use bridge_filter::{Clear, FilterInput, Police, Route, Ruling, Verdict};
 use bridge_forward::PortSet;
 use bridge_frame::{Head, Tag, parse};
 use bridge_ident::Ident;
-use bridge_limits::{END_OF_TIME, LONGEST_FRAME, MOST_ARRIVALS, MOST_CAPTURED};
+use bridge_limits::{END_OF_TIME, LONGEST_FRAME, MAX_ARRIVALS, MAX_CAPTURED_OCTETS};
 use bridge_port::Item;
-use bridge_semantics::{Departure, Load, Origin, Way};
+use bridge_semantics::{Departure, Destination, Origin, QueuedFrame};
 use std::alloc::Allocator;
 use std::marker::Model;
 
-/// The stream handle of a frame. It stands apart: within the loop of a run it takes the registers of what stands around it.
+/// Returns the stream handle of a frame. Isn't inlined: its code would take registers from the loop of a run.
 #[inline(never)]
-fn handle_of<A: Allocator + Copy>(ident: &Ident<A>, port: u8, head: &Head, vid: u16) -> Option<u32>
-    ensures { result ≡ handle_in ident.now port head.now vid }
+fn stream_handle<A: Allocator + Copy>(
+    ident: &Ident<A>,
+    port: u8,
+    head: &Head,
+    vid: u16,
+) -> Option<u32>
+    ensures { result ≡ first_handle ident.now port head.now vid }
 {
     ident.handle_of(port, head, vid)
 }
 
-/// A bridge: its ports, filters and what is told so far, over a plan that it borrows.
+/// Relay of a bridge, over a borrowed plan: stream entries, filters, ports and recorders.
 #[derive(Drop)]
 pub struct Relay<'a, G: Agenda + Drop, A: Allocator + Copy> {
     pub(crate) alloc: A,
@@ -59,13 +66,13 @@ pub struct Relay<'a, G: Agenda + Drop, A: Allocator + Copy> {
     pub(crate) ident: Ident<A>,
     pub(crate) police: Police<A>,
     pub(crate) ports: Ports<G, A>,
-    pub(crate) tables: Tables<A>,
+    pub(crate) tables: FilterRecorders<A>,
     pub(crate) arrived: u64,
     pub(crate) earliest: u64,
 }
 
 impl<'a, G: Agenda + Drop, A: Allocator + Copy> Model for Relay<'a, G, A> {
-    ghost use Rattle.bridge_relay.specs.Relays.{RelayState, IsSound};
+    ghost use Rattle.bridge_relay.specs.RelayState.{RelayState, IsSound};
 
     ghost Value = { RelayState G A };
 
@@ -90,80 +97,82 @@ impl<'a, G: Agenda + Drop, A: Allocator + Copy> Model for Relay<'a, G, A> {
     }) };
 }
 
-/// A frame that left.
+/// Frame that has started, with its start and end.
 #[derive(Drop)]
 pub struct Sent<A: Allocator + Copy> {
-    /// The port.
+    /// Egress port.
     pub port: u8,
-    /// The class of its queue.
+    /// Class of its queue.
     pub class: u8,
-    /// When it started, in ns.
+    /// Start of transmission in ns.
     pub start: u64,
-    /// When it was done, in ns.
+    /// End of transmission in ns, gap included.
     pub done: u64,
-    /// Its length on the link.
+    /// Length on the link in octets.
     pub len: u32,
-    /// Its octets as they left.
+    /// Octets as sent.
     pub octets: Vec<u8, A>,
 }
 
 impl<'a, G: Agenda + Drop, A: Allocator + Copy> Relay<'a, G, A> {
-    /// The port with the next start and its moment; `None` where nothing is queued.
+    /// Returns the port and time in ns of the next start; `None` if no copy is queued.
     pub fn due(&self) -> Option<(u8, u64)>
         ensures { IsLeast (G.held self.now.ports.agenda) result }
     {
         self.ports.due()
     }
 
-    /// The frames that came.
+    /// Returns the number of frames that have arrived.
     pub fn arrived(&self) -> u64
         ensures { result ≡ self.now.arrived }
     {
         self.arrived
     }
 
-    /// The starts of a port of the plan.
+    /// Returns the number of starts of port `port`.
     pub fn started(&self, port: u8) -> u64
-        requires known { (out : PortPlan A) × (port_at self.now.plan.ports port ≡ Some out) }
-        ensures { (p : config.Plan A) (es : List Event) (left : ℕ → List Captured) → Stands p self.now es left
+        requires known { (out : PortPlan A) × (find_port self.now.plan.ports port ≡ Some out) }
+        ensures { (p : config.Plan A) (es : List Event) (left : ℕ → List CapturedFrame)
+            → RelayStandsFor p self.now es left
             → result ≡ length (left port) }
     {
         let _plan = self.plan;
         self.ports.started(port)
     }
 
-    /// The least moment at which the next frame may come.
+    /// Returns the earliest time in ns at which the next event may happen.
     pub fn earliest(&self) -> u64
         ensures { result ≡ self.now.earliest }
     {
         self.earliest
     }
 
-    /// Makes the next start. It takes no memory.
+    /// Makes the next start. Allocates no memory.
     #[inline(always)]
     pub fn advance(&mut self) -> Sent<A>
         requires { (q k : ℕ) × (G.held self.old.ports.agenda q ≡ Some k) }
-        ensures stands { (p : config.Plan A) (es : List Event) (left : ℕ → List Captured) → Stands p self.old es left
-            → Stands p self.new es (one_more left result) }
-        ensures sends { (p : config.Plan A) (es : List Event) (left : ℕ → List Captured)
-            → Stands p self.old es left
-            → SendsHead p es left result.port result.class result.start (captured result) }
-        ensures reaches { (p : config.Plan A) (es : List Event) (left : ℕ → List Captured)
-            → Stands p self.old es left
-            → ReachesStart p es result.start result.port (one_more left result) }
+        ensures stands { (p : config.Plan A) (es : List Event) (left : ℕ → List CapturedFrame)
+            → RelayStandsFor p self.old es left
+            → RelayStandsFor p self.new es (with_sent_frame left result) }
+        ensures sends { (p : config.Plan A) (es : List Event) (left : ℕ → List CapturedFrame)
+            → RelayStandsFor p self.old es left
+            → SendsHead p es left result.port result.class result.start (sent_record result) }
+        ensures reaches { (p : config.Plan A) (es : List Event) (left : ℕ → List CapturedFrame)
+            → RelayStandsFor p self.old es left
+            → ReachesStart p es result.start result.port (with_sent_frame left result) }
         ensures which { IsLeast (G.held self.old.ports.agenda) (Some (result.port, result.start)) }
         ensures sent { IsSent self.old self.new result }
-        ensures later { IsAfter (G.held self.new.ports.agenda) result.port result.start }
-        ensures fewer { waiting self.new + 1 ≡ waiting self.old }
+        ensures later { HasLaterStarts (G.held self.new.ports.agenda) result.port result.start }
+        ensures fewer { count_waiting_copies self.new + 1 ≡ count_waiting_copies self.old }
         ensures same { (self.new.plan ≡ self.old.plan) × (self.new.arrived ≡ self.old.arrived) }
         ensures port { 1 ≤ result.port }
         ensures writable { (result.done < 2 ^ 32 * 10 ^ 9) × (length result.octets.items ≤ result.len)
             × (result.len ≤ LONGEST_FRAME) }
     {
         let (port, start, begun) = self.ports.start();
-        let Begun { class, done, item } = begun;
+        let StartedFrame { class, done, item } = begun;
         let Item { len, load } = item;
-        let Load {
+        let QueuedFrame {
             at,
             flow,
             own,
@@ -175,7 +184,7 @@ impl<'a, G: Agenda + Drop, A: Allocator + Copy> Relay<'a, G, A> {
             start,
             done,
         };
-        depart(&mut self.tables, flow, departure, done.saturating_sub(at));
+        record_departure(&mut self.tables, flow, departure, done.saturating_sub(at));
         self.earliest = self.earliest.max(start + 1);
         Sent {
             port,
@@ -187,12 +196,13 @@ impl<'a, G: Agenda + Drop, A: Allocator + Copy> Relay<'a, G, A> {
         }
     }
 
-    /// Clears a flag of a filter, a gate or a meter at a moment, as a command asks. It takes no memory.
+    /// Clears a flag of a filter, stream gate or meter at time `t` in ns, by a command. Allocates no memory.
     pub fn clear(&mut self, t: u64, clear: Clear, number: u32)
         requires time { self.old.earliest ≤ t }
         requires instance { IsTrue (has_instance self.old.plan clear number) }
-        ensures stands { (p : config.Plan A) (es : List Event) (left : ℕ → List Captured) → Stands p self.old es left
-            → Stands p self.new (Cleared clear number ∷ es) left }
+        ensures stands { (p : config.Plan A) (es : List Event) (left : ℕ → List CapturedFrame)
+            → RelayStandsFor p self.old es left
+            → RelayStandsFor p self.new (Cleared clear number ∷ es) left }
         ensures moved { (self.new.earliest ≡ t) × (self.new.arrived ≡ self.old.arrived)
             × (self.new.plan ≡ self.old.plan) × (self.new.ports ≡ self.old.ports) }
     {
@@ -200,96 +210,98 @@ impl<'a, G: Agenda + Drop, A: Allocator + Copy> Relay<'a, G, A> {
         self.earliest = t;
     }
 
-    /// Where a frame goes that came on a port, and what the filters see of it.
+    /// Finds the egress ports of a frame that arrived on port `port`, and its data for the stream filters.
     #[inline(always)]
-    fn way_of(&self, at: u64, port: u8, octets: &[u8], len: u32) -> Way
+    fn find_destination(&self, at: u64, port: u8, octets: &[u8], len: u32) -> Destination
         requires from { 1 ≤ port }
         requires to { port ≤ 16 }
-        requires captured { (length octets.now ≤ MOST_CAPTURED) × (length octets.now ≤ len) }
-        ensures way { result ≡ way_of self.now.plan (arrival at port octets.now len) }
-        ensures priority { HasWayPriority result }
-        ensures length { IsRelayed result → len ≤ LONGEST_FRAME }
+        requires captured { (length octets.now ≤ MAX_CAPTURED_OCTETS) × (length octets.now ≤ len) }
+        ensures way { result ≡ frame_destination self.now.plan (arrival at port octets.now len) }
+        ensures priority { HasDestinationPriority result }
+        ensures length { IsForwarded result → len ≤ LONGEST_FRAME }
     {
-        let Some((vid, priority)) = self.ports.ingress(port) else {
-            return Way::Nowhere;
+        let Some((vid, priority)) = self.ports.ingress_defaults(port) else {
+            return Destination::Nowhere;
         };
         let Ok(head) = parse(octets, len) else {
-            return Way::Malformed;
+            return Destination::Malformed;
         };
-        let (vid, priority, dei) = classified(head.tag, vid, priority);
+        let (vid, priority, dei) = classify(head.tag, vid, priority);
         let set = self.plan.forward(port, vid, &head.da);
         if set.bits() == 0 {
-            return Way::Nowhere;
+            return Destination::Nowhere;
         }
-        let call = Call {
+        let call = FilterInput {
             at,
-            handle: handle_of(&self.ident, port, &head, vid),
+            handle: stream_handle(&self.ident, port, &head, vid),
             priority,
             dei,
             sdu: head.sdu,
             octets: len.max(60) + 4,
         };
-        Way::Goes { set, call }
+        Destination::Forwarded { set, call }
     }
 
-    /// Makes copies of octets for all ports of a set but the last, and room for what these and the last will tell of the
-    /// filter, whose table may stand at the place `hint`. Where memory runs out the bridge is as before.
+    /// Copies `octets` for every port of `set` except the last. Reserves capacity in the filter's recorder, trying index `hint` first. If
+    /// memory runs out, the relay is unchanged.
     #[inline(always)]
-    fn prepare(
+    fn prepare_copies(
         &mut self,
         set: PortSet,
         filter: Option<u32>,
         hint: usize,
         octets: &[u8],
-        spares: &mut Spares<A>,
+        spares: &mut BufferPool<A>,
     ) -> Result<Vec<Vec<u8, A>, A>, NoMemory>
-        requires there { IfSome filter (λ n. IsTrue (is_there n self.old.plan.filters)) }
-        requires few { self.old.arrived < MOST_ARRIVALS }
-        ensures copies { IfOk result (λ copies. (length copies.items + 1 ≡ max 1 (outs self.old.ports.slots set 16))
+        requires there { IfSome filter (λ n. IsTrue (is_listed n self.old.plan.filters)) }
+        requires few { self.old.arrived < MAX_ARRIVALS }
+        ensures copies { IfOk result (λ copies. (length copies.items + 1
+            ≡ max 1 (count_outputs self.old.ports.slots set 16))
             × All (λ v. v.items ≡ octets.now) copies.items) }
         ensures ok { OnOk result (self.new ≡ record self.old {
           arrived = self.old.arrived + 1;
-          tables = change_if filter
-              (λ t. promised t (outs self.old.ports.slots set 16)) self.old.tables;
+          tables = update_if_some filter
+              (λ t. with_room t (count_outputs self.old.ports.slots set 16)) self.old.tables;
         }) }
         ensures err { OnErr result (self.new ≡ self.old) }
         ensures sound { OnOk result (IsSound G.held self.new) }
     {
-        let (count, _) = self.ports.outs(set);
-        let Ok(copies) = copies_of(self.alloc, octets, count.saturating_sub(1), spares) else {
+        let (count, _) = self.ports.count_outputs(set);
+        let Ok(copies) = make_copies(self.alloc, octets, count.saturating_sub(1), spares) else {
             return Err(NoMemory);
         };
-        let Ok(()) = promise(&mut self.tables, filter, hint, count) else {
+        let Ok(()) = reserve_room(&mut self.tables, filter, hint, count) else {
             return Err(NoMemory);
         };
         self.arrived += 1;
         Ok(copies)
     }
 
-    /// Offers a copy of a frame to a port. Its octets are spare where it is refused.
+    /// Offers a copy of a frame to port `number`. If the port drops the copy, its buffer returns to the pool.
     #[inline(always)]
-    fn offer_to(
+    fn offer_queued_frame(
         &mut self,
         number: u8,
         priority: u8,
         len: u32,
-        load: Load<A>,
-        spares: &mut Spares<A>,
+        load: QueuedFrame<A>,
+        spares: &mut BufferPool<A>,
     )
         requires from { 1 ≤ number }
-        requires there { (s : Slot A) × (slot_at self.old.ports number ≡ Some s) }
+        requires there { (s : PortState A) × (port_state self.old.ports number ≡ Some s) }
         requires time { (self.old.earliest ≤ load.at) × (load.at < END_OF_TIME) }
-        requires due { NotBefore (G.held self.old.ports.agenda) load.at }
-        requires awaited { IfSome load.flow (λ n. IsAwaited self.old n load.own number) }
-        requires right { is_flow_stray self.old.plan.filters load.flow ≡ false }
-        requires fresh { (s : Slot A) → slot_at self.old.ports number ≡ Some s → s.port.offered < self.old.arrived }
+        requires due { StartsNoEarlier (G.held self.old.ports.agenda) load.at }
+        requires awaited { IfSome load.flow (λ n. AwaitsCopy self.old n load.own number) }
+        requires right { is_filter_unknown self.old.plan.filters load.flow ≡ false }
+        requires fresh { (s : PortState A) → port_state self.old.ports number ≡ Some s → s.port.offered
+            < self.old.arrived }
         requires length { (len ≤ LONGEST_FRAME) × (length load.octets.items ≤ len) }
         requires priority { priority ≤ 7 }
-        requires few { self.old.arrived ≤ MOST_ARRIVALS }
-        ensures offered { (s : Slot A) → slot_at self.old.ports number ≡ Some s
-            → HasOfferedTo self.old self.new number s (slice_index s.classes priority) (record
+        requires few { self.old.arrived ≤ MAX_ARRIVALS }
+        ensures offered { (s : PortState A) → port_state self.old.ports number ≡ Some s
+            → HasOfferedCopy self.old self.new number s (slice_index s.classes priority) (record
             { len = len; load = load }) }
-        ensures due { NotBefore (G.held self.new.ports.agenda) load.at }
+        ensures due { StartsNoEarlier (G.held self.new.ports.agenda) load.at }
         ensures sound { IsSound G.held self.new }
     {
         let t = load.at;
@@ -299,13 +311,12 @@ impl<'a, G: Agenda + Drop, A: Allocator + Copy> Relay<'a, G, A> {
         let answer = self
             .ports
             .offer(number, t, priority, Item { len, load }, &mut back);
-        keep(back, spares);
-        note(&mut self.tables, flow, own, number, answer);
+        return_octets(back, spares);
+        record_answer(&mut self.tables, flow, own, number, answer);
         self.earliest = t;
     }
 
-    /// Offers a frame to a port of a set whose ports before it have it. Its octets are those that came; they leave marked
-    /// where the frame is drop eligible.
+    /// Offers a frame to port `number` of `set`, after the lower ports. If `eligible` is true, its tag is marked drop eligible.
     #[inline(always)]
     fn offer_copy(
         &mut self,
@@ -314,31 +325,31 @@ impl<'a, G: Agenda + Drop, A: Allocator + Copy> Relay<'a, G, A> {
         priority: u8,
         len: u32,
         eligible: bool,
-        load: Load<A>,
-        spares: &mut Spares<A>,
+        load: QueuedFrame<A>,
+        spares: &mut BufferPool<A>,
     )
         requires from { 1 ≤ number }
         requires to { number ≤ 16 }
         requires priority { priority ≤ 7 }
-        requires along { (b : RelayState G A) × MayRelay b (leaves load len eligible)
-            × IsOffering G.held b self.old set priority (leaves load len eligible) number }
-        requires goes { goes_out self.old.ports.slots set number ≡ true }
+        requires along { (b : RelayState G A) × CanRelay b (leaving_frame load len eligible)
+            × IsOfferingSet G.held b self.old set priority (leaving_frame load len eligible) number }
+        requires goes { is_output self.old.ports.slots set number ≡ true }
         ensures next { (b : RelayState G A)
-            → IsOffering G.held b self.old set priority (leaves load len eligible) number
-            → IsOffering G.held b self.new set priority (leaves load len eligible) (number + 1) }
+            → IsOfferingSet G.held b self.old set priority (leaving_frame load len eligible) number
+            → IsOfferingSet G.held b self.new set priority (leaving_frame load len eligible) (number + 1) }
     {
-        let Load {
+        let QueuedFrame {
             at,
             flow,
             own,
             octets,
         } = load;
-        let octets = leave(octets, eligible);
-        self.offer_to(
+        let octets = mark_if_eligible(octets, eligible);
+        self.offer_queued_frame(
             number,
             priority,
             len,
-            Load {
+            QueuedFrame {
                 at,
                 flow,
                 own,
@@ -348,29 +359,29 @@ impl<'a, G: Agenda + Drop, A: Allocator + Copy> Relay<'a, G, A> {
         );
     }
 
-    /// Offers one of the copies of a frame to the next port, where it goes there.
-    fn offer_next(
+    /// Offers a copy of a frame to port `number`, if `set` has this port.
+    fn offer_next_copy(
         &mut self,
         set: PortSet,
         number: u8,
         priority: u8,
         len: u32,
         eligible: bool,
-        first: &Load<A>,
+        first: &QueuedFrame<A>,
         copies: &mut Vec<Vec<u8, A>, A>,
-        spares: &mut Spares<A>,
+        spares: &mut BufferPool<A>,
     )
         requires from { 1 ≤ number }
         requires to { number ≤ 16 }
         requires priority { priority ≤ 7 }
-        requires along { (b : RelayState G A) × MayRelay b (leaves first.now len eligible)
-            × IsOffering G.held b self.old set priority (leaves first.now len eligible) number
+        requires along { (b : RelayState G A) × CanRelay b (leaving_frame first.now len eligible)
+            × IsOfferingSet G.held b self.old set priority (leaving_frame first.now len eligible) number
             × HasCopies b.ports.slots set number first.now.octets.items copies.old.items
-            × (outs b.ports.slots set number < outs b.ports.slots set 16) }
+            × (count_outputs b.ports.slots set number < count_outputs b.ports.slots set 16) }
         ensures next { (b : RelayState G A)
-            → IsOffering G.held b self.old set priority (leaves first.now len eligible) number
+            → IsOfferingSet G.held b self.old set priority (leaving_frame first.now len eligible) number
             → HasCopies b.ports.slots set number first.now.octets.items copies.old.items
-            → IsOffering G.held b self.new set priority (leaves first.now len eligible) (number + 1)
+            → IsOfferingSet G.held b self.new set priority (leaving_frame first.now len eligible) (number + 1)
             × HasCopies b.ports.slots set (number + 1) first.now.octets.items copies.new.items }
     {
         if !set.has(number) || !self.ports.has(number) {
@@ -378,7 +389,7 @@ impl<'a, G: Agenda + Drop, A: Allocator + Copy> Relay<'a, G, A> {
         }
         match copies.pop() {
             Some(octets) => {
-                let load = Load {
+                let load = QueuedFrame {
                     at: first.at,
                     flow: first.flow,
                     own: first.own,
@@ -390,30 +401,29 @@ impl<'a, G: Agenda + Drop, A: Allocator + Copy> Relay<'a, G, A> {
         }
     }
 
-    /// Offers copies of a frame to the ports of a set, by rising number. The octets are those that came; they leave marked
-    /// where the frame is drop eligible.
+    /// Offers copies of a frame to the ports of `set`, by rising number. If `eligible` is true, their tags are marked drop eligible.
     #[inline(always)]
-    fn offer_all(
+    fn offer_copies(
         &mut self,
         set: PortSet,
         priority: u8,
         len: u32,
         eligible: bool,
-        first: Load<A>,
+        first: QueuedFrame<A>,
         copies: Vec<Vec<u8, A>, A>,
-        spares: &mut Spares<A>,
+        spares: &mut BufferPool<A>,
     )
         requires priority { priority ≤ 7 }
-        requires along { MayRelay self.old (leaves first len eligible)
-            × IsOffering G.held self.old self.old set priority (leaves first len eligible) 1 }
+        requires along { CanRelay self.old (leaving_frame first len eligible)
+            × IsOfferingSet G.held self.old self.old set priority (leaving_frame first len eligible) 1 }
         requires copies { HasCopies self.old.ports.slots set 1 first.octets.items copies.items }
-        ensures offered { IsOffering G.held self.old self.new set priority (leaves first len eligible) 17 }
+        ensures offered { IsOfferingSet G.held self.old self.new set priority (leaving_frame first len eligible) 17 }
     {
         let mut copies = copies;
-        let (_, last) = self.ports.outs(set);
-        let from = first_with_copy(copies.len(), last);
+        let (_, last) = self.ports.count_outputs(set);
+        let from = first_port_with_copy(copies.len(), last);
         for number in from..last {
-            self.offer_next(
+            self.offer_next_copy(
                 set,
                 number,
                 priority,
@@ -429,52 +439,59 @@ impl<'a, G: Agenda + Drop, A: Allocator + Copy> Relay<'a, G, A> {
         }
     }
 
-    /// Counts a frame that goes to no port.
-    fn pass_over(&mut self, port: u8, t: u64, came: Came)
-        requires known { (s : Slot A) × (slot_at self.old.ports port ≡ Some s) }
+    /// Counts a frame that isn't forwarded.
+    fn count_unforwarded(&mut self, port: u8, t: u64, came: Ingress)
+        requires known { (s : PortState A) × (port_state self.old.ports port ≡ Some s) }
         requires from { 1 ≤ port }
         requires time { self.old.earliest ≤ t }
-        requires few { self.old.arrived < MOST_ARRIVALS }
-        ensures passed { (s : Slot A) × (slot_at self.old.ports port ≡ Some s)
-            × HasPassed self.old self.new port s t came }
-        ensures stands { (p : config.Plan A) (es : List Event) (a : Arrival) (left : ℕ → List Captured) → a.port ≡ port
-            → IsOver came (way_of p a) → Stands p self.old es left → Stands p self.new (Arrived a ∷ es) left }
+        requires few { self.old.arrived < MAX_ARRIVALS }
+        ensures passed { (s : PortState A) × (port_state self.old.ports port ≡ Some s)
+            × HasCountedFrame self.old self.new port s t came }
+        ensures stands { (p : config.Plan A) (es : List Event) (a : Arrival) (left : ℕ → List CapturedFrame) → a.port
+            ≡ port
+            → IsUnforwarded came (frame_destination p a) → RelayStandsFor p self.old es left
+            → RelayStandsFor p self.new (Arrived a ∷ es) left }
     {
-        self.ports.count(port, came);
+        self.ports.count_arrival(port, came);
         self.arrived += 1;
         self.earliest = t;
     }
 
-    /// Polices a frame that came on a port by the filter that was found for it, counts it there, and writes down its verdict
-    /// and where it came: the answer of its filter and its number among that filter's frames.
+    /// Judges a frame by its filter `found`, counts it at its port, and records verdict and origin. Returns the ruling and the frame's
+    /// number within the filter; `None` for an unfiltered frame.
     #[inline(always)]
-    fn rule(&mut self, port: u8, call: Call, found: Option<Route>) -> Option<(Ruling, u64)>
-        requires known { (s : Slot A) × (slot_at self.old.ports port ≡ Some s) }
+    fn police_frame(
+        &mut self,
+        port: u8,
+        call: FilterInput,
+        found: Option<Route>,
+    ) -> Option<(Ruling, u64)>
+        requires known { (s : PortState A) × (port_state self.old.ports port ≡ Some s) }
         requires from { 1 ≤ port }
         requires time { (self.old.earliest ≤ call.at) × (call.at < END_OF_TIME) }
-        requires fresh { IsFresh self.old }
-        requires open { IfSome (filter_number self.old.plan call) (IsOpen self.old.tables) }
-        requires found { IsFound self.old.police call.handle call.priority found }
-        ensures ruled { (s : Slot A) × (slot_at self.old.ports port ≡ Some s)
-            × ((r : Option Ruling) × HasRuled self.old self.new port s call r
-            × IsNumbered self.old.tables r result) }
-        ensures priority { IfSome result (λ j. HasPriority j.0.verdict) }
+        requires fresh { HasUncountedFrame self.old }
+        requires open { IfSome (input_filter_number self.old.plan call) (AwaitsVerdict self.old.tables) }
+        requires found { IsFoundRoute self.old.police call.handle call.priority found }
+        ensures ruled { (s : PortState A) × (port_state self.old.ports port ≡ Some s)
+            × ((r : Option Ruling) × HasPoliced self.old self.new port s call r
+            × HasSequence self.old.tables r result) }
+        ensures priority { IfSome result (λ j. HasValidPriority j.0.verdict) }
         ensures sound { IsSound G.held self.new }
     {
-        let ruling = self.police.pass_by(call, found);
+        let ruling = self.police.pass_routed(call, found);
         self.earliest = call.at;
         match ruling {
             None => {
-                self.ports.count(port, Came::Unfiltered);
+                self.ports.count_arrival(port, Ingress::Unfiltered);
                 None
             }
             Some(ruling) => {
-                self.ports.count(port, Came::Policed);
+                self.ports.count_arrival(port, Ingress::Policed);
                 let origin = Origin { port, at: call.at };
-                let own = judge(
+                let own = record_verdict(
                     &mut self.tables,
                     ruling.filter,
-                    place_of(found),
+                    route_index(found),
                     ruling.verdict,
                     origin,
                 );
@@ -483,60 +500,60 @@ impl<'a, G: Agenda + Drop, A: Allocator + Copy> Relay<'a, G, A> {
         }
     }
 
-    /// Lets the room go that a frame was promised which is not offered.
+    /// Releases the capacity that was reserved for a frame which its filter refused.
     #[inline(always)]
-    fn forget(&mut self, filter: u32, set: PortSet)
-        requires { (own : ℕ) × IsPending self.old (outs self.old.ports.slots set 16) own 1 filter }
-        ensures state { self.new ≡ releasing self.old filter (outs self.old.ports.slots set 16) }
+    fn release_room(&mut self, filter: u32, set: PortSet)
+        requires { (own : ℕ) × AwaitsCopies self.old (count_outputs self.old.ports.slots set 16) own 1 filter }
+        ensures state { self.new ≡ relay_with_release self.old filter (count_outputs self.old.ports.slots set 16) }
         ensures sound { IsSound G.held self.new }
     {
-        let (count, _) = self.ports.outs(set);
-        release(&mut self.tables, filter, count);
+        let (count, _) = self.ports.count_outputs(set);
+        release_room(&mut self.tables, filter, count);
     }
 
-    /// Polices a frame that goes to a set of ports, and offers it where it passes. Room was made for what it tells. Octets of
-    /// the frame that are not queued are spare.
+    /// Judges a frame with the egress ports `set`, and offers it if it passes. Capacity must be reserved. Octets that no queue takes return
+    /// to the pool.
     #[inline(always)]
-    fn relay(
+    fn relay_frame(
         &mut self,
         port: u8,
         packet: Packet<A>,
         set: PortSet,
-        call: Call,
+        call: FilterInput,
         found: Option<Route>,
         copies: Vec<Vec<u8, A>, A>,
-        spares: &mut Spares<A>,
+        spares: &mut BufferPool<A>,
     )
         requires { IsPrepared G.held self.old port packet set call found copies.items }
-        ensures stands { (p : config.Plan A) (es : List Event) (left : ℕ → List Captured)
-            → way_of p (arrival packet.time port packet.octets.items packet.len) ≡ Goes set call
-            → Stands p (one_less self.old) es left
-            → Stands p self.new (Arrived (arrival packet.time port packet.octets.items packet.len) ∷ es) left }
-        ensures due { NotBefore (G.held self.new.ports.agenda) packet.time }
+        ensures stands { (p : config.Plan A) (es : List Event) (left : ℕ → List CapturedFrame)
+            → frame_destination p (arrival packet.time port packet.octets.items packet.len) ≡ Forwarded set call
+            → RelayStandsFor p (relay_before_frame self.old) es left
+            → RelayStandsFor p self.new (Arrived (arrival packet.time port packet.octets.items packet.len) ∷ es) left }
+        ensures due { StartsNoEarlier (G.held self.new.ports.agenda) packet.time }
         ensures moved { (self.new.arrived ≡ self.old.arrived) × (self.new.plan ≡ self.old.plan)
             × (self.new.earliest ≡ packet.time) }
         ensures sound { IsSound G.held self.new }
     {
         let Packet { time, len, octets } = packet;
-        match self.rule(port, call, found) {
+        match self.police_frame(port, call, found) {
             None => {
-                let load = Load {
+                let load = QueuedFrame {
                     at: time,
                     flow: None,
                     own: 0,
                     octets,
                 };
-                self.offer_all(set, call.priority, len, false, load, copies, spares);
+                self.offer_copies(set, call.priority, len, false, load, copies, spares);
             }
             Some((Ruling { filter, verdict }, own)) => match verdict {
                 Verdict::Pass { ipv, eligible } => {
-                    let load = Load {
+                    let load = QueuedFrame {
                         at: time,
                         flow: Some(filter),
                         own,
                         octets,
                     };
-                    self.offer_all(
+                    self.offer_copies(
                         set,
                         ipv.unwrap_or(call.priority),
                         len,
@@ -548,51 +565,52 @@ impl<'a, G: Agenda + Drop, A: Allocator + Copy> Relay<'a, G, A> {
                 }
                 _ => {
                     spares.put(octets);
-                    spare_all(copies, spares);
-                    self.forget(filter, set);
+                    return_copies(copies, spares);
+                    self.release_room(filter, set);
                 }
             },
         }
     }
 
-    /// Takes a frame that came on a port. Where memory runs out the frame comes back, and the bridge is as before. Else its
-    /// octets are spare where they are not queued. Copies for more ports than one are made in spare vectors.
+    /// Handles a frame that arrived on port `port`. If memory runs out, returns the frame and leaves the relay unchanged. Octets that no
+    /// queue takes return to the pool.
     #[inline(always)]
     pub fn arrive(
         &mut self,
         port: u8,
         packet: Packet<A>,
-        spares: &mut Spares<A>,
+        spares: &mut BufferPool<A>,
     ) -> Result<(), (Packet<A>, NoMemory)>
-        requires known { (out : PortPlan A) × (port_at self.old.plan.ports port ≡ Some out) }
+        requires known { (out : PortPlan A) × (find_port self.old.plan.ports port ≡ Some out) }
         requires time { (self.old.earliest ≤ packet.time) × (packet.time < END_OF_TIME) }
-        requires due { NotBefore (G.held self.old.ports.agenda) packet.time }
-        requires octets { (length packet.octets.items ≤ MOST_CAPTURED) × (length packet.octets.items ≤ packet.len) }
-        requires few { self.old.arrived < MOST_ARRIVALS }
-        ensures stands { OnOk result ((p : config.Plan A) (es : List Event) (left : ℕ → List Captured)
-            → Stands p self.old es left
-            → Stands p self.new (Arrived (arrival packet.time port packet.octets.items packet.len) ∷ es) left) }
+        requires due { StartsNoEarlier (G.held self.old.ports.agenda) packet.time }
+        requires octets { (length packet.octets.items ≤ MAX_CAPTURED_OCTETS) × (length packet.octets.items
+            ≤ packet.len) }
+        requires few { self.old.arrived < MAX_ARRIVALS }
+        ensures stands { OnOk result ((p : config.Plan A) (es : List Event) (left : ℕ → List CapturedFrame)
+            → RelayStandsFor p self.old es left
+            → RelayStandsFor p self.new (Arrived (arrival packet.time port packet.octets.items packet.len) ∷ es) left) }
         ensures moved { OnOk result ((self.new.arrived ≡ self.old.arrived + 1) × (self.new.earliest ≡ packet.time)
             × (self.new.plan ≡ self.old.plan)) }
-        ensures waits { OnOk result (NotBefore (G.held self.new.ports.agenda) packet.time) }
+        ensures waits { OnOk result (StartsNoEarlier (G.held self.new.ports.agenda) packet.time) }
         ensures err { IfErr result (λ e. (self.new ≡ self.old) × (e.0 ≡ packet)) }
     {
         let _plan = self.plan;
-        match self.way_of(packet.time, port, &packet.octets, packet.len) {
-            Way::Malformed => {
-                self.pass_over(port, packet.time, Came::Malformed);
+        match self.find_destination(packet.time, port, &packet.octets, packet.len) {
+            Destination::Malformed => {
+                self.count_unforwarded(port, packet.time, Ingress::Malformed);
                 spares.put(packet.octets);
             }
-            Way::Nowhere => {
-                self.pass_over(port, packet.time, Came::Nowhere);
+            Destination::Nowhere => {
+                self.count_unforwarded(port, packet.time, Ingress::Nowhere);
                 spares.put(packet.octets);
             }
-            Way::Goes { set, call } => {
-                let found = self.police.find(call.handle, call.priority);
-                let filter = number_of(found);
-                match self.prepare(set, filter, place_of(found), &packet.octets, spares) {
+            Destination::Forwarded { set, call } => {
+                let found = self.police.find_route(call.handle, call.priority);
+                let filter = route_number(found);
+                match self.prepare_copies(set, filter, route_index(found), &packet.octets, spares) {
                     Ok(copies) => {
-                        self.relay(port, packet, set, call, found, copies, spares);
+                        self.relay_frame(port, packet, set, call, found, copies, spares);
                     }
                     Err(refused) => return Err((packet, refused)),
                 }
@@ -602,9 +620,9 @@ impl<'a, G: Agenda + Drop, A: Allocator + Copy> Relay<'a, G, A> {
     }
 }
 
-/// The number of a filter that was found.
+/// Returns the number of the filter that was found.
 #[inline(always)]
-fn number_of(found: Option<Route>) -> Option<u32>
+fn route_number(found: Option<Route>) -> Option<u32>
     ensures { result ≡ option_map (λ r. r.number) found }
 {
     match found {
@@ -613,26 +631,25 @@ fn number_of(found: Option<Route>) -> Option<u32>
     }
 }
 
-/// The place of a filter that was found, at which its table is looked for first.
+/// Returns the index of the filter that was found. The search for its recorder begins there.
 #[inline(always)]
-fn place_of(found: Option<Route>) -> usize {
+fn route_index(found: Option<Route>) -> usize {
     match found {
         Some(route) => route.filter,
         None => 0,
     }
 }
 
-/// Keeps octets that were handed back, where there are some, as spare.
+/// Returns octets of a dropped copy to the pool.
 #[inline(always)]
-fn keep<A: Allocator + Copy>(back: Option<Vec<u8, A>>, spares: &mut Spares<A>) {
+fn return_octets<A: Allocator + Copy>(back: Option<Vec<u8, A>>, spares: &mut BufferPool<A>) {
     if let Some(octets) = back {
         spares.put(octets);
     }
 }
 
-/// The first port that may have a copy, where so many are kept for the ports before the last: none before the last has one
-/// where there is no copy.
-fn first_with_copy(copies: usize, last: u8) -> u8
+/// Returns the first port to try. Without a copy, only port `last` remains, because it gets the frame's own octets.
+fn first_port_with_copy(copies: usize, last: u8) -> u8
     ensures from { 1 ≤ result }
     ensures to { result ≤ max 1 last }
     ensures all { 0 < copies → result ≡ 1 }
@@ -640,10 +657,10 @@ fn first_with_copy(copies: usize, last: u8) -> u8
     if copies == 0 { last.max(1) } else { 1 }
 }
 
-/// The VLAN, the priority and the drop eligible indication of a frame: by its tag, else those of its port.
+/// Returns the VLAN, the priority and the drop eligible indicator of a frame, by its tag or by its port's defaults.
 #[inline(always)]
-fn classified(tag: Option<Tag>, vid: u16, priority: u8) -> (u16, u8, bool)
-    ensures { result ≡ classified tag vid priority }
+fn classify(tag: Option<Tag>, vid: u16, priority: u8) -> (u16, u8, bool)
+    ensures { result ≡ classify tag vid priority }
 {
     match tag {
         Some(tag) => (if tag.vid == 0 { vid } else { tag.vid }, tag.pcp, tag.dei),

@@ -1,4 +1,4 @@
--- How many digits a number has, and its digits behind other octets.
+-- The number of decimal digits of a number, and digits that are appended to octets.
 use Rattle.std.proofs.Common.{◌≡◌, ℕ, zero, suc, ◌+◌, ◌*◌, ◌/◌, ◌^◌, ◌<◌, ◌≤◌, List, ◌++◌, length, take, drop, ap, sym, ◌∙◌, arith}
 use Rattle.std.specs.Fmt.{decimal}
 use Rattle.std.proofs.Math.Nat.{pow-suc}
@@ -17,7 +17,7 @@ counted (suc k) n low high fits =
     let front : length (decimal (n / 10)) ≡ k + 1 = counted k (n / 10) (omega (arith, power, low)) (omega (arith, power, high)) (omega (arith, fits)) in
     ap length (decimal_step n (omega (arith, power, low, powers k)) fits) ∙ length-append (decimal (n / 10)) _ ∙ omega (arith, front)
 
--- by the greatest power of ten that is no more than the number
+-- The greatest power of ten that is at most the number gives its digit count.
 pub digits_counted : (n k : ℕ) → 10 ^ k ≤ n → n < 10 * 10 ^ k → n < 2 ^ 64 → length (decimal n) ≡ k + 1
 digits_counted n k low high fits = counted k n low (omega (arith, high)) fits
 
@@ -26,11 +26,11 @@ nothing_counted n is = ap (λ m. length (decimal m)) is ∙ ap length (decimal_d
 
 pub ruleset counts = (digits_counted, nothing_counted)
 
--- room for 20 octets behind others is room for a number
+-- A buffer with 20 octets more than its contents has space for a number.
 pub room_behind : (old room with_room lent : List ℕ) (len count : ℕ) → len ≡ length old → count ≤ 20 → with_room ≡ old ++ room → length room ≡ 20 → lent ≡ with_room → len + count ≤ length lent
 room_behind old room with_room lent len count begins most is wide same = omega (arith, begins, most, wide, ap length (same ∙ is), length-append old room)
 
--- octets, and room behind them that digits and more octets were written into, cut behind the digits
+-- Octets with digits and surplus octets appended, cut after the digits.
 pub digits_behind : (old room with_room lent digits after written more now : List ℕ) (start len count long : ℕ) → len ≡ length old → count ≡ length digits → with_room ≡ old ++ room → lent ≡ with_room
     → start + length digits ≡ len + count → drop start written ≡ digits ++ after → take start written ≡ take start lent → len + count ≤ long
     → now ≡ take (len + count) (take long (written ++ more)) → now ≡ old ++ digits

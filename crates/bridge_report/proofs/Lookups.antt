@@ -1,11 +1,11 @@
--- The first pair with a number, of pairs that are gone through one after the other.
+-- Lookup of the first pair with a number, by a loop over the pairs.
 use Rattle.std.proofs.Common.{◌≡◌, ℕ, ◌+◌, ◌<◌, ◌≤◌, Some, None, List, ◌∷◌, nat_eq, length, drop, get_or, ap, sym, ◌∙◌}
 use Rattle.std.proofs.lemmas.Bool.{cond-true, cond-false, eq-eqb, ne_eqb}
 use Rattle.std.proofs.lemmas.List.{drop_all, drop_more}
 use Rattle.std.specs.Map.{lookup}
 
 module _ {V : Type 0} (n : ℕ) (xs all : List (ℕ × V)) (i : ℕ) where
-  -- the pair at the place, and those behind it
+  -- The rest of a list is its first pair and the pairs after it.
   at_place : (x : ℕ × V) → i < length xs → x ≡ get_or xs i x → drop i xs ≡ x ∷ drop (i + 1) xs
   at_place x within is = drop_more xs i x within ∙ ap (λ y. y ∷ drop (i + 1) xs) (sym is)
 

@@ -1,4 +1,4 @@
--- Pieces that are put one after the other.
+-- Pieces that are appended one after the other.
 use Rattle.std.proofs.Common.{◌≡◌, ℕ, List, [], ◌++◌, Option, Some, None, append_assoc, subst}
 use Rattle.std.proofs.KnownBytes.{Appends-nil, Appends-trans}
 use Rattle.bridge_report.specs.Growth.{Grows, HasGrown}
@@ -17,23 +17,23 @@ module _ {T : Type 0} (contents : T → Option (Option (List ℕ))) where
   pub put_none : (o : T) → HasGrown contents o [] o
   put_none o = record { grows = grows_none (contents o) }
 
-  -- a piece, and what is behind it
+  -- A piece, followed by a second piece.
   pub put_piece : (o p q : T) (a b : List ℕ) → HasGrown contents o a p → HasGrown contents p b q → HasGrown contents o (a ++ b) q
   put_piece o p q a b first second = record { grows = grows_two (contents o) (contents p) (contents q) a b first.grows second.grows }
 
-  -- two pieces that were put at once, and what is behind them
+  -- Two pieces appended at once, followed by a third piece.
   pub put_pair : (o p q : T) (a b c : List ℕ) → HasGrown contents o (a ++ b) p → HasGrown contents p c q → HasGrown contents o (a ++ (b ++ c)) q
   put_pair o p q a b c first second = record { grows = subst (λ l. Grows (contents o) l (contents q)) (append_assoc a b c) (grows_two (contents o) (contents p) (contents q) (a ++ b) c first.grows second.grows) }
 
   pub put_two : (o p q : T) (a b all : List ℕ) → HasGrown contents o a p → HasGrown contents p b q → a ++ b ≡ all → HasGrown contents o all q
   put_two o p q a b all first second is = record { grows = subst (λ l. Grows (contents o) l (contents q)) is (grows_two (contents o) (contents p) (contents q) a b first.grows second.grows) }
 
-  -- the same octets in other words
+  -- An equal list of octets may replace the appended octets.
   pub put_as : (o p : T) (a b : List ℕ) → HasGrown contents o a p → a ≡ b → HasGrown contents o b p
   put_as o p a b first is = record { grows = subst (λ l. Grows (contents o) l (contents p)) is first.grows }
 
--- the pieces of a line
+-- Rules for the pieces of a line.
 pub ruleset puts = (put_piece, put_pair)
 
--- a piece more in a loop
+-- Rules for one piece more in a loop.
 pub ruleset goes_on = (put_none, put_two)

@@ -5,5 +5,5 @@ pub mod Words
 pub mod Section
 pub mod Losses
 pub mod Figures
-pub mod Numbers
+pub mod FaultCodes
 pub mod Examples

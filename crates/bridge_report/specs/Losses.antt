@@ -1,4 +1,4 @@
--- The lines of `run --strict`: one for each protected filter that refused a frame or of which a copy was dropped.
+-- The lines of `run --strict`: one for each protected filter with a refused frame or a dropped copy.
 use Rattle.std.specs.Prelude.{ℕ, Bool, true, false, ◌+◌, nat_eq, ◌&&◌, not, List, [], ◌++◌, length, count_by, flat_map, codes, decimal, if◌then◌else◌}
 use Rattle.bridge_filter.specs.declared.Verdict.{Verdict}
 use Rattle.bridge_filter.specs.declared.Verdict.TheVariants as verdict
@@ -7,9 +7,9 @@ use Rattle.bridge_semantics.specs.declared.outcome.View.{View}
 use Rattle.bridge_report.specs.declared.losses.Losses.{Losses}
 use Rattle.bridge_report.specs.declared.losses.Reason.{Reason}
 use Rattle.bridge_report.specs.declared.losses.Reason.TheVariants as reason
-use Rattle.bridge_report.specs.Section.{full_in, never_in}
+use Rattle.bridge_report.specs.Section.{count_full, count_never_fits}
 
--- Holds if a frame with this verdict was refused for this reason.
+-- True if a filter refused a frame with this verdict for reason `r`.
 abbrev pub is_for : Reason → Verdict → Bool
 is_for reason.Blocked verdict.Blocked = true
 is_for reason.Oversize verdict.Oversize = true
@@ -21,11 +21,11 @@ is_for reason.Red verdict.Red = true
 is_for reason.YellowDropped verdict.YellowDropped = true
 is_for r v = false
 
--- How many frames were refused for this reason.
+-- The number of frames that were refused for reason `r`.
 abbrev pub refused_for : Reason → List Verdict → ℕ
 refused_for r verdicts = count_by (is_for r) verdicts
 
--- The refused frames and the dropped copies of a filter, by reason.
+-- The numbers of a filter's refused frames and dropped copies, by reason.
 abbrev pub losses_of : List Verdict → List Dropped → Losses
 losses_of verdicts drops = record {
   blocked = refused_for reason.Blocked verdicts;
@@ -36,19 +36,19 @@ losses_of verdicts drops = record {
   octets_exceeded = refused_for reason.OctetsExceeded verdicts;
   red = refused_for reason.Red verdicts;
   yellow_dropped = refused_for reason.YellowDropped verdicts;
-  full = full_in drops;
-  never = never_in drops;
+  full = count_full drops;
+  never = count_never_fits drops;
 }
 
 -- The number of refused frames and dropped copies.
 abbrev pub total : Losses → ℕ
 total l = l.blocked + l.oversize + l.gate_closed + (l.shut_rx + l.shut_octets) + (l.octets_exceeded + l.red) + (l.yellow_dropped + l.full + l.never)
 
--- A reason with its number, behind a comma and the place of the loss.
+-- A comma, the place of the loss, the reason and its number, as text.
 abbrev pub counted_words : List ℕ → List ℕ → ℕ → List ℕ
 counted_words place word count = codes ", " ++ (place ++ (word ++ (codes " " ++ decimal count)))
 
--- A reason with its number. The text is empty if the number is 0.
+-- A reason with its number, as text. The text is empty if the number is 0.
 abbrev pub reason_words : List ℕ → List ℕ → ℕ → List ℕ
 reason_words place word count = if nat_eq count 0 then [] else counted_words place word count
 
@@ -73,6 +73,6 @@ line_if protected filter frames l = if protected && not (nat_eq (total l) 0) the
 abbrev pub lost_lines_of : {A : Type 0} → ℕ → View A → List ℕ
 lost_lines_of filter view = line_if view.protected filter (length view.verdicts.items) (losses_of view.verdicts.items view.drops.items)
 
--- The lines of all filters, in their order.
+-- The lines of all filters, in list order.
 abbrev pub lost_lines : {A : Type 0} → List (ℕ × View A) → List ℕ
 lost_lines filters = flat_map (λ f. lost_lines_of f.0 f.1) filters

@@ -1,4 +1,4 @@
--- The section of a report on a stream filter: its lines, each with its line feed.
+-- The report section of a stream filter. Each line ends with a line feed.
 use Rattle.std.specs.Prelude.{ℕ, Bool, true, false, ◌+◌, Option, Some, None, List, [], ◌∷◌, ◌++◌, length, count_by, flat_map, codes, decimal}
 use Rattle.bridge_meter.specs.declared.Buckets.{Buckets}
 use Rattle.bridge_filter.specs.declared.Verdict.{Verdict}
@@ -11,107 +11,107 @@ use Rattle.bridge_semantics.specs.declared.outcome.Dropped.{Dropped}
 use Rattle.bridge_semantics.specs.declared.outcome.View.{View}
 use Rattle.bridge_report.specs.Words.{kind_word, flag_word, verdict_word, refusal_word}
 
--- the filter's number, and whether it is protected
+-- The header line: the filter's number, and whether it is protected.
 abbrev pub header_line : ℕ → Bool → List ℕ
 header_line filter protected = codes "filter " ++ (decimal filter ++ (codes " " ++ (kind_word protected ++ codes "\n")))
 
--- its frames
+-- The line with the number of matching frames.
 abbrev pub matching_line : ℕ → List ℕ
 matching_line matching = codes "matching " ++ (decimal matching ++ codes "\n")
 
--- those that passed a test, by its name, and those that it refused
-abbrev pub tested_line : List ℕ → ℕ → ℕ → List ℕ
-tested_line test passed refused = test ++ (codes " passed " ++ (decimal passed ++ (codes " refused " ++ (decimal refused ++ codes "\n"))))
+-- The line of a test: its name, and the numbers of passed and refused frames.
+abbrev pub test_line : List ℕ → ℕ → ℕ → List ℕ
+test_line test passed refused = test ++ (codes " passed " ++ (decimal passed ++ (codes " refused " ++ (decimal refused ++ codes "\n"))))
 
--- those that the meter discarded
+-- The line with the number of frames that the meter discarded.
 abbrev pub red_line : ℕ → List ℕ
 red_line red = codes "red " ++ (decimal red ++ codes "\n")
 
--- what a filter counts
+-- The lines of a filter's counters.
 abbrev pub counter_lines : Counters → List ℕ
-counter_lines c = matching_line c.matching ++ (tested_line (codes "sdu") c.sdu_passed c.sdu_refused
-    ++ (tested_line (codes "gate") c.gate_passed c.gate_refused ++ red_line c.red))
+counter_lines c = matching_line c.matching ++ (test_line (codes "sdu") c.sdu_passed c.sdu_refused
+    ++ (test_line (codes "gate") c.gate_passed c.gate_refused ++ red_line c.red))
 
--- a flag with its name before it
-abbrev pub flag_named : List ℕ → Bool → List ℕ
-flag_named name flag = codes " " ++ (name ++ (codes " " ++ flag_word flag))
+-- A flag's name and its value, as text.
+abbrev pub named_flag : List ℕ → Bool → List ℕ
+named_flag name flag = codes " " ++ (name ++ (codes " " ++ flag_word flag))
 
--- the flags of the filter, of its gate and of its meter
-unfoldable pub each_flag : Flags → List ℕ
-each_flag f = flag_named (codes "blocked") f.blocked ++ (flag_named (codes "rx") f.rx ++ (flag_named (codes "octets") f.octets ++ flag_named (codes "red") f.red))
+-- The names and values of the flags of a filter, its stream gate and its meter.
+unfoldable pub all_flags : Flags → List ℕ
+all_flags f = named_flag (codes "blocked") f.blocked ++ (named_flag (codes "rx") f.rx ++ (named_flag (codes "octets") f.octets ++ named_flag (codes "red") f.red))
 
--- the line of a filter's flags
+-- The line of a filter's flags.
 abbrev pub flags_line : Flags → List ℕ
-flags_line f = codes "flags" ++ (each_flag f ++ codes "\n")
+flags_line f = codes "flags" ++ (all_flags f ++ codes "\n")
 
--- what the buckets of its meter hold, in units of 1/(8*10^9) octet, since a moment
+-- The line of a meter's buckets: their levels in units of 1/(8*10^9) octet, and the time in ns of these levels.
 abbrev pub bucket_line : Option Buckets → List ℕ
 bucket_line None = codes "bucket none\n"
 bucket_line (Some b) = codes "bucket committed " ++ (decimal b.committed ++ (codes " excess " ++ (decimal b.excess
     ++ (codes " at " ++ (decimal b.at ++ codes "\n")))))
 
--- a copy found its queue full
+-- True if a full queue dropped the copy.
 abbrev pub is_full : Refusal → Bool
 is_full refusal.Full = true
 is_full refusal.NeverFits = false
 
--- a copy fits at no moment
+-- True if the copy was dropped because it fits no window.
 abbrev pub never_fits : Refusal → Bool
 never_fits refusal.Full = false
 never_fits refusal.NeverFits = true
 
--- how many copies were dropped at a full queue
-abbrev pub full_in : List Dropped → ℕ
-full_in drops = count_by (λ d. is_full d.refusal) drops
+-- The number of copies that full queues dropped.
+abbrev pub count_full : List Dropped → ℕ
+count_full drops = count_by (λ d. is_full d.refusal) drops
 
--- how many copies were dropped since no moment fits them
-abbrev pub never_in : List Dropped → ℕ
-never_in drops = count_by (λ d. never_fits d.refusal) drops
+-- The number of copies that were dropped because they fit no window.
+abbrev pub count_never_fits : List Dropped → ℕ
+count_never_fits drops = count_by (λ d. never_fits d.refusal) drops
 
--- the copies of its frames: those that were queued, which all left, and those that were dropped, by the reason
+-- The line with the number of queued copies, which all left, and the numbers of dropped copies by reason.
 abbrev pub queued_line : List Departure → List Dropped → List ℕ
-queued_line departures drops = codes "queued " ++ (decimal (length departures) ++ (codes " full " ++ (decimal (full_in drops)
-    ++ (codes " never " ++ (decimal (never_in drops) ++ codes "\n")))))
+queued_line departures drops = codes "queued " ++ (decimal (length departures) ++ (codes " full " ++ (decimal (count_full drops)
+    ++ (codes " never " ++ (decimal (count_never_fits drops) ++ codes "\n")))))
 
--- the greatest time from a frame's coming to the end of a departure, in ns
+-- The line of the longest delay in ns, from a frame's arrival to the end of its transmission.
 abbrev pub delay_line : Option ℕ → List ℕ
 delay_line None = codes "delay none\n"
 delay_line (Some delay) = codes "delay " ++ (decimal delay ++ codes "\n")
 
--- a frame by its number, and its verdict
+-- The line of a frame: its number and its verdict.
 abbrev pub frame_line : ℕ → Verdict → List ℕ
 frame_line number verdict = codes "frame " ++ (decimal number ++ (codes " " ++ (verdict_word verdict ++ codes "\n")))
 
--- frames that are numbered from a number on
+-- The lines of frames that are numbered from `number`.
 abbrev pub frame_lines : ℕ → List Verdict → List ℕ
 frame_lines number [] = []
 frame_lines number (verdict ∷ more) = frame_line number verdict ++ frame_lines (number + 1) more
 
--- a copy that was dropped: its frame, its port, and why
+-- The line of a dropped copy: its frame number, its port and the reason.
 abbrev pub drop_line : Dropped → List ℕ
 drop_line d = codes "drop " ++ (decimal d.own ++ (codes " port " ++ (decimal d.port ++ (codes " " ++ (refusal_word d.refusal ++ codes "\n")))))
 
--- a copy that left: its frame, its port, and when it started and was done, in ns
-abbrev pub out_line : Departure → List ℕ
-out_line d = codes "out " ++ (decimal d.own ++ (codes " port " ++ (decimal d.port
+-- The line of a copy that left: its frame number, its port, and its start and end in ns.
+abbrev pub departure_line : Departure → List ℕ
+departure_line d = codes "out " ++ (decimal d.own ++ (codes " port " ++ (decimal d.port
     ++ (codes " start " ++ (decimal d.start ++ (codes " done " ++ (decimal d.done ++ codes "\n")))))))
 
--- what the filter, its gate and its meter are left with
-unfoldable pub state_of : {A : Type 0} → ℕ → View A → List ℕ
-state_of filter view = header_line filter view.protected ++ (counter_lines view.counters ++ (flags_line view.flags ++ bucket_line view.buckets))
+-- The lines with the final counters, flags and buckets of a filter, its stream gate and its meter.
+unfoldable pub state_lines : {A : Type 0} → ℕ → View A → List ℕ
+state_lines filter view = header_line filter view.protected ++ (counter_lines view.counters ++ (flags_line view.flags ++ bucket_line view.buckets))
 
--- how the copies of its frames fared
-unfoldable pub copies_of : {A : Type 0} → View A → List ℕ
-copies_of view = queued_line view.departures.items view.drops.items ++ delay_line view.delay
+-- The lines with the counts of copies and the longest delay.
+unfoldable pub copy_lines : {A : Type 0} → View A → List ℕ
+copy_lines view = queued_line view.departures.items view.drops.items ++ delay_line view.delay
 
--- the frames from 1 on, the copies that were dropped, and those that left
-unfoldable pub lists_of : {A : Type 0} → View A → List ℕ
-lists_of view = frame_lines 1 view.verdicts.items ++ (flat_map drop_line view.drops.items ++ flat_map out_line view.departures.items)
+-- The lines of the frames, numbered from 1, then of dropped copies, then of departures.
+unfoldable pub list_lines : {A : Type 0} → View A → List ℕ
+list_lines view = frame_lines 1 view.verdicts.items ++ (flat_map drop_line view.drops.items ++ flat_map departure_line view.departures.items)
 
--- the section of a filter by its number and what the run tells of it
-unfoldable pub section_of : {A : Type 0} → ℕ → View A → List ℕ
-section_of filter view = state_of filter view ++ (copies_of view ++ (lists_of view ++ codes "end\n"))
+-- The section of filter number `filter` by its record.
+unfoldable pub section_text : {A : Type 0} → ℕ → View A → List ℕ
+section_text filter view = state_lines filter view ++ (copy_lines view ++ (list_lines view ++ codes "end\n"))
 
--- the sections of a run's filters, in their order
-abbrev pub report_of : {A : Type 0} → List (ℕ × View A) → List ℕ
-report_of filters = flat_map (λ f. section_of f.0 f.1) filters
+-- The sections of all filters, in list order.
+abbrev pub report_text : {A : Type 0} → List (ℕ × View A) → List ℕ
+report_text filters = flat_map (λ f. section_text f.0 f.1) filters

@@ -1,16 +1,16 @@
--- A summary, computed.
+-- A computed example of the line of counts.
 use Rattle.std.specs.Prelude.{◌≡◌, [], ◌∷◌, codes, refl}
 use Rattle.std.specs.Fmt.{digits}
 use Rattle.bridge_semantics.specs.declared.outcome.PortCount.{PortCount}
-use Rattle.bridge_report.specs.Summary.{summary_of}
+use Rattle.bridge_report.specs.Summary.{summary_text}
 
--- one frame of a filter came to port 1 and left by port 3
+-- One frame of a filter arrived at port 1 and left by port 3.
 abbrev came : PortCount
 came = record { frames = 1; malformed = 0; nowhere = 0; unfiltered = 0; sent = 0; dropped = 0 }
 
 abbrev went : PortCount
 went = record { frames = 0; malformed = 0; nowhere = 0; unfiltered = 0; sent = 1; dropped = 0 }
 
-pub summed_up : summary_of ((1, came) ∷ (3, went) ∷ []) ≡ codes "frames 1 malformed 0 nowhere 0 policed 1 unfiltered 0 sent 1 dropped 0\n"
-unfolding summary_of digits
+pub summed_up : summary_text ((1, came) ∷ (3, went) ∷ []) ≡ codes "frames 1 malformed 0 nowhere 0 policed 1 unfiltered 0 sent 1 dropped 0\n"
+unfolding summary_text digits
 summed_up = refl

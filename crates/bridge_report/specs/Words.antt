@@ -1,21 +1,21 @@
--- The words of a report.
+-- Words of a report.
 use Rattle.std.specs.Prelude.{ℕ, Bool, true, false, List, codes}
 use Rattle.bridge_filter.specs.declared.Verdict.{Verdict}
 use Rattle.bridge_filter.specs.declared.Verdict.TheVariants as verdict
 use Rattle.bridge_port.specs.declared.item.Refusal.{Refusal}
 use Rattle.bridge_port.specs.declared.item.Refusal.TheVariants as refusal
 
--- whether a filter is protected
+-- The word for a filter's protection.
 abbrev pub kind_word : Bool → List ℕ
 kind_word true = codes "protected"
 kind_word false = codes "plain"
 
--- whether a flag is set
+-- The word for a flag's value.
 abbrev pub flag_word : Bool → List ℕ
 flag_word true = codes "yes"
 flag_word false = codes "no"
 
--- what became of a frame
+-- The word for a verdict.
 abbrev pub verdict_word : Verdict → List ℕ
 verdict_word verdict.Blocked = codes "blocked"
 verdict_word verdict.Oversize = codes "oversize"
@@ -28,7 +28,7 @@ verdict_word verdict.YellowDropped = codes "yellow-dropped"
 verdict_word (verdict.Pass ipv true) = codes "pass-eligible"
 verdict_word (verdict.Pass ipv false) = codes "pass"
 
--- why a copy was not queued
+-- The word for the reason of a drop.
 abbrev pub refusal_word : Refusal → List ℕ
 refusal_word refusal.Full = codes "full"
 refusal_word refusal.NeverFits = codes "never"

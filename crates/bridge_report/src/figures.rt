@@ -1,10 +1,10 @@
-//! Arrival times of frames, and the least, the greatest and the sum of some delays.
+//! Arrival times of frames, and the least, greatest and total delay of a list.
 ghost use Rattle.std.specs.Prelude.{◌≡◌, sum};
 ghost use Rattle.bridge_report.specs.Figures as spec;
 
 use bridge_semantics::Origin;
 
-/// Returns the arrival time in ns of a frame by its number, counted from 1; 0 if no frame has this number.
+/// Returns the arrival time in ns of frame number `own`, counted from 1; 0 if no frame has this number.
 pub fn arrival_time(origins: &[Origin], own: u64) -> u64
     ensures { result ≡ spec.at_of origins.now own }
 {
@@ -17,7 +17,7 @@ pub fn arrival_time(origins: &[Origin], own: u64) -> u64
     }
 }
 
-/// Returns the least of some delays in ns; the greatest number of 64 bits if there are none.
+/// Returns the least of `delays` in ns; the greatest number of 64 bits if the list is empty.
 pub fn least_delay(delays: &[u64]) -> u64
     ensures { result ≡ spec.least_of delays.now }
 {
@@ -28,7 +28,7 @@ pub fn least_delay(delays: &[u64]) -> u64
     least
 }
 
-/// Returns the greatest of some delays in ns; 0 if there are none.
+/// Returns the greatest of `delays` in ns; 0 if the list is empty.
 pub fn greatest_delay(delays: &[u64]) -> u64
     ensures { result ≡ spec.greatest_of delays.now }
 {
@@ -39,7 +39,7 @@ pub fn greatest_delay(delays: &[u64]) -> u64
     greatest
 }
 
-/// Returns the sum of some delays in ns.
+/// Returns the sum of `delays` in ns.
 pub fn total_delay(delays: &[u64]) -> u128
     ensures { result ≡ sum delays.now }
 {

@@ -1,13 +1,12 @@
-//! A law of reports, the contract of a function that does nothing.
+//! A law of reports: the contract of a function without a body.
 ghost use Rattle.std.specs.Prelude.{◌≡◌, ℕ};
 ghost use Rattle.bridge_semantics.specs.declared.outcome.View.{View};
-ghost use Rattle.bridge_semantics.specs.Runs.{TellTheSame};
-ghost use Rattle.bridge_report.specs.Section.{section_of};
+ghost use Rattle.bridge_semantics.specs.Runs.{AreSameViews};
+ghost use Rattle.bridge_report.specs.Section.{section_text};
 
 use std::alloc::Allocator;
 
-/// What tells the same of a filter has the same section, octet for octet. So the section of a protected filter is that of
-/// its own events alone, whatever else came.
+/// Equal records of a filter give equal sections, octet for octet. A protected filter's section therefore depends on its own events only.
 pub fn same_section<A: Allocator + Copy>()
-    ensures { (filter : ℕ) (u v : View A) → TellTheSame u v → section_of filter u ≡ section_of filter v }
+    ensures { (filter : ℕ) (u v : View A) → AreSameViews u v → section_text filter u ≡ section_text filter v }
 {}

@@ -1,28 +1,27 @@
 #![tactic(auto)]
-//! Report of a run: a section for each stream filter, and the line of counts that sums the run up.
+//! Writes the report of a run: a section for each stream filter, and the line of counts over all ports.
 
-mod fault;
 mod figures;
-mod held;
 mod laws;
-mod line;
 mod lines;
 mod lists;
 mod losses;
+mod put_section;
+mod report_fault;
+mod report_line;
+mod report_sink;
+mod report_writer;
 mod sections;
-mod shown;
-mod text;
-mod totals;
-mod word;
+mod summary_line;
+mod words;
 
 pub use bridge_limits::NoMemory;
-pub use fault::ReportFault;
 pub use figures::{arrival_time, greatest_delay, least_delay, total_delay};
-pub use laws::same_section;
 pub use losses::{
     Losses, Reason, count_full, count_never_fitting, count_refused, lost_lines, put_losses,
     put_reason,
 };
-pub use sections::{has_section, report, section, view_of, write_report};
-pub use totals::summary;
-pub use word::{refusal_word, verdict_word};
+pub use report_fault::ReportFault;
+pub use sections::{find_view, has_section, report, section, write_report};
+pub use summary_line::summary;
+pub use words::{refusal_word, verdict_word};

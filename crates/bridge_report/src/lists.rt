@@ -1,16 +1,16 @@
-//! The lists of a section.
+//! Writes the lists of a section.
 ghost use Rattle.std.specs.Prelude.{flat_map};
 ghost use Rattle.bridge_report.specs.Growth.{HasGrown};
-ghost use Rattle.bridge_report.specs.Section.{drop_line, frame_lines, out_line};
+ghost use Rattle.bridge_report.specs.Section.{drop_line, frame_lines, departure_line};
 
-use crate::lines::{put_drop, put_frame, put_out};
-use crate::text::Growing;
+use crate::lines::{put_departure, put_drop, put_frame};
+use crate::report_sink::ReportSink;
 use bridge_filter::Verdict;
 use bridge_semantics::{Departure, Dropped};
 
-/// Puts the frames of a filter, from 1 on, and their verdicts.
+/// Writes the lines of a filter's frames, numbered from 1, with their verdicts.
 #[tactic(auto, using(crate::proofs::Puts::goes_on))]
-pub fn put_frames<T: Growing>(text: &mut T, verdicts: &[Verdict])
+pub fn put_frames<T: ReportSink>(text: &mut T, verdicts: &[Verdict])
     ensures { HasGrown T.contents text.old (frame_lines 1 verdicts.now) text.new }
 {
     for (i, verdict) in verdicts.iter().enumerate() {
@@ -18,9 +18,9 @@ pub fn put_frames<T: Growing>(text: &mut T, verdicts: &[Verdict])
     }
 }
 
-/// Puts the copies that were dropped.
+/// Writes the lines of the dropped copies.
 #[tactic(auto, using(crate::proofs::Puts::goes_on))]
-pub fn put_drops<T: Growing>(text: &mut T, drops: &[Dropped])
+pub fn put_drops<T: ReportSink>(text: &mut T, drops: &[Dropped])
     ensures { HasGrown T.contents text.old (flat_map drop_line drops.now) text.new }
 {
     for dropped in drops {
@@ -28,12 +28,12 @@ pub fn put_drops<T: Growing>(text: &mut T, drops: &[Dropped])
     }
 }
 
-/// Puts the copies that left.
+/// Writes the lines of the copies that left.
 #[tactic(auto, using(crate::proofs::Puts::goes_on))]
-pub fn put_outs<T: Growing>(text: &mut T, departures: &[Departure])
-    ensures { HasGrown T.contents text.old (flat_map out_line departures.now) text.new }
+pub fn put_departures<T: ReportSink>(text: &mut T, departures: &[Departure])
+    ensures { HasGrown T.contents text.old (flat_map departure_line departures.now) text.new }
 {
     for departure in departures {
-        put_out(text, departure);
+        put_departure(text, departure);
     }
 }

@@ -1,14 +1,14 @@
-//! Lost frames: how many frames a filter refused and how many copies ports dropped, by reason, and the lines about them.
+//! Counts lost frames by reason: frames that a filter refused and copies that ports dropped. Writes the lines about them.
 ghost use Rattle.std.specs.Prelude.{◌≡◌, IfOk, string_bytes};
 ghost use Rattle.bridge_report.specs.Losses as spec;
-ghost use Rattle.bridge_report.specs.Section.{full_in, never_in};
+ghost use Rattle.bridge_report.specs.Section.{count_full, count_never_fits};
 ghost use Rattle.bridge_text.specs.Growth.{HasGrown};
 
 use bridge_filter::Verdict;
 use bridge_limits::NoMemory;
 use bridge_port::Refusal;
 use bridge_semantics::{Dropped, Outcome, View};
-use bridge_text::Text;
+use bridge_text::TextBuilder;
 use std::alloc::Allocator;
 
 /// Why a filter refuses a frame.
@@ -39,8 +39,8 @@ pub struct Losses {
     pub never: u64,
 }
 
-/// Returns whether a frame with this verdict was refused for this reason.
-fn is_for(reason: Reason, verdict: Verdict) -> bool
+/// Whether a filter refused a frame with verdict `verdict` for reason `reason`.
+fn has_reason(reason: Reason, verdict: Verdict) -> bool
     ensures { result ≡ spec.is_for reason verdict }
 {
     match reason {
@@ -55,16 +55,16 @@ fn is_for(reason: Reason, verdict: Verdict) -> bool
     }
 }
 
-/// Counts the frames that were refused for this reason.
+/// Counts the frames that were refused for reason `reason`.
 pub fn count_refused(reason: Reason, verdicts: &[Verdict]) -> u64
     ensures { result ≡ spec.refused_for reason verdicts.now }
 {
-    verdicts.iter().filter(|v| is_for(reason, **v)).count() as u64
+    verdicts.iter().filter(|v| has_reason(reason, **v)).count() as u64
 }
 
 /// Counts the copies that a full queue dropped.
 pub fn count_full(drops: &[Dropped]) -> usize
-    ensures { result ≡ full_in drops.now }
+    ensures { result ≡ count_full drops.now }
 {
     drops
         .iter()
@@ -74,7 +74,7 @@ pub fn count_full(drops: &[Dropped]) -> usize
 
 /// Counts the copies that fit no window of their queue.
 pub fn count_never_fitting(drops: &[Dropped]) -> usize
-    ensures { result ≡ never_in drops.now }
+    ensures { result ≡ count_never_fits drops.now }
 {
     drops
         .iter()
@@ -82,8 +82,8 @@ pub fn count_never_fitting(drops: &[Dropped]) -> usize
         .count()
 }
 
-/// Counts the refused frames and the dropped copies of a filter.
-fn losses_of(verdicts: &[Verdict], drops: &[Dropped]) -> Losses
+/// Counts the refused frames and the dropped copies of a filter, by reason.
+fn count_losses(verdicts: &[Verdict], drops: &[Dropped]) -> Losses
     ensures { result ≡ spec.losses_of verdicts.now drops.now }
 {
     Losses {
@@ -111,8 +111,8 @@ fn total(losses: &Losses) -> u128
     refused + shut + metered + dropped
 }
 
-/// Puts a reason with its number, behind a comma and the place of the loss.
-fn put_counted<A: Allocator>(text: &mut Text<A>, place: &str, word: &str, count: u128)
+/// Writes a comma, the place of the loss, the reason and its number.
+fn put_counted<A: Allocator>(text: &mut TextBuilder<A>, place: &str, word: &str, count: u128)
     ensures { HasGrown text.old (spec.counted_words place.now word.now count) text.new }
 {
     text.put(", ");
@@ -122,8 +122,8 @@ fn put_counted<A: Allocator>(text: &mut Text<A>, place: &str, word: &str, count:
     text.put_integer(count);
 }
 
-/// Puts a reason with its number, behind a comma and the place of the loss. Puts nothing if the number is 0.
-pub fn put_reason<A: Allocator>(text: &mut Text<A>, place: &str, word: &str, count: u128)
+/// Writes a comma, the place of the loss, the reason and its number. Writes nothing if the number is 0.
+pub fn put_reason<A: Allocator>(text: &mut TextBuilder<A>, place: &str, word: &str, count: u128)
     ensures { HasGrown text.old (spec.reason_words place.now word.now count) text.new }
 {
     if count != 0 {
@@ -131,8 +131,8 @@ pub fn put_reason<A: Allocator>(text: &mut Text<A>, place: &str, word: &str, cou
     }
 }
 
-/// Puts the reasons of all losses at a place, in the order of the tables.
-pub fn put_losses<A: Allocator>(text: &mut Text<A>, place: &str, losses: &Losses)
+/// Writes the reasons of all losses at a place, in the order of the tables.
+pub fn put_losses<A: Allocator>(text: &mut TextBuilder<A>, place: &str, losses: &Losses)
     ensures { HasGrown text.old (spec.loss_words place.now losses.now) text.new }
 {
     put_reason(text, place, "blocked", losses.blocked as u128);
@@ -152,8 +152,8 @@ pub fn put_losses<A: Allocator>(text: &mut Text<A>, place: &str, losses: &Losses
     put_reason(text, place, "never", losses.never as u128);
 }
 
-/// Puts the line of a filter that lost frames or copies.
-fn put_line<A: Allocator>(text: &mut Text<A>, filter: u32, frames: u64, losses: &Losses)
+/// Writes the line of a filter that lost frames or copies.
+fn put_line<A: Allocator>(text: &mut TextBuilder<A>, filter: u32, frames: u64, losses: &Losses)
     ensures { HasGrown text.old (spec.lost_line filter frames losses.now) text.new }
 {
     text.put("lost: filter ");
@@ -167,9 +167,9 @@ fn put_line<A: Allocator>(text: &mut Text<A>, filter: u32, frames: u64, losses: 
     text.put("\n");
 }
 
-/// Puts the line of a filter, if the filter is protected and lost a frame or a copy.
+/// Writes the line of a filter, if the filter is protected and lost a frame or a copy.
 fn put_if<A: Allocator>(
-    text: &mut Text<A>,
+    text: &mut TextBuilder<A>,
     protected: bool,
     filter: u32,
     frames: u64,
@@ -182,11 +182,11 @@ fn put_if<A: Allocator>(
     }
 }
 
-/// Puts the line of a filter by its record.
-fn put_lost<A: Allocator>(text: &mut Text<A>, filter: u32, view: &View<A>)
+/// Writes the line of a filter by its record.
+fn put_lost<A: Allocator>(text: &mut TextBuilder<A>, filter: u32, view: &View<A>)
     ensures { HasGrown text.old (spec.lost_lines_of filter view.now) text.new }
 {
-    let losses = losses_of(&view.verdicts, &view.drops);
+    let losses = count_losses(&view.verdicts, &view.drops);
     put_if(
         text,
         view.protected,
@@ -196,17 +196,17 @@ fn put_lost<A: Allocator>(text: &mut Text<A>, filter: u32, view: &View<A>)
     );
 }
 
-/// Returns one line for each protected filter that lost a frame or a copy, in the order of the filters. The line has the number of
-/// losses, the number of frames, and the number of each reason. The text is empty if no protected filter lost anything.
+/// Returns one line for each protected filter that lost a frame or a copy, in filter order: the numbers of losses, frames and reasons. The
+/// text is empty without such a filter.
 pub fn lost_lines<A: Allocator + Copy>(
     alloc: A,
     outcome: &Outcome<A>,
 ) -> Result<String<A>, NoMemory>
     ensures { IfOk result (λ text. string_bytes text ≡ spec.lost_lines outcome.now.filters.items) }
 {
-    let mut text = Text::new(alloc);
+    let mut text = TextBuilder::new(alloc);
     for filter in &outcome.filters {
         put_lost(&mut text, filter.0, &filter.1);
     }
-    text.done()
+    text.finish()
 }

@@ -1,24 +1,24 @@
-//! The section of a report on a stream filter, and the report on all.
+//! The section of a stream filter, and the report of all filters.
 ghost use Rattle.std.specs.Prelude.{◌≡◌, nat_eq, is_some, option_map, string_bytes, true, Some, IfOk};
 ghost use Rattle.std.specs.Map.{lookup};
 ghost use Rattle.std.specs.Io.KnownBytes.{Appends};
-ghost use Rattle.bridge_report.specs.Section.{report_of, section_of};
+ghost use Rattle.bridge_report.specs.Section.{report_text, section_text};
 ghost use Rattle.bridge_semantics.specs.declared.outcome.View.{View};
 
-use crate::fault::ReportFault;
-use crate::held::{Held, Written};
-use crate::shown::{put_section, put_sections};
+use crate::put_section::{put_section, put_sections};
+use crate::report_fault::ReportFault;
+use crate::report_writer::{BufferedWriter, ReportWriter};
 use bridge_limits::NoMemory;
 use bridge_semantics::{Outcome, View};
-use bridge_text::Text;
+use bridge_text::TextBuilder;
 use std::alloc::Allocator;
 use std::io::Write;
 
-/// The octets that are handed to a writer at once.
-const MOST_AT_ONCE: usize = 262_144;
+/// Buffer size in octets: a writer receives at most this number at once.
+const BUFFER_OCTETS: usize = 262_144;
 
-/// What the run tells of a filter, by its number.
-pub fn view_of<A: Allocator>(outcome: &Outcome<A>, filter: u32) -> Option<&View<A>>
+/// Returns the record of the filter with number `filter`.
+pub fn find_view<A: Allocator>(outcome: &Outcome<A>, filter: u32) -> Option<&View<A>>
     ensures { option_map (λ view. view.now) result ≡ lookup (nat_eq filter) outcome.now.filters.items }
 {
     for f in &outcome.filters {
@@ -29,14 +29,14 @@ pub fn view_of<A: Allocator>(outcome: &Outcome<A>, filter: u32) -> Option<&View<
     None
 }
 
-/// Whether the run tells of a stream filter with this number.
+/// Whether the result has a record of the filter with number `filter`.
 pub fn has_section<A: Allocator>(outcome: &Outcome<A>, filter: u32) -> bool
     ensures { result ≡ is_some (lookup (nat_eq filter) outcome.now.filters.items) }
 {
-    view_of(outcome, filter).is_some()
+    find_view(outcome, filter).is_some()
 }
 
-/// The section of a report on a stream filter of which the run tells: its lines, each ended by a line feed.
+/// Returns the report section of a filter with a record. Each line ends with a line feed.
 pub fn section<A: Allocator + Copy>(
     alloc: A,
     outcome: &Outcome<A>,
@@ -44,42 +44,41 @@ pub fn section<A: Allocator + Copy>(
 ) -> Result<String<A>, NoMemory>
     requires there { is_some (lookup (nat_eq filter) outcome.now.filters.items) ≡ true }
     ensures { (view : View A) → lookup (nat_eq filter) outcome.now.filters.items ≡ Some view
-        → IfOk result (λ text. string_bytes text ≡ section_of filter view) }
+        → IfOk result (λ text. string_bytes text ≡ section_text filter view) }
 {
-    let Some(view) = view_of(outcome, filter) else {
+    let Some(view) = find_view(outcome, filter) else {
         unreachable!();
     };
-    let mut text = Text::new(alloc);
+    let mut text = TextBuilder::new(alloc);
     put_section(&mut text, filter, view);
-    text.done()
+    text.finish()
 }
 
-/// The sections of all filters, in their order.
+/// Returns the sections of all filters, by rising number.
 pub fn report<A: Allocator + Copy>(alloc: A, outcome: &Outcome<A>) -> Result<String<A>, NoMemory>
-    ensures { IfOk result (λ text. string_bytes text ≡ report_of outcome.now.filters.items) }
+    ensures { IfOk result (λ text. string_bytes text ≡ report_text outcome.now.filters.items) }
 {
-    let mut text = Text::new(alloc);
+    let mut text = TextBuilder::new(alloc);
     put_sections(&mut text, &outcome.filters);
-    text.done()
+    text.finish()
 }
 
-/// Writes the sections of all filters, in their order, behind what the writer holds, and hands it back flushed. All that
-/// it keeps are 262,144 octets, one growth of memory; the writer is handed up to as many at once.
+/// Appends the sections of all filters to `writer`, and returns it flushed. The only allocation is the buffer of 262,144 octets.
 pub fn write_report<W: Write + Drop, A: Allocator + Copy>(
     alloc: A,
     outcome: &Outcome<A>,
     writer: W,
 ) -> Result<W, ReportFault>
     ensures { IfOk result (λ done. Appends (W.contents writer) (W.contents done)
-        (report_of outcome.now.filters.items)) }
+        (report_text outcome.now.filters.items)) }
 {
-    let Ok(octets) = Vec::with_capacity(alloc, MOST_AT_ONCE) else {
+    let Ok(octets) = Vec::with_capacity(alloc, BUFFER_OCTETS) else {
         return Err(ReportFault::NoMemory);
     };
-    let mut written = Written {
-        held: Held { writer, octets },
+    let mut written = ReportWriter {
+        held: BufferedWriter { writer, octets },
         fault: None,
     };
     put_sections(&mut written, &outcome.filters);
-    written.end()
+    written.finish()
 }

@@ -2,6 +2,6 @@ pub mod Examples
 pub mod Keys
 pub mod Reading
 pub mod Readers
-pub mod Standing
+pub mod AllowedKeys
 pub mod Texts
-pub mod Numbers
+pub mod FaultCodes

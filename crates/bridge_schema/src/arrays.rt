@@ -3,8 +3,8 @@ ghost use Rattle.std.specs.Prelude.{◌≡◌, ◌≤◌, ◌<◌, ◌+◌, ◌-
 ghost use Rattle.toml.specs.View.{view, items_view};
 ghost use Rattle.bridge_schema.specs.Readers as spec;
 
-use crate::fault::Flaw;
-use crate::kinds::Kind;
+use crate::plan_fault::Flaw;
+use crate::value_kinds::ValueKind;
 use toml::Value;
 
 fn are_integers(items: &[Value]) -> bool
@@ -18,8 +18,8 @@ fn are_integers(items: &[Value]) -> bool
     true
 }
 
-fn are_between(items: &[Value], low: u64, high: u64) -> bool
-    ensures { result ≡ spec.are_between low high (items_view items.now) }
+fn are_in_range(items: &[Value], low: u64, high: u64) -> bool
+    ensures { result ≡ spec.are_in_range low high (items_view items.now) }
 {
     'items: for item in items {
         match item {
@@ -51,15 +51,15 @@ fn numbers_flaw(items: &[Value], low: u64, high: u64) -> Option<Flaw>
 {
     if !are_integers(items) {
         Some(Flaw::WrongKind)
-    } else if !are_between(items, low, high) {
+    } else if !are_in_range(items, low, high) {
         Some(Flaw::OutOfRange)
     } else {
         None
     }
 }
 
-fn number_in(value: &Value) -> u64
-    ensures { result ≡ spec.number_in (view value.now) }
+fn value_number(value: &Value) -> u64
+    ensures { result ≡ spec.value_number (view value.now) }
 {
     match value {
         Value::Integer(number) if *number >= 0 => *number as u64,
@@ -67,7 +67,7 @@ fn number_in(value: &Value) -> u64
     }
 }
 
-/// The bits with bit `k` set.
+/// Returns the bits with bit `k` set.
 #[tactic(auto, using(crate::proofs::Sets::shifted))]
 pub fn with_bit(bits: u16, k: u64) -> u16
     requires few { k < 16 }
@@ -76,77 +76,76 @@ pub fn with_bit(bits: u16, k: u64) -> u16
     bits | 1 << k
 }
 
-fn set_of(items: &[Value], low: u64, high: u64) -> u16
+fn value_set(items: &[Value], low: u64, high: u64) -> u16
     requires order { low ≤ high }
     requires few { high < low + 16 }
-    requires between { spec.are_between low high (items_view items.now) ≡ true }
-    ensures set { result ≡ spec.set_with low 0 (spec.numbers_of (items_view items.now)) }
+    requires between { spec.are_in_range low high (items_view items.now) ≡ true }
+    ensures set { result ≡ spec.add_to_set low 0 (spec.item_numbers (items_view items.now)) }
     ensures fits { result < 2 ^ (high - low + 1) }
 {
     let mut bits: u16 = 0;
     'items: for item in items {
-        let number = number_in(item);
+        let number = value_number(item);
         bits = with_bit(bits, number - low);
     }
     bits
 }
 
-/// An array of whole numbers from `low` to `high`, at most 16 different ones, as a set: bit `n - low`
-/// says whether the array has `n`. Repetitions don't matter.
-pub struct SetOf {
-    /// The least number.
+/// Array of integers from `low` to `high` as a set: bit `n - low` stands for `n`. At most 16 different numbers; repetitions are
+/// ignored.
+pub struct NumberSet {
+    /// Least number.
     pub low: u64,
-    /// The largest number.
+    /// Greatest number.
     pub high: u64,
     ghost order: { low ≤ high },
     ghost few: { high < low + 16 },
 }
 
-impl Kind for SetOf {
+impl ValueKind for NumberSet {
     type Out = u16;
 
-    ghost reading = { λ k. spec.set_of k.low k.high };
+    ghost reading = { λ k. spec.number_set k.low k.high };
 
     ghost Fits = { λ k n. n < 2 ^ (k.high - k.low + 1) };
 
-    #[tactic(auto, unfolding(crate::specs::Readers::numbers, crate::specs::Readers::set_of))]
+    #[tactic(auto, unfolding(crate::specs::Readers::number_array, crate::specs::Readers::number_set))]
     fn read(&self, value: &Value) -> Result<u16, Flaw> {
         match value {
             Value::Array(items) => match numbers_flaw(items, self.low, self.high) {
                 Some(flaw) => Err(flaw),
-                None => Ok(set_of(items, self.low, self.high)),
+                None => Ok(value_set(items, self.low, self.high)),
             },
             _ => Err(Flaw::WrongKind),
         }
     }
 }
 
-/// A list of ports that the plan has, as a set from port 1 on. Any other number is Unresolved, also one that no port
-/// can have.
+/// Array of ports that the plan has, as a set from port 1 on. Each other integer is `Unresolved`.
 #[derive(Clone, Copy)]
-pub struct PortsOf {
-    /// The ports of the plan: bit `n - 1` says whether it has port `n`.
+pub struct KnownPorts {
+    /// Ports of the plan: bit n - 1 stands for port n.
     pub all: u16,
 }
 
-impl Kind for PortsOf {
+impl ValueKind for KnownPorts {
     type Out = u16;
 
-    ghost reading = { λ k. spec.ports_of k.all };
+    ghost reading = { λ k. spec.known_ports k.all };
 
     ghost Fits = { λ k ports. spec.is_subset ports k.all ≡ true };
 
-    #[tactic(auto, unfolding(crate::specs::Readers::ports_of))]
+    #[tactic(auto, unfolding(crate::specs::Readers::known_ports))]
     fn read(&self, value: &Value) -> Result<u16, Flaw> {
         match value {
             Value::Array(items) => {
                 if !are_integers(items) {
                     return Err(Flaw::WrongKind);
                 }
-                if !are_between(items, 1, 16) {
+                if !are_in_range(items, 1, 16) {
                     return Err(Flaw::Unresolved);
                 }
-                let ports = set_of(items, 1, 16);
+                let ports = value_set(items, 1, 16);
                 if ports & self.all == ports {
                     Ok(ports)
                 } else {
@@ -160,57 +159,57 @@ impl Kind for PortsOf {
 
 #[tactic(auto, using(crate::proofs::Sets::count_of_view))]
 fn has_eight(items: &[Value]) -> bool
-    ensures numbers { result ≡ nat_eq (length (spec.numbers_of (items_view items.now))) 8 }
+    ensures numbers { result ≡ nat_eq (length (spec.item_numbers (items_view items.now))) 8 }
     ensures items { result ≡ true → length items.now ≡ 8 }
 {
     items.len() == 8
 }
 
-fn classes_of(items: &[Value]) -> [u8; 8]
+fn read_classes(items: &[Value]) -> [u8; 8]
     requires eight { length items.now ≡ 8 }
-    requires between { spec.are_between 0 7 (items_view items.now) ≡ true }
-    ensures numbers { result ≡ spec.numbers_of (items_view items.now) }
-    ensures fits { spec.are_within 0 7 result ≡ true }
+    requires between { spec.are_in_range 0 7 (items_view items.now) ≡ true }
+    ensures numbers { result ≡ spec.item_numbers (items_view items.now) }
+    ensures fits { spec.are_numbers_in_range 0 7 result ≡ true }
 {
     let mut out = [0; 8];
     'items: for (i, item) in items.iter().enumerate() {
-        out[i] = number_in(item) as u8;
+        out[i] = value_number(item) as u8;
     }
     out
 }
 
-fn rooms_of(items: &[Value]) -> [u16; 8]
+fn read_rooms(items: &[Value]) -> [u16; 8]
     requires eight { length items.now ≡ 8 }
-    requires between { spec.are_between 1 4096 (items_view items.now) ≡ true }
-    ensures numbers { result ≡ spec.numbers_of (items_view items.now) }
-    ensures fits { spec.are_within 1 4096 result ≡ true }
+    requires between { spec.are_in_range 1 4096 (items_view items.now) ≡ true }
+    ensures numbers { result ≡ spec.item_numbers (items_view items.now) }
+    ensures fits { spec.are_numbers_in_range 1 4096 result ≡ true }
 {
     let mut out = [0; 8];
     'items: for (i, item) in items.iter().enumerate() {
-        out[i] = number_in(item) as u16;
+        out[i] = value_number(item) as u16;
     }
     out
 }
 
-/// Eight numbers from 0 to 7: the class of each priority, from priority 0 (IEEE 802.1Q-2018 8.6.6).
+/// Eight numbers from 0 to 7: the class of each priority, from priority 0 (IEEE 802.1Q-2018, 8.6.6).
 #[derive(Clone, Copy)]
 pub struct Classes;
 
-impl Kind for Classes {
+impl ValueKind for Classes {
     type Out = [u8; 8];
 
-    ghost reading = { λ _. spec.eight 0 7 };
+    ghost reading = { λ _. spec.eight_in_range 0 7 };
 
-    ghost Fits = { λ _ classes. spec.are_within 0 7 classes ≡ true };
+    ghost Fits = { λ _ classes. spec.are_numbers_in_range 0 7 classes ≡ true };
 
-    #[tactic(auto, unfolding(crate::specs::Readers::numbers, crate::specs::Readers::eight))]
+    #[tactic(auto, unfolding(crate::specs::Readers::number_array, crate::specs::Readers::eight_in_range))]
     fn read(&self, value: &Value) -> Result<[u8; 8], Flaw> {
         match value {
             Value::Array(items) => match numbers_flaw(items, 0, 7) {
                 Some(flaw) => Err(flaw),
                 None => {
                     if has_eight(items) {
-                        Ok(classes_of(items))
+                        Ok(read_classes(items))
                     } else {
                         Err(Flaw::OutOfRange)
                     }
@@ -221,25 +220,25 @@ impl Kind for Classes {
     }
 }
 
-/// Eight numbers from 1 to 4096: the room of each class in frames, from class 0.
+/// Eight numbers from 1 to 4,096: the queue capacity of each class in frames, from class 0.
 #[derive(Clone, Copy)]
 pub struct Rooms;
 
-impl Kind for Rooms {
+impl ValueKind for Rooms {
     type Out = [u16; 8];
 
-    ghost reading = { λ _. spec.eight 1 4096 };
+    ghost reading = { λ _. spec.eight_in_range 1 4096 };
 
-    ghost Fits = { λ _ rooms. spec.are_within 1 4096 rooms ≡ true };
+    ghost Fits = { λ _ rooms. spec.are_numbers_in_range 1 4096 rooms ≡ true };
 
-    #[tactic(auto, unfolding(crate::specs::Readers::numbers, crate::specs::Readers::eight))]
+    #[tactic(auto, unfolding(crate::specs::Readers::number_array, crate::specs::Readers::eight_in_range))]
     fn read(&self, value: &Value) -> Result<[u16; 8], Flaw> {
         match value {
             Value::Array(items) => match numbers_flaw(items, 1, 4096) {
                 Some(flaw) => Err(flaw),
                 None => {
                     if has_eight(items) {
-                        Ok(rooms_of(items))
+                        Ok(read_rooms(items))
                     } else {
                         Err(Flaw::OutOfRange)
                     }

@@ -1,19 +1,19 @@
-//! The document of a text, and its sections as arrays of tables.
+//! Document in a text, and its sections as arrays of tables.
 ghost use Rattle.std.specs.Prelude.{◌≡◌, ◌<◌, ◌≤◌, IfErr, IfOk, length, nat_le, option_map, true, false};
 ghost use Rattle.toml.specs.View.{view, table_view, items_view};
 ghost use Rattle.bridge_schema.specs.Readers.{is_empty};
 ghost use Rattle.bridge_schema.specs.Reading as spec;
 
 use crate::arrays::are_tables;
-use crate::presence::value_at;
+use crate::presence::get_value;
 use crate::ranges::MOST_OCTETS;
 use crate::reader_fault::{ReaderFault, Spell, TextSection};
 use std::alloc::Global;
 use toml::{Table, Value};
 
-/// The document of a text, in `heap`: `too_long` above 1,048,576 octets, `syntax` if it is no TOML document in UTF-8.
+/// Parses a text as a TOML document. Returns `too_long` above 1,048,576 octets, and `syntax` if the text isn't TOML in UTF-8.
 #[tactic(auto, using(bridge_limits::proofs::Octets::utf8_whole))]
-pub fn document_of<F: ReaderFault>(heap: Global, text: &[u8]) -> Result<Table, F>
+pub fn read_document<F: ReaderFault>(heap: Global, text: &[u8]) -> Result<Table, F>
     ensures { spec.GivesAs F.is_memory table_view result (spec.document_of F.too_long F.syntax text.now) }
 {
     if text.len() > MOST_OCTETS {
@@ -29,19 +29,19 @@ pub fn document_of<F: ReaderFault>(heap: Global, text: &[u8]) -> Result<Table, F
     }
 }
 
-/// Whether a text spells one of some words.
-fn is_among<W: Spell>(words: &[W], text: &str) -> bool
+/// Whether a text is the spelling of one of `words`.
+fn is_spelled<W: Spell>(words: &[W], text: &str) -> bool
     ensures { result ≡ spec.is_among W.spelling words.now text.now }
 {
     words.iter().any(|word| word.spell() == text)
 }
 
-/// Whether a table has no key but these words: the keys of an instance, or the sections of a document.
+/// Whether a table has only these keys: keys of an instance, or sections of a document.
 pub fn has_only<W: Spell>(table: &Table, words: &[W]) -> bool
     ensures known { result ≡ spec.are_known W.spelling words.now (table_view table.now) }
 {
     'members: for (key, _) in table.iter() {
-        if !is_among(words, key.as_str()) {
+        if !is_spelled(words, key.as_str()) {
             return false;
         }
     }
@@ -57,17 +57,17 @@ pub fn is_empty(items: &[Value]) -> bool
     items.len() == 0
 }
 
-/// Whether an array has at most as many items as its section may have.
+/// Whether an array has at most as many items as the limit of its section.
 #[tactic(auto, using(crate::proofs::Counts::count_of_view))]
 fn are_few<S: TextSection>(items: &[Value], section: &S) -> bool
-    ensures count { result ≡ nat_le (spec.count_of (items_view items.now)) (S.limit section.now) }
+    ensures count { result ≡ nat_le (spec.count_items (items_view items.now)) (S.limit section.now) }
     ensures few { result ≡ true → length items.now ≤ S.limit section.now }
 {
     items.len() <= section.limit()
 }
 
-/// The items of a section, if it is an array of tables that are few enough; an absent one has none. Takes no memory.
-fn items_in<'a, F: ReaderFault>(
+/// Returns the items of a section if it is an array of tables within the limit; no items if it is absent. Allocates no memory.
+fn array_items<'a, F: ReaderFault>(
     section: F::Section,
     value: Option<&'a Value>,
 ) -> Result<&'a [Value], F>
@@ -92,8 +92,11 @@ fn items_in<'a, F: ReaderFault>(
     }
 }
 
-/// The items of a section of a document. Takes no memory.
-pub fn items_of<'a, F: ReaderFault>(section: F::Section, table: &'a Table) -> Result<&'a [Value], F>
+/// Returns the items of a section of a document. Allocates no memory.
+pub fn section_items<'a, F: ReaderFault>(
+    section: F::Section,
+    table: &'a Table,
+) -> Result<&'a [Value], F>
     ensures reads { spec.GivesAs F.is_memory (λ x. items_view x.now) result (spec.items_of F.not_a_list F.too_many
         F.Section.limit F.Section.spelling section (table_view table.now)) }
     ensures few { IfOk result (λ x. length x.now ≤ F.Section.limit section) }
@@ -101,5 +104,5 @@ pub fn items_of<'a, F: ReaderFault>(section: F::Section, table: &'a Table) -> Re
     ensures takes_no_memory { IfErr result (λ e. ¬ (e ≡ F.memory)) }
 {
     let name = section.spell();
-    items_in(section, value_at(table, name))
+    array_items(section, get_value(table, name))
 }

@@ -1,4 +1,4 @@
-//! The instances of a section, table by table.
+//! Instances of a section, table by table.
 ghost use Rattle.std.specs.Prelude.{◌<◌, ◌≤◌, ◌^◌, ℕ, List, [], ◌∷◌, ◌++◌, length, Result, IfOk};
 ghost use Rattle.toml.specs.Data.{Members};
 ghost use Rattle.toml.specs.View.{table_view, items_view};
@@ -8,22 +8,21 @@ use crate::reader_fault::ReaderFault;
 use std::alloc::Allocator;
 use toml::{Table, Value};
 
-/// Reads the instances of a section.
+/// Reader of a section's instances.
 pub trait SectionReader<A: Allocator + Copy> {
-    /// The faults of the text.
+    /// Faults of the text.
     type Fault: ReaderFault;
 
-    /// An instance of the section.
+    /// Instance of the section.
     type Instance;
 
-    /// The instance of a table, by those before it and its place in the array, or its first fault.
+    /// Instance in a table, from the earlier instances and its index; or its first fault.
     ghost reading: { Self → List Self.Instance → ℕ → Members → Result Self.Instance Self.Fault };
 
-    /// What holds of the instances together.
+    /// Property of all instances together.
     ghost Keeps: { Self → List Self.Instance → Type 0 };
 
-    /// The instance of a table, by those before it and its place in the array from 1, or its first
-    /// fault.
+    /// Reads the instance in a table. `earlier` are the instances before it, and `index` counts from 1.
     fn read(
         &self,
         alloc: A,
@@ -32,12 +31,12 @@ pub trait SectionReader<A: Allocator + Copy> {
         table: &Table,
     ) -> Result<Self::Instance, Self::Fault>
         requires keeps { Keeps self.now earlier.now }
-        ensures reads { spec.Gives Self.Fault.is_memory result (reading self.now earlier.now index (table_view table.now)) }
+        ensures reads { spec.Gives Self.Fault.is_memory result (reading self.now earlier.now index
+            (table_view table.now)) }
         ensures keeps { IfOk result (λ x. Keeps self.now (earlier.now ++ x ∷ [])) };
 }
 
-/// The instances of a section in their order, or the first fault. `no_memory` comes only where a
-/// growth was refused. What holds of the instances together must hold of none.
+/// Reads the instances of a section in order, or returns the first fault. The joint property must hold for no instances.
 pub fn read_instances<A: Allocator + Copy, S: SectionReader<A>>(
     alloc: A,
     section: &S,

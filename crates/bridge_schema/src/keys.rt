@@ -1,11 +1,11 @@
-//! The keys of each section: what may stand at each, and beside which others it may stand. The readers of plans and of
-//! commands take the keys of a table from here, and so does what is told of a fault.
+//! Keys of each section, the values that they allow, and their presence rules. Readers of plans and commands use them, and so do
+//! explanations of faults.
 
-use crate::fault::{Field, Section};
-use crate::kinds::Between;
-use crate::ranges::{BURST, MAX_SDU, MOMENT, NUMBER, PORT, PRIORITY, RATE, ROOM, VID};
+use crate::plan_fault::{Field, Section};
+use crate::ranges::{BURST, MAX_SDU, NUMBER, PORT, PRIORITY, RATE, ROOM, TIME, VID};
+use crate::value_kinds::NumberRange;
 
-/// The sections of a plan, in the order in which they are read.
+/// Sections of a plan, in reading order.
 pub const PLAN_SECTIONS: [Section; 8] = [
     Section::Change,
     Section::Port,
@@ -17,249 +17,273 @@ pub const PLAN_SECTIONS: [Section; 8] = [
     Section::Filter,
 ];
 
-/// The sections of a text of commands.
+/// Sections of a file of commands.
 pub const COMMAND_SECTIONS: [Section; 1] = [Section::Command];
 
-/// What may stand at a key.
+/// Values that a key allows.
 #[derive(Clone, Copy)]
-pub enum Allowed {
-    /// A whole number of a range.
-    Between(Between),
-    /// An array of numbers of a range.
-    Set(Between),
-    /// Eight numbers of a range.
-    Eight(Between),
-    /// The length of a cycle or of an entry, in ns.
+pub enum AllowedValue {
+    /// Integer in a range.
+    Between(NumberRange),
+    /// Array of integers in a range.
+    Set(NumberRange),
+    /// Eight integers in a range.
+    Eight(NumberRange),
+    /// Length of a cycle or an entry in ns.
     Length,
-    /// Megabits a second.
+    /// Speed in Mb/s.
     Mbps,
-    /// True or false.
+    /// Boolean.
     Switch,
-    /// A MAC address.
+    /// MAC address.
     Address,
-    /// How a stream is identified.
+    /// Kind of stream identification.
     Kind,
-    /// Which frames of a stream are identified.
+    /// Tags of identified frames.
     Tag,
-    /// The state of a gate.
+    /// State of a gate.
     State,
-    /// The colour mode of a meter.
+    /// Colour mode of a meter.
     Colour,
-    /// The flag that a command clears.
+    /// Flag that a command clears.
     Clear,
-    /// A number by which the plan has an instance of a section.
-    NumberOf(Section),
-    /// An array of numbers of ports.
+    /// Number of an existing instance of a section.
+    InstanceNumber(Section),
+    /// Array of port numbers.
     Ports,
-    /// An array of tables.
+    /// Array of tables.
     Tables,
 }
 
-/// Beside which other keys a key may stand.
+/// Presence rule: whether a key is required, and on which other keys it depends.
 #[derive(Clone, Copy)]
 pub enum Presence {
-    /// Beside any, and it has to.
-    Must,
-    /// Beside any, or not at all.
-    May,
-    /// Only beside the entries of a list.
-    Beside(Field),
-    /// Not beside the entries of a list.
-    Without(Field),
-    /// Only beside the entries of a list, in a plan with a change of schedules.
-    InChange(Field),
-    /// Only beside the entries of a list and those of the one that takes over, in a plan with a change of schedules.
-    Next(Field, Field),
+    /// Required.
+    Required,
+    /// Optional.
+    Optional,
+    /// Allowed only if the table has the list.
+    WithList(Field),
+    /// Allowed only if the table lacks the list.
+    WithoutList(Field),
+    /// Allowed only if the table has the list and the plan has a schedule change.
+    WithListInChange(Field),
+    /// Allowed only if the table has the list and the next list, and the plan has a schedule change.
+    WithNextList(Field, Field),
 }
 
-/// A key, what may stand there, and beside which other keys it may stand.
+/// A key, the values that it allows, and its presence rule.
 #[derive(Clone, Copy)]
-pub struct Key(pub Field, pub Allowed, pub Presence);
+pub struct KeyRule(pub Field, pub AllowedValue, pub Presence);
 
-/// The keys at which the parts of a list stand.
+/// Keys of the parts of a list.
 #[derive(Clone, Copy)]
 pub struct ListKeys {
-    /// The moment at which a cycle begins.
+    /// Base time.
     pub base: Field,
-    /// The length of the cycle.
+    /// Cycle time.
     pub cycle: Field,
-    /// The entries.
+    /// Entries.
     pub entries: Field,
 }
 
-/// The keys of the first list of a port.
-pub const GATES: ListKeys = ListKeys {
+/// Keys of a port's first list.
+pub const PORT_LIST: ListKeys = ListKeys {
     base: Field::Base,
     cycle: Field::Cycle,
     entries: Field::Gates,
 };
 
-/// The keys of a port's list that takes over at the change of schedules.
-pub const NEXT_GATES: ListKeys = ListKeys {
+/// Keys of a port's list after the schedule change.
+pub const NEXT_PORT_LIST: ListKeys = ListKeys {
     base: Field::NextBase,
     cycle: Field::NextCycle,
     entries: Field::NextGates,
 };
 
-/// The keys of the first list of a gate.
-pub const ENTRIES: ListKeys = ListKeys {
+/// Keys of a gate's first list.
+pub const GATE_LIST: ListKeys = ListKeys {
     base: Field::Base,
     cycle: Field::Cycle,
     entries: Field::Entries,
 };
 
-/// The keys of a gate's list that takes over at the change of schedules.
-pub const NEXT_ENTRIES: ListKeys = ListKeys {
+/// Keys of a gate's list after the schedule change.
+pub const NEXT_GATE_LIST: ListKeys = ListKeys {
     base: Field::NextBase,
     cycle: Field::NextCycle,
     entries: Field::NextEntries,
 };
 
-const NUMBERED: Allowed = Allowed::Between(NUMBER);
+const NUMBER_VALUE: AllowedValue = AllowedValue::Between(NUMBER);
 
-const VLAN: Allowed = Allowed::Between(VID);
+const VLAN_VALUE: AllowedValue = AllowedValue::Between(VID);
 
-const GRADED: Allowed = Allowed::Between(PRIORITY);
+const PRIORITY_VALUE: AllowedValue = AllowedValue::Between(PRIORITY);
 
-const TIMED: Allowed = Allowed::Between(MOMENT);
+const TIME_VALUE: AllowedValue = AllowedValue::Between(TIME);
 
-const RATED: Allowed = Allowed::Between(RATE);
+const RATE_VALUE: AllowedValue = AllowedValue::Between(RATE);
 
-const OF_GATES: Presence = Presence::Beside(Field::Gates);
+const WITH_GATES: Presence = Presence::WithList(Field::Gates);
 
-const OF_NEXT_GATES: Presence = Presence::Next(Field::Gates, Field::NextGates);
+const WITH_NEXT_GATES: Presence = Presence::WithNextList(Field::Gates, Field::NextGates);
 
-const OF_ENTRIES: Presence = Presence::Beside(Field::Entries);
+const WITH_ENTRIES: Presence = Presence::WithList(Field::Entries);
 
-const OF_NEXT_ENTRIES: Presence = Presence::Next(Field::Entries, Field::NextEntries);
+const WITH_NEXT_ENTRIES: Presence = Presence::WithNextList(Field::Entries, Field::NextEntries);
 
-const NO_ENTRIES: Presence = Presence::Without(Field::Entries);
+const WITHOUT_ENTRIES: Presence = Presence::WithoutList(Field::Entries);
 
-/// The keys of the change of schedules.
-pub const CHANGE_KEYS: [Key; 1] = [Key(Field::At, TIMED, Presence::Must)];
+/// Keys of the schedule change.
+pub const CHANGE_KEYS: [KeyRule; 1] = [KeyRule(Field::At, TIME_VALUE, Presence::Required)];
 
-/// The keys of a port.
-pub const PORT_KEYS: [Key; 12] = [
-    Key(Field::Number, Allowed::Between(PORT), Presence::Must),
-    Key(Field::Mbps, Allowed::Mbps, Presence::Must),
-    Key(Field::Vid, VLAN, Presence::May),
-    Key(Field::Priority, GRADED, Presence::May),
-    Key(Field::Classes, Allowed::Eight(PRIORITY), Presence::May),
-    Key(Field::Rooms, Allowed::Eight(ROOM), Presence::May),
-    Key(Field::Base, TIMED, OF_GATES),
-    Key(Field::Cycle, Allowed::Length, OF_GATES),
-    Key(Field::Gates, Allowed::Tables, Presence::May),
-    Key(Field::NextBase, TIMED, OF_NEXT_GATES),
-    Key(Field::NextCycle, Allowed::Length, OF_NEXT_GATES),
-    Key(
+/// Keys of a port.
+pub const PORT_KEYS: [KeyRule; 12] = [
+    KeyRule(
+        Field::Number,
+        AllowedValue::Between(PORT),
+        Presence::Required,
+    ),
+    KeyRule(Field::Mbps, AllowedValue::Mbps, Presence::Required),
+    KeyRule(Field::Vid, VLAN_VALUE, Presence::Optional),
+    KeyRule(Field::Priority, PRIORITY_VALUE, Presence::Optional),
+    KeyRule(
+        Field::Classes,
+        AllowedValue::Eight(PRIORITY),
+        Presence::Optional,
+    ),
+    KeyRule(Field::Rooms, AllowedValue::Eight(ROOM), Presence::Optional),
+    KeyRule(Field::Base, TIME_VALUE, WITH_GATES),
+    KeyRule(Field::Cycle, AllowedValue::Length, WITH_GATES),
+    KeyRule(Field::Gates, AllowedValue::Tables, Presence::Optional),
+    KeyRule(Field::NextBase, TIME_VALUE, WITH_NEXT_GATES),
+    KeyRule(Field::NextCycle, AllowedValue::Length, WITH_NEXT_GATES),
+    KeyRule(
         Field::NextGates,
-        Allowed::Tables,
-        Presence::InChange(Field::Gates),
+        AllowedValue::Tables,
+        Presence::WithListInChange(Field::Gates),
     ),
 ];
 
-/// The keys of an entry of a port's list.
-pub const PORT_ENTRY_KEYS: [Key; 2] = [
-    Key(Field::Open, Allowed::Set(PRIORITY), Presence::Must),
-    Key(Field::Ns, Allowed::Length, Presence::Must),
+/// Keys of an entry of a port's list.
+pub const PORT_ENTRY_KEYS: [KeyRule; 2] = [
+    KeyRule(Field::Open, AllowedValue::Set(PRIORITY), Presence::Required),
+    KeyRule(Field::Ns, AllowedValue::Length, Presence::Required),
 ];
 
-/// The keys of a VLAN.
-pub const VLAN_KEYS: [Key; 2] = [
-    Key(Field::Vid, VLAN, Presence::Must),
-    Key(Field::Members, Allowed::Ports, Presence::Must),
+/// Keys of a VLAN.
+pub const VLAN_KEYS: [KeyRule; 2] = [
+    KeyRule(Field::Vid, VLAN_VALUE, Presence::Required),
+    KeyRule(Field::Members, AllowedValue::Ports, Presence::Required),
 ];
 
-/// The keys of a static filtering entry.
-pub const STATIC_KEYS: [Key; 3] = [
-    Key(Field::Vid, Allowed::NumberOf(Section::Vlan), Presence::Must),
-    Key(Field::Address, Allowed::Address, Presence::Must),
-    Key(Field::Ports, Allowed::Ports, Presence::Must),
+/// Keys of a static filtering entry.
+pub const STATIC_KEYS: [KeyRule; 3] = [
+    KeyRule(
+        Field::Vid,
+        AllowedValue::InstanceNumber(Section::Vlan),
+        Presence::Required,
+    ),
+    KeyRule(Field::Address, AllowedValue::Address, Presence::Required),
+    KeyRule(Field::Ports, AllowedValue::Ports, Presence::Required),
 ];
 
-/// The keys of a stream identification.
-pub const STREAM_KEYS: [Key; 6] = [
-    Key(Field::Handle, NUMBERED, Presence::Must),
-    Key(
+/// Keys of a stream identification.
+pub const STREAM_KEYS: [KeyRule; 6] = [
+    KeyRule(Field::Handle, NUMBER_VALUE, Presence::Required),
+    KeyRule(
         Field::Port,
-        Allowed::NumberOf(Section::Port),
-        Presence::Must,
+        AllowedValue::InstanceNumber(Section::Port),
+        Presence::Required,
     ),
-    Key(Field::Kind, Allowed::Kind, Presence::Must),
-    Key(Field::Address, Allowed::Address, Presence::Must),
-    Key(Field::Vid, VLAN, Presence::Must),
-    Key(Field::Tag, Allowed::Tag, Presence::Must),
+    KeyRule(Field::Kind, AllowedValue::Kind, Presence::Required),
+    KeyRule(Field::Address, AllowedValue::Address, Presence::Required),
+    KeyRule(Field::Vid, VLAN_VALUE, Presence::Required),
+    KeyRule(Field::Tag, AllowedValue::Tag, Presence::Required),
 ];
 
-/// The keys of a stream gate.
-pub const GATE_KEYS: [Key; 11] = [
-    Key(Field::Number, NUMBERED, Presence::Must),
-    Key(Field::ShutOnRx, Allowed::Switch, Presence::May),
-    Key(Field::ShutOnOctets, Allowed::Switch, Presence::May),
-    Key(Field::State, Allowed::State, NO_ENTRIES),
-    Key(Field::Ipv, GRADED, NO_ENTRIES),
-    Key(Field::Base, TIMED, OF_ENTRIES),
-    Key(Field::Cycle, Allowed::Length, OF_ENTRIES),
-    Key(Field::Entries, Allowed::Tables, Presence::May),
-    Key(Field::NextBase, TIMED, OF_NEXT_ENTRIES),
-    Key(Field::NextCycle, Allowed::Length, OF_NEXT_ENTRIES),
-    Key(
+/// Keys of a stream gate.
+pub const GATE_KEYS: [KeyRule; 11] = [
+    KeyRule(Field::Number, NUMBER_VALUE, Presence::Required),
+    KeyRule(Field::ShutOnRx, AllowedValue::Switch, Presence::Optional),
+    KeyRule(
+        Field::ShutOnOctets,
+        AllowedValue::Switch,
+        Presence::Optional,
+    ),
+    KeyRule(Field::State, AllowedValue::State, WITHOUT_ENTRIES),
+    KeyRule(Field::Ipv, PRIORITY_VALUE, WITHOUT_ENTRIES),
+    KeyRule(Field::Base, TIME_VALUE, WITH_ENTRIES),
+    KeyRule(Field::Cycle, AllowedValue::Length, WITH_ENTRIES),
+    KeyRule(Field::Entries, AllowedValue::Tables, Presence::Optional),
+    KeyRule(Field::NextBase, TIME_VALUE, WITH_NEXT_ENTRIES),
+    KeyRule(Field::NextCycle, AllowedValue::Length, WITH_NEXT_ENTRIES),
+    KeyRule(
         Field::NextEntries,
-        Allowed::Tables,
-        Presence::InChange(Field::Entries),
+        AllowedValue::Tables,
+        Presence::WithListInChange(Field::Entries),
     ),
 ];
 
-/// The keys of an entry of a gate's list.
-pub const GATE_ENTRY_KEYS: [Key; 4] = [
-    Key(Field::Open, Allowed::Switch, Presence::Must),
-    Key(Field::Ns, Allowed::Length, Presence::Must),
-    Key(Field::Ipv, GRADED, Presence::May),
-    Key(Field::Octets, NUMBERED, Presence::May),
+/// Keys of an entry of a gate's list.
+pub const GATE_ENTRY_KEYS: [KeyRule; 4] = [
+    KeyRule(Field::Open, AllowedValue::Switch, Presence::Required),
+    KeyRule(Field::Ns, AllowedValue::Length, Presence::Required),
+    KeyRule(Field::Ipv, PRIORITY_VALUE, Presence::Optional),
+    KeyRule(Field::Octets, NUMBER_VALUE, Presence::Optional),
 ];
 
-/// The keys of a flow meter.
-pub const METER_KEYS: [Key; 9] = [
-    Key(Field::Number, NUMBERED, Presence::Must),
-    Key(Field::Cir, RATED, Presence::Must),
-    Key(Field::Cbs, Allowed::Between(BURST), Presence::Must),
-    Key(Field::Eir, RATED, Presence::Must),
-    Key(Field::Ebs, Allowed::Between(BURST), Presence::Must),
-    Key(Field::Coupling, Allowed::Switch, Presence::May),
-    Key(Field::Colour, Allowed::Colour, Presence::May),
-    Key(Field::DropYellow, Allowed::Switch, Presence::May),
-    Key(Field::MarkAllRed, Allowed::Switch, Presence::May),
+/// Keys of a flow meter.
+pub const METER_KEYS: [KeyRule; 9] = [
+    KeyRule(Field::Number, NUMBER_VALUE, Presence::Required),
+    KeyRule(Field::Cir, RATE_VALUE, Presence::Required),
+    KeyRule(Field::Cbs, AllowedValue::Between(BURST), Presence::Required),
+    KeyRule(Field::Eir, RATE_VALUE, Presence::Required),
+    KeyRule(Field::Ebs, AllowedValue::Between(BURST), Presence::Required),
+    KeyRule(Field::Coupling, AllowedValue::Switch, Presence::Optional),
+    KeyRule(Field::Colour, AllowedValue::Colour, Presence::Optional),
+    KeyRule(Field::DropYellow, AllowedValue::Switch, Presence::Optional),
+    KeyRule(Field::MarkAllRed, AllowedValue::Switch, Presence::Optional),
 ];
 
-/// The keys of a stream filter.
-pub const FILTER_KEYS: [Key; 8] = [
-    Key(Field::Number, NUMBERED, Presence::Must),
-    Key(Field::Handle, NUMBERED, Presence::May),
-    Key(Field::Priority, GRADED, Presence::May),
-    Key(
+/// Keys of a stream filter.
+pub const FILTER_KEYS: [KeyRule; 8] = [
+    KeyRule(Field::Number, NUMBER_VALUE, Presence::Required),
+    KeyRule(Field::Handle, NUMBER_VALUE, Presence::Optional),
+    KeyRule(Field::Priority, PRIORITY_VALUE, Presence::Optional),
+    KeyRule(
         Field::Gate,
-        Allowed::NumberOf(Section::Gate),
-        Presence::Must,
+        AllowedValue::InstanceNumber(Section::Gate),
+        Presence::Required,
     ),
-    Key(Field::MaxSdu, Allowed::Between(MAX_SDU), Presence::May),
-    Key(
+    KeyRule(
+        Field::MaxSdu,
+        AllowedValue::Between(MAX_SDU),
+        Presence::Optional,
+    ),
+    KeyRule(
         Field::Meter,
-        Allowed::NumberOf(Section::Meter),
-        Presence::May,
+        AllowedValue::InstanceNumber(Section::Meter),
+        Presence::Optional,
     ),
-    Key(Field::BlockOversize, Allowed::Switch, Presence::May),
-    Key(Field::Protected, Allowed::Switch, Presence::May),
+    KeyRule(
+        Field::BlockOversize,
+        AllowedValue::Switch,
+        Presence::Optional,
+    ),
+    KeyRule(Field::Protected, AllowedValue::Switch, Presence::Optional),
 ];
 
-/// The keys of a command.
-pub const COMMAND_KEYS: [Key; 3] = [
-    Key(Field::At, TIMED, Presence::Must),
-    Key(Field::Clear, Allowed::Clear, Presence::Must),
-    Key(Field::Number, NUMBERED, Presence::Must),
+/// Keys of a command.
+pub const COMMAND_KEYS: [KeyRule; 3] = [
+    KeyRule(Field::At, TIME_VALUE, Presence::Required),
+    KeyRule(Field::Clear, AllowedValue::Clear, Presence::Required),
+    KeyRule(Field::Number, NUMBER_VALUE, Presence::Required),
 ];
 
-/// The keys of a table of a section, in the order in which they are listed.
-pub fn keys_of(section: Section) -> &'static [Key] {
+/// Returns the keys of a section's table, in listing order.
+pub fn section_keys(section: Section) -> &'static [KeyRule] {
     match section {
         Section::Top => &[],
         Section::Change => &CHANGE_KEYS,
@@ -274,25 +298,25 @@ pub fn keys_of(section: Section) -> &'static [Key] {
     }
 }
 
-/// The keys of an entry of a list of a section.
-pub fn entry_keys(section: Section) -> &'static [Key] {
+/// Returns the keys of an entry of a section's list.
+pub fn entry_keys(section: Section) -> &'static [KeyRule] {
     match section {
         Section::Port => &PORT_ENTRY_KEYS,
         _ => &GATE_ENTRY_KEYS,
     }
 }
 
-/// The lists of an instance of a section: the first, and the one that takes over at the change of schedules.
-pub fn lists_of(section: Section) -> &'static [ListKeys] {
+/// Returns the lists of a section's instance: the first list, and the list after the schedule change.
+pub fn section_lists(section: Section) -> &'static [ListKeys] {
     match section {
-        Section::Port => &[GATES, NEXT_GATES],
-        Section::Gate => &[ENTRIES, NEXT_ENTRIES],
+        Section::Port => &[PORT_LIST, NEXT_PORT_LIST],
+        Section::Gate => &[GATE_LIST, NEXT_GATE_LIST],
         _ => &[],
     }
 }
 
-/// The key by which an instance is known.
-pub fn own_key(section: Section) -> Field {
+/// Returns the key that identifies an instance.
+pub fn identifying_key(section: Section) -> Field {
     match section {
         Section::Vlan | Section::Static => Field::Vid,
         Section::Stream => Field::Handle,

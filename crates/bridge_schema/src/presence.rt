@@ -1,34 +1,34 @@
-//! Whether a key must be there, and what stands for one that is absent.
+//! Presence of keys: required keys, optional keys, and defaults.
 ghost use Rattle.std.specs.Prelude.{◌≡◌, IfOk, IfErr, option_map};
-ghost use Rattle.bridge_schema.specs.declared.fault.PlanFault.TheVariants.{NoMemory};
+ghost use Rattle.bridge_schema.specs.declared.plan_fault.PlanFault.TheVariants.{NoMemory};
 ghost use Rattle.std.specs.Option.{ForSome};
 ghost use Rattle.toml.specs.Data.{get_member};
 ghost use Rattle.toml.specs.View.{view, table_view};
 ghost use Rattle.bridge_schema.specs.Readers as spec;
 ghost use Rattle.bridge_schema.specs.Reading as reading;
-ghost use Rattle.bridge_schema.specs.Readers.{Gives};
+ghost use Rattle.bridge_schema.specs.Readers.{MatchesReading};
 
-use crate::fault::{Field, Place, PlanFault};
-use crate::kinds::Kind;
+use crate::plan_fault::{Field, KeyLocation, PlanFault};
 use crate::reader_fault::ReaderFault;
+use crate::value_kinds::ValueKind;
 use toml::{Table, Value};
 
-/// The value at a key of a table.
-pub fn value_at<'a>(table: &'a Table, key: &str) -> Option<&'a Value>
+/// Returns the value of `key` in a table.
+pub fn get_value<'a>(table: &'a Table, key: &str) -> Option<&'a Value>
     ensures value { option_map (λ v. view v.now) result ≡ get_member key.now (table_view table.now) }
 {
     table.get(key)
 }
 
-/// Whether a table has a key.
+/// Whether a table has `key`.
 pub fn has_key(table: &Table, key: Field) -> bool
     ensures has { result ≡ spec.has_key key (table_view table.now) }
 {
-    value_at(table, key.key()).is_some()
+    get_value(table, key.key()).is_some()
 }
 
-/// The value of a place that must be there, or the fault of the place. Takes no memory.
-pub fn required_in<F: ReaderFault, K: Kind>(
+/// Reads a required value. Allocates no memory.
+pub fn required_value<F: ReaderFault, K: ValueKind>(
     place: F::Place,
     kind: &K,
     value: Option<&Value>,
@@ -39,31 +39,31 @@ pub fn required_in<F: ReaderFault, K: Kind>(
     ensures takes_no_memory { IfErr result (λ e. ¬ (e ≡ F.memory)) }
 {
     match value {
-        None => Err(F::missing(place)),
+        None => Err(F::missing_key(place)),
         Some(value) => match kind.read(value) {
             Ok(out) => Ok(out),
-            Err(flaw) => Err(F::flawed(place, flaw)),
+            Err(flaw) => Err(F::flaw_fault(place, flaw)),
         },
     }
 }
 
-/// The value of a key that must be there, or the fault of its place. Takes no memory.
-#[tactic(auto, unfolding(crate::specs::Readers::required))]
-pub fn required<K: Kind>(
+/// Reads a required key. Allocates no memory.
+#[tactic(auto, unfolding(crate::specs::Readers::read_required))]
+pub fn read_required<K: ValueKind>(
     table: &Table,
-    place: Place,
+    place: KeyLocation,
     key: Field,
     kind: &K,
 ) -> Result<K::Out, PlanFault>
-    ensures reads { Gives result (spec.required place key (K.reading kind.now) (table_view table.now)) }
+    ensures reads { MatchesReading result (spec.read_required place key (K.reading kind.now) (table_view table.now)) }
     ensures fits { IfOk result (K.Fits kind.now) }
     ensures takes_no_memory { IfErr result (λ e. ¬ (e ≡ NoMemory)) }
 {
-    required_in(place, kind, value_at(table, key.key()))
+    required_value(place, kind, get_value(table, key.key()))
 }
 
-/// The value of a place that may be absent, or the fault of the place. Takes no memory.
-pub fn optional_in<F: ReaderFault, K: Kind>(
+/// Reads an optional value. Allocates no memory.
+pub fn optional_value<F: ReaderFault, K: ValueKind>(
     place: F::Place,
     kind: &K,
     value: Option<&Value>,
@@ -77,28 +77,28 @@ pub fn optional_in<F: ReaderFault, K: Kind>(
         None => Ok(None),
         Some(value) => match kind.read(value) {
             Ok(out) => Ok(Some(out)),
-            Err(flaw) => Err(F::flawed(place, flaw)),
+            Err(flaw) => Err(F::flaw_fault(place, flaw)),
         },
     }
 }
 
-/// The value of a key that may be absent, or the fault of its place. Takes no memory.
-#[tactic(auto, unfolding(crate::specs::Readers::optional))]
-pub fn optional<K: Kind>(
+/// Reads an optional key. Allocates no memory.
+#[tactic(auto, unfolding(crate::specs::Readers::read_optional))]
+pub fn read_optional<K: ValueKind>(
     table: &Table,
-    place: Place,
+    place: KeyLocation,
     key: Field,
     kind: &K,
 ) -> Result<Option<K::Out>, PlanFault>
-    ensures reads { Gives result (spec.optional place key (K.reading kind.now) (table_view table.now)) }
+    ensures reads { MatchesReading result (spec.read_optional place key (K.reading kind.now) (table_view table.now)) }
     ensures fits { IfOk result (λ x. ForSome x (K.Fits kind.now)) }
     ensures takes_no_memory { IfErr result (λ e. ¬ (e ≡ NoMemory)) }
 {
-    optional_in(place, kind, value_at(table, key.key()))
+    optional_value(place, kind, get_value(table, key.key()))
 }
 
-/// The value of a place, or the default if the value is absent, or the fault of the place. Takes no memory.
-pub fn default_in<F: ReaderFault, K: Kind>(
+/// Reads an optional value with a default. Allocates no memory.
+pub fn value_or_default<F: ReaderFault, K: ValueKind>(
     default: K::Out,
     place: F::Place,
     kind: &K,
@@ -116,76 +116,74 @@ where
         None => Ok(default),
         Some(value) => match kind.read(value) {
             Ok(out) => Ok(out),
-            Err(flaw) => Err(F::flawed(place, flaw)),
+            Err(flaw) => Err(F::flaw_fault(place, flaw)),
         },
     }
 }
 
-/// The value of a key, or the default where the key is absent, or the fault of its place. Takes no
-/// memory.
-#[tactic(auto, unfolding(crate::specs::Readers::default_to))]
-pub fn default_to<K: Kind>(
+/// Reads an optional key with a default. Allocates no memory.
+#[tactic(auto, unfolding(crate::specs::Readers::read_or_default))]
+pub fn read_or_default<K: ValueKind>(
     default: K::Out,
     table: &Table,
-    place: Place,
+    place: KeyLocation,
     key: Field,
     kind: &K,
 ) -> Result<K::Out, PlanFault>
 where
     K::Out: Drop,
     requires fits { K.Fits kind.now default }
-    ensures reads { Gives result (spec.default_to default place key (K.reading kind.now) (table_view table.now)) }
+    ensures reads { MatchesReading result (spec.read_or_default default place key (K.reading kind.now)
+        (table_view table.now)) }
     ensures fits { IfOk result (K.Fits kind.now) }
     ensures takes_no_memory { IfErr result (λ e. ¬ (e ≡ NoMemory)) }
 {
-    default_in(default, place, kind, value_at(table, key.key()))
+    value_or_default(default, place, kind, get_value(table, key.key()))
 }
 
-/// The value of a key that must be there where the table has the key `other`; without that one, it is
-/// `absent`, and the key isn't read. Takes no memory.
-pub fn required_with<K: Kind>(
+/// Reads a key that is required if the table has the key `other`; otherwise returns `absent`. Allocates no memory.
+pub fn read_required_if_present<K: ValueKind>(
     other: Field,
     absent: K::Out,
     table: &Table,
-    place: Place,
+    place: KeyLocation,
     key: Field,
     kind: &K,
 ) -> Result<K::Out, PlanFault>
 where
     K::Out: Drop,
     requires fits { K.Fits kind.now absent }
-    ensures reads { Gives result (spec.only_with other absent
-        (spec.required place key (K.reading kind.now) (table_view table.now)) (table_view table.now)) }
+    ensures reads { MatchesReading result (spec.read_if_present other absent
+        (spec.read_required place key (K.reading kind.now) (table_view table.now)) (table_view table.now)) }
     ensures fits { IfOk result (K.Fits kind.now) }
     ensures takes_no_memory { IfErr result (λ e. ¬ (e ≡ NoMemory)) }
 {
     if has_key(table, other) {
-        required(table, place, key, kind)
+        read_required(table, place, key, kind)
     } else {
         Ok(absent)
     }
 }
 
-/// The value of a key that must be there where the table doesn't have the key `other`; with that one,
-/// it is `absent`, and the key isn't read. Takes no memory.
-pub fn required_without<K: Kind>(
+/// Reads a key that is required if the table lacks the key `other`; otherwise returns `absent`. Allocates no memory.
+pub fn read_required_if_absent<K: ValueKind>(
     other: Field,
     absent: K::Out,
     table: &Table,
-    place: Place,
+    place: KeyLocation,
     key: Field,
     kind: &K,
 ) -> Result<K::Out, PlanFault>
 where
     K::Out: Drop,
     requires fits { K.Fits kind.now absent }
-    ensures reads { Gives result (spec.only_without other absent
-        (spec.required place key (K.reading kind.now) (table_view table.now)) (table_view table.now)) }
+    ensures reads { MatchesReading result (spec.read_if_absent other absent
+        (spec.read_required place key (K.reading kind.now) (table_view table.now)) (table_view table.now)) }
     ensures fits { IfOk result (K.Fits kind.now) }
     ensures takes_no_memory { IfErr result (λ e. ¬ (e ≡ NoMemory)) }
 {
     if !has_key(table, other) {
-        required(table, place, key, kind)
+        read_required(table, place, key, kind)
     } else {
         Ok(absent)
     }

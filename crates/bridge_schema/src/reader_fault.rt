@@ -1,66 +1,66 @@
-//! The constructors by which the readers of any text make its faults. Plans and networks share those readers: each text
-//! names its type of faults, its sections and its places here.
+//! Faults that shared readers make. Plans and networks share the readers; each of them defines its faults, sections and locations
+//! by these traits.
 ghost use Rattle.std.specs.Prelude.{◌≡◌, ℕ, Bool, List, true, false};
-ghost use Rattle.bridge_schema.specs.declared.fault.Flaw.{Flaw};
-ghost use Rattle.bridge_schema.specs.declared.fault.PlanFault.TheVariants as the_fault;
-ghost use Rattle.bridge_schema.specs.Keys.{limit_of, name_of};
+ghost use Rattle.bridge_schema.specs.declared.plan_fault.Flaw.{Flaw};
+ghost use Rattle.bridge_schema.specs.declared.plan_fault.PlanFault.TheVariants as the_fault;
+ghost use Rattle.bridge_schema.specs.Keys.{limit_of, section_name};
 ghost use Rattle.bridge_schema.specs.Readers as spec;
 
-use crate::fault::{Flaw, Place, PlanFault, Section};
+use crate::plan_fault::{Flaw, KeyLocation, PlanFault, Section};
 
-/// A word of a text: the name of a section, or a key.
+/// Name of a section or key.
 pub trait Spell {
-    /// The spelling of the word.
+    /// Spelling of the name.
     ghost spelling: { Self → List ℕ };
 
-    /// Returns the spelling of the word.
+    /// Returns the spelling of the name.
     fn spell(&self) -> &'static str
         ensures spelling { result.now ≡ spelling self.now };
 }
 
-/// A section of a text: an array of tables.
+/// Section of a text: an array of tables.
 pub trait TextSection: Spell {
-    /// The most instances of the section.
+    /// Largest number of instances.
     ghost limit: { Self → ℕ };
 
-    /// Returns the most instances of the section.
+    /// Returns the largest number of instances.
     fn limit(&self) -> usize
         ensures limit { result ≡ limit self.now };
 }
 
-/// The faults that readers find in one kind of text, plans or networks. All but `no_memory` take no memory.
+/// Faults of one kind of text: plans or networks.
 pub trait ReaderFault {
-    /// A section of the text.
+    /// Section of the text.
     type Section: TextSection + Drop;
 
-    /// A key of one instance of a section.
+    /// Location of a key.
     type Place: Drop;
 
-    /// Whether memory ran out.
+    /// Whether the fault is `no_memory`.
     ghost is_memory: { Self → Bool };
 
-    /// The one fault that says so.
+    /// Fault if memory ran out.
     ghost memory: { Self };
 
-    /// The text is too long.
+    /// Fault of a text that is too long.
     ghost too_long: { Self };
 
-    /// The text is no TOML document in UTF-8.
+    /// Fault of a text that isn't TOML in UTF-8.
     ghost syntax: { Self };
 
-    /// A section is no array of tables.
+    /// Fault of a section that isn't an array of tables.
     ghost not_a_list: { Self.Section → Self };
 
-    /// A section has too many instances.
+    /// Fault of a section with too many instances.
     ghost too_many: { Self.Section → Self };
 
-    /// A required key is absent.
+    /// Fault of an absent required key.
     ghost missing: { Self.Place → Self };
 
-    /// A value has a flaw.
+    /// Fault of a value with a flaw.
     ghost flawed: { Self.Place → Flaw → Self };
 
-    /// Returns the fault of a text when memory ran out.
+    /// Returns the fault if memory ran out.
     fn no_memory() -> Self
         ensures fault { is_memory result ≡ true };
 
@@ -69,12 +69,12 @@ pub trait ReaderFault {
         ensures fault { result ≡ too_long }
         ensures told { is_memory result ≡ false };
 
-    /// Returns the fault of a text that is no TOML document in UTF-8.
+    /// Returns the fault of a text that isn't TOML in UTF-8.
     fn syntax() -> Self
         ensures fault { result ≡ syntax }
         ensures told { is_memory result ≡ false };
 
-    /// Returns the fault of a section that is no array of tables.
+    /// Returns the fault of a section that isn't an array of tables.
     fn not_a_list(section: Self::Section) -> Self
         ensures fault { result ≡ not_a_list section }
         ensures told { is_memory result ≡ false }
@@ -86,21 +86,21 @@ pub trait ReaderFault {
         ensures told { is_memory result ≡ false }
         ensures takes_no_memory { ¬ (result ≡ memory) };
 
-    /// Returns the fault of a place whose key is required and absent.
-    fn missing(place: Self::Place) -> Self
+    /// Returns the fault of an absent required key.
+    fn missing_key(place: Self::Place) -> Self
         ensures fault { result ≡ missing place }
         ensures told { is_memory result ≡ false }
         ensures takes_no_memory { ¬ (result ≡ memory) };
 
-    /// Returns the fault of a place whose value has a flaw.
-    fn flawed(place: Self::Place, flaw: Flaw) -> Self
+    /// Returns the fault of a value with a flaw.
+    fn flaw_fault(place: Self::Place, flaw: Flaw) -> Self
         ensures fault { result ≡ flawed place flaw }
         ensures told { is_memory result ≡ false }
         ensures takes_no_memory { ¬ (result ≡ memory) };
 }
 
-/// The most instances of a section of a plan or of commands.
-pub fn limit_of(section: Section) -> usize
+/// Returns the largest number of instances of a section.
+pub fn max_instances(section: Section) -> usize
     ensures { result ≡ limit_of section }
 {
     match section {
@@ -118,7 +118,7 @@ pub fn limit_of(section: Section) -> usize
 }
 
 impl Spell for Section {
-    ghost spelling = { name_of };
+    ghost spelling = { section_name };
 
     fn spell(&self) -> &'static str {
         self.name()
@@ -129,14 +129,14 @@ impl TextSection for Section {
     ghost limit = { limit_of };
 
     fn limit(&self) -> usize {
-        limit_of(*self)
+        max_instances(*self)
     }
 }
 
 impl ReaderFault for PlanFault {
     type Section = Section;
 
-    type Place = Place;
+    type Place = KeyLocation;
 
     ghost is_memory = { spec.is_no_memory };
 
@@ -152,7 +152,7 @@ impl ReaderFault for PlanFault {
 
     ghost missing = { λ place. the_fault.Missing place };
 
-    ghost flawed = { spec.flawed };
+    ghost flawed = { spec.flaw_fault };
 
     fn no_memory() -> PlanFault {
         PlanFault::NoMemory
@@ -174,11 +174,11 @@ impl ReaderFault for PlanFault {
         PlanFault::TooMany(section)
     }
 
-    fn missing(place: Place) -> PlanFault {
+    fn missing_key(place: KeyLocation) -> PlanFault {
         PlanFault::Missing(place)
     }
 
-    fn flawed(place: Place, flaw: Flaw) -> PlanFault {
+    fn flaw_fault(place: KeyLocation, flaw: Flaw) -> PlanFault {
         match flaw {
             Flaw::WrongKind => PlanFault::WrongKind(place),
             Flaw::OutOfRange => PlanFault::OutOfRange(place),

@@ -3,4 +3,4 @@ pub mod Offers
 pub mod Runs
 pub mod Merge
 pub mod Outputs
-pub mod Next
+pub mod NextStarts

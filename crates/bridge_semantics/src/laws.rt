@@ -1,191 +1,188 @@
-//! Laws of whole runs, each the contract of a function that does nothing.
+//! Laws of whole runs: contracts of functions without a body.
 ghost use Rattle.std.specs.Prelude.{◌≡◌, ◌≤◌, ◌↔◌, ℕ, List, ◌∷◌, ◌++◌, length, max, Some, nat_eq, true};
 ghost use Rattle.std.specs.Map.{lookup};
-ghost use Rattle.bridge_limits.specs.Members.{In};
-ghost use Rattle.bridge_capture.specs.Grammar.{Captured};
-ghost use Rattle.bridge_cycle.specs.Moments.{IsFirst};
-ghost use Rattle.bridge_frame.specs.Link.{occupied};
+ghost use Rattle.bridge_limits.specs.Members.{IsMember};
+ghost use Rattle.bridge_capture.specs.Grammar.{CapturedFrame};
+ghost use Rattle.bridge_cycle.specs.Fits.{IsFirstFit};
+ghost use Rattle.bridge_frame.specs.Link.{transmission_time};
 ghost use Rattle.bridge_filter.specs.declared.FilterPlan.{FilterPlan};
 ghost use Rattle.bridge_config.specs.Model.{Plan};
 ghost use Rattle.bridge_config.specs.declared.ports.PortPlan.{PortPlan};
-ghost use Rattle.bridge_config.specs.Rules.{IsPlan, port_at};
+ghost use Rattle.bridge_config.specs.Rules.{IsPlan, find_port};
 ghost use Rattle.bridge_check.specs.Acceptable.{IsAcceptable};
-ghost use Rattle.bridge_check.specs.Reach.{reaches};
+ghost use Rattle.bridge_check.specs.Reach.{reaches_queue};
 ghost use Rattle.bridge_semantics.specs.declared.outcome.View.{View};
 ghost use Rattle.bridge_semantics.specs.declared.outcome.Outcome.{Outcome};
-ghost use Rattle.bridge_port.specs.Opening.{opens_of};
+ghost use Rattle.bridge_port.specs.GateSchedule.{lists_open};
 ghost use Rattle.bridge_port.specs.Schedule.{Copy, IsLawful, Started};
-ghost use Rattle.bridge_port.specs.Solo.{IsSolo, IsWhole, last_done, only};
-ghost use Rattle.bridge_semantics.specs.Events.{arrivals, Event, own};
-ghost use Rattle.bridge_semantics.specs.Offers.{Carried, egress};
-ghost use Rattle.bridge_semantics.specs.Next.{ReachesStart};
-ghost use Rattle.bridge_semantics.specs.Outputs.{Ends, Reaches};
-ghost use Rattle.bridge_semantics.specs.Runs.{AreOwnQueues, AreWhole, IsOnLink, IsOutcome, IsRun, IsSoloView, TellTheSame};
-ghost use Rattle.bridge_semantics.specs.Merge.{Input, IsMerged, events, own_inputs};
+ghost use Rattle.bridge_port.specs.Solo.{IsSolo, IsFinished, last_done_time, class_copies};
+ghost use Rattle.bridge_semantics.specs.Events.{arrivals, Event, own_events};
+ghost use Rattle.bridge_semantics.specs.Offers.{CarriedFrame, egress_rules};
+ghost use Rattle.bridge_semantics.specs.NextStarts.{ReachesStart};
+ghost use Rattle.bridge_semantics.specs.Outputs.{EndsRun, ReachesTime};
+ghost use Rattle.bridge_semantics.specs.Runs.{AreOwnQueues, AreFinished, IsOnLink, IsOutcome, IsRun, IsSoloView, AreSameViews};
+ghost use Rattle.bridge_semantics.specs.Merge.{Input, IsMerged, input_events, own_inputs};
 
 use std::alloc::Allocator;
 
-/// In a run of an accepted plan the queues of a protected filter's reach hold the copies of its frames and no others.
+/// The reachable queues of a protected filter hold exactly the copies of its frames, in every run of an accepted plan.
 pub fn own_queues<A: Allocator + Copy>()
     ensures { (p : Plan A) (n : ℕ) (f : FilterPlan) (es : List Event) (moments : ℕ → ℕ)
-        (lists : ℕ → List (Copy Carried)) (q : ℕ) (out : PortPlan A) (x : Copy Carried)
+        (lists : ℕ → List (Copy CarriedFrame)) (q : ℕ) (out : PortPlan A) (x : Copy CarriedFrame)
         → IsPlan p
         → IsAcceptable p
-        → In (n, f) p.filters
+        → IsMember (n, f) p.filters
         → f.protected ≡ true
         → IsRun p es moments lists
-        → port_at p.ports q ≡ Some out
-        → In x (lists q)
-        → (x.item.flow ≡ Some n) ↔ (reaches p f q x.class ≡ true) }
+        → find_port p.ports q ≡ Some out
+        → IsMember x (lists q)
+        → (x.item.flow ≡ Some n) ↔ (reaches_queue p f q x.class ≡ true) }
 {}
 
-/// In a whole run of an accepted plan the copies of a protected filter's frames are those that its own events alone give,
-/// each of its queues alone on an idle bridge.
+/// The copies of a protected filter are exactly those that its own events give, each queue with its port to itself. The law holds in every
+/// complete run of an accepted plan.
 pub fn own_queues_alone<A: Allocator + Copy>()
     ensures { (p : Plan A) (n : ℕ) (f : FilterPlan) (es : List Event) (moments : ℕ → ℕ)
-        (lists : ℕ → List (Copy Carried))
+        (lists : ℕ → List (Copy CarriedFrame))
         → IsPlan p
         → IsAcceptable p
-        → In (n, f) p.filters
+        → IsMember (n, f) p.filters
         → f.protected ≡ true
         → IsRun p es moments lists
-        → AreWhole lists
+        → AreFinished lists
         → AreOwnQueues p n f es lists }
 {}
 
-/// While a class of a protected filter's reach is open at its port, no copy of another class occupies the link, at any
-/// moment of any lawful schedule.
+/// While a port opens a reachable class of a protected filter, no copy of another class occupies the link. The law holds at any time of any
+/// lawful schedule.
 pub fn no_other_class_occupies<A: Allocator + Copy>()
-    ensures { (p : Plan A) (n : ℕ) (f : FilterPlan) (q c h u : ℕ) (out : PortPlan A) (xs : List (Copy Carried))
-        (x : Copy Carried)
+    ensures { (p : Plan A) (n : ℕ) (f : FilterPlan) (q c h u : ℕ) (out : PortPlan A) (xs : List (Copy CarriedFrame))
+        (x : Copy CarriedFrame)
         → IsPlan p
         → IsAcceptable p
-        → In (n, f) p.filters
+        → IsMember (n, f) p.filters
         → f.protected ≡ true
-        → port_at p.ports q ≡ Some out
-        → reaches p f q c ≡ true
-        → opens_of out.list c u ≡ true
-        → IsLawful (egress out) h xs
-        → In x xs
+        → find_port p.ports q ≡ Some out
+        → reaches_queue p f q c ≡ true
+        → lists_open out.list c u ≡ true
+        → IsLawful (egress_rules out) h xs
+        → IsMember x xs
         → IsOnLink out x u
         → x.class ≡ c }
 {}
 
-/// The scheduler that all classes of a port share neither misses nor delays a start of a class of a protected filter's
-/// reach: the copies of the class fare as in a queue that has the link alone (`alone`); so one that started did so at the
-/// first moment, from its offer and the end of the class's copy before it on, from which the class stays open for as long
-/// as it occupies the link (`at_once`); and this holds of each copy of the filter in a whole run (`own`).
+/// The scheduler neither misses nor delays a start of a protected filter's reachable class: the class fares as if alone on the link
+/// (`alone`). Its copies start at the first time that fits (`at_once`, `own`).
 pub fn starts_as_alone<A: Allocator + Copy>()
-    ensures alone { (p : Plan A) (n : ℕ) (f : FilterPlan) (q c h : ℕ) (out : PortPlan A) (xs : List (Copy Carried))
+    ensures alone { (p : Plan A) (n : ℕ) (f : FilterPlan) (q c h : ℕ) (out : PortPlan A) (xs : List (Copy CarriedFrame))
         → IsPlan p
         → IsAcceptable p
-        → In (n, f) p.filters
+        → IsMember (n, f) p.filters
         → f.protected ≡ true
-        → port_at p.ports q ≡ Some out
-        → reaches p f q c ≡ true
-        → IsLawful (egress out) h xs
-        → IsWhole xs
-        → IsSolo (egress out) (only c xs) }
+        → find_port p.ports q ≡ Some out
+        → reaches_queue p f q c ≡ true
+        → IsLawful (egress_rules out) h xs
+        → IsFinished xs
+        → IsSolo (egress_rules out) (class_copies c xs) }
     ensures at_once { (p : Plan A) (n : ℕ) (f : FilterPlan) (q c h s : ℕ) (out : PortPlan A)
-        (newer : List (Copy Carried)) (x : Copy Carried) (older : List (Copy Carried))
+        (newer : List (Copy CarriedFrame)) (x : Copy CarriedFrame) (older : List (Copy CarriedFrame))
         → IsPlan p
         → IsAcceptable p
-        → In (n, f) p.filters
+        → IsMember (n, f) p.filters
         → f.protected ≡ true
-        → port_at p.ports q ≡ Some out
-        → reaches p f q c ≡ true
-        → IsLawful (egress out) h (newer ++ x ∷ older)
-        → IsWhole (newer ++ x ∷ older)
+        → find_port p.ports q ≡ Some out
+        → reaches_queue p f q c ≡ true
+        → IsLawful (egress_rules out) h (newer ++ x ∷ older)
+        → IsFinished (newer ++ x ∷ older)
         → x.class ≡ c
         → x.fate ≡ Started s
-        → IsFirst (opens_of out.list c) (occupied x.item.len out.speed)
-        (max x.at (last_done (egress out) (only c older))) s }
+        → IsFirstFit (lists_open out.list c) (transmission_time x.item.len out.speed)
+        (max x.at (last_done_time (egress_rules out) (class_copies c older))) s }
     ensures own { (p : Plan A) (n : ℕ) (f : FilterPlan) (es : List Event) (moments : ℕ → ℕ)
-        (lists : ℕ → List (Copy Carried)) (q s : ℕ) (out : PortPlan A) (newer : List (Copy Carried))
-        (x : Copy Carried) (older : List (Copy Carried))
+        (lists : ℕ → List (Copy CarriedFrame)) (q s : ℕ) (out : PortPlan A) (newer : List (Copy CarriedFrame))
+        (x : Copy CarriedFrame) (older : List (Copy CarriedFrame))
         → IsPlan p
         → IsAcceptable p
-        → In (n, f) p.filters
+        → IsMember (n, f) p.filters
         → f.protected ≡ true
         → IsRun p es moments lists
-        → AreWhole lists
-        → port_at p.ports q ≡ Some out
+        → AreFinished lists
+        → find_port p.ports q ≡ Some out
         → lists q ≡ newer ++ x ∷ older
         → x.item.flow ≡ Some n
         → x.fate ≡ Started s
-        → IsFirst (opens_of out.list x.class) (occupied x.item.len out.speed)
-        (max x.at (last_done (egress out) (only x.class older))) s }
+        → IsFirstFit (lists_open out.list x.class) (transmission_time x.item.len out.speed)
+        (max x.at (last_done_time (egress_rules out) (class_copies x.class older))) s }
 {}
 
-/// What a run of an accepted plan tells of a protected filter is what the filter's own events alone tell of it, each of
-/// its queues alone on an idle bridge.
-pub fn isolated<A: Allocator + Copy>()
-    ensures { (p : Plan A) (n : ℕ) (f : FilterPlan) (es : List Event) (lists : ℕ → List (Copy Carried))
+/// A protected filter's record in a run equals its record if only its own events arrive and each queue has its port to itself.
+pub fn filter_is_isolated<A: Allocator + Copy>()
+    ensures { (p : Plan A) (n : ℕ) (f : FilterPlan) (es : List Event) (lists : ℕ → List (Copy CarriedFrame))
         (o : Outcome A) (v : View A)
         → IsPlan p
         → IsAcceptable p
-        → In (n, f) p.filters
+        → IsMember (n, f) p.filters
         → f.protected ≡ true
         → IsOutcome p es lists o
         → lookup (nat_eq n) o.filters.items ≡ Some v
-        → IsSoloView p n f (own p n f es) v }
+        → IsSoloView p n f (own_events p n f es) v }
 {}
 
-/// A list of events tells one thing of a filter.
-pub fn one_view<A: Allocator + Copy>()
+/// A list of events determines a filter's record.
+pub fn solo_view_is_unique<A: Allocator + Copy>()
     ensures { (p : Plan A) (n : ℕ) (f : FilterPlan) (es : List Event) (u v : View A)
         → IsSoloView p n f es u
         → IsSoloView p n f es v
-        → TellTheSame u v }
+        → AreSameViews u v }
 {}
 
-/// Two runs of an accepted plan in which a protected filter has the same own events tell the same of it, whatever else
-/// came.
+/// Two runs of an accepted plan with equal own events of a protected filter give it equal records. Other events change nothing.
 pub fn others_change_nothing<A: Allocator + Copy>()
-    ensures { (p : Plan A) (n : ℕ) (f : FilterPlan) (es others : List Event) (lists more : ℕ → List (Copy Carried))
+    ensures { (p : Plan A) (n : ℕ) (f : FilterPlan) (es others : List Event) (lists more : ℕ → List (Copy CarriedFrame))
         (o q : Outcome A) (u v : View A)
         → IsPlan p
         → IsAcceptable p
-        → In (n, f) p.filters
+        → IsMember (n, f) p.filters
         → f.protected ≡ true
-        → own p n f es ≡ own p n f others
+        → own_events p n f es ≡ own_events p n f others
         → IsOutcome p es lists o
         → IsOutcome p others more q
         → lookup (nat_eq n) o.filters.items ≡ Some u
         → lookup (nat_eq n) q.filters.items ≡ Some v
-        → TellTheSame u v }
+        → AreSameViews u v }
 {}
 
-/// No more frames leave a port in a whole run than come to the bridge (`whole`), nor have left where a run has come to a
-/// moment (`so_far`) or to a start (`to_start`); so the captures that are written have at most as many records as frames
-/// came, for each port, also where a run stops.
+/// At most as many frames leave a port as arrive at the bridge, in a complete run (`whole`), up to a time (`so_far`) and up to a start
+/// (`to_start`). Written captures are therefore limited.
 pub fn few_leave<A: Allocator + Copy>()
-    ensures whole { (p : Plan A) (es : List Event) (left : ℕ → List Captured) (o : Outcome A) (q : ℕ) (out : PortPlan A)
-        → Ends p es left o
-        → port_at p.ports q ≡ Some out
+    ensures whole { (p : Plan A) (es : List Event) (left : ℕ
+        → List CapturedFrame) (o : Outcome A) (q : ℕ) (out : PortPlan A)
+        → EndsRun p es left o
+        → find_port p.ports q ≡ Some out
         → length (left q) ≤ length (arrivals es) }
-    ensures so_far { (p : Plan A) (es : List Event) (moment : ℕ) (left : ℕ → List Captured) (q : ℕ) (out : PortPlan A)
-        → Reaches p es moment left
-        → port_at p.ports q ≡ Some out
+    ensures so_far { (p : Plan A) (es : List Event) (moment : ℕ) (left : ℕ
+        → List CapturedFrame) (q : ℕ) (out : PortPlan A)
+        → ReachesTime p es moment left
+        → find_port p.ports q ≡ Some out
         → length (left q) ≤ length (arrivals es) }
-    ensures to_start { (p : Plan A) (es : List Event) (moment port : ℕ) (left : ℕ → List Captured) (q : ℕ)
+    ensures to_start { (p : Plan A) (es : List Event) (moment port : ℕ) (left : ℕ → List CapturedFrame) (q : ℕ)
         (out : PortPlan A)
         → ReachesStart p es moment port left
-        → port_at p.ports q ≡ Some out
+        → find_port p.ports q ≡ Some out
         → length (left q) ≤ length (arrivals es) }
 {}
 
-/// Streams of inputs, captures and commands, have one merged list.
-pub fn merged_one()
+/// The commands and the ports' captures have one merged list of inputs.
+pub fn merged_list_is_unique()
     ensures { (streams : ℕ → List Input) (xs ys : List Input) → IsMerged streams xs → IsMerged streams ys → xs ≡ ys }
 {}
 
-/// A filter's own events follow from its own inputs of each stream: so streams that differ in the frames of other filters
-/// give it the same own events.
+/// A filter's own inputs of each stream determine its own events. If two sets of captures differ only in frames of other filters, the own
+/// events are equal.
 pub fn own_by_stream<A: Allocator + Copy>()
     ensures { (p : Plan A) (n : ℕ) (f : FilterPlan) (streams others : ℕ → List Input) (xs ys : List Input)
         → IsMerged streams xs
         → IsMerged others ys
         → ((q : ℕ) → own_inputs p n f (streams q) ≡ own_inputs p n f (others q))
-        → own p n f (events xs) ≡ own p n f (events ys) }
+        → own_events p n f (input_events xs) ≡ own_events p n f (input_events ys) }
 {}

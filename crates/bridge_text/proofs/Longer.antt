@@ -1,4 +1,4 @@
--- Texts that grow step by step.
+-- Proofs that texts grow step by step.
 use Rattle.std.proofs.Common.{ℕ, List, [], ◌++◌, Option, None}
 use Rattle.bridge_text.specs.Growth.{Grows, HasGrown, IsLonger}
 use Rattle.bridge_text.proofs.Puts.{grows_none, grows_two}

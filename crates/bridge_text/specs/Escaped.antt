@@ -18,7 +18,7 @@ control_escape c =
     else (if c == 13 then codes "\\r"
     else (codes "\\u{" ++ (hexadecimal c ++ codes "}"))))
 
--- The octets that stand for a character: those of the escape of a control character, else the character's own.
+-- Octets written for a character: the escape of a control character, or the character's UTF-8 octets.
 abbrev pub escaped_letter : ℕ → List ℕ
 escaped_letter c = if is_control c then control_escape c else encode_utf8 c
 

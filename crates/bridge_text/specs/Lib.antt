@@ -1,3 +1,3 @@
 pub mod Growth
-pub mod Named
+pub mod PathPrefix
 pub mod Escaped

@@ -1,82 +1,83 @@
-//! A text with its document, and where the instances of its sections stand.
+//! TOML documents with their text, and the tables of their sections.
 
-use crate::position::{Position, key_position, put_position, table_position, top_position};
-use crate::value::{Said, fill_one, put_is, put_value};
+use crate::position::{Position, key_position, put_position, table_position, top_level_position};
+use crate::value::{Said, fill_with_word, put_value, put_value_sentence};
 use toml::{Table, Value};
 
-/// A text with its document.
+/// File contents and the parsed document.
 #[derive(Clone, Copy)]
 pub struct Document<'a> {
-    /// The text.
+    /// File contents.
     pub text: &'a str,
-    /// Its top.
+    /// Top-level table.
     pub table: &'a Table,
 }
 
-/// The items of an array; none where there is none.
-pub fn items_in<'a>(value: Option<&'a Value>) -> &'a [Value] {
+/// Returns the items of an array, or an empty slice for any other value.
+pub fn value_items<'a>(value: Option<&'a Value>) -> &'a [Value] {
     match value {
         Some(Value::Array(items)) => items,
         _ => &[],
     }
 }
 
-/// The instances of a section of a document, by its name.
-pub fn items_of<'a>(table: &'a Table, section: &str) -> &'a [Value] {
-    items_in(table.get(section))
+/// Returns the items of the array `section`.
+pub fn section_instances<'a>(table: &'a Table, section: &str) -> &'a [Value] {
+    value_items(table.get(section))
 }
 
-/// The table of an instance of a section, by its place from 1.
-pub fn table_of<'a>(table: &'a Table, section: &str, index: u32) -> Option<&'a Table> {
-    match items_of(table, section).get((index as usize).wrapping_sub(1)) {
+/// Returns table `index`, counted from 1, of the array `section`.
+pub fn instance_table<'a>(table: &'a Table, section: &str, index: u32) -> Option<&'a Table> {
+    match section_instances(table, section).get((index as usize).wrapping_sub(1)) {
         Some(Value::Table(table)) => Some(table),
         _ => None,
     }
 }
 
-/// The value at a key of a table.
-pub fn value_of<'a>(table: Option<&'a Table>, key: &str) -> Option<&'a Value> {
+/// Returns the value at `key` if the table has the key.
+pub fn table_value<'a>(table: Option<&'a Table>, key: &str) -> Option<&'a Value> {
     match table {
         Some(table) => table.get(key),
         None => None,
     }
 }
 
-/// A number that isn't negative.
-pub fn number_in(value: Option<&Value>) -> Option<u64> {
+/// Returns an integer of at least 0.
+pub fn unsigned_number(value: Option<&Value>) -> Option<u64> {
     match value {
         Some(Value::Integer(number)) if *number >= 0 => Some(*number as u64),
         _ => None,
     }
 }
 
-/// An instance of a section of a document.
+/// Table in an array of tables.
 #[derive(Clone, Copy)]
 pub struct Instance<'a> {
-    /// The document.
+    /// Document that has the table.
     pub document: Document<'a>,
-    /// The name of the section.
+    /// Name of the section.
     pub section: &'a str,
-    /// The place of the instance in its section, from 1.
+    /// Index of the table in its section, from 1.
     pub index: u32,
 }
 
 impl<'a> Instance<'a> {
-    /// Returns the table of the instance.
+    /// Returns the table of this instance.
     pub fn table(self) -> Option<&'a Table> {
-        table_of(self.document.table, self.section, self.index)
+        instance_table(self.document.table, self.section, self.index)
     }
 
-    /// Returns the value at a key.
+    /// Returns the value at `key`.
     pub fn value(self, key: &str) -> Option<&'a Value> {
-        value_of(self.table(), key)
+        table_value(self.table(), key)
     }
 
-    /// Returns where a key stands, else where the instance begins, if each table of its section has a header of its own.
+    /// Returns the position of `key`, or of the table's header if the key isn't found. `None` if a table of the section has no
+    /// header of its own.
     pub fn position(self, key: Option<&str>) -> Option<Position> {
         let (text, count) = (
             self.document.text,
-            items_of(self.document.table, self.section).len(),
+            section_instances(self.document.table, self.section).len(),
         );
         let header = table_position(text, self.section, self.index, count)?;
         let Some(key) = key else {
@@ -88,41 +89,40 @@ impl<'a> Instance<'a> {
         }
     }
 
-    /// Adds where a key of the instance stands, or the instance, and which instance it is: its place in the file, and the values
-    /// of the keys by which it is known.
+    /// Writes the position of `key` or of the table, the table's index in the file, and the values of the keys `known`.
     pub fn put_place(self, said: &mut Said, known: &[&str], key: Option<&str>) {
         put_position(said, self.position(key));
-        fill_one(
+        fill_with_word(
             said,
             "in `{a}` {0} of the file",
             u64::from(self.index),
             self.section,
         );
         for name in known {
-            self.put_known(said, *name);
+            self.put_identifying_key(said, *name);
         }
         said.put(":\n");
     }
 
-    /// Adds a key of the instance with its value, where it has one.
-    fn put_known(self, said: &mut Said, key: &str) {
+    /// Writes `key` and its value if the table has the key.
+    fn put_identifying_key(self, said: &mut Said, key: &str) {
         if let Some(value) = self.value(key) {
-            fill_one(said, ", {a} = ", 0, key);
+            fill_with_word(said, ", {a} = ", 0, key);
             put_value(said, value);
         }
     }
 }
 
-/// Adds that a section is no array of tables.
+/// Writes that the section `name` isn't an array of tables.
 pub fn put_no_list(said: &mut Said, document: Document<'_>, name: &str) {
-    put_position(said, top_position(document.text, name));
+    put_position(said, top_level_position(document.text, name));
     let value = document.table.get(name);
-    put_is(said, "`{a}` is ", 0, name, value, "absent");
+    put_value_sentence(said, "`{a}` is ", 0, name, value, "absent");
     let advice = "It must be an array of tables: write `[[{a}]]` above the keys of each.\n";
-    fill_one(said, advice, 0, name);
+    fill_with_word(said, advice, 0, name);
 }
 
-/// Adds where the first instance of a section stands that is one too many, and how many there are.
+/// Writes the position of the first table over `limit`, and the number of tables.
 pub fn put_too_many(said: &mut Said, document: Document<'_>, section: &str, limit: usize) {
     let most = u32::try_from(limit).unwrap_or(u32::MAX);
     let first = Instance {
@@ -131,16 +131,16 @@ pub fn put_too_many(said: &mut Said, document: Document<'_>, section: &str, limi
         index: most.saturating_add(1),
     };
     put_position(said, first.position(None));
-    let count = items_of(document.table, section).len();
-    said.fill(
+    let count = section_instances(document.table, section).len();
+    said.put_template(
         "`{a}` has {0} tables.\nIt may have at most {1}.\n",
         &[count as u64, limit as u64],
         &[section],
     );
 }
 
-/// Whether two values are one number or one text; the letters of two texts may differ in case, unless they are to be exact.
-fn is_same(one: Option<&Value>, other: Option<&Value>, is_exact: bool) -> bool {
+/// Whether both values are one integer or one text. Unless `is_exact`, texts may differ in the case of ASCII letters.
+fn is_same_value(one: Option<&Value>, other: Option<&Value>, is_exact: bool) -> bool {
     match (one, other) {
         (Some(Value::Integer(one)), Some(Value::Integer(other))) => *one == *other,
         (Some(Value::String(one)), Some(Value::String(other))) => {
@@ -151,19 +151,24 @@ fn is_same(one: Option<&Value>, other: Option<&Value>, is_exact: bool) -> bool {
     }
 }
 
-/// Whether two tables have the same at each of some keys.
+/// Whether two tables have equal values at each of `keys`.
 fn is_twin(one: Option<&Table>, other: Option<&Table>, keys: &[&str], is_exact: bool) -> bool {
     for key in keys {
-        if !is_same(value_of(one, *key), value_of(other, *key), is_exact) {
+        if !is_same_value(table_value(one, *key), table_value(other, *key), is_exact) {
             return false;
         }
     }
     true
 }
 
-/// The place, from 1, of the first of some tables that has the same as a table at each of some keys; 0 where none has. The letters of
-/// two texts may differ in case, unless they are to be exact.
-pub fn twin_of(items: &[Value], table: Option<&Table>, keys: &[&str], is_exact: bool) -> u64 {
+/// Returns the index, from 1, of the first table that equals `table` at each of `keys`, or 0. Unless `is_exact`, texts may differ
+/// in the case of ASCII letters.
+pub fn find_duplicate(
+    items: &[Value],
+    table: Option<&Table>,
+    keys: &[&str],
+    is_exact: bool,
+) -> u64 {
     let mut place = 0u64;
     for item in items {
         place = place.saturating_add(1);

@@ -1,24 +1,24 @@
-//! What a file describes, by the headers of its sections.
+//! Kinds of files, recognised by the headers of their sections.
 
-use crate::value::{Said, fill_one};
+use crate::value::{Said, fill_with_word};
 
-/// What a file describes.
+/// Kind of a file.
 #[derive(Clone, Copy, PartialEq, Eq)]
 pub enum FileKind {
-    /// One bridge.
+    /// Plan of one bridge.
     Plan,
-    /// Bridges, the links between them, and streams.
+    /// Network: bridges, links and streams.
     Network,
-    /// What periodic talkers send.
+    /// Traffic of periodic talkers.
     Traffic,
     /// Commands to one bridge.
     Commands,
 }
 
-/// The header of a section that networks have and plans don't.
+/// Header that only networks have.
 const NETWORK: [&str; 1] = ["[[bridge]]"];
 
-/// The headers of sections that only plans have.
+/// Headers that only plans have.
 const PLAN: [&str; 7] = [
     "[[change]]",
     "[[port]]",
@@ -29,32 +29,32 @@ const PLAN: [&str; 7] = [
     "[[filter]]",
 ];
 
-/// The header of the section of traffic.
+/// Header of the section of traffic.
 const TRAFFIC: [&str; 1] = ["[[traffic]]"];
 
-/// The header of the section of commands.
+/// Header of the section of commands.
 const COMMANDS: [&str; 1] = ["[[command]]"];
 
-/// Whether a line begins with one of some headers.
+/// Whether a line begins with one of `headers`.
 fn is_header(line: &[u8], headers: &[&str]) -> bool {
     headers
         .iter()
         .any(|header| line.starts_with(header.as_bytes()))
 }
 
-/// Whether a line of a text begins with one of some headers.
+/// Whether a line of `text` begins with one of `headers`.
 fn has_header(text: &[u8], headers: &[&str]) -> bool {
     text.split(|octet| *octet == b'\n')
         .any(|line| is_header(line, headers))
 }
 
-/// Whether a text is one of a network: one of its lines begins with `[[bridge]]`.
+/// Whether a text describes a network: a line begins with `[[bridge]]`.
 pub fn is_network_text(text: &[u8]) -> bool {
     has_header(text, &NETWORK)
 }
 
-/// Returns what a text describes. None if it has the headers of no kind, or of more than one.
-pub fn kind_of(text: &[u8]) -> Option<FileKind> {
+/// Returns the kind of a file. `None` if the text has headers of no kind, or of several kinds.
+pub fn file_kind(text: &[u8]) -> Option<FileKind> {
     let kinds = [
         (is_network_text(text), FileKind::Network),
         (has_header(text, &PLAN), FileKind::Plan),
@@ -73,8 +73,8 @@ pub fn kind_of(text: &[u8]) -> Option<FileKind> {
     found
 }
 
-/// The sentences on a file of a kind at the path `{a}`: what it describes, and which command takes it.
-fn sentence_of(kind: FileKind) -> &'static str {
+/// Returns the sentences for a file of this kind: its contents, and the command that reads it. `{a}` is the path.
+fn kind_sentence(kind: FileKind) -> &'static str {
     match kind {
         FileKind::Plan => ": This file describes one bridge. `tsnbridge check {a}` checks it.\n",
         FileKind::Network =>
@@ -86,13 +86,13 @@ fn sentence_of(kind: FileKind) -> &'static str {
     }
 }
 
-/// Adds what a file describes and which command takes it, if another kind of file is wanted. The text begins with the path of the
-/// file, which is added again at its end.
+/// Writes the kind of a file and the command that reads it, if the kind isn't `wanted`. The written text follows a path, and ends
+/// with the path again.
 pub fn put_other_kind(said: &mut Said, path: &str, text: &[u8], wanted: FileKind) {
-    if let Some(kind) = kind_of(text) {
+    if let Some(kind) = file_kind(text) {
         if kind != wanted {
             let name = if path == "-" { "FILE" } else { path };
-            fill_one(said, sentence_of(kind), 0, name);
+            fill_with_word(said, kind_sentence(kind), 0, name);
             said.put(path);
         }
     }

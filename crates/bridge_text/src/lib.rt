@@ -1,29 +1,28 @@
 #![tactic(auto)]
-//! Texts that grow piece by piece, positions (line and column) in texts, and the values of TOML documents as a planner reads them.
+//! Texts that grow piece by piece, positions in texts, and values of TOML documents in words of planners.
 //!
-//! A text remembers that memory was refused, and says so once, at its end. So a function that adds pieces needs no way out after
-//! each of them.
+//! If memory runs out, a text reports it once, at its end. Functions that add pieces therefore return no error.
 
 mod document;
 mod kind;
-mod named;
 mod nearest;
+mod path_prefix;
 mod position;
 mod stray;
-mod text;
+mod text_builder;
 mod value;
 
 pub use bridge_limits::NoMemory;
 pub use document::{
-    Document, Instance, items_in, items_of, number_in, put_no_list, put_too_many, table_of,
-    twin_of, value_of,
+    Document, Instance, find_duplicate, instance_table, put_no_list, put_too_many,
+    section_instances, table_value, unsigned_number, value_items,
 };
-pub use kind::{FileKind, is_network_text, kind_of, put_other_kind};
-pub use named::{behind, escape_text, of_file};
-pub use nearest::{BRIDGES, KEYS, Listing, SECTIONS, nearest_name, put_nearest};
+pub use kind::{FileKind, file_kind, is_network_text, put_other_kind};
+pub use nearest::{BRIDGES, KEYS, nearest_name, put_nearest};
+pub use path_prefix::{escape_text, finish_with_path, text_with_path};
 pub use position::{
-    Position, key_position, position_behind, put_position, table_position, top_position,
+    Position, key_position, position_at_offset, put_position, table_position, top_level_position,
 };
 pub use stray::put_stray_section;
-pub use text::Text;
-pub use value::{Said, fill_one, first_of, put_is, put_key, put_text, put_value};
+pub use text_builder::TextBuilder;
+pub use value::{Said, fill_with_word, first_items, put_key, put_text, put_value_sentence};

@@ -1,24 +1,24 @@
-//! The known name that is nearest to an unknown one.
+//! Searches the known name nearest to an unknown name.
 ghost use Rattle.std.specs.Prelude.{Contains};
 ghost use Rattle.std.specs.Option.{ForSome};
 
-use crate::value::{Said, fill_one};
+use crate::value::{Said, fill_with_word};
 use std::alloc::Global;
 use strsim::osa_distance;
 
-/// The most octets of a word that is compared.
+/// Largest number of octets of a compared word.
 const LONGEST_WORD: usize = 40;
 
-/// The most edits that lead from a word to a name that is near to it.
-const MOST_EDITS: usize = 3;
+/// Largest number of edits between a word and a near name.
+const MAX_EDITS: usize = 3;
 
-/// The most names that are listed.
+/// Largest number of listed names.
 const MOST_NAMES: usize = 16;
 
-/// The one of some names that is nearest to a word, where one is near to it: at most three edits away, and at most one for
-/// each four octets of the word that have begun. Two characters that change places are one edit. The first of several. A
-/// front that stands before the word and before each name counts as octets of the word. Where memory is refused, it is none, and
-/// the text is let go of.
+/// Returns the first name with the fewest edits from `word`. The limit is 3 edits, or a quarter, rounded up, of the octets of
+/// `front` and `word` if that is less.
+///
+/// Swapping two neighbouring characters is one edit. If memory runs out, discards the text and returns `None`.
 pub fn nearest_name<'a>(
     alloc: Global,
     said: &mut Said,
@@ -33,10 +33,10 @@ pub fn nearest_name<'a>(
         return None;
     }
     let mut found = None;
-    let mut least = octets.div_ceil(4).min(MOST_EDITS) + 1;
+    let mut least = octets.div_ceil(4).min(MAX_EDITS) + 1;
     for name in names {
         let Ok(edits) = osa_distance(alloc, word, *name) else {
-            said.give_up();
+            said.discard();
             return None;
         };
         if edits < least {
@@ -47,20 +47,20 @@ pub fn nearest_name<'a>(
     found
 }
 
-/// How the nearest name is told, or all names: templates with a name at `{a}`.
+/// Templates that name the nearest name or all names. The name replaces `{a}`.
 #[derive(Clone, Copy)]
 pub struct Listing {
-    /// The sentence on the nearest name.
+    /// Sentence with the nearest name.
     pub nearest: &'static str,
-    /// The sentence on the only name.
+    /// Sentence with the only name.
     pub only: &'static str,
-    /// The start of the list of all names, with the first.
+    /// Start of the list of all names, with the first name.
     pub first: &'static str,
     /// A further name of the list.
     pub next: &'static str,
 }
 
-/// Keys of a table.
+/// Templates for keys of a table.
 pub const KEYS: Listing = Listing {
     nearest: "The nearest key is `{a}`.\n",
     only: "The only key is `{a}`.\n",
@@ -68,7 +68,7 @@ pub const KEYS: Listing = Listing {
     next: ", `{a}`",
 };
 
-/// Sections of a file.
+/// Templates for sections of a file.
 pub const SECTIONS: Listing = Listing {
     nearest: "The nearest section is `{a}`.\n",
     only: "The only section is `{a}`.\n",
@@ -76,7 +76,7 @@ pub const SECTIONS: Listing = Listing {
     next: ", `{a}`",
 };
 
-/// Bridges of a network, by their names.
+/// Templates for bridges of a network.
 pub const BRIDGES: Listing = Listing {
     nearest: "The nearest bridge is \"{a}\".\n",
     only: "The only bridge is \"{a}\".\n",
@@ -84,25 +84,25 @@ pub const BRIDGES: Listing = Listing {
     next: ", \"{a}\"",
 };
 
-/// Adds the one of some names that is nearest to a word, or all names if none is near.
+/// Writes the name nearest to `word`, or all names if no name is near.
 pub fn put_nearest(alloc: Global, said: &mut Said, word: &str, names: &[&str], listing: Listing) {
     match nearest_name(alloc, said, "", word, names) {
-        Some(name) => fill_one(said, listing.nearest, 0, name),
+        Some(name) => fill_with_word(said, listing.nearest, 0, name),
         None => put_all(said, names, listing),
     }
 }
 
-/// Adds all of some names, the first sixteen of them.
+/// Writes all names, at most the first 16.
 fn put_all(said: &mut Said, names: &[&str], listing: Listing) {
     if let [name] = names {
-        return fill_one(said, listing.only, 0, *name);
+        return fill_with_word(said, listing.only, 0, *name);
     }
     let mut is_first = true;
     for name in names.iter().take(MOST_NAMES) {
         if is_first {
-            fill_one(said, listing.first, 0, *name);
+            fill_with_word(said, listing.first, 0, *name);
         } else {
-            fill_one(said, listing.next, 0, *name);
+            fill_with_word(said, listing.next, 0, *name);
         }
         is_first = false;
     }

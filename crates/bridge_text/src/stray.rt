@@ -1,13 +1,13 @@
-//! Sections that a file may not have.
+//! Unknown sections of a file.
 
 use crate::document::Document;
 use crate::nearest::{SECTIONS, put_nearest};
-use crate::position::{put_position, top_position};
+use crate::position::{put_position, top_level_position};
 use crate::value::{Said, put_key};
 use std::alloc::Global;
 
-/// Whether a name is one of some names.
-fn is_among(names: &[&str], name: &str) -> bool {
+/// Whether `name` is in `names`.
+fn is_listed(names: &[&str], name: &str) -> bool {
     for other in names {
         if *other == name {
             return true;
@@ -16,7 +16,7 @@ fn is_among(names: &[&str], name: &str) -> bool {
     false
 }
 
-/// Adds which key of the top is none of the sections that a file may have, and the nearest section.
+/// Writes the first top-level key that is none of `sections`, and the nearest section.
 pub fn put_stray_section(
     alloc: Global,
     said: &mut Said,
@@ -25,8 +25,8 @@ pub fn put_stray_section(
 ) {
     for (key, _) in document.table.iter() {
         let key = key.as_str();
-        if !is_among(sections, key) {
-            put_position(said, top_position(document.text, key));
+        if !is_listed(sections, key) {
+            put_position(said, top_level_position(document.text, key));
             put_key(said, key);
             said.put(" isn't a section.\n");
             return put_nearest(alloc, said, key, sections, SECTIONS);

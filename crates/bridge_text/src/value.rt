@@ -1,54 +1,54 @@
-//! Values of a document, as a planner reads them.
+//! Values of a document in words of planners.
 
-use crate::text::Text;
+use crate::text_builder::TextBuilder;
 use std::alloc::Global;
 use toml::Value;
 
-/// What is said so far.
-pub type Said = Text<Global>;
+/// Text under construction.
+pub type Said = TextBuilder<Global>;
 
-/// The most characters of a text that are shown.
-const MOST_CHARACTERS: usize = 60;
+/// Largest number of characters shown of a text.
+const MAX_CHARACTERS: usize = 60;
 
-/// The most items of an array that are shown.
-const MOST_ITEMS: usize = 16;
+/// Largest number of items shown of an array.
+const MAX_ITEMS: usize = 16;
 
-/// Adds a template, which may have a number and a word.
-pub fn fill_one(said: &mut Said, template: &str, number: u64, word: &str) {
-    said.fill(template, &[number], &[word]);
+/// Writes a template that may use one number and one word.
+pub fn fill_with_word(said: &mut Said, template: &str, number: u64, word: &str) {
+    said.put_template(template, &[number], &[word]);
 }
 
-/// The front of a text, as much as is shown of it.
-fn front_of(text: &str) -> &str {
-    match text.char_indices().nth(MOST_CHARACTERS) {
+/// Returns at most the first 60 characters of a text.
+fn shown_prefix(text: &str) -> &str {
+    match text.char_indices().nth(MAX_CHARACTERS) {
         Some((end, _)) => text.get(..end).unwrap_or(text),
         None => text,
     }
 }
 
-/// Adds a text in quotes, cut where it is long.
+/// Writes a text in quotes, cut after 60 characters.
 pub fn put_text(said: &mut Said, text: &str) {
-    let front = front_of(text);
+    let front = shown_prefix(text);
     said.put_quoted(front);
     if front.len() < text.len() {
         said.put("..");
     }
 }
 
-/// Adds a key as it is quoted in a sentence, cut where it is long.
+/// Writes a key as quoted in a sentence. A long key is cut.
 pub fn put_key(said: &mut Said, key: &str) {
     let mut is_plain = true;
     for octet in key.as_bytes() {
         is_plain &= octet.is_ascii_alphanumeric() | (*octet == b'_') | (*octet == b'-');
     }
-    if is_plain && key.len() <= MOST_CHARACTERS {
-        fill_one(said, "`{a}`", 0, key);
+    if is_plain && key.len() <= MAX_CHARACTERS {
+        fill_with_word(said, "`{a}`", 0, key);
     } else {
         put_text(said, key);
     }
 }
 
-/// Adds an item of an array; of an array or a table in it the brackets alone.
+/// Writes an item of an array. An inner array or table shows only its brackets.
 fn put_item(said: &mut Said, item: &Value) {
     match item {
         Value::String(text) => put_text(said, text.as_str()),
@@ -62,8 +62,8 @@ fn put_item(said: &mut Said, item: &Value) {
     }
 }
 
-/// The first of some items, so many at most.
-pub fn first_of(items: &[Value], most: usize) -> &[Value] {
+/// Returns at most the first `most` items.
+pub fn first_items(items: &[Value], most: usize) -> &[Value] {
     if items.len() > most {
         &items[..most]
     } else {
@@ -71,20 +71,20 @@ pub fn first_of(items: &[Value], most: usize) -> &[Value] {
     }
 }
 
-/// Adds the items of an array, the first sixteen of them.
+/// Writes the items of an array, at most the first 16.
 fn put_items(said: &mut Said, items: &[Value]) {
     let mut is_first = true;
-    for item in first_of(items, MOST_ITEMS) {
+    for item in first_items(items, MAX_ITEMS) {
         said.put_comma(is_first);
         put_item(said, item);
         is_first = false;
     }
-    if items.len() > MOST_ITEMS {
+    if items.len() > MAX_ITEMS {
         said.put(", ..");
     }
 }
 
-/// Adds a value.
+/// Writes a value.
 pub fn put_value(said: &mut Said, value: &Value) {
     match value {
         Value::Array(items) => {
@@ -97,8 +97,8 @@ pub fn put_value(said: &mut Said, value: &Value) {
     }
 }
 
-/// Adds what something is by its value, or by a word where there is none, as a sentence.
-pub fn put_is(
+/// Writes a sentence that ends with a value, or with `word` if the value is missing.
+pub fn put_value_sentence(
     said: &mut Said,
     template: &str,
     number: u64,
@@ -106,7 +106,7 @@ pub fn put_is(
     value: Option<&Value>,
     word: &str,
 ) {
-    fill_one(said, template, number, name);
+    fill_with_word(said, template, number, name);
     match value {
         Some(value) => put_value(said, value),
         None => said.put(word),

@@ -1,4 +1,4 @@
--- The beginning and the end of a run.
+-- Start and end of a run.
 use Rattle.std.proofs.Common.{inl, inr, ◌≡◌, ◌+◌, ℕ, ◌≤◌, List, [], ◌∷◌, ◌++◌, length, refl, ap, ◌∙◌, sym, subst, arith, Option, Some, None, Result}
 use Rattle.std.specs.Prelude.{Ok, Err, IfOk, IfErr, ◌≢◌, replicate, Vec, slice_index_or}
 use Rattle.std.specs.List.{flat_map}
@@ -7,30 +7,30 @@ use Rattle.std.proofs.KnownBytes.{Appends-trans}
 use Rattle.std.proofs.lemmas.Option.{none-some}
 use Rattle.bridge_frame.specs.declared.Speed.{Speed}
 use Rattle.bridge_capture.specs.declared.packet.Packet.{Packet}
-use Rattle.bridge_capture.specs.Grammar.{Captured}
-use Rattle.bridge_capture.specs.Standing.{last_time, records_left, RefusedSo}
-use Rattle.bridge_capture.specs.Reading.{view}
-use Rattle.bridge_capture.specs.declared.fault.CaptureFault.{CaptureFault}
-use Rattle.bridge_capture.specs.declared.fault.CaptureFault.TheVariants as faults
-use Rattle.bridge_capture.specs.Written.{written_item, written_text, written_header}
+use Rattle.bridge_capture.specs.Grammar.{CapturedFrame}
+use Rattle.bridge_capture.specs.StandsFor.{last_time, records_left, IsRefusal}
+use Rattle.bridge_capture.specs.Reading.{packet_frame}
+use Rattle.bridge_capture.specs.declared.capture_fault.CaptureFault.{CaptureFault}
+use Rattle.bridge_capture.specs.declared.capture_fault.CaptureFault.TheVariants as faults
+use Rattle.bridge_capture.specs.WrittenCapture.{written_frame, written_text, written_header}
 use Rattle.bridge_capture.proofs.Written.{written_more}
-use Rattle.bridge_capture.specs.Sinks.{AppendsFront}
-use Rattle.bridge_port.specs.Opening.{Always}
-use Rattle.bridge_port.specs.Seen.{all_seen}
-use Rattle.bridge_port.specs.Standing.{State, StandsFor, IsDue, IsIdle}
+use Rattle.bridge_capture.specs.Sinks.{AppendsPrefix}
+use Rattle.bridge_port.specs.GateSchedule.{Always}
+use Rattle.bridge_port.specs.MappedCopies.{map_copies}
+use Rattle.bridge_port.specs.StandsFor.{EgressState, StandsFor, IsNextStartTime, IsIdle}
 use Rattle.bridge_port.proofs.Ports.{idle_whole}
 use Rattle.bridge_port.proofs.Watched.{whole_seen}
-use Rattle.bridge_wire.specs.declared.count.WireCount.{WireCount}
-use Rattle.bridge_capture.specs.declared.lane.CaptureReader.{CaptureReader}
-use Rattle.bridge_capture.specs.Lanes.{FailsFirst, Finds, fault_at}
-use Rattle.bridge_capture.specs.Lanes.{room as room_ahead}
-use Rattle.bridge_wire.specs.Wire.{offers_of, IsOutput, IsUpTo, IsWireRun, LooksFrom, Stops, StopsWriting, WantsMemory, Wires}
-use Rattle.bridge_capture.specs.declared.run_fault.RunFault.{RunFault}
-use Rattle.bridge_wire.specs.Sending.{EndsSo, frame_of, no_count, NotBefore, IsRunning, IsUnderWay, Sends, StopsAfter}
+use Rattle.bridge_wire.specs.declared.wire_count.WireCount.{WireCount}
+use Rattle.bridge_capture.specs.declared.capture_reader.CaptureReader.{CaptureReader}
+use Rattle.bridge_capture.specs.CaptureReaders.{FailsAtFirst, FindsNext, run_fault}
+use Rattle.bridge_capture.specs.CaptureReaders.{frames_left as room_ahead}
+use Rattle.bridge_wire.specs.Wire.{frame_offers, IsOutput, RunsToLastFrame, IsWireRun, EndsOrContinues, StopsRun, StopsWriting, LacksMemory, WiresText}
+use Rattle.bridge_capture.specs.declared.fault.RunFault.{RunFault}
+use Rattle.bridge_wire.specs.Departures.{EndsOrStops, item_frame, no_count, IsNotEarlier, IsRunning, IsUnderWay, HasSent, StopsAtSink}
 use Rattle.bridge_wire.proofs.Running.{goes_until, is_up_to, stops_after, HasGone}
 
--- a new port of one queue
-abbrev pub new_port : {A : Type 0} → Speed → ℕ → State (Vec ℕ A)
+-- New port with one queue.
+abbrev pub new_port : {A : Type 0} → Speed → ℕ → EgressState (Vec ℕ A)
 new_port speed room = record { speed = speed; list = Always; rooms = room ∷ 1 ∷ 1 ∷ 1 ∷ 1 ∷ 1 ∷ 1 ∷ 1 ∷ []; queues = replicate 8 []; free = 0; earliest = 0; offered = 0; started = 0 }
 
 none_left : (speed : Speed) → IsOutput speed [] []
@@ -50,15 +50,15 @@ running_begin speed room began now stands header = record {
   few = omega arith;
 }
 
-pub running_new : {A : Type 0} (speed : Speed) (room : ℕ) (p : State (Vec ℕ A)) (began now : Option (List ℕ)) → p ≡ new_port speed room → StandsFor p [] → Appends began now written_header → IsRunning speed room [] p no_count began now
+pub running_new : {A : Type 0} (speed : Speed) (room : ℕ) (p : EgressState (Vec ℕ A)) (began now : Option (List ℕ)) → p ≡ new_port speed room → StandsFor p [] → Appends began now written_header → IsRunning speed room [] p no_count began now
 running_new {A} speed room p began now new stands header =
-    subst (λ (q : State (Vec ℕ A)). IsRunning speed room [] q no_count began now) (sym new) (running_begin speed room began now (subst (λ (q : State (Vec ℕ A)). StandsFor q []) new stands) header)
+    subst (λ (q : EgressState (Vec ℕ A)). IsRunning speed room [] q no_count began now) (sym new) (running_begin speed room began now (subst (λ (q : EgressState (Vec ℕ A)). StandsFor q []) new stands) header)
 
 length_some : {X : Type 0} (xs : List X) (x : X) → 1 ≤ length (xs ++ x ∷ [])
 length_some [] x = omega arith
 length_some (y ∷ xs) x = omega arith
 
-stops_at : (speed : Speed) (room : ℕ) (text : List ℕ) (rest : Option (List ℕ)) (frames : List Captured) (began now : Option (List ℕ)) (fault : CaptureFault) → fault ≢ faults.Write → 1 ≤ length frames → RefusedSo fault rest text frames → IsUpTo speed room frames began now → Stops speed room text rest began now (fault_at 1 fault)
+stops_at : (speed : Speed) (room : ℕ) (text : List ℕ) (rest : Option (List ℕ)) (frames : List CapturedFrame) (began now : Option (List ℕ)) (fault : CaptureFault) → fault ≢ faults.Write → 1 ≤ length frames → IsRefusal fault rest text frames → RunsToLastFrame speed room frames began now → StopsRun speed room text rest began now (run_fault 1 fault)
 stops_at speed room text rest frames began now faults.NoMemory own some refused up = inr (record { frames = frames; some = some; refused = refused; up = up })
 stops_at speed room text rest frames began now fault own some refused up = ((λ e. absurd (cc), own), inr (record { frames = frames; some = some; refused = refused; up = up }))
 
@@ -66,23 +66,23 @@ kept : (old : Option (List ℕ)) → Keeps old old
 kept None = tt
 kept (Some x) = refl
 
--- the first look at a text was refused, and nothing was written
-pub refuses_first : (speed : Speed) (room : ℕ) (text : List ℕ) (rest old : Option (List ℕ)) (fault : CaptureFault) → fault ≢ faults.Write → FailsFirst fault rest text → Stops speed room text rest old old (fault_at 1 fault)
+-- If the first record is refused, nothing is written.
+pub refuses_first : (speed : Speed) (room : ℕ) (text : List ℕ) (rest old : Option (List ℕ)) (fault : CaptureFault) → fault ≢ faults.Write → FailsAtFirst fault rest text → StopsRun speed room text rest old old (run_fault 1 fault)
 refuses_first speed room text rest old faults.NoMemory own looks = inl (record { looks = inr (inl looks); untouched = kept old })
 refuses_first speed room text rest old fault own looks = ((λ e. absurd (cc), own), inl (record { looks = looks; untouched = kept old }))
 
--- memory was refused right behind the first look
-pub wants_behind : {A : Type 0} (text : List ℕ) (rest old : Option (List ℕ)) (ahead : Option (Packet A)) → Finds text [] ahead → WantsMemory text rest old old
+-- If memory runs out after the first record was read, nothing is written.
+pub wants_behind : {A : Type 0} (text : List ℕ) (rest old : Option (List ℕ)) (ahead : Option (Packet A)) → FindsNext text [] ahead → LacksMemory text rest old old
 wants_behind text rest old None finds = record { looks = inr (inr (inl finds)); untouched = kept old }
-wants_behind text rest old (Some p) finds = record { looks = inr (inr (inr (view p, finds))); untouched = kept old }
+wants_behind text rest old (Some p) finds = record { looks = inr (inr (inr (packet_frame p, finds))); untouched = kept old }
 
--- what comes behind the frames of a text, at this moment or later
-pub finds_from : {A : Type 0} (until : ℕ) (text : List ℕ) (frames : List Captured) (ahead : Option (Packet A)) → Finds text frames ahead → ((p : Packet A) → ahead ≡ Some p → until ≤ p.time) → LooksFrom until text frames
+-- After the frames, the capture ends, or its next frame arrives at this time or later.
+pub finds_from : {A : Type 0} (until : ℕ) (text : List ℕ) (frames : List CapturedFrame) (ahead : Option (Packet A)) → FindsNext text frames ahead → ((p : Packet A) → ahead ≡ Some p → until ≤ p.time) → EndsOrContinues until text frames
 finds_from until text frames None finds late = inl finds
-finds_from until text frames (Some p) finds late = inr (view p, finds, late p refl)
+finds_from until text frames (Some p) finds late = inr (packet_frame p, finds, late p refl)
 
--- the sink failed in the header
-pub stops_at_header : {A : Type 0} (speed : Speed) (room : ℕ) (text : List ℕ) (ahead : Option (Packet A)) (began now : Option (List ℕ)) → Finds text [] ahead → AppendsFront began now written_header → StopsWriting speed room text began now
+-- The sink fails in the header.
+pub stops_at_header : {A : Type 0} (speed : Speed) (room : ℕ) (text : List ℕ) (ahead : Option (Packet A)) (began now : Option (List ℕ)) → FindsNext text [] ahead → AppendsPrefix began now written_header → StopsWriting speed room text began now
 stops_at_header speed room text ahead began now finds front = record {
   frames = [];
   copies = [];
@@ -98,62 +98,62 @@ stops_at_header speed room text ahead began now finds front = record {
   writes = front;
 }
 
--- the sink failed while frames left, and this is what comes behind those that were taken
-pub stops_writing : (speed : Speed) (room : ℕ) (text : List ℕ) (frames : List Captured) (moment : ℕ) (began now : Option (List ℕ)) → (s : StopsAfter speed room frames moment began now) → LooksFrom s.goes.until text frames → StopsWriting speed room text began now
+-- The sink fails while frames leave.
+pub stops_writing : (speed : Speed) (room : ℕ) (text : List ℕ) (frames : List CapturedFrame) (moment : ℕ) (began now : Option (List ℕ)) → (s : StopsAtSink speed room frames moment began now) → EndsOrContinues s.goes.until text frames → StopsWriting speed room text began now
 stops_writing speed room text frames moment began now s looks = record { frames = frames; copies = s.copies; left = s.left; goes = s.goes; from = s.from; looks = looks; writes = s.writes }
 
--- the text was refused behind the frames that were taken
-pub stops_behind : {A : Type 0} (speed : Speed) (room : ℕ) (text : List ℕ) (rest : Option (List ℕ)) (frames : List Captured) (c : Captured) (p : State (Vec ℕ A)) (count : WireCount) (began now : Option (List ℕ)) (fault : CaptureFault) → fault ≢ faults.Write → RefusedSo fault rest text (frames ++ c ∷ []) → IsRunning speed room (frames ++ c ∷ []) p count began now → Stops speed room text rest began now (fault_at 1 fault)
+-- The capture is refused after the frames that were read.
+pub stops_behind : {A : Type 0} (speed : Speed) (room : ℕ) (text : List ℕ) (rest : Option (List ℕ)) (frames : List CapturedFrame) (c : CapturedFrame) (p : EgressState (Vec ℕ A)) (count : WireCount) (began now : Option (List ℕ)) (fault : CaptureFault) → fault ≢ faults.Write → IsRefusal fault rest text (frames ++ c ∷ []) → IsRunning speed room (frames ++ c ∷ []) p count began now → StopsRun speed room text rest began now (run_fault 1 fault)
 stops_behind {A} speed room text rest frames c p count began now fault own refused r =
     stops_at speed room text rest (frames ++ c ∷ []) began now fault own (length_some frames c) refused (is_up_to speed room (frames ++ c ∷ []) p count began now r)
 
--- a port that asks for no start for a very long time is idle
-pub idle_late : {T : Type 0} (p : State T) (t : ℕ) (next : Option ℕ) → IsDue p next → NotBefore t next → 4100000000000000000 ≤ t → IsIdle p
+-- A port whose next start is very late is idle.
+pub idle_late : {T : Type 0} (p : EgressState T) (t : ℕ) (next : Option ℕ) → IsNextStartTime p next → IsNotEarlier t next → 4100000000000000000 ≤ t → IsIdle p
 idle_late p t None due n late = due
 idle_late p t (Some k) due n late = absurd (let a = n.0 in let b = n.1 in omega arith)
 
--- all frames went through, and all that were accepted have left
-pub run_ends : {A : Type 0} (speed : Speed) (room : ℕ) (frames : List Captured) (old new : State (Vec ℕ A)) (count : WireCount) (began now after : Option (List ℕ)) → IsRunning speed room frames old count began now → HasGone old new now after → IsIdle new → (left : List Captured) × IsWireRun speed room frames left count × Appends began after (written_text left)
+-- All frames passed the queue, and all accepted frames left.
+pub run_ends : {A : Type 0} (speed : Speed) (room : ℕ) (frames : List CapturedFrame) (old new : EgressState (Vec ℕ A)) (count : WireCount) (began now after : Option (List ℕ)) → IsRunning speed room frames old count began now → HasGone old new now after → IsIdle new → (left : List CapturedFrame) × IsWireRun speed room frames left count × Appends began after (written_text left)
 run_ends speed room frames old new count began now after r gone idle =
-    let g = gone.goes (offers_of frames) count.sent count.full r.left r.sends in
+    let g = gone.goes (frame_offers frames) count.sent count.full r.left r.sends in
     let s = g.1 in
     let list = gone.list ∙ r.queue.list in
     let pace = gone.speed ∙ r.queue.pace in
     let places = ap (λ l. slice_index_or l 0 0) gone.rooms ∙ r.queue.places in (
       r.left ++ g.0,
       record {
-        copies = all_seen frame_of s.copies;
+        copies = map_copies item_frame s.copies;
         goes = (goes_until speed room frames new count.sent count.full (r.left ++ g.0) new.earliest list pace places s s.stands.lawful).0;
-        whole = whole_seen frame_of s.copies (idle_whole new s.copies s.stands idle);
+        whole = whole_seen item_frame s.copies (idle_whole new s.copies s.stands idle);
         short = s.short;
         all = r.all;
         malformed = r.malformed;
         sent = sym s.accepted;
         full = sym s.refused;
       },
-      subst (Appends began after) (sym (written_more r.left g.0)) (Appends-trans began now after (written_text r.left) (flat_map written_item g.0) r.writes g.2),
+      subst (Appends began after) (sym (written_more r.left g.0)) (Appends-trans began now after (written_text r.left) (flat_map written_frame g.0) r.writes g.2),
     )
 
--- how much a lane may still give where a frame is ahead
+-- Number of records that a reader can still return if it has a frame ahead.
 pub room_some : {A : Type 0} (lane : CaptureReader A) (p : Packet A) → lane.ahead ≡ Some p → room_ahead lane ≡ records_left lane.capture + 1
 room_some lane p e = rw e refl
 
--- a run that is under way, at the end of its text, once all that were accepted have left
-pub wires_all : {A : Type 0} (speed : Speed) (room : ℕ) (text : List ℕ) (remaining : Option (List ℕ)) (lane : CaptureReader A) (old new : State (Vec ℕ A)) (count : WireCount) (began now after : Option (List ℕ)) → IsUnderWay speed room text remaining lane old count began now → lane.ahead ≡ None → HasGone old new now after → IsIdle new → Wires speed room text began after count
+-- A run ends if the capture ends and all accepted frames left.
+pub wires_all : {A : Type 0} (speed : Speed) (room : ℕ) (text : List ℕ) (remaining : Option (List ℕ)) (lane : CaptureReader A) (old new : EgressState (Vec ℕ A)) (count : WireCount) (began now after : Option (List ℕ)) → IsUnderWay speed room text remaining lane old count began now → lane.ahead ≡ None → HasGone old new now after → IsIdle new → WiresText speed room text began after count
 wires_all speed room text remaining lane old new count began now after u none gone idle =
     let e = run_ends speed room u.frames old new count began now after u.running gone idle in
-    record { frames = u.frames; left = e.0; reads = subst (Finds text u.frames) none u.ahead.finds; runs = e.1; writes = e.2 }
+    record { frames = u.frames; left = e.0; reads = subst (FindsNext text u.frames) none u.ahead.finds; runs = e.1; writes = e.2 }
 
--- the sink failed while the last frames left
-pub stops_at_end : {A : Type 0} (speed : Speed) (room : ℕ) (text : List ℕ) (remaining : Option (List ℕ)) (lane : CaptureReader A) (old new : State (Vec ℕ A)) (count : WireCount) (began now after : Option (List ℕ)) (u : IsUnderWay speed room text remaining lane old count began now) → lane.ahead ≡ None → new.list ≡ old.list → new.speed ≡ old.speed → new.rooms ≡ old.rooms → last_time 0 u.frames ≤ new.earliest → (gone : List Captured) → Sends new (offers_of u.frames) count.sent count.full (u.running.left ++ gone) → AppendsFront now after (flat_map written_item gone) → StopsWriting speed room text began after
+-- The sink fails while the last frames leave.
+pub stops_at_end : {A : Type 0} (speed : Speed) (room : ℕ) (text : List ℕ) (remaining : Option (List ℕ)) (lane : CaptureReader A) (old new : EgressState (Vec ℕ A)) (count : WireCount) (began now after : Option (List ℕ)) (u : IsUnderWay speed room text remaining lane old count began now) → lane.ahead ≡ None → new.list ≡ old.list → new.speed ≡ old.speed → new.rooms ≡ old.rooms → last_time 0 u.frames ≤ new.earliest → (gone : List CapturedFrame) → HasSent new (frame_offers u.frames) count.sent count.full (u.running.left ++ gone) → AppendsPrefix now after (flat_map written_frame gone) → StopsWriting speed room text began after
 stops_at_end speed room text remaining lane old new count began now after u none list pace places from gone s front =
     let stops = stops_after speed room u.frames old new count new.earliest began now after u.running list pace places from (omega arith) gone s front in
-    stops_writing speed room text u.frames new.earliest began after stops (inl (subst (Finds text u.frames) none u.ahead.finds))
+    stops_writing speed room text u.frames new.earliest began after stops (inl (subst (FindsNext text u.frames) none u.ahead.finds))
 
-pub ends_ok : (speed : Speed) (room : ℕ) (text : List ℕ) (rest old new : Option (List ℕ)) (r : Result WireCount RunFault) → EndsSo speed room text rest old new r → IfOk r (Wires speed room text old new)
+pub ends_ok : (speed : Speed) (room : ℕ) (text : List ℕ) (rest old new : Option (List ℕ)) (r : Result WireCount RunFault) → EndsOrStops speed room text rest old new r → IfOk r (WiresText speed room text old new)
 ends_ok speed room text rest old new (Ok count) e = e
 ends_ok speed room text rest old new (Err fault) e = tt
 
-pub ends_err : (speed : Speed) (room : ℕ) (text : List ℕ) (rest old new : Option (List ℕ)) (r : Result WireCount RunFault) → EndsSo speed room text rest old new r → IfErr r (Stops speed room text rest old new)
+pub ends_err : (speed : Speed) (room : ℕ) (text : List ℕ) (rest old new : Option (List ℕ)) (r : Result WireCount RunFault) → EndsOrStops speed room text rest old new r → IfErr r (StopsRun speed room text rest old new)
 ends_err speed room text rest old new (Ok count) e = tt
 ends_err speed room text rest old new (Err fault) e = e

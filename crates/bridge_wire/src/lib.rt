@@ -1,10 +1,10 @@
 #![tactic(auto)]
-//! One capture through one queue.
+//! Sends one capture through one queue.
 
-mod count;
-mod queue;
-mod sending;
+mod departures;
+mod one_queue;
+mod wire_count;
 
 pub use bridge_capture::RunFault;
-pub use count::WireCount;
-pub use queue::wire;
+pub use one_queue::wire;
+pub use wire_count::WireCount;

@@ -1,8 +1,8 @@
 //! The text of the base plan.
 use std::alloc::{AllocError, Allocator};
 
-/// Filter 10 is protected: its frames come in on port 1 in the window of gate 1, and go out of port 3 in class 7. Filter 99
-/// takes all others, in class 0.
+/// Base plan. Frames of protected filter 10 enter at port 1 in the window of gate 1, and leave by port 3 in class 7. Filter 99 is the
+/// catch-all filter, of class 0.
 pub const BASE: &str = r#"
 [[port]]
 number = 1
@@ -51,8 +51,8 @@ number = 99
 gate = 99
 "#;
 
-/// The text of the plan, and more lines behind it.
-pub fn text_with<A: Allocator + Copy>(alloc: A, more: &str) -> Result<String<A>, AllocError> {
+/// Returns the text of the base plan with the lines `more` added.
+pub fn base_with_lines<A: Allocator + Copy>(alloc: A, more: &str) -> Result<String<A>, AllocError> {
     let mut text = String::from_str(alloc, BASE)?;
     text.push_str(more)?;
     Ok(text)

@@ -1,38 +1,45 @@
 #![tactic(auto)]
-//! A bridge for tests, to which frames and a command come one by one, each call with what it tells afterwards tested.
+//! Helpers of tests: a bridge whose state is tested after each call, and an allocator that refuses a single allocation.
 
 pub mod base;
+pub mod ending;
+pub mod refuses_one;
 
 ghost use Rattle.std.specs.Prelude.{◌≡◌, true, Option};
-ghost use Rattle.bridge_filter.specs.Plans.{is_there};
+ghost use Rattle.bridge_filter.specs.Plans.{is_listed};
 ghost use Rattle.bridge_config.specs.Commands.{has_instance};
-ghost use Rattle.bridge_relay.specs.Ports.{NotBefore};
-ghost use Rattle.bridge_core.specs.Bridges.{next_start, plan_in};
+ghost use Rattle.bridge_relay.specs.Ports.{StartsNoEarlier};
+ghost use Rattle.bridge_core.specs.Bridges.{next_start, bridge_plan};
 
 use bridge_capture::{Capture, Packet, SliceSource};
 use bridge_check::Accepted;
 use bridge_config::Command;
 use bridge_core::{Agenda, Bridge, Outcome, Sent};
 use bridge_filter::Clear;
-use bridge_limits::{END_OF_TIME, MOST_ARRIVALS, MOST_CAPTURED};
+use bridge_limits::{END_OF_TIME, MAX_ARRIVALS, MAX_CAPTURED_OCTETS};
+pub use ending::{Ending, refuse_each};
+pub use refuses_one::RefusesOne;
 use std::alloc::{Allocator, Global};
 use std::fmt::Debug;
 use std::test::Fail;
 
-/// A frame that comes: its moment in ns, its length on the link, and the octets that were captured.
+/// A frame: arrival time in ns, length in octets, and captured octets.
 pub type Frame = (u64, u32, &'static [u8]);
 
-/// Tests that two values are the same.
-pub fn same<X: PartialEq + Debug>(got: &X, wanted: &X, what: &str) -> Result<(), Fail> {
+/// Tests that two values are equal. The failure names `what`.
+pub fn test_same<X: PartialEq + Debug>(got: &X, wanted: &X, what: &str) -> Result<(), Fail> {
     if got == wanted {
         return Ok(());
     }
     Err(Fail::new(format_args!("{what}: {got:?}, not {wanted:?}")))
 }
 
-/// Whether no start is due before a moment.
-fn is_calm<G: Agenda + Drop, A: Allocator + Copy>(bridge: &Bridge<'_, G, A>, t: u64) -> bool
-    ensures { result ≡ true → NotBefore (next_start G.held bridge.now) t }
+/// Whether no start is due before time `t`.
+fn has_no_due_start<G: Agenda + Drop, A: Allocator + Copy>(
+    bridge: &Bridge<'_, G, A>,
+    t: u64,
+) -> bool
+    ensures { result ≡ true → StartsNoEarlier (next_start G.held bridge.now) t }
 {
     match bridge.due() {
         Some((_, start)) => t <= start,
@@ -40,13 +47,13 @@ fn is_calm<G: Agenda + Drop, A: Allocator + Copy>(bridge: &Bridge<'_, G, A>, t: 
     }
 }
 
-/// Makes all starts before a moment, and keeps what leaves.
+/// Makes all starts before time `until`, and keeps the sent frames.
 fn depart<G: Agenda + Drop>(
     bridge: &mut Bridge<'_, G, Global>,
     until: u64,
     gone: &mut Vec<Sent<Global>>,
 ) -> Result<(), Fail>
-    ensures plan { plan_in bridge.new ≡ plan_in bridge.old }
+    ensures plan { bridge_plan bridge.new ≡ bridge_plan bridge.old }
 {
     while let Some((port, start)) = bridge.due() {
         if start >= until {
@@ -55,21 +62,21 @@ fn depart<G: Agenda + Drop>(
         let wanted = (port as u64, start, bridge.earliest_command().max(start + 1));
         let sent = bridge.advance();
         let told = (sent.port as u64, sent.start, bridge.earliest_command());
-        keep(gone, sent, told, wanted)?;
+        keep_sent(gone, sent, told, wanted)?;
     }
     Ok(())
 }
 
-/// Keeps what left, if the bridge told the start that was due.
-fn keep(
+/// Keeps a sent frame, if port and start are the due ones.
+fn keep_sent(
     gone: &mut Vec<Sent<Global>>,
     sent: Sent<Global>,
     told: (u64, u64, u64),
     wanted: (u64, u64, u64),
 ) -> Result<(), Fail> {
     let what = "the start that was due, and a command after it";
-    match same(&told, &wanted, what) {
-        Ok(()) => kept(gone.push(sent)),
+    match test_same(&told, &wanted, what) {
+        Ok(()) => require_memory(gone.push(sent)),
         Err(fail) => {
             drop(sent);
             Err(fail)
@@ -77,16 +84,16 @@ fn keep(
     }
 }
 
-/// Whether there was memory.
-fn kept<E: Drop>(pushed: Result<(), E>) -> Result<(), Fail> {
+/// Returns a failure if memory ran out.
+fn require_memory<E: Drop>(pushed: Result<(), E>) -> Result<(), Fail> {
     match pushed {
         Ok(()) => Ok(()),
         Err(_) => Err(Fail::from("no memory")),
     }
 }
 
-/// Tests how many frames came to a bridge, and the moments of the next frame and of the next command.
-fn tells<G: Agenda + Drop, A: Allocator + Copy>(
+/// Tests the number of arrived frames, and the earliest times of the next frame and command.
+fn test_counts<G: Agenda + Drop, A: Allocator + Copy>(
     bridge: &Bridge<'_, G, A>,
     wanted: (u64, u64, u64),
     what: &str,
@@ -96,19 +103,18 @@ fn tells<G: Agenda + Drop, A: Allocator + Copy>(
         bridge.earliest(),
         bridge.earliest_command(),
     );
-    same(&told, &wanted, what)
+    test_same(&told, &wanted, what)
 }
 
-/// Hands a frame to a bridge on a port, behind all starts before it, and gives it back where memory runs out; else says why
-/// it can't come.
+/// Hands a frame to a bridge at `port`, and returns the frame if memory ran out. Returns an error if the frame isn't allowed.
 pub fn hand<G: Agenda + Drop, A: Allocator + Copy>(
     accepted: &Accepted<A>,
     bridge: &mut Bridge<'_, G, A>,
     port: u8,
     packet: Packet<A>,
 ) -> Result<Result<(), Packet<A>>, &'static str>
-    requires plan { plan_in bridge.old ≡ accepted.now }
-    ensures plan { plan_in bridge.new ≡ plan_in bridge.old }
+    requires plan { bridge_plan bridge.old ≡ accepted.now }
+    ensures plan { bridge_plan bridge.new ≡ bridge_plan bridge.old }
 {
     let Some(_) = accepted.plan().port(port) else {
         return Err("a frame on a port that is not there");
@@ -116,10 +122,10 @@ pub fn hand<G: Agenda + Drop, A: Allocator + Copy>(
     let time = packet.time;
     if time < bridge.earliest()
         || time >= END_OF_TIME
-        || !is_calm(bridge, time)
-        || packet.octets.len() as u64 > MOST_CAPTURED as u64
+        || !has_no_due_start(bridge, time)
+        || packet.octets.len() as u64 > MAX_CAPTURED_OCTETS as u64
         || packet.octets.len() as u64 > packet.len as u64
-        || bridge.arrived() >= MOST_ARRIVALS
+        || bridge.arrived() >= MAX_ARRIVALS
     {
         return Err("a frame at a wrong moment, or too long, or too many");
     }
@@ -129,16 +135,16 @@ pub fn hand<G: Agenda + Drop, A: Allocator + Copy>(
     }
 }
 
-/// Brings a frame to a port, behind all starts before it; else says why it can't come.
-pub fn bring<G: Agenda + Drop, A: Allocator + Copy>(
+/// Makes a frame and hands it to a bridge at `port`. Returns an error if memory ran out or the frame isn't allowed.
+pub fn bring_frame<G: Agenda + Drop, A: Allocator + Copy>(
     alloc: A,
     accepted: &Accepted<A>,
     bridge: &mut Bridge<'_, G, A>,
     port: u8,
     frame: (u64, u32, &[u8]),
 ) -> Result<(), &'static str>
-    requires plan { plan_in bridge.old ≡ accepted.now }
-    ensures plan { plan_in bridge.new ≡ plan_in bridge.old }
+    requires plan { bridge_plan bridge.old ≡ accepted.now }
+    ensures plan { bridge_plan bridge.new ≡ bridge_plan bridge.old }
 {
     let (time, len, captured) = frame;
     let Ok(octets) = Vec::from_slice(alloc, captured) else {
@@ -150,20 +156,20 @@ pub fn bring<G: Agenda + Drop, A: Allocator + Copy>(
     }
 }
 
-/// A frame comes on a port, behind all starts before it.
-pub fn come<G: Agenda + Drop, A: Allocator + Copy>(
+/// Hands a frame to a bridge at `port`, and tests the bridge's counts afterwards.
+pub fn bring_or_fail<G: Agenda + Drop, A: Allocator + Copy>(
     alloc: A,
     accepted: &Accepted<A>,
     bridge: &mut Bridge<'_, G, A>,
     port: u8,
     frame: (u64, u32, &[u8]),
 ) -> Result<(), Fail>
-    requires plan { plan_in bridge.old ≡ accepted.now }
-    ensures plan { plan_in bridge.new ≡ plan_in bridge.old }
+    requires plan { bridge_plan bridge.old ≡ accepted.now }
+    ensures plan { bridge_plan bridge.new ≡ bridge_plan bridge.old }
 {
     let arrived = bridge.arrived();
-    match bring(alloc, accepted, bridge, port, frame) {
-        Ok(()) => tells(
+    match bring_frame(alloc, accepted, bridge, port, frame) {
+        Ok(()) => test_counts(
             bridge,
             (
                 arrived.saturating_add(1),
@@ -176,9 +182,9 @@ pub fn come<G: Agenda + Drop, A: Allocator + Copy>(
     }
 }
 
-/// Whether a number is in a list.
+/// Whether `number` is in a list.
 fn is_listed<X>(list: &[(u32, X)], number: u32) -> bool
-    ensures { result ≡ is_there number list.now }
+    ensures { result ≡ is_listed number list.now }
 {
     for item in list {
         if number == item.0 {
@@ -188,7 +194,7 @@ fn is_listed<X>(list: &[(u32, X)], number: u32) -> bool
     false
 }
 
-/// Whether a plan has what a command names.
+/// Whether a plan has the filter, gate or meter that a command names.
 pub fn has_instance<A: Allocator + Copy>(accepted: &Accepted<A>, clear: Clear, number: u32) -> bool
     ensures { result ≡ has_instance accepted.now clear number }
 {
@@ -200,16 +206,16 @@ pub fn has_instance<A: Allocator + Copy>(accepted: &Accepted<A>, clear: Clear, n
     }
 }
 
-/// A command is done, behind all starts before it.
-pub fn obey<G: Agenda + Drop, A: Allocator + Copy>(
+/// Carries out a command, and tests the result. Fails if a start before the command is due.
+pub fn run_command<G: Agenda + Drop, A: Allocator + Copy>(
     accepted: &Accepted<A>,
     bridge: &mut Bridge<'_, G, A>,
     command: &Command,
 ) -> Result<(), Fail>
-    requires plan { plan_in bridge.old ≡ accepted.now }
-    ensures plan { plan_in bridge.new ≡ plan_in bridge.old }
+    requires plan { bridge_plan bridge.old ≡ accepted.now }
+    ensures plan { bridge_plan bridge.new ≡ bridge_plan bridge.old }
 {
-    if command.at < bridge.earliest_command() || !is_calm(bridge, command.at) {
+    if command.at < bridge.earliest_command() || !has_no_due_start(bridge, command.at) {
         return Err(Fail::from("a command at a wrong moment"));
     }
     if !has_instance(accepted, command.clear, command.number) {
@@ -218,26 +224,26 @@ pub fn obey<G: Agenda + Drop, A: Allocator + Copy>(
     let arrived = bridge.arrived();
     let due = bridge.due();
     bridge.command(command);
-    has_obeyed(bridge, arrived, due, command.at)
+    test_command_result(bridge, arrived, due, command.at)
 }
 
-/// Tests what a bridge tells behind a command.
-fn has_obeyed<G: Agenda + Drop, A: Allocator + Copy>(
+/// Tests a bridge after a command: due start, arrived frames, and the earliest times of the next frame and command.
+fn test_command_result<G: Agenda + Drop, A: Allocator + Copy>(
     bridge: &Bridge<'_, G, A>,
     arrived: u64,
     due: Option<(u8, u64)>,
     at: u64,
 ) -> Result<(), Fail> {
-    same(&bridge.due(), &due, "the start that is due after a command")?;
-    tells(
+    test_same(&bridge.due(), &due, "the start that is due after a command")?;
+    test_counts(
         bridge,
         (arrived, at, at),
         "the frames that came before a command, and the moments of what may come behind it",
     )
 }
 
-/// The frames of a capture.
-fn frames_of(alloc: Global, text: &[u8]) -> Result<Vec<Packet<Global>>, Fail> {
+/// Reads the frames of a capture.
+fn read_frames(alloc: Global, text: &[u8]) -> Result<Vec<Packet<Global>>, Fail> {
     let mut source = SliceSource::new(text);
     let Ok(mut capture) = Capture::begin(&mut source) else {
         return Err(Fail::from("a capture that is refused"));
@@ -253,7 +259,7 @@ fn frames_of(alloc: Global, text: &[u8]) -> Result<Vec<Packet<Global>>, Fail> {
     Err(Fail::from("a capture without an end"))
 }
 
-/// The frames of the captures of the ports 1, 2 and 3.
+/// Frames of the captures of ports 1, 2 and 3.
 #[derive(Drop)]
 struct Frames {
     first: Vec<Packet<Global>>,
@@ -262,8 +268,8 @@ struct Frames {
 }
 
 impl Frames {
-    /// The frame of a port at a place.
-    fn at(&self, port: u8, place: usize) -> Option<&Packet<Global>> {
+    /// Returns the frame at index `place` of a port.
+    fn frame_at_index(&self, port: u8, place: usize) -> Option<&Packet<Global>> {
         match port {
             1 => self.first.get(place),
             2 => self.second.get(place),
@@ -272,12 +278,12 @@ impl Frames {
     }
 }
 
-/// The frames of three captures.
+/// Reads the frames of three captures.
 fn all_frames(alloc: Global, texts: [&[u8]; 3]) -> Result<Frames, Fail> {
     let [first, second, third] = texts;
-    let first = frames_of(alloc, first)?;
-    let second = frames_of(alloc, second)?;
-    let third = frames_of(alloc, third)?;
+    let first = read_frames(alloc, first)?;
+    let second = read_frames(alloc, second)?;
+    let third = read_frames(alloc, third)?;
     Ok(Frames {
         first,
         second,
@@ -285,7 +291,7 @@ fn all_frames(alloc: Global, texts: [&[u8]; 3]) -> Result<Frames, Fail> {
     })
 }
 
-/// Puts the frames of a port into the order in which all come.
+/// Adds the frames of a port to the order of arrivals.
 fn put_frames(
     order: &mut Vec<(u64, u8, usize)>,
     port: u8,
@@ -297,9 +303,8 @@ fn put_frames(
     Ok(())
 }
 
-/// The order in which the frames of the ports and a command come, by moment, port and place among the port's frames. The
-/// command has port 0, so it comes before the frames of its moment.
-fn order_of(
+/// Returns the order of arrivals: by time, port and index. The command has port 0, so it precedes the frames of its time.
+fn arrival_order(
     alloc: Global,
     command: Option<Command>,
     frames: &Frames,
@@ -315,8 +320,8 @@ fn order_of(
     Ok(order)
 }
 
-/// Takes the command, whose port is 0, or a frame of a port.
-fn take<G: Agenda + Drop>(
+/// Carries out the command, whose port is 0, or hands over a frame of a port.
+fn take_arrival<G: Agenda + Drop>(
     alloc: Global,
     accepted: &Accepted<Global>,
     bridge: &mut Bridge<'_, G, Global>,
@@ -325,17 +330,17 @@ fn take<G: Agenda + Drop>(
     port: u8,
     place: usize,
 ) -> Result<(), Fail>
-    requires plan { plan_in bridge.old ≡ accepted.now }
-    ensures plan { plan_in bridge.new ≡ plan_in bridge.old }
+    requires plan { bridge_plan bridge.old ≡ accepted.now }
+    ensures plan { bridge_plan bridge.new ≡ bridge_plan bridge.old }
 {
     if port == 0 {
         return match command {
-            Some(command) => obey(accepted, bridge, &command),
+            Some(command) => run_command(accepted, bridge, &command),
             None => Err(Fail::from("no command")),
         };
     }
-    match frames.at(port, place) {
-        Some(frame) => come(
+    match frames.frame_at_index(port, place) {
+        Some(frame) => bring_or_fail(
             alloc,
             accepted,
             bridge,
@@ -346,8 +351,8 @@ fn take<G: Agenda + Drop>(
     }
 }
 
-/// Takes all that comes, each behind the starts before its moment, and keeps what leaves by then.
-fn take_all<G: Agenda + Drop>(
+/// Hands over the command and all frames, each after the starts before its time, and keeps the sent frames.
+fn take_arrivals<G: Agenda + Drop>(
     alloc: Global,
     accepted: &Accepted<Global>,
     bridge: &mut Bridge<'_, G, Global>,
@@ -355,39 +360,39 @@ fn take_all<G: Agenda + Drop>(
     frames: &Frames,
     gone: &mut Vec<Sent<Global>>,
 ) -> Result<(), Fail>
-    requires plan { plan_in bridge.old ≡ accepted.now }
-    ensures plan { plan_in bridge.new ≡ plan_in bridge.old }
+    requires plan { bridge_plan bridge.old ≡ accepted.now }
+    ensures plan { bridge_plan bridge.new ≡ bridge_plan bridge.old }
 {
-    let order = order_of(alloc, command, frames)?;
+    let order = arrival_order(alloc, command, frames)?;
     for (moment, port, place) in &order {
         depart(bridge, *moment, gone)?;
-        take(alloc, accepted, bridge, command, frames, *port, *place)?;
+        take_arrival(alloc, accepted, bridge, command, frames, *port, *place)?;
     }
     Ok(())
 }
 
-/// Tests the starts of a port against the frames that left it.
+/// Tests that the number of a port's starts equals the number of frames sent by it.
 fn has_started<G: Agenda + Drop>(
     accepted: &Accepted<Global>,
     bridge: &Bridge<'_, G, Global>,
     port: u8,
     gone: &[Sent<Global>],
 ) -> Result<(), Fail>
-    requires plan { plan_in bridge.now ≡ accepted.now }
+    requires plan { bridge_plan bridge.now ≡ accepted.now }
 {
     let Some(_) = accepted.plan().port(port) else {
         return Err(Fail::from("a port that is not there"));
     };
     let left = gone.iter().filter(|sent| sent.port == port).count();
-    same(
+    test_same(
         &bridge.started(port),
         &(left as u64),
         "the starts of a port",
     )
 }
 
-/// Ends a bridge at which no start is due.
-fn finished<G: Agenda + Drop>(bridge: Bridge<'_, G, Global>) -> Result<Outcome<Global>, Fail> {
+/// Ends a bridge, which must have no due start.
+fn finish_bridge<G: Agenda + Drop>(bridge: Bridge<'_, G, Global>) -> Result<Outcome<Global>, Fail> {
     match bridge.due() {
         Some(_) => {
             drop(bridge);
@@ -397,7 +402,7 @@ fn finished<G: Agenda + Drop>(bridge: Bridge<'_, G, Global>) -> Result<Outcome<G
     }
 }
 
-/// Drives a new bridge until nothing waits in it, and gives the frames that left, in their order.
+/// Drives a new bridge until its queues are empty, and returns the sent frames in order.
 fn drive<G: Agenda + Drop>(
     alloc: Global,
     accepted: &Accepted<Global>,
@@ -405,10 +410,10 @@ fn drive<G: Agenda + Drop>(
     command: Option<Command>,
     frames: &Frames,
 ) -> Result<Vec<Sent<Global>>, Fail>
-    requires plan { plan_in bridge.old ≡ accepted.now }
+    requires plan { bridge_plan bridge.old ≡ accepted.now }
 {
     let mut gone = Vec::new(alloc);
-    match drive_into(alloc, accepted, bridge, command, frames, &mut gone) {
+    match drive_and_keep(alloc, accepted, bridge, command, frames, &mut gone) {
         Ok(()) => Ok(gone),
         Err(fail) => {
             drop(gone);
@@ -417,8 +422,8 @@ fn drive<G: Agenda + Drop>(
     }
 }
 
-/// Drives a new bridge until nothing waits in it, and keeps what leaves.
-fn drive_into<G: Agenda + Drop>(
+/// Drives a new bridge until its queues are empty, and keeps the sent frames.
+fn drive_and_keep<G: Agenda + Drop>(
     alloc: Global,
     accepted: &Accepted<Global>,
     bridge: &mut Bridge<'_, G, Global>,
@@ -426,41 +431,41 @@ fn drive_into<G: Agenda + Drop>(
     frames: &Frames,
     gone: &mut Vec<Sent<Global>>,
 ) -> Result<(), Fail>
-    requires plan { plan_in bridge.old ≡ accepted.now }
+    requires plan { bridge_plan bridge.old ≡ accepted.now }
 {
     let what = "no frame, and the first moments of a frame and of a command";
-    tells(bridge, (0, 0, 0), what)?;
-    take_all(alloc, accepted, bridge, command, frames, gone)?;
+    test_counts(bridge, (0, 0, 0), what)?;
+    take_arrivals(alloc, accepted, bridge, command, frames, gone)?;
     depart(bridge, u64::MAX, gone)?;
     have_started(accepted, bridge, gone)
 }
 
-/// Tests the starts of each port against the frames that left it.
+/// Tests the number of starts of each port.
 fn have_started<G: Agenda + Drop>(
     accepted: &Accepted<Global>,
     bridge: &Bridge<'_, G, Global>,
     gone: &[Sent<Global>],
 ) -> Result<(), Fail>
-    requires plan { plan_in bridge.now ≡ accepted.now }
+    requires plan { bridge_plan bridge.now ≡ accepted.now }
 {
     has_started(accepted, bridge, 1, gone)?;
     has_started(accepted, bridge, 2, gone)?;
     has_started(accepted, bridge, 3, gone)
 }
 
-/// Ends a bridge at which no start is due, with the frames that left.
-fn ended<G: Agenda + Drop>(
+/// Ends a bridge, which must have no due start, and returns its result and the sent frames.
+fn finish_with_frames<G: Agenda + Drop>(
     bridge: Bridge<'_, G, Global>,
     gone: Vec<Sent<Global>>,
 ) -> Result<(Outcome<Global>, Vec<Sent<Global>>), Fail> {
-    match finished(bridge) {
+    match finish_bridge(bridge) {
         Ok(outcome) => Ok((outcome, gone)),
         Err(fail) => Err(fail),
     }
 }
 
-/// Drives a bridge of an accepted plan by single calls: the frames of three captures and a command come one by one.
-fn driven_by<G: Agenda + Drop>(
+/// Drives a bridge of an accepted plan by single calls.
+fn drive_accepted<G: Agenda + Drop>(
     alloc: Global,
     accepted: &Accepted<Global>,
     command: Option<Command>,
@@ -470,7 +475,7 @@ fn driven_by<G: Agenda + Drop>(
         return Err(Fail::from("no memory"));
     };
     match drive(alloc, accepted, &mut bridge, command, frames) {
-        Ok(gone) => ended(bridge, gone),
+        Ok(gone) => finish_with_frames(bridge, gone),
         Err(fail) => {
             drop(bridge);
             Err(fail)
@@ -478,15 +483,14 @@ fn driven_by<G: Agenda + Drop>(
     }
 }
 
-/// Drives a bridge of an accepted plan by single calls: the frames of the captures of the ports 1, 2 and 3 and a command come
-/// one by one, the least moment first, then the command, then the least port. Gives what the whole run tells, and the frames
-/// that left in their order. What a call tells otherwise than it should is an `Err` with a text that says so.
-pub fn driven<G: Agenda + Drop>(
+/// Drives a bridge by single calls over three captures and a command. Returns its result and the sent frames in order. A wrong answer of a
+/// call is a failure.
+pub fn drive_bridge<G: Agenda + Drop>(
     alloc: Global,
     accepted: &Accepted<Global>,
     command: Option<Command>,
     texts: [&[u8]; 3],
 ) -> Result<(Outcome<Global>, Vec<Sent<Global>>), Fail> {
     let frames = all_frames(alloc, texts)?;
-    driven_by::<G>(alloc, accepted, command, &frames)
+    drive_accepted::<G>(alloc, accepted, command, &frames)
 }

@@ -1,19 +1,18 @@
-//! Cases of captures: what is read, written and sent of them, and their hexadecimal text; also behind each number of octets,
-//! and with each growth refused in turn.
+//! Judges cases of captures: reads, sends and writes them, and spells octets. Cases can repeat for each number of octets, or with each
+//! allocation refused.
 
-use crate::case::written_out;
-use crate::growths::{growths_of, put_growths};
+use crate::case::expand_forms;
+use crate::growths::{count_growths, put_growths};
 use crate::hexadecimal::put_spelled;
 use crate::sinks::put_writing;
 use crate::sources::{put_reading, put_sending};
 use app_failure::NoMemory;
-use bridge_capture::{each_text_reads_one_way, octets_of, written_is_read};
-use bridge_text::Text;
-use fixture_alloc::Ending;
+use bridge_capture::{each_text_reads_one_way, parse_octets, written_is_read};
+use bridge_text::TextBuilder;
+use fixture_bridge::Ending;
 use std::alloc::{Allocator, Global};
 
-/// What is said where a growth was refused: also where there is no packet behind it, again and again, and where a sink was not
-/// given memory.
+/// Results that show a refused allocation.
 const REFUSED: &[&str] = &[
     "Err(NoMemory), ",
     "Err(Write { port: 1 }), ",
@@ -23,86 +22,85 @@ const REFUSED: &[&str] = &[
     "no lines",
 ];
 
-/// What a case asks for, and of what.
+/// A case: words and octets.
 #[derive(Clone, Copy)]
 pub struct Row<'a> {
-    /// The words of its heading, up to the first comma.
+    /// Words of the heading, up to the first comma.
     pub words: &'a str,
-    /// The octets that come.
+    /// Octets to read, send or write.
     pub octets: &'a [u8],
-    /// The octets that are to leave.
+    /// Octets that are to leave.
     pub wanted: &'a [u8],
-    /// Behind how many octets a source or a sink fails, or is cut.
+    /// Number of octets after which a source or sink fails or a capture is cut, or of calls after which a writer fails.
     pub count: usize,
 }
 
-/// The number behind words, or this one where there is none.
-pub fn number_in(words: &str, name: &str, otherwise: usize) -> usize {
+/// Returns the number after `name` in `words`, or `otherwise` if there is none.
+pub fn number_after_word(words: &str, name: &str, otherwise: usize) -> usize {
     let (_, behind) = words.split_once(name).unwrap_or(("", ""));
     let (word, _) = behind.split_once(' ').unwrap_or((behind, ""));
     word.parse::<usize>().unwrap_or(otherwise)
 }
 
-/// The first octets, so many of them.
-pub fn front(octets: &[u8], count: usize) -> &[u8] {
+/// Returns the first `count` octets, or all if there are fewer.
+pub fn prefix(octets: &[u8], count: usize) -> &[u8] {
     octets.get(..count).unwrap_or(octets)
 }
 
-/// Puts what is told of a case by its heading.
-pub fn put_of_captures(alloc: Global, said: &mut Text<Global>, heading: &str, lines: &str) {
+/// Adds the result of a case by its heading.
+pub fn put_capture_case(alloc: Global, said: &mut TextBuilder<Global>, heading: &str, lines: &str) {
     written_is_read();
     each_text_reads_one_way();
-    let words = parted(heading, ",").0;
-    match written_out(alloc, said, lines) {
-        Some(text) => put_of_text(alloc, said, words, text.as_str()),
+    let words = split_at_mark(heading, ",").0;
+    match expand_forms(alloc, said, lines) {
+        Some(text) => put_text_case(alloc, said, words, text.as_str()),
         None => said.put("no case\n"),
     }
 }
 
-/// What stands before a mark, and behind it.
-pub fn parted<'a>(text: &'a str, mark: &str) -> (&'a str, &'a str) {
+/// Returns the text before and after `mark`. If there is no mark, the second text is empty.
+pub fn split_at_mark<'a>(text: &'a str, mark: &str) -> (&'a str, &'a str) {
     text.split_once(mark).unwrap_or((text, ""))
 }
 
-/// Puts what is told of a text: of what it spells, or of a capture and what is to leave of it.
-fn put_of_text(alloc: Global, said: &mut Text<Global>, words: &str, text: &str) {
+/// Adds the result of a text to spell, or of a capture and the octets that are to leave.
+fn put_text_case(alloc: Global, said: &mut TextBuilder<Global>, words: &str, text: &str) {
     if words.starts_with("spells") {
-        return put_of_octets(alloc, said, words, text.as_bytes(), &[]);
+        return put_octets_case(alloc, said, words, text.as_bytes(), &[]);
     }
-    let (come, leave) = parted(text, "\n--\n");
-    match octets_of(alloc, come.as_bytes()) {
+    let (come, leave) = split_at_mark(text, "\n--\n");
+    match parse_octets(alloc, come.as_bytes()) {
         Ok(octets) => put_with_zeros(alloc, said, words, octets, leave.as_bytes()),
         Err(_) => said.put("no case\n"),
     }
 }
 
-/// Puts what is told of octets and zeros behind them, and of a text of those that are to leave.
+/// Adds the result of octets followed by zeros. `leave` spells the octets that are to leave.
 fn put_with_zeros(
     alloc: Global,
-    said: &mut Text<Global>,
+    said: &mut TextBuilder<Global>,
     words: &str,
     octets: Vec<u8>,
     leave: &[u8],
 ) {
     let mut octets = octets;
-    let zeros = number_in(words, "zeros ", 0);
+    let zeros = number_after_word(words, "zeros ", 0);
     if octets
         .resize(octets.len().saturating_add(zeros), 0)
         .is_err()
     {
-        said.give_up();
+        said.discard();
     }
-    match octets_of(alloc, leave) {
-        Ok(wanted) => put_of_octets(alloc, said, words, &octets, &wanted),
+    match parse_octets(alloc, leave) {
+        Ok(wanted) => put_octets_case(alloc, said, words, &octets, &wanted),
         Err(_) => said.put("no case\n"),
     }
 }
 
-/// Puts what is told of octets that come, and of those that are to leave: once, or behind each number of octets, or also how
-/// many growths it has.
-fn put_of_octets(
+/// Adds the result of octets: once, for each number of octets, or with the number of allocations.
+fn put_octets_case(
     alloc: Global,
-    said: &mut Text<Global>,
+    said: &mut TextBuilder<Global>,
     words: &str,
     octets: &[u8],
     wanted: &[u8],
@@ -111,50 +109,50 @@ fn put_of_octets(
         words,
         octets,
         wanted,
-        count: number_in(words, "behind ", usize::MAX),
+        count: number_after_word(words, "behind ", usize::MAX),
     };
     if words.contains("each") {
-        put_behind_each(alloc, said, &row);
+        put_by_prefix_length(alloc, said, &row);
     } else if words.contains("refused") {
         put_with_growths(alloc, said, &row);
     } else {
-        put_done(alloc, alloc, said, &row);
+        put_row(alloc, alloc, said, &row);
         said.put("\n");
     }
 }
 
-/// What is told of a row, without a line feed.
-fn told_of_row<A: Allocator + Copy>(
+/// Returns the result of a row, without a line feed.
+fn row_output<A: Allocator + Copy>(
     alloc: A,
     heap: Global,
     row: &Row<'_>,
 ) -> Result<String, NoMemory> {
-    let mut said = Text::new(heap);
-    put_done(alloc, heap, &mut said, row);
-    said.done()
+    let mut said = TextBuilder::new(heap);
+    put_row(alloc, heap, &mut said, row);
+    said.finish()
 }
 
-/// Puts what is told of a row, and how many growths it has, each of which is refused in turn.
-fn put_with_growths(alloc: Global, said: &mut Text<Global>, row: &Row<'_>) {
-    match told_of_row(alloc, alloc, row) {
+/// Adds the result of a row, and the number of its allocations, which are refused one by one.
+fn put_with_growths(alloc: Global, said: &mut TextBuilder<Global>, row: &Row<'_>) {
+    match row_output(alloc, alloc, row) {
         Ok(whole) => {
-            said.fill("{a}\n", &[], &[whole.as_str()]);
-            let growths = growths_of(alloc, |gate| ending(gate, alloc, row, whole.as_str()));
+            said.put_template("{a}\n", &[], &[whole.as_str()]);
+            let growths = count_growths(alloc, |gate| row_ending(gate, alloc, row, whole.as_str()));
             put_growths(said, growths);
         }
-        Err(_) => said.give_up(),
+        Err(_) => said.discard(),
     }
 }
 
-/// How a row ends that says this with ample memory.
-fn ending<A: Allocator + Copy>(alloc: A, heap: Global, row: &Row<'_>, whole: &str) -> Ending {
-    match told_of_row(alloc, heap, row) {
-        Ok(said) => Ending::of(said.as_str() == whole, is_refusal(said.as_str())),
+/// Returns how a row ends whose result with enough memory is `whole`.
+fn row_ending<A: Allocator + Copy>(alloc: A, heap: Global, row: &Row<'_>, whole: &str) -> Ending {
+    match row_output(alloc, heap, row) {
+        Ok(said) => Ending::from_flags(said.as_str() == whole, is_refusal(said.as_str())),
         Err(_) => Ending::Wrong,
     }
 }
 
-/// Whether a text says that a growth was refused.
+/// Whether a result shows a refused allocation.
 fn is_refusal(said: &str) -> bool {
     for refused in REFUSED {
         if said.contains(*refused) {
@@ -164,32 +162,37 @@ fn is_refusal(said: &str) -> bool {
     false
 }
 
-/// Puts what is told of a row behind each number of octets from none on, where it differs from what is told before it.
-fn put_behind_each(alloc: Global, said: &mut Text<Global>, row: &Row<'_>) {
-    let most = number_in(row.words, "up to ", row.octets.len().max(row.wanted.len()));
+/// Adds the result of a row for each `count` from 0 at which the result changes.
+fn put_by_prefix_length(alloc: Global, said: &mut TextBuilder<Global>, row: &Row<'_>) {
+    let most = number_after_word(row.words, "up to ", row.octets.len().max(row.wanted.len()));
     let mut last = String::new(alloc);
     for count in 0..=most {
-        match told_of_row(alloc, alloc, &Row { count, ..*row }) {
-            Ok(told) => put_where_new(said, &mut last, count as u64, told.as_str()),
-            Err(_) => said.give_up(),
+        match row_output(alloc, alloc, &Row { count, ..*row }) {
+            Ok(told) => put_if_changed(said, &mut last, count as u64, told.as_str()),
+            Err(_) => said.discard(),
         }
     }
-    said.fill("up to {0}\n", &[most as u64], &[]);
+    said.put_template("up to {0}\n", &[most as u64], &[]);
 }
 
-/// Puts what is told behind so many octets, where it differs from what was told last.
-fn put_where_new(said: &mut Text<Global>, last: &mut String, count: u64, told: &str) {
+/// Adds the result for `count`, if it differs from the last result.
+fn put_if_changed(said: &mut TextBuilder<Global>, last: &mut String, count: u64, told: &str) {
     if last.as_str() != told {
-        said.fill("from {0}: {a}\n", &[count], &[told]);
+        said.put_template("from {0}: {a}\n", &[count], &[told]);
         last.clear();
         if last.push_str(told).is_err() {
-            said.give_up();
+            said.discard();
         }
     }
 }
 
-/// Puts what is told of a row, without a line feed.
-fn put_done<A: Allocator + Copy>(alloc: A, heap: Global, said: &mut Text<Global>, row: &Row<'_>) {
+/// Adds the result of a row, without a line feed.
+fn put_row<A: Allocator + Copy>(
+    alloc: A,
+    heap: Global,
+    said: &mut TextBuilder<Global>,
+    row: &Row<'_>,
+) {
     if row.words.starts_with("reads") {
         put_reading(alloc, heap, said, row);
     } else if row.words.starts_with("sends") {

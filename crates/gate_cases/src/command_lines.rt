@@ -1,39 +1,39 @@
-//! Command lines, and what is read of each.
+//! Reads command lines, and prints their requests.
 
-use crate::adding::add_debug;
 use crate::fault_lines::put_status;
-use crate::short::{is_refused, put_refused};
+use crate::short_memory::{is_refused, put_refused};
+use crate::text_pieces::add_debug;
 use app_cli::{
-    Job, TableRequest, WordsFault, job_of, picture_request_of, table_request_of, wants_explanation,
-    wants_strictness,
+    ArgumentsFault, Command, TableRequest, parse_job, parse_picture_request, parse_table_request,
+    wants_explanation, wants_strictness,
 };
-use app_failure::Fault;
-use bridge_text::Text;
-use fixture_alloc::Ending;
+use app_commands::words_failure;
+use bridge_text::TextBuilder;
+use fixture_bridge::Ending;
 use std::alloc::{AllocError, Global};
 
-/// Command lines that are read with less memory than that takes too.
+/// Command lines that are also read with too little memory.
 const SHORT: &[&str] = &[
     "wire 10 1 IN OUT",
     "run PLAN IN OUT --commands COMMANDS --delays DELAYS",
     "net NET IN OUT",
 ];
 
-/// Puts each line of a file, and below one that begins with `$` what is read of the words behind it.
-pub fn put_command_lines(alloc: Global, said: &mut Text<Global>, text: &str) {
+/// Adds each line of a file. Below a line that begins with `$`, adds the request of its arguments.
+pub fn put_command_lines(alloc: Global, said: &mut TextBuilder<Global>, text: &str) {
     for line in text.lines() {
-        said.fill("{a}\n", &[], &[line]);
+        said.put_template("{a}\n", &[], &[line]);
         if let Some(words) = line.strip_prefix('$') {
-            match words_in(alloc, words) {
-                Ok(words) => put_read(alloc, said, &words),
-                Err(_) => said.give_up(),
+            match split_words(alloc, words) {
+                Ok(words) => put_parsed(alloc, said, &words),
+                Err(_) => said.discard(),
             }
         }
     }
 }
 
-/// The words of a line, with blanks between them; what stands between two `'` is one word.
-pub fn words_in(alloc: Global, line: &str) -> Result<Vec<String>, AllocError> {
+/// Splits a line into arguments at its blanks. The text between two `'` is a single argument.
+pub fn split_words(alloc: Global, line: &str) -> Result<Vec<String>, AllocError> {
     let mut words = Vec::new(alloc);
     let mut is_one = false;
     let mut is_whole = true;
@@ -50,7 +50,7 @@ pub fn words_in(alloc: Global, line: &str) -> Result<Vec<String>, AllocError> {
     if is_whole { Ok(words) } else { Err(AllocError) }
 }
 
-/// Adds a word; says whether memory was granted.
+/// Adds an argument, and returns whether memory sufficed.
 fn push(alloc: Global, words: &mut Vec<String>, word: &str) -> bool {
     match String::from_str(alloc, word) {
         Ok(word) => words.push(word).is_ok(),
@@ -58,20 +58,20 @@ fn push(alloc: Global, words: &mut Vec<String>, word: &str) -> bool {
     }
 }
 
-/// Puts the job that words ask for, and what they ask for beside it, or the line and the status of their fault.
-fn put_read(alloc: Global, said: &mut Text<Global>, words: &[String]) {
-    match job_of(alloc, words) {
+/// Adds the command, picture and tables that arguments ask for, or the fault line and the exit status.
+fn put_parsed(alloc: Global, said: &mut TextBuilder<Global>, words: &[String]) {
+    match parse_job(alloc, words) {
         Ok(job) => {
             put_job(alloc, said, words, &job);
             put_picture(alloc, said, words);
             put_tables(alloc, said, words);
         }
-        Err(fault) => put_status(alloc, said, &fault_of(fault)),
+        Err(fault) => put_status(alloc, said, &words_failure(fault)),
     }
 }
 
-/// Puts a job, and whether its words ask for an explanation and for strictness.
-fn put_job(alloc: Global, said: &mut Text<Global>, words: &[String], job: &Job) {
+/// Adds a command, and whether its arguments ask for an explanation and for strictness.
+fn put_job(alloc: Global, said: &mut TextBuilder<Global>, words: &[String], job: &Command) {
     add_debug(alloc, said, job);
     if wants_explanation(words) {
         said.put(", explained");
@@ -82,21 +82,21 @@ fn put_job(alloc: Global, said: &mut Text<Global>, words: &[String], job: &Job) 
     said.put("\n");
 }
 
-/// Puts the line of the picture that words ask for beside a job, if they do.
-fn put_picture(alloc: Global, said: &mut Text<Global>, words: &[String]) {
-    match picture_request_of(alloc, words) {
+/// Adds the picture that arguments ask for, if any.
+fn put_picture(alloc: Global, said: &mut TextBuilder<Global>, words: &[String]) {
+    match parse_picture_request(alloc, words) {
         Ok(Some(picture)) => {
             add_debug(alloc, said, &picture);
             said.put("\n");
         }
         Ok(None) => {}
-        Err(fault) => put_status(alloc, said, &fault_of(fault)),
+        Err(fault) => put_status(alloc, said, &words_failure(fault)),
     }
 }
 
-/// Puts the line of the tables that words ask for beside a job, if they do.
-fn put_tables(alloc: Global, said: &mut Text<Global>, words: &[String]) {
-    match table_request_of(alloc, words) {
+/// Adds the tables that arguments ask for, if any.
+fn put_tables(alloc: Global, said: &mut TextBuilder<Global>, words: &[String]) {
+    match parse_table_request(alloc, words) {
         Ok(
             TableRequest {
                 delays: None,
@@ -107,34 +107,27 @@ fn put_tables(alloc: Global, said: &mut Text<Global>, words: &[String]) {
             add_debug(alloc, said, &tables);
             said.put("\n");
         }
-        Err(fault) => put_status(alloc, said, &fault_of(fault)),
+        Err(fault) => put_status(alloc, said, &words_failure(fault)),
     }
 }
 
-/// Puts some command lines, and how each is read with less memory than that takes.
-pub fn put_short_lines(alloc: Global, said: &mut Text<Global>) {
+/// Adds the lines of `SHORT`, and whether reading them with too little memory reports that memory ran out.
+pub fn put_short_lines(alloc: Global, said: &mut TextBuilder<Global>) {
     for line in SHORT {
-        said.fill("$ {a}\n", &[], &[*line]);
-        match words_in(alloc, line) {
+        said.put_template("$ {a}\n", &[], &[*line]);
+        match split_words(alloc, line) {
             Ok(words) => put_refused(said, is_refused(alloc, || job_ending(alloc, &words))),
-            Err(_) => said.give_up(),
+            Err(_) => said.discard(),
         }
     }
 }
 
-/// Returns the fault of the program for words that are refused.
-pub fn fault_of(fault: WordsFault) -> Fault {
-    match fault {
-        WordsFault::Words => Fault::Words,
-        WordsFault::NoMemory => Fault::NoMemory,
-    }
-}
-
-/// How the words of a job are read.
+/// Returns the program's fault for refused arguments.
+/// Returns how reading the arguments of a command ends.
 fn job_ending(alloc: Global, words: &[String]) -> Ending {
-    match job_of(alloc, words) {
+    match parse_job(alloc, words) {
         Ok(_) => Ending::Whole,
-        Err(WordsFault::NoMemory) => Ending::NoMemory,
+        Err(ArgumentsFault::NoMemory) => Ending::NoMemory,
         Err(_) => Ending::Wrong,
     }
 }

@@ -1,18 +1,18 @@
-//! The line and the status of faults of each kind.
+//! Prints the fault lines and exit statuses of faults of each kind.
 
-use crate::growths::{growths_of_count, growths_of_line, put_growths};
+use crate::growths::{count_line_growths, count_wire_line_growths, put_growths};
 use app_commands::wire_line;
-use app_failure::{Fault, TextFault, fault_line};
+use app_failure::{Failure, TextFault, fault_line};
 use app_files::{Cause, FileError};
 use bridge_capture::{CaptureFault, RunFault};
 use bridge_check::CheckFault;
 use bridge_cycle::ListFault;
-use bridge_schema::{Field, Place, PlanFault, Section};
-use bridge_text::Text;
+use bridge_schema::{Field, KeyLocation, PlanFault, Section};
+use bridge_text::TextBuilder;
 use bridge_wire::WireCount;
 use std::alloc::Global;
 
-/// Faults of captures, by the ports of these.
+/// Faults of captures, with their ports.
 const CAPTURES: &[(u8, CaptureFault)] = &[
     (1, CaptureFault::RecordCut(3)),
     (2, CaptureFault::BadMagic),
@@ -29,22 +29,22 @@ const CAPTURES: &[(u8, CaptureFault)] = &[
     (1, CaptureFault::NoMemory),
 ];
 
-/// The speed of a port.
-const PORT_SPEED: Place = Place {
+/// Speed of a port.
+const PORT_SPEED: KeyLocation = KeyLocation {
     section: Section::Port,
     index: 1,
     field: Field::Mbps,
 };
 
-/// The base of a gate.
-const GATE_BASE: Place = Place {
+/// Base time of a stream gate.
+const GATE_BASE: KeyLocation = KeyLocation {
     section: Section::Gate,
     index: 2,
     field: Field::Base,
 };
 
-/// The members of a VLAN.
-const MEMBERS: Place = Place {
+/// Members of a VLAN.
+const MEMBERS: KeyLocation = KeyLocation {
     section: Section::Vlan,
     index: 1,
     field: Field::Members,
@@ -73,22 +73,22 @@ const PLANS: &[PlanFault] = &[
     PlanFault::NoMemory,
 ];
 
-/// The moment of a command.
-const COMMAND_MOMENT: Place = Place {
+/// Time of a command.
+const COMMAND_MOMENT: KeyLocation = KeyLocation {
     section: Section::Command,
     index: 2,
     field: Field::At,
 };
 
-/// The flag of a command.
-const COMMAND_FLAG: Place = Place {
+/// Flag of a command.
+const COMMAND_FLAG: KeyLocation = KeyLocation {
     section: Section::Command,
     index: 1,
     field: Field::Clear,
 };
 
-/// The number of the last command that there may be.
-const COMMAND_NUMBER: Place = Place {
+/// Number of the command with the greatest allowed index.
+const COMMAND_NUMBER: KeyLocation = KeyLocation {
     section: Section::Command,
     index: 4096,
     field: Field::Number,
@@ -124,10 +124,10 @@ const CHECKS: &[CheckFault] = &[
     CheckFault::NoMemory,
 ];
 
-/// Faults of runs that are none of a capture that is read.
+/// Faults of runs other than faults of captures.
 const RUNS: &[RunFault] = &[RunFault::Write { port: 3 }, RunFault::NoMemory];
 
-/// Faults of texts.
+/// Faults of hexadecimal texts.
 const TEXTS: &[TextFault] = &[
     TextFault::NotHex,
     TextFault::TooLong,
@@ -137,7 +137,7 @@ const TEXTS: &[TextFault] = &[
     }),
 ];
 
-/// What is counted of a run over a capture.
+/// Counts of a run over a capture.
 const COUNT: WireCount = WireCount {
     frames: 1_000_000,
     malformed: 9,
@@ -145,96 +145,95 @@ const COUNT: WireCount = WireCount {
     full: 999_991,
 };
 
-/// Puts the line of a fault and its status.
-pub fn put_status(alloc: Global, said: &mut Text<Global>, fault: &Fault) {
+/// Adds the fault line and the exit status of a fault.
+pub fn put_status(alloc: Global, said: &mut TextBuilder<Global>, fault: &Failure) {
     match fault_line(alloc, fault) {
         Ok((line, status)) => {
             let status = u64::from(status);
-            said.fill("{a} (status {0})\n", &[status], &[line.as_str()]);
+            said.put_template("{a} (status {0})\n", &[status], &[line.as_str()]);
         }
-        Err(_) => said.give_up(),
+        Err(_) => said.discard(),
     }
 }
 
-/// Puts the line and the status of each fault and the line of a count, and how many growths each line has, each of which is
-/// refused in turn.
-pub fn put_lines_of_faults(alloc: Global, said: &mut Text<Global>) {
+/// Adds the line and exit status of each fault and the line of counts, each with its number of allocations.
+pub fn put_lines_of_faults(alloc: Global, said: &mut TextBuilder<Global>) {
     said.put("== lines and statuses\n");
     put_runs(alloc, said);
     put_plans(alloc, said);
-    put(alloc, said, &Fault::Words);
+    put_fault(alloc, said, &Failure::Words);
     put_named(alloc, said);
     put_count(alloc, said);
 }
 
-/// Puts the faults of texts and of runs.
-fn put_runs(alloc: Global, said: &mut Text<Global>) {
+/// Adds the faults of texts and of runs.
+fn put_runs(alloc: Global, said: &mut TextBuilder<Global>) {
     for fault in TEXTS {
-        put(alloc, said, &Fault::Text(*fault));
+        put_fault(alloc, said, &Failure::Text(*fault));
     }
     for fault in RUNS {
-        put(alloc, said, &Fault::Run(*fault));
+        put_fault(alloc, said, &Failure::Run(*fault));
     }
     for (port, fault) in CAPTURES {
         let fault = RunFault::Capture {
             port: *port,
             fault: *fault,
         };
-        put(alloc, said, &Fault::Run(fault));
+        put_fault(alloc, said, &Failure::Run(fault));
     }
 }
 
-/// Puts the faults of plans, of commands and of checks.
-fn put_plans(alloc: Global, said: &mut Text<Global>) {
+/// Adds the faults of plans, of commands and of checks.
+fn put_plans(alloc: Global, said: &mut TextBuilder<Global>) {
     for fault in PLANS {
-        put(alloc, said, &Fault::Plan(*fault));
+        put_fault(alloc, said, &Failure::Plan(*fault));
     }
     for fault in COMMANDS {
-        put(alloc, said, &Fault::Commands(*fault));
+        put_fault(alloc, said, &Failure::Commands(*fault));
     }
     for fault in CHECKS {
-        put(alloc, said, &Fault::Check(*fault));
+        put_fault(alloc, said, &Failure::Check(*fault));
     }
 }
 
-/// Puts the faults that have a path or a line of their own.
-fn put_named(alloc: Global, said: &mut Text<Global>) {
+/// Adds the faults that contain a path or a line.
+fn put_named(alloc: Global, said: &mut TextBuilder<Global>) {
     match String::from_str(alloc, "a/b.pcap") {
         Ok(path) => {
             let cause = Cause::Unknown;
-            put(alloc, said, &Fault::File(FileError { path, cause }));
+            put_fault(alloc, said, &Failure::File(FileError { path, cause }));
         }
-        Err(_) => said.give_up(),
+        Err(_) => said.discard(),
     }
     match String::from_str(alloc, "network refused: LinkTwice link 2 a.1") {
-        Ok(line) => put(alloc, said, &Fault::Network(line)),
-        Err(_) => said.give_up(),
+        Ok(line) => put_fault(alloc, said, &Failure::Network(line)),
+        Err(_) => said.discard(),
     }
     match String::from_str(alloc, "network not settled a.3") {
-        Ok(line) => put(alloc, said, &Fault::Rounds(line)),
-        Err(_) => said.give_up(),
+        Ok(line) => put_fault(alloc, said, &Failure::Rounds(line)),
+        Err(_) => said.discard(),
     }
 }
 
-/// Puts the line of a count.
-fn put_count(alloc: Global, said: &mut Text<Global>) {
+/// Adds the line of counts, and the number of its allocations.
+fn put_count(alloc: Global, said: &mut TextBuilder<Global>) {
     match wire_line(alloc, &COUNT) {
         Ok(line) => {
-            said.fill("{a}, ", &[], &[line.as_str().trim_end()]);
-            put_growths(said, growths_of_count(alloc, &COUNT, line.as_str()));
+            said.put_template("{a}, ", &[], &[line.as_str().trim_end()]);
+            put_growths(said, count_wire_line_growths(alloc, &COUNT, line.as_str()));
         }
-        Err(_) => said.give_up(),
+        Err(_) => said.discard(),
     }
 }
 
-/// Puts the line and the status of a fault, and how many growths the line has.
-fn put(alloc: Global, said: &mut Text<Global>, fault: &Fault) {
+/// Adds the line and exit status of a fault, and the number of the line's allocations.
+fn put_fault(alloc: Global, said: &mut TextBuilder<Global>, fault: &Failure) {
     match fault_line(alloc, fault) {
         Ok((line, status)) => {
             let line = line.as_str();
-            said.fill("{a} (status {0}), ", &[u64::from(status)], &[line]);
-            put_growths(said, growths_of_line(alloc, fault, line, status));
+            said.put_template("{a} (status {0}), ", &[u64::from(status)], &[line]);
+            put_growths(said, count_line_growths(alloc, fault, line, status));
         }
-        Err(_) => said.give_up(),
+        Err(_) => said.discard(),
     }
 }

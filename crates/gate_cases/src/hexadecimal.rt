@@ -1,18 +1,18 @@
-//! The octets that a text spells, and the text of these.
+//! Prints the octets that a hexadecimal text spells.
 
-use crate::adding::add_debug;
-use bridge_capture::{lines_of, octets_of};
-use bridge_text::Text;
+use crate::text_pieces::add_debug;
+use bridge_capture::{hex_lines, parse_octets};
+use bridge_text::TextBuilder;
 use std::alloc::{Allocator, Global};
 
-/// Puts how many octets a text spells, their sum and, where they are few, their lines.
+/// Adds the number of octets that `text` spells, their sum and, up to 1,000 octets, their lines.
 pub fn put_spelled<A: Allocator + Copy>(
     alloc: A,
     heap: Global,
-    said: &mut Text<Global>,
+    said: &mut TextBuilder<Global>,
     text: &[u8],
 ) {
-    match octets_of(alloc, text) {
+    match parse_octets(alloc, text) {
         Ok(octets) => put_lines(alloc, said, &octets),
         Err(fault) => {
             said.put("no octets: ");
@@ -21,12 +21,12 @@ pub fn put_spelled<A: Allocator + Copy>(
     }
 }
 
-/// Puts how many octets there are, their sum and, where they are few, their lines, or that there is no memory for these.
-fn put_lines<A: Allocator + Copy>(alloc: A, said: &mut Text<Global>, octets: &[u8]) {
+/// Adds the number of octets, their sum and, up to 1,000 octets, their lines, or that memory ran out for the lines.
+fn put_lines<A: Allocator + Copy>(alloc: A, said: &mut TextBuilder<Global>, octets: &[u8]) {
     let count = octets.len() as u64;
-    said.fill("{0} octets, sum {1}", &[count, sum_of(octets)], &[]);
+    said.put_template("{0} octets, sum {1}", &[count, sum_octets(octets)], &[]);
     if count <= 1_000 {
-        match lines_of(alloc, octets) {
+        match hex_lines(alloc, octets) {
             Ok(lines) => {
                 said.put("\n");
                 said.put(lines.as_str());
@@ -36,8 +36,8 @@ fn put_lines<A: Allocator + Copy>(alloc: A, said: &mut Text<Global>, octets: &[u
     }
 }
 
-/// The sum of octets.
-fn sum_of(octets: &[u8]) -> u64 {
+/// Returns the sum of octets.
+fn sum_octets(octets: &[u8]) -> u64 {
     let mut sum = 0u64;
     for octet in octets {
         sum = sum.saturating_add(u64::from(*octet));

@@ -1,27 +1,31 @@
-//! What becomes of texts of networks and of traffic.
+//! Returns the results of texts of networks and of traffic.
 ghost use Rattle.std.specs.Prelude.{◌≡◌, IfOk, string_bytes};
 ghost use Rattle.gate_cases.specs.Outcomes.{IsNetworkLine, IsTrafficLine, counts_words};
 
-use crate::adding::add;
-use bridge_text::Text;
-use net_file::{fault_line, network_of, refusal_line, traffic_of};
+use crate::text_pieces::add;
+use bridge_text::TextBuilder;
+use net_file::{fault_line, parse_network, parse_traffic, refusal_line};
 use std::alloc::{AllocError, Global};
 
 /// Two bridges that share a plan.
 const TWO: &str =
     "[[bridge]]\nname = 'a'\nplan = 'first.toml'\n[[bridge]]\nname = 'b'\nplan = 'first.toml'\n";
 
-/// A stream, and the beginning of another one.
+/// A stream, and the beginning of a second stream.
 const STREAMS: &str =
     "[[stream]]\nname = 's'\nhops = ['a.1']\n[[stream]]\nname = 't'\nhops = ['b.1']\n";
 
-/// A row of traffic, and the beginning of another one.
+/// A row of traffic, and the beginning of a second row.
 const ROWS: &str =
     "[[traffic]]\nfilter = 10\nperiod = 1000000\nfrom = 1\nto = 2\nleast = 60\nlongest = 516\n[[traffic]]\n";
 
-/// Puts the line of what becomes of a text of a network or of traffic, of which these lines stand at a place; says whether
-/// there is such a place.
-pub fn put_line_at(alloc: Global, line: &mut Text<Global>, place: &str, lines: &str) -> bool {
+/// Adds the line of a network or traffic with `lines` at `place`. Returns whether the place exists.
+pub fn put_network_outcome(
+    alloc: Global,
+    line: &mut TextBuilder<Global>,
+    place: &str,
+    lines: &str,
+) -> bool {
     let (form, is_traffic) = match place {
         " network" => ("{a}", false),
         " links" => ("{a}\n{b}", false),
@@ -30,17 +34,17 @@ pub fn put_line_at(alloc: Global, line: &mut Text<Global>, place: &str, lines: &
         " row" => ("{d}{a}", true),
         _ => return false,
     };
-    let mut text = Text::new(alloc);
-    text.fill(form, &[], &[lines, TWO, STREAMS, ROWS]);
-    match text.done() {
-        Ok(text) if is_traffic => add(line, rows_in(alloc, text.as_str())),
-        Ok(text) => add(line, networked(alloc, text.as_str())),
-        Err(_) => line.give_up(),
+    let mut text = TextBuilder::new(alloc);
+    text.put_template(form, &[], &[lines, TWO, STREAMS, ROWS]);
+    match text.finish() {
+        Ok(text) if is_traffic => add(line, traffic_outcome(alloc, text.as_str())),
+        Ok(text) => add(line, network_outcome(alloc, text.as_str())),
+        Err(_) => line.discard(),
     }
     true
 }
 
-/// How many bridges, links and streams there are.
+/// Returns the numbers of bridges, links and streams as text.
 #[tactic(auto, unfolding(crate::specs::Outcomes::counts_words))]
 fn counts_text(
     alloc: Global,
@@ -55,11 +59,11 @@ fn counts_text(
     Ok(text)
 }
 
-/// What becomes of a text of a network: how many bridges, links and streams it has, or the line of its fault.
-fn networked(alloc: Global, text: &str) -> Result<String, AllocError>
+/// Returns the numbers of a network's bridges, links and streams, or its fault line.
+fn network_outcome(alloc: Global, text: &str) -> Result<String, AllocError>
     ensures { IfOk result (λ line. IsNetworkLine text.now (string_bytes line)) }
 {
-    match network_of(alloc, alloc, text.as_bytes()) {
+    match parse_network(alloc, alloc, text.as_bytes()) {
         Ok(network) => {
             let bridges = network.bridges().len();
             let links = network.links().len();
@@ -73,11 +77,11 @@ fn networked(alloc: Global, text: &str) -> Result<String, AllocError>
     }
 }
 
-/// What becomes of a text of traffic: how many rows it has, or the line of its fault.
-fn rows_in(alloc: Global, text: &str) -> Result<String, AllocError>
+/// Returns the number of a traffic file's rows, or its fault line.
+fn traffic_outcome(alloc: Global, text: &str) -> Result<String, AllocError>
     ensures { IfOk result (λ line. IsTrafficLine text.now (string_bytes line)) }
 {
-    match traffic_of(alloc, alloc, text.as_bytes()) {
+    match parse_traffic(alloc, alloc, text.as_bytes()) {
         Ok(rows) => format!(in alloc; "{} rows", rows.len()),
         Err(fault) => match refusal_line(alloc, "traffic", &fault) {
             Ok(line) => Ok(line),

@@ -1,31 +1,30 @@
-//! Captures that are written to sinks of each kind.
+//! Writes captures to sinks of each kind.
 
-use crate::adding::add_debug;
-use crate::captures::{Row, front, number_in};
+use crate::captures::{Row, number_after_word, prefix};
+use crate::text_pieces::add_debug;
 use bridge_capture::{ByteSink, CaptureFault, FromWrite, VecSink, WriteBehind, Writer};
-use bridge_text::Text;
+use bridge_text::TextBuilder;
 use std::alloc::{Allocator, Global};
 use std::cell::Cell;
 use std::io::{self, ErrorKind, Write};
 
-/// A sink that fails behind a number of octets, or takes an octet a call.
-pub fn sink_of<A: Allocator + Copy>(alloc: A, row: &Row<'_>) -> VecSink<A> {
+/// Returns a sink that fails after `count` octets, or accepts an octet for each call, as the row's words ask.
+pub fn row_sink<A: Allocator + Copy>(alloc: A, row: &Row<'_>) -> VecSink<A> {
     if row.words.contains("sink") {
-        VecSink::failing_after(alloc, row.count)
+        VecSink::with_allowance(alloc, row.count)
     } else if row.words.contains("one by one") {
-        VecSink::one_by_one(alloc)
+        VecSink::with_single_octets(alloc)
     } else {
         VecSink::new(alloc)
     }
 }
 
-/// Puts how many octets left, or by how many they are fewer than a sink takes that fails, and whether they are those that are
-/// wanted, or a front of these.
-pub fn put_left(said: &mut Text<Global>, octets: &[u8], row: &Row<'_>) {
+/// Adds the number of octets that left, and whether they are the wanted octets or a prefix. A failing sink shows how many octets it lacks.
+pub fn put_left(said: &mut TextBuilder<Global>, octets: &[u8], row: &Row<'_>) {
     let count = octets.len();
     let form = if octets == row.wanted {
         ", {0} octets, all"
-    } else if octets != front(row.wanted, count) {
+    } else if octets != prefix(row.wanted, count) {
         ", {0} other octets"
     } else if row.words.contains("sink") {
         ", {1} octets less than it takes"
@@ -33,10 +32,10 @@ pub fn put_left(said: &mut Text<Global>, octets: &[u8], row: &Row<'_>) {
         ", {0} octets"
     };
     let lacking = row.count.saturating_sub(count);
-    said.fill(form, &[count as u64, lacking as u64], &[]);
+    said.put_template(form, &[count as u64, lacking as u64], &[]);
 }
 
-/// What is counted of a writer.
+/// Counts of a writer.
 #[derive(Drop)]
 struct Counts {
     writes: Cell<u64>,
@@ -44,22 +43,22 @@ struct Counts {
     flushes: Cell<u64>,
 }
 
-/// A writer that takes up to so many octets a call, and fails once behind so many calls. It counts its calls, and those that
-/// give it a whole block.
+/// A writer that accepts at most `most` octets for each call and fails at the call after `allowance` calls. It counts calls, and calls with
+/// a whole block.
 #[derive(Drop)]
-struct Watched<'a> {
+struct CountingWriter<'a> {
     counts: &'a Counts,
     block: usize,
     most: usize,
     allowance: usize,
 }
 
-/// Counts one more.
+/// Adds one to `count`.
 fn count_one(count: &Cell<u64>) {
     count.set(count.get().wrapping_add(1));
 }
 
-impl Write for Watched<'_> {
+impl Write for CountingWriter<'_> {
     fn write(&mut self, octets: &[u8]) -> io::Result<usize> {
         count_one(&self.counts.writes);
         if octets.len() == self.block {
@@ -79,16 +78,15 @@ impl Write for Watched<'_> {
     }
 }
 
-/// Puts what is written of a row: to a sink of octets, to a vector, with a buffer before it or without, or to a writer that
-/// counts.
+/// Writes a row to the sink that its words name, and adds the result.
 pub fn put_writing<A: Allocator + Copy>(
     alloc: A,
     heap: Global,
-    said: &mut Text<Global>,
+    said: &mut TextBuilder<Global>,
     row: &Row<'_>,
 ) {
     if row.words.contains("watched") {
-        put_watched(alloc, heap, said, row);
+        put_counting_writer(alloc, heap, said, row);
     } else if row.words.contains("buffer") {
         put_buffered(alloc, heap, said, row);
     } else if row.words.contains("vector") {
@@ -96,17 +94,17 @@ pub fn put_writing<A: Allocator + Copy>(
         put_written(heap, said, &mut sink, row);
         put_left(said, &sink.into_inner(), row);
     } else {
-        let mut sink = sink_of(alloc, row);
+        let mut sink = row_sink(alloc, row);
         put_written(heap, said, &mut sink, row);
         put_left(said, sink.octets(), row);
     }
 }
 
-/// Puts what is written of a row to a vector with a buffer before it.
+/// Writes a row to a buffer before a vector, and adds the result.
 fn put_buffered<A: Allocator + Copy>(
     alloc: A,
     heap: Global,
-    said: &mut Text<Global>,
+    said: &mut TextBuilder<Global>,
     row: &Row<'_>,
 ) {
     match WriteBehind::new(alloc, Vec::new(heap)) {
@@ -121,11 +119,11 @@ fn put_buffered<A: Allocator + Copy>(
     }
 }
 
-/// Puts what is counted of a writer behind a sink that is finished or let go.
-fn put_watched<A: Allocator + Copy>(
+/// Writes a row to a counting writer, and adds its counts.
+fn put_counting_writer<A: Allocator + Copy>(
     alloc: A,
     heap: Global,
-    said: &mut Text<Global>,
+    said: &mut TextBuilder<Global>,
     row: &Row<'_>,
 ) {
     let counts = Counts {
@@ -133,8 +131,8 @@ fn put_watched<A: Allocator + Copy>(
         whole: Cell::new(0),
         flushes: Cell::new(0),
     };
-    put_into_watched(alloc, heap, said, row, &counts);
-    said.fill(
+    put_counted_writing(alloc, heap, said, row, &counts);
+    said.put_template(
         ", {0} writes, {1} of a whole block, {2} flushes",
         &[
             counts.writes.get(),
@@ -145,37 +143,37 @@ fn put_watched<A: Allocator + Copy>(
     );
 }
 
-/// Puts what is written of a row to a writer that counts.
-fn put_into_watched<A: Allocator + Copy>(
+/// Writes a row to a counting writer, with or without a buffer, and adds the result.
+fn put_counted_writing<A: Allocator + Copy>(
     alloc: A,
     heap: Global,
-    said: &mut Text<Global>,
+    said: &mut TextBuilder<Global>,
     row: &Row<'_>,
     counts: &Counts,
 ) {
-    let writer = Watched {
+    let writer = CountingWriter {
         counts,
-        block: number_in(row.words, "block ", 131_072),
-        most: number_in(row.words, "most ", usize::MAX),
+        block: number_after_word(row.words, "block ", 131_072),
+        most: number_after_word(row.words, "most ", usize::MAX),
         allowance: row.count,
     };
     if row.words.contains("plain") {
         return put_written(heap, said, &mut FromWrite::new(writer), row);
     }
-    let sink = match number_in(row.words, "block ", 0) {
+    let sink = match number_after_word(row.words, "block ", 0) {
         0 => WriteBehind::new(alloc, writer),
         block => WriteBehind::with_block(alloc, writer, block.clamp(1, 131_072)),
     };
     match sink {
-        Ok(sink) => put_behind(heap, said, sink, row),
+        Ok(sink) => put_buffered_sink(heap, said, sink, row),
         Err(_) => said.put("no buffer"),
     }
 }
 
-/// Puts what is written of a row to a sink that is finished or let go behind it.
-fn put_behind<W: Write + Drop, A: Allocator>(
+/// Writes a row to a buffered sink, then finishes or drops the sink.
+fn put_buffered_sink<W: Write + Drop, A: Allocator>(
     heap: Global,
-    said: &mut Text<Global>,
+    said: &mut TextBuilder<Global>,
     sink: WriteBehind<W, A>,
     row: &Row<'_>,
 ) {
@@ -188,22 +186,27 @@ fn put_behind<W: Write + Drop, A: Allocator>(
     }
 }
 
-/// Puts how records of a row's octets are written to a sink, or so many times these octets by themselves.
-fn put_written<W: ByteSink>(heap: Global, said: &mut Text<Global>, sink: &mut W, row: &Row<'_>) {
-    let times = number_in(row.words, "times ", 2);
+/// Writes records of a row's octets to a sink, or only the octets `times` times, and adds the result.
+fn put_written<W: ByteSink>(
+    heap: Global,
+    said: &mut TextBuilder<Global>,
+    sink: &mut W,
+    row: &Row<'_>,
+) {
+    let times = number_after_word(row.words, "times ", 2);
     if row.words.starts_with("fills") {
-        let refused = filled(sink, times, row.octets);
-        said.fill("{0} refused, ", &[refused], &[]);
+        let refused = count_refusals(sink, times, row.octets);
+        said.put_template("{0} refused, ", &[refused], &[]);
     } else {
-        let ended = records(sink, times, row);
+        let ended = write_records(sink, times, row);
         add_debug(heap, said, &ended);
         said.put(", ");
     }
     said.put(if sink.failed() { "failed" } else { "sound" });
 }
 
-/// How often a sink refuses octets that it is given so many times.
-fn filled<W: ByteSink>(sink: &mut W, times: usize, octets: &[u8]) -> u64 {
+/// Writes octets `times` times, and returns how often the sink refuses them.
+fn count_refusals<W: ByteSink>(sink: &mut W, times: usize, octets: &[u8]) -> u64 {
     let mut refused = 0u64;
     for _ in 0..times {
         if sink.write(octets).is_err() {
@@ -213,11 +216,15 @@ fn filled<W: ByteSink>(sink: &mut W, times: usize, octets: &[u8]) -> u64 {
     refused
 }
 
-/// Writes so many records of a row's octets, from a moment on with steps between them.
-fn records<W: ByteSink>(sink: &mut W, times: usize, row: &Row<'_>) -> Result<(), CaptureFault> {
-    let len = number_in(row.words, "length ", 60);
-    let step = number_in(row.words, "step ", 1);
-    let mut done = number_in(row.words, "at ", 0);
+/// Writes `times` records of a row's octets. The times of records follow `at` and `step`.
+fn write_records<W: ByteSink>(
+    sink: &mut W,
+    times: usize,
+    row: &Row<'_>,
+) -> Result<(), CaptureFault> {
+    let len = number_after_word(row.words, "length ", 60);
+    let step = number_after_word(row.words, "step ", 1);
+    let mut done = number_after_word(row.words, "at ", 0);
     if row.octets.len() > len || len > 1_500 {
         return Err(CaptureFault::LengthsCross(1));
     }

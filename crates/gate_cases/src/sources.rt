@@ -1,29 +1,29 @@
-//! Captures that are read from sources of each kind, and sent through a queue.
+//! Reads captures from sources of each kind, and sends them through a queue.
 
-use crate::adding::add_debug;
-use crate::captures::{Row, front, number_in};
-use crate::sinks::{put_left, sink_of};
+use crate::captures::{Row, number_after_word, prefix};
+use crate::sinks::{put_left, row_sink};
+use crate::text_pieces::add_debug;
 use bridge_capture::{ByteSource, Capture, CaptureFault, FromRead, ReadAhead, SliceSource};
 use bridge_frame::Speed;
-use bridge_text::Text;
+use bridge_text::TextBuilder;
 use bridge_wire::wire;
 use std::alloc::{Allocator, Global};
 use std::io::{self, Cursor, ErrorKind, Read};
 
-/// The octets of a row as a source: cut or failing behind a number of them, or an octet a call.
-fn source_of<'a>(row: &Row<'a>) -> SliceSource<'a> {
+/// Returns the octets of a row as a source: cut or failing after `count` octets, or with an octet for each call.
+fn row_source<'a>(row: &Row<'a>) -> SliceSource<'a> {
     if row.words.contains("source") {
-        SliceSource::failing_after(row.octets, row.count)
+        SliceSource::with_allowance(row.octets, row.count)
     } else if row.words.contains("cut") {
-        SliceSource::new(front(row.octets, row.count))
+        SliceSource::new(prefix(row.octets, row.count))
     } else if row.words.contains("one by one") {
-        SliceSource::one_by_one(row.octets)
+        SliceSource::with_single_octets(row.octets)
     } else {
         SliceSource::new(row.octets)
     }
 }
 
-/// A reader whose first call is an error and all others are not.
+/// A reader whose first call fails, and whose later calls succeed.
 #[derive(Drop)]
 struct ErrsOnce {
     has_erred: bool,
@@ -39,27 +39,27 @@ impl Read for ErrsOnce {
     }
 }
 
-/// Puts what is read of a row's octets.
+/// Reads a row's octets from the source that its words name, and adds the result.
 pub fn put_reading<A: Allocator + Copy>(
     alloc: A,
     heap: Global,
-    said: &mut Text<Global>,
+    said: &mut TextBuilder<Global>,
     row: &Row<'_>,
 ) {
     if row.words.contains("erring") {
-        put_through(alloc, heap, said, row.words, ErrsOnce { has_erred: false });
+        put_reader(alloc, heap, said, row.words, ErrsOnce { has_erred: false });
     } else if row.words.contains("reader") {
-        put_through(alloc, heap, said, row.words, Cursor::new(row.octets));
+        put_reader(alloc, heap, said, row.words, Cursor::new(row.octets));
     } else {
-        put_read(alloc, heap, said, &mut source_of(row));
+        put_read(alloc, heap, said, &mut row_source(row));
     }
 }
 
-/// Puts what is read of a reader, or through a buffer before it.
-fn put_through<R: Read + Drop, A: Allocator + Copy>(
+/// Reads a capture from a reader, with or without a buffer, and adds the result.
+fn put_reader<R: Read + Drop, A: Allocator + Copy>(
     alloc: A,
     heap: Global,
-    said: &mut Text<Global>,
+    said: &mut TextBuilder<Global>,
     words: &str,
     reader: R,
 ) {
@@ -76,44 +76,43 @@ fn put_through<R: Read + Drop, A: Allocator + Copy>(
     }
 }
 
-/// Puts what is read of a source: its first two packets, how many there are, what comes behind them, and how the source is then.
+/// Reads a source, and adds its first two packets, the number of packets, the ending, and the source's state.
 fn put_read<R: ByteSource, A: Allocator + Copy>(
     alloc: A,
     heap: Global,
-    said: &mut Text<Global>,
+    said: &mut TextBuilder<Global>,
     source: &mut R,
 ) {
     let (count, ended) = match Capture::begin(source) {
-        Ok(mut capture) => ending_of(alloc, said, &mut capture, source),
+        Ok(mut capture) => read_to_end(alloc, said, &mut capture, source),
         Err(fault) => (0, Err(fault)),
     };
-    said.fill("{0} packets, ", &[count], &[]);
+    said.put_template("{0} packets, ", &[count], &[]);
     add_debug(heap, said, &ended);
     said.put(", ");
-    said.put(state_of(source));
+    said.put(source_state(source));
 }
 
-/// How many packets a capture has, the first two of which are put, and what it gives behind them again and again: a fault, or
-/// no packet.
-fn ending_of<R: ByteSource, A: Allocator + Copy>(
+/// Adds the first two packets of a capture, and returns the number of packets and the ending: a fault, or no packet.
+fn read_to_end<R: ByteSource, A: Allocator + Copy>(
     alloc: A,
-    said: &mut Text<Global>,
+    said: &mut TextBuilder<Global>,
     capture: &mut Capture,
     source: &mut R,
 ) -> (u64, Result<bool, CaptureFault>) {
     for count in 0..1_000_002u64 {
         let next = has_next(alloc, said, count, capture, source);
         if next != Ok(true) {
-            return (count, lasting(alloc, said, capture, source, next));
+            return (count, repeat_ending(alloc, said, capture, source, next));
         }
     }
     (1_000_002, Ok(true))
 }
 
-/// What a capture gave, if it gives that three times more.
-fn lasting<R: ByteSource, A: Allocator + Copy>(
+/// Returns the ending of a capture if three more calls give it, or `Ok(true)` otherwise.
+fn repeat_ending<R: ByteSource, A: Allocator + Copy>(
     alloc: A,
-    said: &mut Text<Global>,
+    said: &mut TextBuilder<Global>,
     capture: &mut Capture,
     source: &mut R,
     ended: Result<bool, CaptureFault>,
@@ -126,10 +125,10 @@ fn lasting<R: ByteSource, A: Allocator + Copy>(
     ended
 }
 
-/// Whether a capture gives a further packet, which is put where it is one of the first two.
+/// Returns whether a capture gives a further packet, and adds the packet if it is among the first two.
 fn has_next<R: ByteSource, A: Allocator + Copy>(
     alloc: A,
-    said: &mut Text<Global>,
+    said: &mut TextBuilder<Global>,
     count: u64,
     capture: &mut Capture,
     source: &mut R,
@@ -146,22 +145,22 @@ fn has_next<R: ByteSource, A: Allocator + Copy>(
     }
 }
 
-/// Puts the moment of a packet, its length, how many octets it has, and the first of these.
-fn put_packet(said: &mut Text<Global>, time: u64, len: u32, octets: &[u8]) {
-    said.fill(
+/// Adds a packet's time, length, number of octets, and first 20 octets.
+fn put_packet(said: &mut TextBuilder<Global>, time: u64, len: u32, octets: &[u8]) {
+    said.put_template(
         "{0} {1} {2}:",
         &[time, u64::from(len), octets.len() as u64],
         &[],
     );
-    for octet in front(octets, 20) {
+    for octet in prefix(octets, 20) {
         said.put(" ");
         said.put_number(u64::from(*octet));
     }
     said.put(", ");
 }
 
-/// Whether a source has failed, also for good.
-fn state_of<R: ByteSource>(source: &mut R) -> &'static str {
+/// Returns the state of a source: sound, failed once, or failed for good.
+fn source_state<R: ByteSource>(source: &mut R) -> &'static str {
     if !source.failed() {
         return "sound";
     }
@@ -173,16 +172,16 @@ fn state_of<R: ByteSource>(source: &mut R) -> &'static str {
     "failed"
 }
 
-/// Puts what leaves of a row's octets through a queue of so many places before a link of 1,000 Mb/s.
+/// Sends a row's octets through a queue before a link of 1,000 Mb/s, and adds the result. The words give the queue capacity.
 pub fn put_sending<A: Allocator + Copy>(
     alloc: A,
     heap: Global,
-    said: &mut Text<Global>,
+    said: &mut TextBuilder<Global>,
     row: &Row<'_>,
 ) {
-    let places = number_in(row.words, "places ", 4).clamp(1, 4_096);
-    let mut sink = sink_of(alloc, row);
-    let mut source = source_of(row);
+    let places = number_after_word(row.words, "places ", 4).clamp(1, 4_096);
+    let mut sink = row_sink(alloc, row);
+    let mut source = row_source(row);
     let ended = wire(
         alloc,
         Speed::Mbps1000,

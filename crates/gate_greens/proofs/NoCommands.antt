@@ -1,4 +1,4 @@
--- A run without commands.
+-- The empty list of commands is valid for every plan.
 use Rattle.std.proofs.Common.{[]}
 use Rattle.bridge_config.specs.Model.{Plan}
 use Rattle.bridge_config.specs.Commands.{AreCommands}

@@ -1,4 +1,4 @@
-//! Frames that talkers send, and captures of them.
+//! Builds the frames that talkers send, and captures of them.
 use bridge_capture::{VecSink, Writer};
 use bridge_limits::NoMemory;
 use std::alloc::Global;
@@ -14,20 +14,20 @@ pub struct Frame {
     pub head: [u8; 18],
 }
 
-/// A frame's addresses: the last octet of the destination and the last octet of the source.
+/// Addresses of a frame: last octet of the destination and last octet of the source.
 #[derive(Clone, Copy)]
 pub struct Addresses {
     pub to: u64,
     pub from: u64,
 }
 
-/// The low octet of a number.
+/// Returns the low octet of `number`.
 fn octet(number: u64) -> u8 {
     (number % 256) as u8
 }
 
-/// The first octets of a frame with a tag. Its priority is taken modulo 8, its VLAN identifier modulo 4096.
-pub fn tagged(addresses: Addresses, vid: u64, priority: u64) -> [u8; 18] {
+/// Returns the first octets of a tagged frame. Takes `priority` modulo 8 and `vid` modulo 4096.
+pub fn tagged_head(addresses: Addresses, vid: u64, priority: u64) -> [u8; 18] {
     let tag = (priority % 8)
         .saturating_mul(8192)
         .saturating_add(vid % 4096);
@@ -53,8 +53,8 @@ pub fn tagged(addresses: Addresses, vid: u64, priority: u64) -> [u8; 18] {
     ]
 }
 
-/// The first octets of a frame without a tag.
-pub fn untagged(addresses: Addresses) -> [u8; 18] {
+/// Returns the first octets of a frame without a tag.
+pub fn untagged_head(addresses: Addresses) -> [u8; 18] {
     [
         2,
         0,
@@ -77,7 +77,7 @@ pub fn untagged(addresses: Addresses) -> [u8; 18] {
     ]
 }
 
-/// Writes a frame of at least 18 octets.
+/// Writes a frame to a capture, with a length from 18 to 9,216 octets.
 fn put_frame(
     sink: &mut VecSink<Global>,
     writer: &mut Writer,
@@ -91,8 +91,8 @@ fn put_frame(
     }
 }
 
-/// The capture of frames, which it first sorts by arrival time.
-pub fn capture_of(alloc: Global, frames: &mut Vec<Frame>) -> Result<Vec<u8>, NoMemory> {
+/// Sorts frames by arrival time, and returns their capture.
+pub fn sorted_capture(alloc: Global, frames: &mut Vec<Frame>) -> Result<Vec<u8>, NoMemory> {
     frames.sort_by_key(|frame| frame.at)?;
     let mut sink = VecSink::new(alloc);
     let Ok(mut writer) = Writer::begin(&mut sink) else {

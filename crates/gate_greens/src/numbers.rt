@@ -1,11 +1,11 @@
-//! Random numbers.
+//! Draws random numbers.
 
-/// A sequence of numbers, which depends only on its seed.
+/// A sequence of numbers that depends only on its seed.
 #[derive(Drop)]
 pub struct Numbers(u64);
 
 impl Numbers {
-    /// The sequence of a seed. Nearby seeds give unrelated sequences.
+    /// Returns the sequence of `seed`. Nearby seeds give unrelated sequences.
     pub fn of_seed(seed: u64) -> Numbers {
         let first = seed.wrapping_mul(11_400_714_819_323_198_485);
         let second = (first ^ (first >> 30)).wrapping_mul(13_787_848_793_156_543_929);
@@ -13,7 +13,7 @@ impl Numbers {
         Numbers(third ^ (third >> 31))
     }
 
-    /// The next number below `bound`, or 0 if `bound` is 0. `bound` should be below 2^33.
+    /// Returns the next number below `bound`, or 0 if `bound` is 0. `bound` should be below 2^33.
     pub fn below(&mut self, bound: u64) -> u64 {
         self.0 = self
             .0
@@ -25,13 +25,13 @@ impl Numbers {
         (self.0 >> 31) % bound
     }
 
-    /// The next number from `least` to `most`.
+    /// Returns the next number from `least` to `most`.
     pub fn between(&mut self, least: u64, most: u64) -> u64 {
         let many = most.saturating_sub(least).saturating_add(1);
         least.saturating_add(self.below(many))
     }
 
-    /// The next number from `least` to `most`, which is an end of this range twice in three times.
+    /// Returns the next number from `least` to `most`. Two draws in three give an end of this range.
     pub fn between_ends(&mut self, least: u64, most: u64) -> u64 {
         match self.below(3) {
             0 => least,
@@ -40,12 +40,12 @@ impl Numbers {
         }
     }
 
-    /// Whether an event of probability 1 in `many` happens.
-    pub fn is_one_in(&mut self, many: u64) -> bool {
+    /// Whether an event with probability 1 in `many` happens.
+    pub fn is_drawn(&mut self, many: u64) -> bool {
         self.below(many) == 0
     }
 
-    /// One of some numbers, or 0 if there are none.
+    /// Returns one of `options`, or 0 if there are none.
     pub fn pick(&mut self, options: &[u64]) -> u64 {
         let index = self.below(options.len() as u64);
         options.get(index as usize).copied().unwrap_or(0)

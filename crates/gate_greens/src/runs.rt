@@ -1,12 +1,12 @@
-//! Runs of one bridge over captures.
+//! Runs one bridge over captures.
 use bridge_capture::{RunFault, SliceSource, VecSink};
 use bridge_check::Accepted;
 use bridge_core::{Outcome, View, simulate};
 use bridge_limits::NoMemory;
 use std::alloc::Global;
 
-/// Readers of captures. An empty capture is refused: it stands for memory that was refused.
-fn sources_of<'a>(
+/// Returns sources of captures. Refuses an empty capture, which stands for refused memory.
+fn capture_sources<'a>(
     alloc: Global,
     captures: &'a [Vec<u8>],
 ) -> Result<Vec<SliceSource<'a>>, NoMemory> {
@@ -19,8 +19,8 @@ fn sources_of<'a>(
     Ok(sources)
 }
 
-/// `count` empty outputs.
-fn sinks_of(alloc: Global, count: usize) -> Result<Vec<VecSink<Global>>, NoMemory> {
+/// Returns `count` empty outputs.
+fn empty_sinks(alloc: Global, count: usize) -> Result<Vec<VecSink<Global>>, NoMemory> {
     let mut sinks = Vec::new(alloc);
     for _ in 0..count {
         if sinks.push(VecSink::new(alloc)).is_err() {
@@ -30,17 +30,17 @@ fn sinks_of(alloc: Global, count: usize) -> Result<Vec<VecSink<Global>>, NoMemor
     Ok(sinks)
 }
 
-/// Runs a bridge over a capture for each port, by rising number, without commands.
+/// Runs a bridge without commands, over captures by rising port number.
 #[tactic(auto, using(crate::proofs::NoCommands::none))]
 pub fn run_bridge(
     alloc: Global,
     accepted: &Accepted<Global>,
     captures: &[Vec<u8>],
 ) -> Result<Outcome<Global>, RunFault> {
-    let Ok(mut sources) = sources_of(alloc, captures) else {
+    let Ok(mut sources) = capture_sources(alloc, captures) else {
         return Err(RunFault::NoMemory);
     };
-    let Ok(mut taps) = sinks_of(alloc, sources.len()) else {
+    let Ok(mut taps) = empty_sinks(alloc, sources.len()) else {
         return Err(RunFault::NoMemory);
     };
     let count = accepted.plan().ports().len();
@@ -50,8 +50,8 @@ pub fn run_bridge(
     simulate(alloc, accepted, &[], &mut sources, &mut taps)
 }
 
-/// The record of a filter.
-pub fn view_of(outcome: &Outcome<Global>, filter: u32) -> Option<&View<Global>> {
+/// Returns the record of a filter.
+pub fn filter_view(outcome: &Outcome<Global>, filter: u32) -> Option<&View<Global>> {
     for (number, view) in &outcome.filters {
         if *number == filter {
             return Some(view);

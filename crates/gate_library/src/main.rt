@@ -1,8 +1,8 @@
 #![tactic(auto)]
 //! Checks a plan and runs a bridge in memory over one frame. docs/LIBRARY.md shows this file.
 
-use app_failure::{Fault, accepted_of, end, print};
-use bridge_capture::{SliceSource, VecSink, octets_of};
+use app_failure::{Failure, accepted_plan, print, print_fault};
+use bridge_capture::{SliceSource, VecSink, parse_octets};
 use bridge_check::Accepted;
 use bridge_config::commands_of;
 use bridge_core::{Outcome, RunFault, simulate};
@@ -18,7 +18,7 @@ const FRAME: &str =
 const SILENT: &str = "4d3cb2a1020004000000000000000000ffff000001000000";
 
 fn capture(alloc: Global, hex: &str) -> Vec<u8> {
-    match octets_of(alloc, hex.as_bytes()) {
+    match parse_octets(alloc, hex.as_bytes()) {
         Ok(octets) => octets,
         Err(_) => Vec::new(alloc),
     }
@@ -45,9 +45,9 @@ fn run(
     simulate(alloc, accepted, &commands, &mut sources, sinks)
 }
 
-fn perform(rt: &(impl AllocGlobal + Print)) -> Result<(), Fault> {
+fn perform(rt: &(impl AllocGlobal + Print)) -> Result<(), Failure> {
     let alloc = rt.alloc();
-    let accepted = accepted_of(alloc, alloc, BASE.as_bytes())?;
+    let accepted = accepted_plan(alloc, alloc, BASE.as_bytes())?;
     let mut sinks = [
         VecSink::new(alloc),
         VecSink::new(alloc),
@@ -56,15 +56,15 @@ fn perform(rt: &(impl AllocGlobal + Print)) -> Result<(), Fault> {
     match run(alloc, &accepted, &mut sinks) {
         Ok(outcome) => match report(alloc, &outcome) {
             Ok(text) => print(rt, text.as_str()),
-            Err(_) => Err(Fault::NoMemory),
+            Err(_) => Err(Failure::NoMemory),
         },
-        Err(fault) => Err(Fault::Run(fault)),
+        Err(fault) => Err(Failure::Run(fault)),
     }
 }
 
 fn main(rt: HostRuntime) -> ExitCode {
     match perform(&rt) {
         Ok(()) => ExitCode::from(0),
-        Err(fault) => end(&rt, &fault),
+        Err(fault) => print_fault(&rt, &fault),
     }
 }

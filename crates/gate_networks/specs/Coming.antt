@@ -1,11 +1,11 @@
--- What comes to the bridges of a network from outside.
+-- Inputs of a network's bridges from outside.
 use Rattle.std.specs.Prelude.{List, [], ◌∷◌}
 use Rattle.bridge_config.specs.Model.{Plan}
-use Rattle.net_run.specs.declared.station.Incoming.{Incoming}
-use Rattle.net_run.specs.Stations.{IsIncoming}
+use Rattle.net_run.specs.declared.bridge_run.BridgeInput.{BridgeInput}
+use Rattle.net_run.specs.BridgeRuns.{IsBridgeInput}
 
--- to each bridge of these plans can come what comes to it
-abbrev pub AllIncoming : {A : Type 0} → List (Plan A) → List (Incoming A) → Type 0
+-- Holds if both lists have equal length, and each bridge input fits the plan at its index.
+abbrev pub AllIncoming : {A : Type 0} → List (Plan A) → List (BridgeInput A) → Type 0
 AllIncoming [] [] = Unit {0}
-AllIncoming (p ∷ ps) (c ∷ cs) = IsIncoming p c × AllIncoming ps cs
+AllIncoming (p ∷ ps) (c ∷ cs) = IsBridgeInput p c × AllIncoming ps cs
 AllIncoming ps cs = ⊥

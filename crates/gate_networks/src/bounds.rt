@@ -1,39 +1,37 @@
-//! The bound of each queue of a protected filter beside the greatest delays that runs reach: of a run that is made to come
-//! near it, and of 200 runs of captures that a generator draws from a fixed seed; and the phases at which the frames of talkers
-//! that keep a period are done, beside runs that reach both ends.
+//! Compares delay bounds and phases with runs. Each queue has a run near its bound, and 200 runs over random captures. Runs of periodic
+//! talkers reach both phases.
 
 mod captures;
+mod delays;
 mod periods;
-mod running;
 
-use crate::of_run;
-use app_failure::{Fault, file_failure, planned};
-use app_files::{Cause, failed_at};
+use crate::run_result;
+use app_failure::{Failure, file_failure, read_accepted_plan};
+use app_files::{Cause, file_fault};
 use bridge_capture::RunFault;
 use bridge_check::Accepted;
-use bridge_text::Text;
-use captures::Near;
-use net_latency::{QueueBound, bounds_of};
-use periods::tell_talkers;
-use running::{drawn_delay, made_delay};
+use bridge_text::TextBuilder;
+use captures::NearBound;
+use delays::{longest_random_delay, near_bound_delay};
+use net_latency::{QueueBound, queue_bounds};
+use periods::report_talkers;
 use std::alloc::Global;
 use std::fs;
 use std::rt::Files;
 
-/// A plan, and the frames that come near its bound.
+/// A plan, and the frames of a run near its bound.
 struct Row {
     path: &'static str,
-    near: Near,
-    /// The most by which their run may stay below it, in ns: one less than the longest frame is on the link, and as long as
-    /// that where lists are exchanged.
+    near: NearBound,
+    /// Greatest difference in ns between the bound and the run's delay. A longest frame has a transmission time of 4,320 ns.
     short: u64,
 }
 
-/// The plans of `data/`, each with a queue of four frames, but the last with a queue of one.
+/// Plans of `data/`. Their queues have a capacity of four frames, the last plan's queue of one.
 const ROWS: [Row; 7] = [
     Row {
         path: "base.toml",
-        near: Near {
+        near: NearBound {
             before: None,
             at: 495_681,
             count: 4,
@@ -42,7 +40,7 @@ const ROWS: [Row; 7] = [
     },
     Row {
         path: "always.toml",
-        near: Near {
+        near: NearBound {
             before: Some(0),
             at: 1,
             count: 4,
@@ -51,7 +49,7 @@ const ROWS: [Row; 7] = [
     },
     Row {
         path: "just_room.toml",
-        near: Near {
+        near: NearBound {
             before: None,
             at: 12_961,
             count: 4,
@@ -60,7 +58,7 @@ const ROWS: [Row; 7] = [
     },
     Row {
         path: "one_less.toml",
-        near: Near {
+        near: NearBound {
             before: None,
             at: 12_960,
             count: 4,
@@ -69,7 +67,7 @@ const ROWS: [Row; 7] = [
     },
     Row {
         path: "two_windows.toml",
-        near: Near {
+        near: NearBound {
             before: None,
             at: 300_681,
             count: 4,
@@ -78,7 +76,7 @@ const ROWS: [Row; 7] = [
     },
     Row {
         path: "over_the_end.toml",
-        near: Near {
+        near: NearBound {
             before: None,
             at: 1_681,
             count: 4,
@@ -87,7 +85,7 @@ const ROWS: [Row; 7] = [
     },
     Row {
         path: "change.toml",
-        near: Near {
+        near: NearBound {
             before: Some(1_491_361),
             at: 1_491_362,
             count: 1,
@@ -96,55 +94,58 @@ const ROWS: [Row; 7] = [
     },
 ];
 
-/// Tells of all plans and of all talkers; whether all is as it is to be.
-pub fn run(rt: &(impl AllocGlobal + Files), said: &mut Text<Global>) -> Result<bool, Fault> {
+/// Reports all plans and talkers, and returns whether all delays and phases are right.
+pub fn run(
+    rt: &(impl AllocGlobal + Files),
+    said: &mut TextBuilder<Global>,
+) -> Result<bool, Failure> {
     let mut are_so = true;
     for row in &ROWS {
-        are_so = tell_plan(rt, said, row)? && are_so;
+        are_so = report_plan(rt, said, row)? && are_so;
     }
-    are_so = tell_talkers(rt, said)? && are_so;
+    are_so = report_talkers(rt, said)? && are_so;
     Ok(are_so)
 }
 
-/// The plan of a file.
-fn plan_at(rt: &(impl AllocGlobal + Files), file: &str) -> Result<Accepted<Global>, Fault> {
+/// Reads and checks the plan of a file.
+fn read_plan(rt: &(impl AllocGlobal + Files), file: &str) -> Result<Accepted<Global>, Failure> {
     match fs::open(rt, file) {
-        Ok(reader) => planned(rt.alloc(), rt.alloc(), file, reader),
-        Err(_) => Err(file_failure(failed_at(rt.alloc(), file, Cause::Unknown))),
+        Ok(reader) => read_accepted_plan(rt.alloc(), rt.alloc(), file, reader),
+        Err(_) => Err(file_failure(file_fault(rt.alloc(), file, Cause::Unknown))),
     }
 }
 
-/// Tells of the bounds of a plan with the delays beside them; whether these are as they are to be.
-fn tell_plan(
+/// Reports the bounds of a plan and the delays of its runs, and returns whether they agree.
+fn report_plan(
     rt: &(impl AllocGlobal + Files),
-    said: &mut Text<Global>,
+    said: &mut TextBuilder<Global>,
     row: &Row,
-) -> Result<bool, Fault> {
-    let accepted = plan_at(rt, row.path)?;
-    of_run(tell_bounds(rt.alloc(), said, row, &accepted))
+) -> Result<bool, Failure> {
+    let accepted = read_plan(rt, row.path)?;
+    run_result(report_bounds(rt.alloc(), said, row, &accepted))
 }
 
-/// Tells of the bounds of an accepted plan.
-fn tell_bounds(
+/// Reports each bound of an accepted plan, and returns whether the delays agree.
+fn report_bounds(
     alloc: Global,
-    said: &mut Text<Global>,
+    said: &mut TextBuilder<Global>,
     row: &Row,
     accepted: &Accepted<Global>,
 ) -> Result<bool, RunFault> {
-    let Ok(bounds) = bounds_of(alloc, accepted) else {
+    let Ok(bounds) = queue_bounds(alloc, accepted) else {
         return Err(RunFault::NoMemory);
     };
     let mut are_so = !bounds.is_empty();
     for bound in &bounds {
-        are_so = tell_bound(alloc, said, row, accepted, bound)? && are_so;
+        are_so = report_bound(alloc, said, row, accepted, bound)? && are_so;
     }
     Ok(are_so)
 }
 
-/// Tells of a bound with the delays beside it; whether none exceeds it and the one that was made comes near it.
-fn tell_bound(
+/// Reports a bound. Returns whether no delay exceeds the bound, and the run made for it is at most `row.short` ns below.
+fn report_bound(
     alloc: Global,
-    said: &mut Text<Global>,
+    said: &mut TextBuilder<Global>,
     row: &Row,
     accepted: &Accepted<Global>,
     queue: &QueueBound,
@@ -155,9 +156,9 @@ fn tell_bound(
         class,
         bound,
     } = *queue;
-    let made = made_delay(alloc, accepted, row.near, filter, port)?;
-    let drawn = drawn_delay(alloc, accepted, filter, port)?;
-    said.fill(
+    let made = near_bound_delay(alloc, accepted, row.near, filter, port)?;
+    let drawn = longest_random_delay(alloc, accepted, filter, port)?;
+    said.put_template(
         "{a} filter {0} port {1} class {2} bound {3} made {4} drawn {5}\n",
         &[
             u64::from(filter),

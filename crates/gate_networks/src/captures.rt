@@ -1,14 +1,14 @@
-//! Captures that are written frame by frame.
+//! Writes captures frame by frame.
 use bridge_capture::{VecSink, Writer};
 use std::alloc::Global;
 
-/// The latest moment of a frame, in ns.
+/// Latest arrival time of a frame in ns.
 const LATEST: u64 = 1_000_000_000_000;
 
-/// The most octets of a frame that are captured.
+/// Greatest number of captured octets of a frame.
 const MOST: usize = 22;
 
-/// A capture that is written; once memory was refused to it, it takes no more frames, and has no octets.
+/// A capture under construction. After refused memory, it accepts no frames and has no octets.
 #[derive(Drop)]
 pub struct Recording {
     sink: VecSink<Global>,
@@ -16,14 +16,14 @@ pub struct Recording {
 }
 
 impl Recording {
-    /// A capture of no frame.
+    /// Returns a capture without frames.
     pub fn new(alloc: Global) -> Recording {
         let mut sink = VecSink::new(alloc);
         let writer = Writer::begin(&mut sink).ok();
         Recording { sink, writer }
     }
 
-    /// Adds a frame that comes at a moment: how many octets it has, and those that are captured, at most 22.
+    /// Adds a frame of `len` octets that arrives at `at` ns. If `octets` has more than 22 octets, none are captured.
     pub fn put(&mut self, at: u64, len: u32, octets: &[u8]) {
         let octets = if octets.len() > MOST { &[] } else { octets };
         let len = len.max(octets.len() as u32);
@@ -38,7 +38,7 @@ impl Recording {
         }
     }
 
-    /// Its octets; none where memory was refused to it.
+    /// Returns the capture's octets, or none after refused memory.
     pub fn octets(&self) -> &[u8] {
         if self.writer.is_some() {
             self.sink.octets()

@@ -1,23 +1,24 @@
-//! The test that a hop takes over a link only frames of its stream, beside what is seen where all sorts of frames are sent:
-//! 500 pairs of bridges with a link, whose plans a generator draws from fixed seeds.
+//! Compares the test for stray frames with runs over many kinds of frames.
+//!
+//! A generator draws 500 pairs of linked bridges from fixed seeds.
 
-mod drawing;
-mod frames;
-mod running;
-mod trying;
+mod own_frames;
+mod random_plan;
+mod sample_frames;
+mod trial;
 
 use bridge_capture::RunFault;
-use bridge_text::Text;
+use bridge_text::TextBuilder;
 use std::alloc::Global;
-use trying::{Said, Seen, seen_of, sorts_of};
+use trial::{PairObservation, TestResult, sample_captures, try_pair};
 
-/// How many pairs are drawn.
+/// Number of pairs.
 const PAIRS: u64 = 500;
 
-/// How many of them are to be accepted at least, and how many refused because they aren't closed.
+/// Least number of accepted pairs, and of pairs that aren't closed.
 const FIFTH: u64 = 100;
 
-/// What is counted over all pairs.
+/// Counts over all pairs.
 #[derive(Clone, Copy, Default)]
 struct Counts {
     accepted: u64,
@@ -26,78 +27,78 @@ struct Counts {
     other: u64,
     foreign: u64,
     taken: u64,
-    /// Pairs that are refused though no foreign frame was taken.
+    /// Number of pairs that are refused as not closed although no hop took a foreign frame.
     only_said: u64,
     wrong: u64,
 }
 
-/// Whether the test of each hop and that of the network agree, and no frame was taken that the test excludes.
-fn is_right(seen: &Seen) -> bool {
+/// Whether the tests of the hops and of the network agree, and no hop took a frame that its test excludes.
+fn is_right(seen: &PairObservation) -> bool {
     seen.wrong == 0
-        && seen.said != Said::Other
-        && (seen.strays > 0) == (seen.said == Said::NotClosed)
+        && seen.said != TestResult::Other
+        && (seen.strays > 0) == (seen.said == TestResult::NotClosed)
 }
 
-/// The counts with one more.
+/// Returns `count`, plus one if `more` is true.
 fn one_more(count: u64, more: bool) -> u64 {
     if more { count.saturating_add(1) } else { count }
 }
 
-/// The counts with a pair.
-fn counted(counts: Counts, seen: &Seen) -> Counts {
+/// Returns the counts with a pair added.
+fn add_pair(counts: Counts, seen: &PairObservation) -> Counts {
     Counts {
-        accepted: one_more(counts.accepted, seen.said == Said::Accepted),
-        not_closed: one_more(counts.not_closed, seen.said == Said::NotClosed),
-        not_fed: one_more(counts.not_fed, seen.said == Said::NotFed),
-        other: one_more(counts.other, seen.said == Said::Other),
+        accepted: one_more(counts.accepted, seen.said == TestResult::Accepted),
+        not_closed: one_more(counts.not_closed, seen.said == TestResult::NotClosed),
+        not_fed: one_more(counts.not_fed, seen.said == TestResult::NotFed),
+        other: one_more(counts.other, seen.said == TestResult::Other),
         foreign: counts.foreign.saturating_add(seen.foreign),
         taken: counts.taken.saturating_add(seen.taken),
         only_said: one_more(
             counts.only_said,
-            seen.said == Said::NotClosed && seen.taken == 0,
+            seen.said == TestResult::NotClosed && seen.taken == 0,
         ),
         wrong: one_more(counts.wrong, !is_right(seen)),
     }
 }
 
-/// Whether no pair is wrong, and at least a fifth is accepted and a fifth is not closed.
+/// Whether no pair is wrong, and at least `FIFTH` pairs are accepted and `FIFTH` aren't closed.
 fn are_right(counts: &Counts) -> bool {
     counts.wrong == 0 && counts.accepted >= FIFTH && counts.not_closed >= FIFTH
 }
 
-/// Tells of the pairs that are wrong, and what is counted; whether this is as it is to be.
-pub fn run(alloc: Global, said: &mut Text<Global>) -> Result<bool, RunFault> {
-    let sorts = sorts_of(alloc);
+/// Reports the wrong pairs and the counts, and returns whether all is right.
+pub fn run(alloc: Global, said: &mut TextBuilder<Global>) -> Result<bool, RunFault> {
+    let sorts = sample_captures(alloc);
     let mut counts = Counts::default();
     for seed in 1..=PAIRS {
-        let seen = seen_of(alloc, &sorts, seed)?;
-        counts = counted(counts, &seen);
+        let seen = try_pair(alloc, &sorts, seed)?;
+        counts = add_pair(counts, &seen);
         if !is_right(&seen) {
-            tell_wrong(said, seed, &seen);
+            report_wrong_pair(said, seed, &seen);
         }
     }
-    tell_counts(said, &counts);
+    report_counts(said, &counts);
     Ok(are_right(&counts))
 }
 
-/// Tells of a pair that is wrong.
-fn tell_wrong(said: &mut Text<Global>, seed: u64, seen: &Seen) {
+/// Reports a wrong pair.
+fn report_wrong_pair(said: &mut TextBuilder<Global>, seed: u64, seen: &PairObservation) {
     let word = match seen.said {
-        Said::Accepted => "accepted",
-        Said::NotClosed => "not closed",
-        Said::NotFed => "not fed",
-        Said::Other => "other",
+        TestResult::Accepted => "accepted",
+        TestResult::NotClosed => "not closed",
+        TestResult::NotFed => "not fed",
+        TestResult::Other => "other",
     };
-    said.fill(
+    said.put_template(
         "WRONG seed {0} {a} strays {1} foreign {2} taken {3} wrong {4}\n",
         &[seed, seen.strays, seen.foreign, seen.taken, seen.wrong],
         &[word],
     );
 }
 
-/// Tells what the test says of the pairs, and what is seen of the frames that came over the links.
-fn tell_counts(said: &mut Text<Global>, counts: &Counts) {
-    said.fill(
+/// Reports the results of the tests, and the frames that arrived over the links.
+fn report_counts(said: &mut TextBuilder<Global>, counts: &Counts) {
+    said.put_template(
         "pairs {0} accepted {1} not closed {2} not fed {3} other {4}\n",
         &[
             PAIRS,
@@ -108,7 +109,7 @@ fn tell_counts(said: &mut Text<Global>, counts: &Counts) {
         ],
         &[],
     );
-    said.fill(
+    said.put_template(
         "frames of no hop over the links {0} taken by a hop {1}\nnot closed though none was taken {2}\nwrong {3}\n",
         &[counts.foreign, counts.taken, counts.only_said, counts.wrong],
         &[],

@@ -1,68 +1,67 @@
-//! Runs of 200 networks by rounds, beside the run of each bridge by itself over what came to it, and beside runs with much
-//! other traffic. A generator draws the networks from fixed seeds: two to five bridges in a row, a tree or a ring, with a
-//! stream through some of them. Then a run of which each growth is refused in turn.
+//! Compares runs of 200 networks with runs of each bridge alone, and with runs with more traffic. Then refuses the allocations of a run,
+//! one by one.
 
-mod coming;
-mod drawing;
-mod meeting;
+mod comparison;
+mod inputs;
+mod meetings;
+mod random_plan;
 mod refusals;
-mod running;
 mod shape;
 mod traffic;
-mod trying;
+mod trial;
 
 use bridge_capture::RunFault;
-use bridge_text::Text;
-use refusals::growths_refused;
+use bridge_text::TextBuilder;
+use refusals::refuse_growths;
 use std::alloc::Global;
-use trying::{Seen, seen_of};
+use trial::{NetworkObservation, try_network};
 
-/// How many networks run.
+/// Number of accepted networks.
 const NETWORKS: u64 = 200;
 
-/// How many of them are to settle at least.
+/// Least number of networks that settle.
 const SETTLED: u64 = 120;
 
-/// How many seeds are tried at most.
+/// Greatest number of seeds tried.
 const SEEDS: u64 = 400;
 
-/// How many growths are to be refused at least.
+/// Least number of refused allocations.
 const GROWTHS: u64 = 51;
 
-/// What is counted over all networks.
+/// Counts over all networks.
 #[derive(Clone, Copy, Default)]
 struct Counts {
     accepted: u64,
     rings: u64,
     settled: u64,
-    /// Networks that didn't settle, and of these the ones in which nothing goes round.
+    /// Numbers of networks that didn't settle, and that didn't settle although no frame can loop.
     unsettled: u64,
     restless: u64,
-    /// Networks in which a bridge stopped at a capture that is spoilt.
+    /// Number of networks in which a bridge stopped at a damaged capture.
     failed: u64,
     frames: u64,
-    /// Networks in which a frame came over a link at the moment of a start, of a command, and of another frame.
+    /// Numbers of networks in which a frame arrived over a link at the time of a start, a command, or another arrival.
     starts: u64,
     commands: u64,
     arrivals: u64,
-    /// Networks and hops that were compared with a run beside other traffic.
+    /// Numbers of networks and hops that were compared with a run with more traffic.
     pairs: u64,
     compared: u64,
     wrong: u64,
 }
 
-/// Whether nothing differs.
-fn is_right(seen: &Seen) -> bool {
+/// Whether no result differs.
+fn is_right(seen: &NetworkObservation) -> bool {
     seen.differing == 0 && seen.disturbed == 0 && !seen.wrong
 }
 
-/// A count with one more, or as it is.
+/// Returns `count`, plus one if `more` is true.
 fn one_more(count: u64, more: bool) -> u64 {
     if more { count.saturating_add(1) } else { count }
 }
 
-/// The counts with a network.
-fn counted(counts: Counts, seen: &Seen) -> Counts {
+/// Returns the counts with a network added.
+fn add_network(counts: Counts, seen: &NetworkObservation) -> Counts {
     Counts {
         accepted: one_more(counts.accepted, seen.accepted),
         rings: one_more(counts.rings, seen.ring),
@@ -80,52 +79,51 @@ fn counted(counts: Counts, seen: &Seen) -> Counts {
     }
 }
 
-/// Whether there was each sort of moments.
-fn are_met(counts: &Counts) -> bool {
+/// Whether frames arrived over links at times of starts, of commands and of other arrivals.
+fn has_each_meeting(counts: &Counts) -> bool {
     counts.starts > 0 && counts.commands > 0 && counts.arrivals > 0
 }
 
-/// Whether nothing differs, and there were as many networks of each sort as there are to be.
+/// Whether no result differs, and each kind of network occurred often enough.
 fn are_right(counts: &Counts) -> bool {
     counts.wrong == 0
         && counts.accepted == NETWORKS
         && counts.settled >= SETTLED
         && counts.rings > 0
         && counts.failed > 0
-        && are_met(counts)
+        && has_each_meeting(counts)
 }
 
-/// Tells of the networks in which something differs, and what is counted; whether this is as it is to be.
-pub fn run(alloc: Global, said: &mut Text<Global>) -> Result<bool, RunFault> {
+/// Reports the wrong networks and the counts, and returns whether all is right.
+pub fn run(alloc: Global, said: &mut TextBuilder<Global>) -> Result<bool, RunFault> {
     let mut counts = Counts::default();
     for seed in 1..=SEEDS {
         if counts.accepted < NETWORKS {
-            let seen = seen_of(alloc, seed)?;
-            counts = counted(counts, &seen);
+            let seen = try_network(alloc, seed)?;
+            counts = add_network(counts, &seen);
             if !is_right(&seen) {
-                tell_wrong(said, seed, &seen);
+                report_wrong_network(said, seed, &seen);
             }
         }
     }
-    tell_counts(said, &counts);
-    let growths = growths_refused(alloc, said);
+    report_counts(said, &counts);
+    let growths = refuse_growths(alloc, said);
     Ok(are_right(&counts) && growths >= GROWTHS)
 }
 
-/// Tells of a network in which something differs, or which stopped otherwise than it had to.
-fn tell_wrong(said: &mut Text<Global>, seed: u64, seen: &Seen) {
+/// Reports a network in which a result differs, or which ended in an unexpected way.
+fn report_wrong_network(said: &mut TextBuilder<Global>, seed: u64, seen: &NetworkObservation) {
     let word = if seen.wrong { ", ended otherwise" } else { "" };
-    said.fill(
+    said.put_template(
         "WRONG seed {0} differing {1} disturbed {2} of {3}{a}\n",
         &[seed, seen.differing, seen.disturbed, seen.compared],
         &[word],
     );
 }
 
-/// Tells what became of the networks, in how many a frame came over a link at the moment of something else, how many hops were
-/// compared beside other traffic, and how many networks are wrong.
-fn tell_counts(said: &mut Text<Global>, counts: &Counts) {
-    said.fill(
+/// Reports the counts.
+fn report_counts(said: &mut TextBuilder<Global>, counts: &Counts) {
+    said.put_template(
         "networks {0} rings {1}\nsettled {2} not settled {3} failed {4}\nnot settled where nothing goes round {5}\n",
         &[
             counts.accepted,
@@ -137,7 +135,7 @@ fn tell_counts(said: &mut Text<Global>, counts: &Counts) {
         ],
         &[],
     );
-    said.fill(
+    said.put_template(
         "frames {0}\nover a link at the moment of a start {1} of a command {2} of another frame {3}\n",
         &[
             counts.frames,
@@ -147,7 +145,7 @@ fn tell_counts(said: &mut Text<Global>, counts: &Counts) {
         ],
         &[],
     );
-    said.fill(
+    said.put_template(
         "compared beside other traffic: networks {0} hops {1}\nwrong {2}\n",
         &[counts.pairs, counts.compared, counts.wrong],
         &[],

@@ -1,4 +1,4 @@
-//! Runs of a bridge over captures.
+//! Runs a bridge over captures.
 ghost use Rattle.bridge_config.specs.Commands.{AreCommands};
 
 use bridge_capture::{RunFault, SliceSource, VecSink};
@@ -6,11 +6,14 @@ use bridge_check::Accepted;
 use bridge_config::Command;
 use bridge_core::{View, simulate};
 use bridge_limits::NoMemory;
-use net_run::Settled;
+use net_run::BridgeResult;
 use std::alloc::Global;
 
-/// The sources of captures, none of which may be without octets.
-fn sources_of<'a>(alloc: Global, captures: &[&'a [u8]]) -> Result<Vec<SliceSource<'a>>, NoMemory> {
+/// Returns sources of captures. Refuses an empty capture, which stands for refused memory.
+fn capture_sources<'a>(
+    alloc: Global,
+    captures: &[&'a [u8]],
+) -> Result<Vec<SliceSource<'a>>, NoMemory> {
     let mut sources = Vec::new(alloc);
     for capture in captures {
         if capture.is_empty() || sources.push(SliceSource::new(*capture)).is_err() {
@@ -20,8 +23,8 @@ fn sources_of<'a>(alloc: Global, captures: &[&'a [u8]]) -> Result<Vec<SliceSourc
     Ok(sources)
 }
 
-/// So many empty sinks.
-fn sinks_of(alloc: Global, count: usize) -> Result<Vec<VecSink<Global>>, NoMemory> {
+/// Returns `count` empty outputs.
+fn empty_sinks(alloc: Global, count: usize) -> Result<Vec<VecSink<Global>>, NoMemory> {
     let mut sinks = Vec::new(alloc);
     for _ in 0..count {
         if sinks.push(VecSink::new(alloc)).is_err() {
@@ -31,20 +34,19 @@ fn sinks_of(alloc: Global, count: usize) -> Result<Vec<VecSink<Global>>, NoMemor
     Ok(sinks)
 }
 
-/// A run over commands and captures, one for each port by rising number. A capture without octets is one to which memory was
-/// refused.
-pub fn ran_over(
+/// Runs a bridge over commands, and captures by rising port number. An empty capture stands for refused memory.
+pub fn run_captures(
     alloc: Global,
     accepted: &Accepted<Global>,
     commands: &[Command],
     captures: &[&[u8]],
-) -> Result<Settled<Global>, RunFault>
+) -> Result<BridgeResult<Global>, RunFault>
     requires { AreCommands accepted.now commands.now }
 {
-    let Ok(mut sources) = sources_of(alloc, captures) else {
+    let Ok(mut sources) = capture_sources(alloc, captures) else {
         return Err(RunFault::NoMemory);
     };
-    let Ok(mut taps) = sinks_of(alloc, sources.len()) else {
+    let Ok(mut taps) = empty_sinks(alloc, sources.len()) else {
         return Err(RunFault::NoMemory);
     };
     let count = accepted.plan().ports().len();
@@ -52,31 +54,31 @@ pub fn ran_over(
         return Err(RunFault::NoMemory);
     }
     match simulate(alloc, accepted, commands, &mut sources, &mut taps) {
-        Ok(outcome) => Ok(Settled { outcome, taps }),
+        Ok(outcome) => Ok(BridgeResult { outcome, taps }),
         Err(fault) => Err(fault),
     }
 }
 
-/// The same without commands.
+/// Runs a bridge without commands, over captures by rising port number.
 #[tactic(auto, using(crate::proofs::NoCommands::none))]
-pub fn ran_without(
+pub fn run_without_commands(
     alloc: Global,
     accepted: &Accepted<Global>,
     captures: &[&[u8]],
-) -> Result<Settled<Global>, RunFault> {
-    ran_over(alloc, accepted, &[], captures)
+) -> Result<BridgeResult<Global>, RunFault> {
+    run_captures(alloc, accepted, &[], captures)
 }
 
-/// The capture of what left a port of so many by rising number, from 1.
-pub fn tap_of(ran: &Settled<Global>, port: u8) -> &[u8] {
+/// Returns the capture of the frames that left `port`. Expects ports numbered from 1 without gaps.
+pub fn sent_capture(ran: &BridgeResult<Global>, port: u8) -> &[u8] {
     match ran.taps.get((port as usize).saturating_sub(1)) {
         Some(tap) => tap.octets(),
         None => &[],
     }
 }
 
-/// What a run tells of a filter.
-pub fn view_of(ran: &Settled<Global>, filter: u32) -> Option<&View<Global>> {
+/// Returns the record of a filter.
+pub fn find_view(ran: &BridgeResult<Global>, filter: u32) -> Option<&View<Global>> {
     for (number, view) in &ran.outcome.filters {
         if *number == filter {
             return Some(view);

@@ -1,129 +1,130 @@
-//! The filtering database: where frames go. Sets of ports are numbers: bit n - 1 is 1 where port n is in the set.
+//! Asks the filtering database where frames go. In a set of ports, bit n - 1 stands for port n.
 
-use crate::parts::{Part, ask_made, collected};
+use crate::parts::{Part, ask_made, collect_parts};
 use crate::words::{
-    Fault, Said, address_in, first_word, has_line, number, number_at, parted, show, tell, word_at,
+    Fault, Output, first_word, has_line, number_or_max, parse_address, parse_number, show,
+    split_first_line, tell, word_at_index,
 };
 use bridge_forward::{Forwarding, PortSet, StaticEntry, Vlan, laws};
 use std::alloc::{AllocError, Allocator, Global};
 
-/// How many static entries the line `many` makes.
+/// Number of `static` entries that the line `many` makes.
 const MANY: u16 = 4096;
 
-/// The number of 16 bits at a place of a line.
-fn short_at(line: &str, place: usize) -> u16 {
-    number(word_at(line, place)).unwrap_or(0)
+/// Returns the 16-bit number at index `place` of a line, or 0 if there is none.
+fn parse_short(line: &str, place: usize) -> u16 {
+    parse_number(word_at_index(line, place)).unwrap_or(0)
 }
 
-/// The VLAN of a line `vlan VLAN PORTS`.
-fn vlan_in(line: &str) -> Option<Vlan> {
+/// Reads the VLAN of a line `vlan VLAN PORTS`.
+fn parse_vlan(line: &str) -> Option<Vlan> {
     if first_word(line) != "vlan" {
         return None;
     }
     Some(Vlan {
-        vid: short_at(line, 1),
-        members: PortSet::of_bits(short_at(line, 2)),
+        vid: parse_short(line, 1),
+        members: PortSet::from_bits(parse_short(line, 2)),
     })
 }
 
-/// The entry of a line `static VLAN ADDRESS PORTS`.
-fn static_in(line: &str) -> Option<StaticEntry> {
+/// Reads the entry of a line `static VLAN ADDRESS PORTS`.
+fn parse_static(line: &str) -> Option<StaticEntry> {
     if first_word(line) != "static" {
         return None;
     }
     Some(StaticEntry {
-        vid: short_at(line, 1),
-        address: address_in(word_at(line, 2)),
-        ports: PortSet::of_bits(short_at(line, 3)),
+        vid: parse_short(line, 1),
+        address: parse_address(word_at_index(line, 2)),
+        ports: PortSet::from_bits(parse_short(line, 3)),
     })
 }
 
-/// The entries of lines, with many more behind them where a line says `many`.
-fn statics_in<A: Allocator>(alloc: A, lines: &str) -> Result<Vec<StaticEntry, A>, AllocError> {
-    let mut statics = collected(alloc, lines, '\n', static_in)?;
+/// Reads the entries of lines. A line `many` adds `MANY` entries.
+fn parse_statics<A: Allocator>(alloc: A, lines: &str) -> Result<Vec<StaticEntry, A>, AllocError> {
+    let mut statics = collect_parts(alloc, lines, '\n', parse_static)?;
     if has_line(lines, "many") {
         push_many(&mut statics)?;
     }
     Ok(statics)
 }
 
-/// Entries of VLAN 10, each for another address.
+/// Adds `MANY` entries of VLAN 10, each with another address.
 fn push_many<A: Allocator>(statics: &mut Vec<StaticEntry, A>) -> Result<(), AllocError> {
     for number in 0..MANY {
         statics.push(StaticEntry {
             vid: 10,
-            address: address_of(number),
-            ports: PortSet::of_bits(bits_of(number)),
+            address: numbered_address(number),
+            ports: PortSet::from_bits(port_bits(number)),
         })?;
     }
     Ok(())
 }
 
-fn address_of(number: u16) -> [u8; 6] {
+fn numbered_address(number: u16) -> [u8; 6] {
     let [high, low] = number.to_be_bytes();
     [2, 0, 0, 0, high, low]
 }
 
-/// Entries with an even number send to port 2, the others to port 16.
-fn bits_of(number: u16) -> u16 {
+/// Returns port 2 for an even `number`, and port 16 for an odd one.
+fn port_bits(number: u16) -> u16 {
     if number % 2 == 0 { 2 } else { 32_768 }
 }
 
-/// The database of lines.
-pub fn database_in<A: Allocator + Copy>(alloc: A, lines: &str) -> Result<Forwarding<A>, Fault> {
-    let vlans = collected(alloc, lines, '\n', vlan_in)?;
-    let statics = statics_in(alloc, lines)?;
+/// Makes the database of lines.
+pub fn parse_database<A: Allocator + Copy>(alloc: A, lines: &str) -> Result<Forwarding<A>, Fault> {
+    let vlans = collect_parts(alloc, lines, '\n', parse_vlan)?;
+    let statics = parse_statics(alloc, lines)?;
     Ok(Forwarding::new(alloc, vlans, statics)?)
 }
 
-/// Asks a database.
-pub fn database(said: &mut Said, text: &str) {
-    let (head, lines) = parted(text);
-    ask_made(said, database_in(said.alloc, lines), head, lines)
+/// Makes a database, and asks it line by line.
+pub fn database(said: &mut Output, text: &str) {
+    let (head, lines) = split_first_line(text);
+    ask_made(said, parse_database(said.alloc, lines), head, lines)
 }
 
 impl Part for Forwarding<Global> {
-    fn ask(&mut self, said: &mut Said, line: &str) {
+    fn ask(&mut self, said: &mut Output, line: &str) {
         match first_word(line) {
             "frame" => frame(said, self, line),
             "vlans" => tell(said, line, &self.vlans().len()),
             "statics" => tell(said, line, &self.statics().len()),
-            "each" => tell(said, line, &found(self)),
+            "each" => tell(said, line, &count_found(self)),
             "laws" => name_laws(said, line),
             _ => show(said, line),
         }
     }
 }
 
-/// Tells where a frame goes, and whether that has port 3: `frame PORT VLAN ADDRESS`.
-fn frame(said: &mut Said, database: &Forwarding<Global>, line: &str) {
-    let port = number_at(line, 1);
+/// Adds the egress ports of a frame, and whether port 3 is among them: `frame PORT VLAN ADDRESS`.
+fn frame(said: &mut Output, database: &Forwarding<Global>, line: &str) {
+    let port = number_or_max(line, 1);
     if port < 1 || port > 16 {
         return tell(said, line, &Fault::NotAllowed);
     }
-    let address = address_in(word_at(line, 3));
-    let ports = database.forward(port as u8, short_at(line, 2), &address);
+    let address = parse_address(word_at_index(line, 3));
+    let ports = database.forward(port as u8, parse_short(line, 2), &address);
     tell(said, line, &(ports.bits(), ports.has(3)))
 }
 
-/// For how many of many entries a frame goes where it says.
-fn found(database: &Forwarding<Global>) -> u64 {
+/// Returns for how many of `MANY` entries a frame goes to the entry's ports.
+fn count_found(database: &Forwarding<Global>) -> u64 {
     let mut found = 0u64;
     for number in 0..MANY {
-        let ports = database.forward(1, 10, &address_of(number));
-        if ports.bits() == bits_of(number) {
+        let ports = database.forward(1, 10, &numbered_address(number));
+        if ports.bits() == port_bits(number) {
             found = found.saturating_add(1);
         }
     }
     found
 }
 
-/// The laws can be named.
-fn name_laws(said: &mut Said, line: &str) {
-    laws::forward_is_goes_out();
+/// Names the laws of the database, to show that other crates can use them.
+fn name_laws(said: &mut Output, line: &str) {
+    laws::forward_is_port_rule();
     laws::outputs_are_members();
-    laws::none_goes_back();
+    laws::ingress_is_no_output();
     laws::no_vlan_no_outputs();
     laws::outputs_fit();
-    said.text.fill("{a} -> named\n", &[], &[line]);
+    said.text.put_template("{a} -> named\n", &[], &[line]);
 }

@@ -1,68 +1,71 @@
-//! Frames: their heads, how long they occupy a link, and the drop eligible indication.
+//! Asks for heads of frames, transmission times, and the drop eligible indication.
 
-use crate::parts::{Part, ask_each, collected};
-use crate::words::{Fault, Said, first_word, number, parted, show, small_at, tell, word_at};
+use crate::parts::{Part, ask_each, collect_parts};
+use crate::words::{
+    Fault, Output, first_word, parse_number, show, split_first_line, tell, u32_or_max,
+    word_at_index,
+};
 use bridge_frame::{FrameFault, Head, Speed, mark_drop_eligible, occupation, parse};
-use bridge_limits::MOST_CAPTURED;
+use bridge_limits::MAX_CAPTURED_OCTETS;
 use std::alloc::{AllocError, Global};
 
-/// The octets of a word, which commas part.
-fn octets_in(alloc: Global, word: &str) -> Result<Vec<u8>, AllocError> {
-    collected(alloc, word, ',', number)
+/// Returns the octets of a word, which commas separate.
+fn parse_octets(alloc: Global, word: &str) -> Result<Vec<u8>, AllocError> {
+    collect_parts(alloc, word, ',', parse_number)
 }
 
-/// What is asked of frames.
+/// The functions on frames, as a part without state.
 #[derive(Drop)]
 struct Asking;
 
 impl Part for Asking {
-    fn ask(&mut self, said: &mut Said, line: &str) {
+    fn ask(&mut self, said: &mut Output, line: &str) {
         match first_word(line) {
-            "occupation" => occupied(said, line),
-            "speed" => tell(said, line, &Speed::of(small_at(line, 1))),
-            "head" => head_of(said, line),
-            "mark" => marked(said, line),
+            "occupation" => show_occupation(said, line),
+            "speed" => tell(said, line, &Speed::of(u32_or_max(line, 1))),
+            "head" => show_head(said, line),
+            "mark" => show_mark(said, line),
             _ => show(said, line),
         }
     }
 }
 
-/// Asks of frames, a line each.
-pub fn frames(said: &mut Said, text: &str) {
-    let (head, lines) = parted(text);
+/// Asks the functions on frames line by line.
+pub fn frames(said: &mut Output, text: &str) {
+    let (head, lines) = split_first_line(text);
     show(said, head);
     ask_each(said, &mut Asking, lines)
 }
 
-/// Tells for how long a frame occupies a link: `occupation OCTETS SPEED`.
-fn occupied(said: &mut Said, line: &str) {
-    match Speed::of(small_at(line, 2)) {
-        Some(speed) => tell(said, line, &occupation(small_at(line, 1), speed)),
+/// Adds the transmission time of a frame in ns: `occupation OCTETS SPEED`.
+fn show_occupation(said: &mut Output, line: &str) {
+    match Speed::of(u32_or_max(line, 2)) {
+        Some(speed) => tell(said, line, &occupation(u32_or_max(line, 1), speed)),
         None => tell(said, line, &Fault::NotAllowed),
     }
 }
 
-/// Tells the head of a frame: `head LENGTH OCTETS`.
-fn head_of(said: &mut Said, line: &str) {
-    let Ok(octets) = octets_in(said.alloc, word_at(line, 2)) else {
-        return said.text.give_up();
+/// Adds the head of a frame: `head LENGTH OCTETS`.
+fn show_head(said: &mut Output, line: &str) {
+    let Ok(octets) = parse_octets(said.alloc, word_at_index(line, 2)) else {
+        return said.text.discard();
     };
-    tell(said, line, &parsed(&octets, small_at(line, 1)))
+    tell(said, line, &parse_head(&octets, u32_or_max(line, 1)))
 }
 
-/// The head of a frame, where the octets that are captured of it may be so many.
-fn parsed(octets: &[u8], len: u32) -> Option<Result<Head, FrameFault>> {
-    if octets.len() <= MOST_CAPTURED as usize && octets.len() <= len as usize {
+/// Reads the head of a frame. Returns `None` if it has more captured octets than `len` or the limit.
+fn parse_head(octets: &[u8], len: u32) -> Option<Result<Head, FrameFault>> {
+    if octets.len() <= MAX_CAPTURED_OCTETS as usize && octets.len() <= len as usize {
         Some(parse(octets, len))
     } else {
         None
     }
 }
 
-/// Tells whether a frame is marked, and its octets afterwards: `mark OCTETS`.
-fn marked(said: &mut Said, line: &str) {
-    let Ok(mut octets) = octets_in(said.alloc, word_at(line, 1)) else {
-        return said.text.give_up();
+/// Adds whether a frame was marked, and its octets afterwards: `mark OCTETS`.
+fn show_mark(said: &mut Output, line: &str) {
+    let Ok(mut octets) = parse_octets(said.alloc, word_at_index(line, 1)) else {
+        return said.text.discard();
     };
     let is_marked = mark_drop_eligible(&mut octets);
     tell(said, line, &(is_marked, octets.as_slice()))

@@ -1,51 +1,51 @@
-//! Each growth of what makes a part refused in turn.
+//! Refuses the allocations that make a part, one by one.
 
-use crate::databases::database_in;
-use crate::gates::gate_plan_in;
-use crate::lists::lists_in;
-use crate::police::made_in;
-use crate::ports::port_in;
-use crate::streams::table_in;
-use crate::words::{Fault, Said, first_word, parted, show, tell};
-use fixture_alloc::{Ending, RefusesOne};
+use crate::databases::parse_database;
+use crate::gates::parse_gate_plan;
+use crate::lists::parse_lists;
+use crate::police::parse_police;
+use crate::ports::parse_port;
+use crate::streams::parse_table;
+use crate::words::{Fault, Output, first_word, show, split_first_line, tell};
+use fixture_bridge::{Ending, RefusesOne};
 use std::alloc::Allocator;
 
-/// More growths than any part asks for.
+/// Greatest number of allocations tried. A part makes fewer.
 const NEVER: u64 = 100_000;
 
-/// How a value was made, which is let go.
-fn ending_of<T: Drop>(made: Result<T, Fault>) -> Ending {
+/// Returns how making a value ended, and drops the value.
+fn value_ending<T: Drop>(made: Result<T, Fault>) -> Ending {
     match made {
         Ok(value) => {
             drop(value);
             Ending::Whole
         }
-        Err(fault) => Ending::of(false, fault == Fault::NoMemory),
+        Err(fault) => Ending::from_flags(false, fault == Fault::NoMemory),
     }
 }
 
-/// How the part of a paragraph is made.
-fn making<A: Allocator + Copy>(alloc: A, text: &str) -> Ending {
-    let (head, lines) = parted(text);
+/// Makes the part of a paragraph, and returns how that ended.
+fn part_ending<A: Allocator + Copy>(alloc: A, text: &str) -> Ending {
+    let (head, lines) = split_first_line(text);
     match first_word(head) {
-        "list" => ending_of(lists_in(alloc, head)),
-        "gate" => ending_of(gate_plan_in(alloc, head)),
-        "streams" => ending_of(table_in(alloc, lines, true)),
-        "database" => ending_of(database_in(alloc, lines)),
-        "police" => ending_of(made_in(alloc, lines)),
-        "port" => ending_of(port_in(alloc, head)),
+        "list" => value_ending(parse_lists(alloc, head)),
+        "gate" => value_ending(parse_gate_plan(alloc, head)),
+        "streams" => value_ending(parse_table(alloc, lines, true)),
+        "database" => value_ending(parse_database(alloc, lines)),
+        "police" => value_ending(parse_police(alloc, lines)),
+        "port" => value_ending(parse_port(alloc, head)),
         _ => Ending::Wrong,
     }
 }
 
-/// Makes the part behind the first line over and over, its growths from the first on refused in turn, until it asks for fewer.
-/// Tells how many there are, or the one that wasn't answered by want of memory.
-pub fn refuse(said: &mut Said, text: &str) {
-    let (line, part) = parted(text);
+/// Makes the part after the first line repeatedly, each time with another allocation refused. Adds the number of its allocations, or the
+/// allocation with a wrong ending.
+pub fn refuse(said: &mut Output, text: &str) {
+    let (line, part) = split_first_line(text);
     for n in 1..NEVER {
         let gate = RefusesOne::new(said.alloc, n);
-        let ending = making(&gate, part);
-        match (ending, gate.refused()) {
+        let ending = part_ending(&gate, part);
+        match (ending, gate.has_refused()) {
             (Ending::Whole, false) => {
                 tell(said, line, &(n - 1));
                 break;

@@ -1,9 +1,10 @@
-//! Cyclic lists, lists that are exchanged at a moment, and those of a port: turns, runs and fits.
+//! Asks cyclic lists and changing lists for intervals, open times and fits.
 ghost use Rattle.std.specs.Prelude.{◌<◌, ◌≤◌, IfSome};
 
 use crate::parts::{Part, ask_made, push_each};
 use crate::words::{
-    Fault, Said, first_word, has, number, number_after, number_at, parted, show, tell,
+    Fault, Output, first_word, has_word, number_by_name, number_or_max, parse_number, show,
+    split_first_line, tell,
 };
 use bridge_cycle::{
     CyclicList, END_OF_SEARCHES, END_OF_TURNS, Egress, Joined, LONGEST_CYCLE, ListFault, Run,
@@ -12,15 +13,15 @@ use bridge_cycle::{
 use bridge_limits::END_OF_TIME;
 use std::alloc::{AllocError, Allocator, Global};
 
-/// An entry of the form STATE:INTERVAL.
-fn entry_in(word: &str) -> Option<(u8, u64)> {
+/// Reads an entry `STATE:INTERVAL`.
+fn parse_list_entry(word: &str) -> Option<(u8, u64)> {
     let (state, interval) = word.split_once(':')?;
-    Some((number(state)?, number(interval)?))
+    Some((parse_number(state)?, parse_number(interval)?))
 }
 
-/// The entries of a text, as often as the number behind `times` says.
-fn entries_in<A: Allocator>(alloc: A, text: &str) -> Result<Vec<(u8, u64), A>, AllocError> {
-    let times: usize = number_after(text, "times").unwrap_or(1);
+/// Reads the entries of a text, and repeats them by the number after `times`.
+fn parse_list_entries<A: Allocator>(alloc: A, text: &str) -> Result<Vec<(u8, u64), A>, AllocError> {
+    let times: usize = number_by_name(text, "times").unwrap_or(1);
     let words = text.split(' ').count();
     let mut entries = Vec::with_capacity(alloc, words.saturating_mul(times))?;
     match push_times(&mut entries, text, times) {
@@ -29,33 +30,33 @@ fn entries_in<A: Allocator>(alloc: A, text: &str) -> Result<Vec<(u8, u64), A>, A
     }
 }
 
-/// Adds the entries of a text so often.
+/// Adds the entries of a text `times` times.
 fn push_times<A: Allocator>(
     entries: &mut Vec<(u8, u64), A>,
     text: &str,
     times: usize,
 ) -> Result<(), AllocError> {
     for _ in 0..times {
-        push_each(entries, text, ' ', entry_in)?;
+        push_each(entries, text, ' ', parse_list_entry)?;
     }
     Ok(())
 }
 
-/// The list of a text `base NUMBER cycle NUMBER STATE:INTERVAL ..`.
-fn list_in<A: Allocator + Copy>(alloc: A, text: &str) -> Result<CyclicList<u8, A>, Fault> {
-    let base = number_after(text, "base").unwrap_or(0);
-    let cycle = number_after(text, "cycle").unwrap_or(0);
+/// Reads a list `base NUMBER cycle NUMBER STATE:INTERVAL ..`.
+fn parse_list<A: Allocator + Copy>(alloc: A, text: &str) -> Result<CyclicList<u8, A>, Fault> {
+    let base = number_by_name(text, "base").unwrap_or(0);
+    let cycle = number_by_name(text, "cycle").unwrap_or(0);
     if base >= END_OF_TIME {
         return Err(Fault::NotAllowed);
     }
-    match entries_in(alloc, text) {
-        Ok(entries) => list_of(CyclicList::new(alloc, base, cycle, entries)),
+    match parse_list_entries(alloc, text) {
+        Ok(entries) => list_or_fault(CyclicList::new(alloc, base, cycle, entries)),
         Err(_) => Err(Fault::NoMemory),
     }
 }
 
-/// A list, or why there is none.
-fn list_of<A: Allocator + Copy>(
+/// Returns the list or its fault.
+fn list_or_fault<A: Allocator + Copy>(
     made: Result<CyclicList<u8, A>, ListFault>,
 ) -> Result<CyclicList<u8, A>, Fault> {
     match made {
@@ -64,20 +65,24 @@ fn list_of<A: Allocator + Copy>(
     }
 }
 
-/// The lists of a text `LIST then LIST at NUMBER`.
-fn joined_in<A: Allocator + Copy>(alloc: A, before: &str, after: &str) -> Result<Egress<A>, Fault> {
-    let at = number_after(after, "at").unwrap_or(END_OF_TIME);
+/// Reads two lists `LIST then LIST at NUMBER`, with a schedule change at `NUMBER`.
+fn parse_changing_list<A: Allocator + Copy>(
+    alloc: A,
+    before: &str,
+    after: &str,
+) -> Result<Egress<A>, Fault> {
+    let at = number_by_name(after, "at").unwrap_or(END_OF_TIME);
     if at >= END_OF_TIME {
         return Err(Fault::NotAllowed);
     }
-    match list_in(alloc, before) {
-        Ok(old) => joined_with(old, list_in(alloc, after), at),
+    match parse_list(alloc, before) {
+        Ok(old) => make_changing_list(old, parse_list(alloc, after), at),
         Err(fault) => Err(fault),
     }
 }
 
-/// A list that another one follows at a moment, if there is one.
-fn joined_with<A: Allocator + Copy>(
+/// Returns the list that changes from `old` to `new` at time `at`, if `new` was made.
+fn make_changing_list<A: Allocator + Copy>(
     old: CyclicList<u8, A>,
     new: Result<CyclicList<u8, A>, Fault>,
     at: u64,
@@ -93,39 +98,41 @@ fn joined_with<A: Allocator + Copy>(
     }
 }
 
-/// The lists of a text: one, or two with `then` between them; with the word `copied` their copy.
-pub fn lists_in<A: Allocator + Copy>(alloc: A, text: &str) -> Result<Egress<A>, Fault> {
+/// Reads the lists of a text: one, or two with `then` between them. With the word `copied`, returns a copy.
+pub fn parse_lists<A: Allocator + Copy>(alloc: A, text: &str) -> Result<Egress<A>, Fault> {
     let made = match text.split_once(" then ") {
-        Some((before, after)) => joined_in(alloc, before, after),
-        None => single(list_in(alloc, text)),
+        Some((before, after)) => parse_changing_list(alloc, before, after),
+        None => single_list(parse_list(alloc, text)),
     };
-    if has(text, "copied") {
-        copied(alloc, made)
+    if has_word(text, "copied") {
+        copy_if_made(alloc, made)
     } else {
         made
     }
 }
 
-/// A list alone.
-fn single<A: Allocator + Copy>(made: Result<CyclicList<u8, A>, Fault>) -> Result<Egress<A>, Fault> {
+/// Returns a list without schedule change.
+fn single_list<A: Allocator + Copy>(
+    made: Result<CyclicList<u8, A>, Fault>,
+) -> Result<Egress<A>, Fault> {
     match made {
         Ok(list) => Ok(Egress::Cyclic(list)),
         Err(fault) => Err(fault),
     }
 }
 
-/// The copy of lists that were made.
-fn copied<A: Allocator + Copy>(
+/// Returns the copy of lists, if they were made.
+fn copy_if_made<A: Allocator + Copy>(
     alloc: A,
     made: Result<Egress<A>, Fault>,
 ) -> Result<Egress<A>, Fault> {
     match made {
-        Ok(lists) => copy_of(alloc, lists),
+        Ok(lists) => copy_lists(alloc, lists),
         Err(fault) => Err(fault),
     }
 }
 
-fn copy_of<A: Allocator + Copy>(alloc: A, lists: Egress<A>) -> Result<Egress<A>, Fault> {
+fn copy_lists<A: Allocator + Copy>(alloc: A, lists: Egress<A>) -> Result<Egress<A>, Fault> {
     let copied = lists.copy(alloc);
     drop(lists);
     match copied {
@@ -134,14 +141,14 @@ fn copy_of<A: Allocator + Copy>(alloc: A, lists: Egress<A>) -> Result<Egress<A>,
     }
 }
 
-/// Asks lists.
-pub fn lists(said: &mut Said, text: &str) {
-    let (head, lines) = parted(text);
-    ask_made(said, lists_in(said.alloc, head), head, lines)
+/// Makes lists, and asks them line by line.
+pub fn lists(said: &mut Output, text: &str) {
+    let (head, lines) = split_first_line(text);
+    ask_made(said, parse_lists(said.alloc, head), head, lines)
 }
 
 impl Part for Egress<Global> {
-    fn ask(&mut self, said: &mut Said, line: &str) {
+    fn ask(&mut self, said: &mut Output, line: &str) {
         match first_word(line) {
             "turn" => turn(said, self, line),
             "cycle" => tell(said, line, &self.cycle()),
@@ -151,9 +158,9 @@ impl Part for Egress<Global> {
     }
 }
 
-/// Tells the turn at a moment: its state, its start and its end.
-fn turn(said: &mut Said, lists: &Egress<Global>, line: &str) {
-    let t = number_at(line, 1);
+/// Adds the interval at a time: state, start and end.
+fn turn(said: &mut Output, lists: &Egress<Global>, line: &str) {
+    let t = number_or_max(line, 1);
     if t >= END_OF_TURNS {
         return tell(said, line, &Fault::NotAllowed);
     }
@@ -161,15 +168,15 @@ fn turn(said: &mut Said, lists: &Egress<Global>, line: &str) {
     tell(said, line, &(turn.state, turn.start, turn.end))
 }
 
-/// Tells what is asked of one list, or of two.
-fn ask_one(said: &mut Said, lists: &Egress<Global>, line: &str) {
+/// Adds the answer of one list, or of two lists with a schedule change.
+fn ask_one(said: &mut Output, lists: &Egress<Global>, line: &str) {
     match lists {
         Egress::Cyclic(list) => ask_list(said, list, line),
         Egress::Joined(joined) => ask_joined(said, joined, line),
     }
 }
 
-fn ask_list(said: &mut Said, list: &CyclicList<u8, Global>, line: &str) {
+fn ask_list(said: &mut Output, list: &CyclicList<u8, Global>, line: &str) {
     match first_word(line) {
         "entries" => tell(said, line, &list.entries()),
         "base" => tell(said, line, &list.base()),
@@ -178,41 +185,45 @@ fn ask_list(said: &mut Said, list: &CyclicList<u8, Global>, line: &str) {
     }
 }
 
-/// Tells the longest run of a class.
-fn run(said: &mut Said, list: &CyclicList<u8, Global>, line: &str) {
-    let class = number_at(line, 1);
+/// Adds the longest time for which a class is open.
+fn run(said: &mut Output, list: &CyclicList<u8, Global>, line: &str) {
+    let class = number_or_max(line, 1);
     if class >= 8 {
         return tell(said, line, &Fault::NotAllowed);
     }
     tell(said, line, &longest_run(list, class as u8))
 }
 
-fn ask_joined(said: &mut Said, joined: &Joined<u8, Global>, line: &str) {
+fn ask_joined(said: &mut Output, joined: &Joined<u8, Global>, line: &str) {
     let (before, after) = joined.lists();
     match first_word(line) {
-        "at" => tell(said, line, &joined.at()),
+        "at" => tell(said, line, &joined.change_time()),
         "cycles" => tell(said, line, &(before.cycle(), after.cycle())),
         _ => show(said, line),
     }
 }
 
-/// A class, for how long its link is occupied, and from when on a fit is looked for.
+/// Class, transmission time and earliest start for which a fit is searched. Times are in ns.
 #[derive(Clone, Copy)]
-struct Asked {
+struct FitQuestion {
     class: u8,
     occupied: u64,
     from: u64,
 }
 
-/// What a line `fit CLASS OCCUPIED FROM` asks for.
-fn asked_in(line: &str) -> Option<Asked>
+/// Reads a line `fit CLASS OCCUPIED FROM`.
+fn parse_fit_question(line: &str) -> Option<FitQuestion>
     ensures class { IfSome result (λ a. a.class < 8) }
     ensures occupied { IfSome result (λ a. a.occupied ≤ LONGEST_CYCLE) }
     ensures from { IfSome result (λ a. a.from < END_OF_SEARCHES) }
 {
-    let (class, occupied, from) = (number_at(line, 1), number_at(line, 2), number_at(line, 3));
+    let (class, occupied, from) = (
+        number_or_max(line, 1),
+        number_or_max(line, 2),
+        number_or_max(line, 3),
+    );
     if class < 8 && occupied <= LONGEST_CYCLE && from < END_OF_SEARCHES {
-        Some(Asked {
+        Some(FitQuestion {
             class: class as u8,
             occupied,
             from,
@@ -222,18 +233,18 @@ fn asked_in(line: &str) -> Option<Asked>
     }
 }
 
-/// Tells the first fit of a class that each list opens long enough, one list alone not always.
-fn fit(said: &mut Said, lists: &Egress<Global>, line: &str) {
-    let Some(asked) = asked_in(line) else {
+/// Adds the first fit of a class, or `None` if a list never opens the class long enough, or a single list always opens it.
+fn fit(said: &mut Output, lists: &Egress<Global>, line: &str) {
+    let Some(asked) = parse_fit_question(line) else {
         return tell(said, line, &Fault::NotAllowed);
     };
     match lists {
-        Egress::Cyclic(list) => tell(said, line, &fit_of(list, asked)),
-        Egress::Joined(joined) => tell(said, line, &fit_of_both(joined, asked)),
+        Egress::Cyclic(list) => tell(said, line, &list_fit(list, asked)),
+        Egress::Joined(joined) => tell(said, line, &changing_list_fit(joined, asked)),
     }
 }
 
-fn fit_of(list: &CyclicList<u8, Global>, asked: Asked) -> Option<u64>
+fn list_fit(list: &CyclicList<u8, Global>, asked: FitQuestion) -> Option<u64>
     requires class { asked.class < 8 }
     requires occupied { asked.occupied ≤ LONGEST_CYCLE }
     requires from { asked.from < END_OF_SEARCHES }
@@ -247,7 +258,7 @@ fn fit_of(list: &CyclicList<u8, Global>, asked: Asked) -> Option<u64>
     Some(first_fit(list, asked.class, asked.occupied, asked.from))
 }
 
-fn fit_of_both(joined: &Joined<u8, Global>, asked: Asked) -> Option<u64>
+fn changing_list_fit(joined: &Joined<u8, Global>, asked: FitQuestion) -> Option<u64>
     requires class { asked.class < 8 }
     requires occupied { asked.occupied ≤ LONGEST_CYCLE }
     requires from { asked.from < END_OF_SEARCHES }

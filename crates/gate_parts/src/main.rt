@@ -1,13 +1,11 @@
 #![tactic(auto)]
-//! The worked examples of the parts of a bridge: scripts whose lines make a part and ask it, each printed with the answer.
+//! Plays worked examples of a bridge's parts. The arguments are paths of scripts, `measure` for the times of calls, or `few` for a few
+//! calls.
 //!
-//! The words are the paths of the scripts. In place of one the word `measure` has printed what calls of a port, a meter and
-//! filters cost; `few` makes a few of each, and prints nothing.
-//!
-//! A script consists of paragraphs. The first word of one says what is made of its lines; those that define nothing ask it. A
-//! line that is neither is printed as it is.
+//! The first word of a paragraph names its part. Lines that define nothing ask the part. Any other line is printed unchanged.
 
 mod benches;
+mod consistency;
 mod databases;
 mod frames;
 mod gates;
@@ -18,10 +16,9 @@ mod parts;
 mod police;
 mod ports;
 mod streams;
-mod together;
 mod words;
 
-use bridge_text::Text;
+use bridge_text::TextBuilder;
 use databases::database;
 use frames::frames;
 use gates::gate;
@@ -34,32 +31,32 @@ use std::alloc::Global;
 use std::rt::{Clock, Env, Files};
 use std::{env, fs, io};
 use streams::streams;
-use words::{Said, first_word, parted, show};
+use words::{Output, first_word, show, split_first_line};
 
 fn main(rt: HostRuntime) -> io::Result<()> {
     run(&rt)
 }
 
-/// Does what the words say, one after the other.
+/// Carries out the arguments, one after the other.
 fn run<H: AllocGlobal + Print + Clock + Env + Files>(rt: &H) -> io::Result<()> {
     for word in env::args(rt)?.skip(1) {
-        obey(rt, word.as_str())?;
+        run_argument(rt, word.as_str())?;
     }
     Ok(())
 }
 
-/// Plays the script of a word, or measures.
-fn obey<H: AllocGlobal + Print + Clock + Files>(rt: &H, word: &str) -> io::Result<()> {
+/// Plays the script of an argument, or measures calls.
+fn run_argument<H: AllocGlobal + Print + Clock + Files>(rt: &H, word: &str) -> io::Result<()> {
     match word {
-        "few" => measured(rt, false),
-        "measure" => measured(rt, true),
+        "few" => print_measurements(rt, false),
+        "measure" => print_measurements(rt, true),
         path => play(rt, path),
     }
 }
 
-/// Measures, and prints what it took where that is asked for.
-fn measured<H: AllocGlobal + Print + Clock>(rt: &H, measures: bool) -> io::Result<()> {
-    let mut said = said_over(rt.alloc());
+/// Measures calls, and prints the times if `measures` is true.
+fn print_measurements<H: AllocGlobal + Print + Clock>(rt: &H, measures: bool) -> io::Result<()> {
+    let mut said = new_output(rt.alloc());
     match benches::measure(rt, &mut said, measures) {
         Ok(()) => print(rt, said, measures),
         Err(fault) => {
@@ -69,25 +66,25 @@ fn measured<H: AllocGlobal + Print + Clock>(rt: &H, measures: bool) -> io::Resul
     }
 }
 
-/// Plays a script, and prints what is told of it.
+/// Plays a script, and prints its output.
 fn play<H: AllocGlobal + Print + Files>(rt: &H, path: &str) -> io::Result<()> {
     let script = fs::read_to_string(rt, path)?;
-    let mut said = said_over(rt.alloc());
-    paragraphs(&mut said, script.as_str());
+    let mut said = new_output(rt.alloc());
+    play_paragraphs(&mut said, script.as_str());
     print(rt, said, true)
 }
 
-/// Nothing is told yet.
-fn said_over(alloc: Global) -> Said {
-    Said {
+/// Returns an empty output.
+fn new_output(alloc: Global) -> Output {
+    Output {
         alloc,
-        text: Text::new(alloc),
+        text: TextBuilder::new(alloc),
     }
 }
 
-/// Prints what was told, where it is wanted.
-fn print<H: Print>(rt: &H, said: Said, is_wanted: bool) -> io::Result<()> {
-    match said.text.done() {
+/// Prints an output, if `is_wanted` is true.
+fn print<H: Print>(rt: &H, said: Output, is_wanted: bool) -> io::Result<()> {
+    match said.text.finish() {
         Ok(text) => {
             if is_wanted {
                 rt.print(text.as_str())
@@ -99,17 +96,17 @@ fn print<H: Print>(rt: &H, said: Said, is_wanted: bool) -> io::Result<()> {
     }
 }
 
-/// Tells a script, a paragraph after the other.
-fn paragraphs(said: &mut Said, script: &str) {
+/// Plays a script, paragraph by paragraph.
+fn play_paragraphs(said: &mut Output, script: &str) {
     for part in script.split("\n\n") {
-        paragraph(said, part);
+        play_paragraph(said, part);
         show(said, "");
     }
 }
 
-/// Makes what the first line of a paragraph says, and asks it.
-fn paragraph(said: &mut Said, text: &str) {
-    match first_word(parted(text).0) {
+/// Makes the part that a paragraph's first line names, and asks it.
+fn play_paragraph(said: &mut Output, text: &str) {
+    match first_word(split_first_line(text).0) {
         "list" => lists(said, text),
         "meter" => meter(said, text),
         "gate" => gate(said, text),

@@ -1,29 +1,34 @@
-//! Parts that are asked line by line, and lists that are made of lines.
+//! Asks parts line by line, and makes lists from lines.
 
-use crate::words::{Fault, Said, tell};
+use crate::words::{Fault, Output, tell};
 use std::alloc::{AllocError, Allocator};
 
-/// What a line asks.
+/// A part of a bridge that scripts can ask.
 pub trait Part {
-    /// Does what a line says, and tells the line with the answer.
-    fn ask(&mut self, said: &mut Said, line: &str);
+    /// Carries out a line, and adds the line and the answer.
+    fn ask(&mut self, said: &mut Output, line: &str);
 }
 
-/// Asks a part, a line after the other.
-pub fn ask_each<P: Part>(said: &mut Said, part: &mut P, lines: &str) {
+/// Asks a part line by line.
+pub fn ask_each<P: Part>(said: &mut Output, part: &mut P, lines: &str) {
     for line in lines.lines() {
         part.ask(said, line);
     }
 }
 
-/// Asks a part that was made of a line, or tells why none was made.
-pub fn ask_made<P: Part + Drop>(said: &mut Said, made: Result<P, Fault>, head: &str, lines: &str) {
-    ask_told(said, made, "{a} -> made\n", head, lines)
+/// Asks a part that was made from the line `head`, or adds the fault.
+pub fn ask_made<P: Part + Drop>(
+    said: &mut Output,
+    made: Result<P, Fault>,
+    head: &str,
+    lines: &str,
+) {
+    ask_formatted(said, made, "{a} -> made\n", head, lines)
 }
 
-/// Asks a part that was made of a line, which is told in a form, or tells why none was made.
-pub fn ask_told<P: Part + Drop>(
-    said: &mut Said,
+/// Asks a part that was made from the line `head`, written in `form`, or adds the fault.
+pub fn ask_formatted<P: Part + Drop>(
+    said: &mut Output,
     made: Result<P, Fault>,
     form: &str,
     head: &str,
@@ -31,15 +36,15 @@ pub fn ask_told<P: Part + Drop>(
 ) {
     match made {
         Ok(mut part) => {
-            said.text.fill(form, &[], &[head]);
+            said.text.put_template(form, &[], &[head]);
             ask_each(said, &mut part, lines);
         }
         Err(fault) => tell(said, head, &fault),
     }
 }
 
-/// What a function makes of the parts of a text, which a separator divides, of each one value at most.
-pub fn collected<T: Drop, A: Allocator, F: Fn(&str) -> Option<T> + Copy>(
+/// Returns the values that `of` makes of the parts of a text, between separators.
+pub fn collect_parts<T: Drop, A: Allocator, F: Fn(&str) -> Option<T> + Copy>(
     alloc: A,
     text: &str,
     separator: char,
@@ -52,7 +57,7 @@ pub fn collected<T: Drop, A: Allocator, F: Fn(&str) -> Option<T> + Copy>(
     Ok(all)
 }
 
-/// Adds what a function makes of the parts of a text.
+/// Adds the values that `of` makes of the parts of a text, between separators.
 pub fn push_each<T: Drop, A: Allocator, F: Fn(&str) -> Option<T> + Copy>(
     all: &mut Vec<T, A>,
     text: &str,

@@ -1,79 +1,80 @@
-//! Ports: what is refused, and what starts when.
+//! Asks ports for refusals and starts.
 ghost use Rattle.std.specs.Prelude.{◌≡◌, true};
-ghost use Rattle.bridge_port.specs.Standing.{NoStartBefore};
+ghost use Rattle.bridge_port.specs.StandsFor.{HasNoStartEarlier};
 
-use crate::lists::lists_in;
+use crate::lists::parse_lists;
 use crate::parts::{Part, ask_made};
 use crate::words::{
-    Fault, Said, answer, first_word, has, number_after, number_at, parted, show, small_at, tell,
+    Fault, Output, answer, first_word, has_word, number_by_name, number_or_max, show,
+    split_first_line, tell, u32_or_max,
 };
 use bridge_frame::{Speed, occupation};
-use bridge_limits::{END_OF_TIME, LONGEST_FRAME, MOST_ARRIVALS};
+use bridge_limits::{END_OF_TIME, LONGEST_FRAME, MAX_ARRIVALS};
 use bridge_port::{
-    Item, Port, Refusal, alone_follows, are_rooms, ever_fits_soon, ever_is_fitting,
-    own_windows_isolate,
+    Item, Port, Refusal, are_valid_rooms, can_fit_is_exact, can_fit_soon, own_windows_isolate,
+    solo_copies_follow,
 };
 use std::alloc::{Allocator, Global};
 
-/// What starts: the class, the length, the moment and when it is done.
+/// A start: class, length in octets, start and end of transmission in ns.
 type Start = (u8, u32, u64, u64);
 
-/// The rooms of a line: 64 for each class but class 7, whose room is the number behind `last`.
-fn rooms_in(line: &str) -> [u16; 8] {
-    let last = number_after(line, "last").unwrap_or(64);
+/// Reads the queue capacities of a line: 64 frames for each class, and for class 7 the number after `last`.
+fn parse_rooms(line: &str) -> [u16; 8] {
+    let last = number_by_name(line, "last").unwrap_or(64);
     [64, 64, 64, 64, 64, 64, 64, last]
 }
 
-fn speed_in(line: &str) -> Option<Speed> {
-    match number_after(line, "mbps") {
+fn parse_speed(line: &str) -> Option<Speed> {
+    match number_by_name(line, "mbps") {
         Some(mbps) => Speed::of(mbps),
         None => None,
     }
 }
 
-/// The port of a line `port mbps NUMBER`, with lists where it has a cycle.
-pub fn port_in<A: Allocator + Copy>(alloc: A, line: &str) -> Result<Port<u32, A>, Fault> {
-    let rooms = rooms_in(line);
-    let Some(speed) = speed_in(line) else {
+/// Makes the port of a line `port mbps NUMBER`. With the word `cycle`, the port has gate control lists.
+pub fn parse_port<A: Allocator + Copy>(alloc: A, line: &str) -> Result<Port<u32, A>, Fault> {
+    let rooms = parse_rooms(line);
+    let Some(speed) = parse_speed(line) else {
         return Err(Fault::NotAllowed);
     };
-    if !are_rooms(&rooms) {
+    if !are_valid_rooms(&rooms) {
         return Err(Fault::NotAllowed);
     }
-    let lists = if has(line, "cycle") {
-        Some(lists_in(alloc, line)?)
+    let lists = if has_word(line, "cycle") {
+        Some(parse_lists(alloc, line)?)
     } else {
         None
     };
     Ok(Port::new(alloc, speed, lists, rooms)?)
 }
 
-/// A port on a link of a speed.
+/// A port and the speed of its link.
 #[derive(Drop)]
-struct Sending {
+struct SendingPort {
     port: Port<u32, Global>,
     speed: Speed,
 }
 
-/// Asks a port.
-pub fn port(said: &mut Said, text: &str) {
-    let (head, lines) = parted(text);
-    ask_made(said, sending_in(said.alloc, head), head, lines)
+/// Makes a port, and asks it line by line.
+pub fn port(said: &mut Output, text: &str) {
+    let (head, lines) = split_first_line(text);
+    ask_made(said, parse_sending_port(said.alloc, head), head, lines)
 }
 
-fn sending_in(alloc: Global, line: &str) -> Result<Sending, Fault> {
-    let Some(speed) = speed_in(line) else {
+fn parse_sending_port(alloc: Global, line: &str) -> Result<SendingPort, Fault> {
+    let Some(speed) = parse_speed(line) else {
         return Err(Fault::NotAllowed);
     };
-    let port = port_in(alloc, line)?;
-    Ok(Sending { port, speed })
+    let port = parse_port(alloc, line)?;
+    Ok(SendingPort { port, speed })
 }
 
-impl Part for Sending {
-    fn ask(&mut self, said: &mut Said, line: &str) {
+impl Part for SendingPort {
+    fn ask(&mut self, said: &mut Output, line: &str) {
         match first_word(line) {
             "offer" => offer(said, &mut self.port, line, self.speed),
-            "starts" => starts(said, &mut self.port, line, self.speed),
+            "starts" => make_all_starts(said, &mut self.port, line, self.speed),
             "next" => tell(said, line, &self.port.next_start()),
             "counts" => tell(said, line, &counts(&self.port)),
             "laws" => name_laws(said, line),
@@ -82,31 +83,31 @@ impl Part for Sending {
     }
 }
 
-/// The offers, the starts, and the least moment of the next offer.
+/// Returns the numbers of offers and starts, and the earliest time of the next offer.
 fn counts(port: &Port<u32, Global>) -> (u64, u64, u64) {
     (port.offered(), port.started(), port.earliest())
 }
 
-/// Makes the starts that are due before an offer, and prints why it is refused: `offer MOMENT CLASS LENGTH`.
-fn offer(said: &mut Said, port: &mut Port<u32, Global>, line: &str, speed: Speed) {
-    let t = number_at(line, 1);
-    starts_before(said, port, speed, t);
+/// Makes the starts that are due before an offer, and adds the offer's result: `offer MOMENT CLASS LENGTH`.
+fn offer(said: &mut Output, port: &mut Port<u32, Global>, line: &str, speed: Speed) {
+    let t = number_or_max(line, 1);
+    make_due_starts(said, port, speed, t);
     answer(
         said,
         line,
-        offered(port, t, number_at(line, 2), small_at(line, 3)),
+        offer_frame(port, t, number_or_max(line, 2), u32_or_max(line, 3)),
     )
 }
 
-/// Offers a frame, if it may be offered, and says why it is refused.
-fn offered(
+/// Offers a frame, if the port may be offered it, and returns the port's refusal, if any.
+fn offer_frame(
     port: &mut Port<u32, Global>,
     t: u64,
     class: u64,
     len: u32,
 ) -> Result<Result<(), Refusal>, Fault> {
-    let is_allowed = class < 8 && len <= LONGEST_FRAME && port.offered() < MOST_ARRIVALS;
-    if !is_allowed || t < port.earliest() || t >= END_OF_TIME || !is_calm(port, t) {
+    let is_allowed = class < 8 && len <= LONGEST_FRAME && port.offered() < MAX_ARRIVALS;
+    if !is_allowed || t < port.earliest() || t >= END_OF_TIME || !has_no_due_start(port, t) {
         return Err(Fault::NotAllowed);
     }
     match port.offer(t, class as u8, Item { len, load: len }) {
@@ -115,9 +116,9 @@ fn offered(
     }
 }
 
-/// Whether no start is due before a moment.
-fn is_calm(port: &Port<u32, Global>, t: u64) -> bool
-    ensures { result ≡ true → NoStartBefore port.now t }
+/// Whether no start is due before time `t`.
+fn has_no_due_start(port: &Port<u32, Global>, t: u64) -> bool
+    ensures { result ≡ true → HasNoStartEarlier port.now t }
 {
     match port.next_start() {
         Some(next) => t <= next,
@@ -125,24 +126,24 @@ fn is_calm(port: &Port<u32, Global>, t: u64) -> bool
     }
 }
 
-/// Makes all starts that are left.
-fn starts(said: &mut Said, port: &mut Port<u32, Global>, line: &str, speed: Speed) {
+/// Makes all remaining starts, and adds each.
+fn make_all_starts(said: &mut Output, port: &mut Port<u32, Global>, line: &str, speed: Speed) {
     show(said, line);
-    starts_before(said, port, speed, u64::MAX)
+    make_due_starts(said, port, speed, u64::MAX)
 }
 
-/// Makes the starts that are due before a moment, and prints each.
-fn starts_before(said: &mut Said, port: &mut Port<u32, Global>, speed: Speed, t: u64) {
+/// Makes the starts that are due before time `t`, and adds each.
+fn make_due_starts(said: &mut Output, port: &mut Port<u32, Global>, speed: Speed, t: u64) {
     for _ in 0..1_000 {
-        match start_before(port, speed, t) {
+        match make_due_start(port, speed, t) {
             Some(start) => tell(said, "start", &start),
             None => break,
         }
     }
 }
 
-/// Makes the next start, if it is due before a moment.
-fn start_before(port: &mut Port<u32, Global>, speed: Speed, t: u64) -> Option<Start> {
+/// Makes the next start, if it is due before time `t`.
+fn make_due_start(port: &mut Port<u32, Global>, speed: Speed, t: u64) -> Option<Start> {
     match port.next_start() {
         Some(next) if next < t => {
             let (item, class) = port.start();
@@ -154,11 +155,11 @@ fn start_before(port: &mut Port<u32, Global>, speed: Speed, t: u64) -> Option<St
     }
 }
 
-/// The laws can be named.
-fn name_laws(said: &mut Said, line: &str) {
-    ever_is_fitting();
-    ever_fits_soon();
-    alone_follows::<u32>();
+/// Names the laws of ports, to show that other crates can use them.
+fn name_laws(said: &mut Output, line: &str) {
+    can_fit_is_exact();
+    can_fit_soon();
+    solo_copies_follow::<u32>();
     own_windows_isolate::<u32>();
-    said.text.fill("{a} -> named\n", &[], &[line]);
+    said.text.put_template("{a} -> named\n", &[], &[line]);
 }

@@ -1,20 +1,20 @@
-//! Words and numbers of a line, and what is printed of it.
+//! Reads words and numbers of a line, and writes answers.
 
 use bridge_cycle::ListFault;
 use bridge_limits::NoMemory;
-use bridge_text::Text;
+use bridge_text::TextBuilder;
 use std::alloc::{AllocError, Global};
 use std::fmt::Debug;
 use std::str::{FromStr, Split};
 
-/// Why nothing is made of a line, or asked.
+/// Reason why a part isn't made or isn't asked.
 #[derive(Clone, Copy, Debug, PartialEq, Eq)]
 pub enum Fault {
-    /// A list refuses its parts.
+    /// The list is refused.
     Refused(ListFault),
-    /// A number is missing, or beyond what the part may be asked.
+    /// A number is missing, or outside the range of the part.
     NotAllowed,
-    /// A growth was refused.
+    /// Memory ran out.
     NoMemory,
 }
 
@@ -39,14 +39,14 @@ impl From<ListFault> for Fault {
     }
 }
 
-/// What is told of a script.
+/// Output of a script.
 #[derive(Drop)]
-pub struct Said {
+pub struct Output {
     pub alloc: Global,
-    pub text: Text<Global>,
+    pub text: TextBuilder<Global>,
 }
 
-/// The first word of a line.
+/// Returns the first word of a line.
 pub fn first_word(line: &str) -> &str {
     match line.split_once(' ') {
         Some((word, _)) => word,
@@ -54,16 +54,16 @@ pub fn first_word(line: &str) -> &str {
     }
 }
 
-/// The first line of a text, and those behind it.
-pub fn parted(text: &str) -> (&str, &str) {
+/// Returns the first line of a text, and the lines after it.
+pub fn split_first_line(text: &str) -> (&str, &str) {
     match text.split_once('\n') {
         Some(parts) => parts,
         None => (text, ""),
     }
 }
 
-/// Whether a line has a word.
-pub fn has(line: &str, name: &str) -> bool {
+/// Whether a line has the word `name`.
+pub fn has_word(line: &str, name: &str) -> bool {
     for word in line.split(' ') {
         if word == name {
             return true;
@@ -72,7 +72,7 @@ pub fn has(line: &str, name: &str) -> bool {
     false
 }
 
-/// Whether a text has a line.
+/// Whether a text has the line `name`.
 pub fn has_line(text: &str, name: &str) -> bool {
     for line in text.lines() {
         if line == name {
@@ -82,31 +82,31 @@ pub fn has_line(text: &str, name: &str) -> bool {
     false
 }
 
-/// The number behind a word of a line.
-pub fn number_after<N: FromStr>(line: &str, name: &str) -> Option<N>
+/// Returns the number after the word `name` of a line.
+pub fn number_by_name<N: FromStr>(line: &str, name: &str) -> Option<N>
 where
     N::Err: Drop,
 {
     let mut is_next = false;
     for word in line.split(' ') {
         if is_next {
-            return number(word);
+            return parse_number(word);
         }
         is_next = word == name;
     }
     None
 }
 
-/// The word of a line at a place, from 0; an empty one where there are fewer.
-pub fn word_at(line: &str, place: usize) -> &str {
+/// Returns the word at index `place` of a line, from 0, or an empty text.
+pub fn word_at_index(line: &str, place: usize) -> &str {
     match line.split(' ').nth(place) {
         Some(word) => word,
         None => "",
     }
 }
 
-/// The number of a word.
-pub fn number<N: FromStr>(word: &str) -> Option<N>
+/// Returns the number that a word is.
+pub fn parse_number<N: FromStr>(word: &str) -> Option<N>
 where
     N::Err: Drop,
 {
@@ -116,18 +116,18 @@ where
     }
 }
 
-/// The number at a place of a line; the greatest one where there is none, which no part may be asked.
-pub fn number_at(line: &str, place: usize) -> u64 {
-    number(word_at(line, place)).unwrap_or(u64::MAX)
+/// Returns the number at index `place` of a line, or the greatest number, which no part accepts.
+pub fn number_or_max(line: &str, place: usize) -> u64 {
+    parse_number(word_at_index(line, place)).unwrap_or(u64::MAX)
 }
 
-/// The number of 32 bits at a place of a line; the greatest one where there is none.
-pub fn small_at(line: &str, place: usize) -> u32 {
-    number(word_at(line, place)).unwrap_or(u32::MAX)
+/// Returns the 32-bit number at index `place` of a line, or the greatest number.
+pub fn u32_or_max(line: &str, place: usize) -> u32 {
+    parse_number(word_at_index(line, place)).unwrap_or(u32::MAX)
 }
 
-/// Six octets of a word, which commas part.
-pub fn address_in(word: &str) -> [u8; 6] {
+/// Returns the six octets of a word, which commas separate. A missing octet is 0.
+pub fn parse_address(word: &str) -> [u8; 6] {
     let mut parts = word.split(',');
     [
         next_octet(&mut parts),
@@ -141,29 +141,29 @@ pub fn address_in(word: &str) -> [u8; 6] {
 
 fn next_octet(parts: &mut Split<'_, char>) -> u8 {
     match parts.next() {
-        Some(part) => number(part).unwrap_or(0),
+        Some(part) => parse_number(part).unwrap_or(0),
         None => 0,
     }
 }
 
-/// Tells a line that asks for nothing.
-pub fn show(said: &mut Said, line: &str) {
-    said.text.fill("{a}\n", &[], &[line]);
+/// Adds a line without answer.
+pub fn show(said: &mut Output, line: &str) {
+    said.text.put_template("{a}\n", &[], &[line]);
 }
 
-/// Tells a line with the answer behind it, or with why there is none.
-pub fn answer<T: Debug + Drop>(said: &mut Said, line: &str, answer: Result<T, Fault>) {
+/// Adds a line with its answer or its fault.
+pub fn answer<T: Debug + Drop>(said: &mut Output, line: &str, answer: Result<T, Fault>) {
     match answer {
         Ok(answer) => tell(said, line, &answer),
         Err(fault) => tell(said, line, &fault),
     }
 }
 
-/// Tells a line with the answer behind it.
-pub fn tell<T: Debug>(said: &mut Said, line: &str, answer: &T) {
+/// Adds a line with its answer.
+pub fn tell<T: Debug>(said: &mut Output, line: &str, answer: &T) {
     let alloc = said.alloc;
     match format!(in alloc; "{line} -> {answer:?}\n") {
         Ok(told) => said.text.put(told.as_str()),
-        Err(_) => said.text.give_up(),
+        Err(_) => said.text.discard(),
     }
 }

@@ -1,17 +1,17 @@
-//! Captures of frames.
+//! Makes captures of frames.
 
-use crate::reading::{first_of, named, number, spelled};
-use crate::said::{NO_MEMORY, Said};
+use crate::line_output::{LineOutput, NO_MEMORY};
+use crate::reading::{find_named, parse_hex, parse_number, split_first_word};
 
 /// Adds octets to a capture.
-fn push(said: &mut Said, text: &mut Vec<u8>, octets: &[u8]) {
+fn push(said: &mut LineOutput, text: &mut Vec<u8>, octets: &[u8]) {
     if text.extend_from_slice(octets).is_err() {
         said.stop(NO_MEMORY);
     }
 }
 
-/// A capture without a record.
-pub fn header(said: &mut Said) -> Vec<u8> {
+/// Returns a capture without records.
+pub fn header(said: &mut LineOutput) -> Vec<u8> {
     let mut text = Vec::new(said.alloc);
     push(
         said,
@@ -24,8 +24,8 @@ pub fn header(said: &mut Said) -> Vec<u8> {
     text
 }
 
-/// Adds a record: a moment, the frame's length and the octets of it that are captured.
-pub fn push_frame(said: &mut Said, text: &mut Vec<u8>, at: u64, len: u64, octets: &[u8]) {
+/// Adds a record: time in ns, length of the frame in octets, and captured octets.
+pub fn push_frame(said: &mut LineOutput, text: &mut Vec<u8>, at: u64, len: u64, octets: &[u8]) {
     let second = 1_000_000_000;
     for word in [at / second, at % second, octets.len() as u64, len] {
         let word = (word % 4_294_967_296) as u32;
@@ -34,24 +34,24 @@ pub fn push_frame(said: &mut Said, text: &mut Vec<u8>, at: u64, len: u64, octets
     push(said, text, octets);
 }
 
-/// Adds a frame, or so many with steps between them: `MOMENT LENGTH HEAD` or `MOMENT LENGTH HEAD COUNT STEP`.
-fn push_some(said: &mut Said, names: &str, text: &mut Vec<u8>, frames: &str) {
-    let (at, rest) = first_of(frames);
-    let (len, rest) = first_of(rest);
-    let (head, rest) = first_of(rest);
-    let (count, step) = first_of(if rest.is_empty() { "1 0" } else { rest });
-    let (at, len) = (number(said, at), number(said, len));
-    let (count, step) = (number(said, count), number(said, step));
-    let head = named(said, names, head);
-    let octets = spelled(said, head);
+/// Adds a frame `MOMENT LENGTH HEAD`, or `COUNT` frames with `STEP` ns between them: `MOMENT LENGTH HEAD COUNT STEP`.
+fn push_some(said: &mut LineOutput, names: &str, text: &mut Vec<u8>, frames: &str) {
+    let (at, rest) = split_first_word(frames);
+    let (len, rest) = split_first_word(rest);
+    let (head, rest) = split_first_word(rest);
+    let (count, step) = split_first_word(if rest.is_empty() { "1 0" } else { rest });
+    let (at, len) = (parse_number(said, at), parse_number(said, len));
+    let (count, step) = (parse_number(said, count), parse_number(said, step));
+    let head = find_named(said, names, head);
+    let octets = parse_hex(said, head);
     for n in 0..count {
         let at = at.saturating_add(n.saturating_mul(step));
         push_frame(said, text, at, len, &octets);
     }
 }
 
-/// The capture of frames, with `, ` between them.
-pub fn capture_of(said: &mut Said, names: &str, frames: &str) -> Vec<u8> {
+/// Returns the capture of frames, which `, ` separates.
+pub fn parse_capture(said: &mut LineOutput, names: &str, frames: &str) -> Vec<u8> {
     let mut text = header(said);
     for some in frames.split(", ").filter(|some| !some.is_empty()) {
         push_some(said, names, &mut text, some);

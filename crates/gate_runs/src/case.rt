@@ -1,12 +1,12 @@
-//! What comes to a bridge, and its plan.
+//! Holds the plan of a bridge, and its inputs.
 
-use crate::captures::{capture_of, header};
-use crate::drawing::{Numbers, drawn};
-use crate::reading::{first_of, named, number, spelled};
-use crate::said::Said;
+use crate::captures::{header, parse_capture};
+use crate::line_output::LineOutput;
+use crate::random_capture::{RandomNumbers, random_capture};
+use crate::reading::{find_named, parse_hex, parse_number, split_first_word};
 use fixture_bridge::base::BASE;
 
-/// The texts of a plan and of commands, and the captures of the ports 1, 2 and 3.
+/// Texts of a plan and of commands, and captures of ports 1, 2 and 3.
 #[derive(Drop)]
 pub struct Case {
     pub plan: String,
@@ -17,11 +17,11 @@ pub struct Case {
 }
 
 impl Case {
-    /// The base plan, to which nothing comes.
-    pub fn new(said: &mut Said) -> Case {
+    /// Returns the base plan without inputs.
+    pub fn new(said: &mut LineOutput) -> Case {
         let alloc = said.alloc;
         Case {
-            plan: said.made(String::from_str(alloc, BASE)),
+            plan: said.piece_or_stop(String::from_str(alloc, BASE)),
             commands: String::new(alloc),
             first: header(said),
             second: header(said),
@@ -29,17 +29,17 @@ impl Case {
         }
     }
 
-    /// The base plan in place of any other, to which nothing comes.
-    pub fn begin(&mut self, said: &mut Said) {
+    /// Resets to the base plan without inputs.
+    pub fn reset(&mut self, said: &mut LineOutput) {
         *self = Case::new(said);
     }
 
-    /// A command in place of any other, or none.
-    pub fn command(&mut self, said: &mut Said, rest: &str) {
+    /// Replaces the commands by the command of a line, or by none.
+    pub fn set_command(&mut self, said: &mut LineOutput, rest: &str) {
         self.commands = command_text(said, rest);
     }
 
-    /// The captures of the ports 1, 2 and 3.
+    /// Returns the captures of ports 1, 2 and 3.
     pub fn texts(&self) -> [&[u8]; 3] {
         [
             self.first.as_slice(),
@@ -48,8 +48,8 @@ impl Case {
         ]
     }
 
-    /// The capture of a port.
-    fn text(&mut self, said: &mut Said, port: &str) -> &mut Vec<u8> {
+    /// Returns the capture of `port`.
+    fn text(&mut self, said: &mut LineOutput, port: &str) -> &mut Vec<u8> {
         match port {
             "1" => &mut self.first,
             "2" => &mut self.second,
@@ -61,67 +61,74 @@ impl Case {
         }
     }
 
-    /// The base plan after changes by their names.
-    pub fn change(&mut self, said: &mut Said, names: &str, changes: &str) {
+    /// Replaces the plan by the base plan with named changes.
+    pub fn change_plan(&mut self, said: &mut LineOutput, names: &str, changes: &str) {
         let alloc = said.alloc;
-        self.plan = said.made(String::from_str(alloc, BASE));
+        self.plan = said.piece_or_stop(String::from_str(alloc, BASE));
         for name in changes.split_whitespace() {
-            let change = named(said, names, name);
-            self.plan = changed(said, self.plan.as_str(), change);
+            let change = find_named(said, names, name);
+            self.plan = apply_change(said, self.plan.as_str(), change);
         }
     }
 
-    /// The frames of a port in place of any that came to it.
-    pub fn come(&mut self, said: &mut Said, names: &str, rest: &str) {
-        let (port, frames) = first_of(rest);
-        let octets = capture_of(said, names, frames);
+    /// Replaces the frames of a port.
+    pub fn set_frames(&mut self, said: &mut LineOutput, names: &str, rest: &str) {
+        let (port, frames) = split_first_word(rest);
+        let octets = parse_capture(said, names, frames);
         *self.text(said, port) = octets;
     }
 
-    /// Any octets in place of the capture of a port.
-    pub fn spell(&mut self, said: &mut Said, rest: &str) {
-        let (port, octets) = first_of(rest);
-        let octets = spelled(said, octets);
+    /// Replaces the capture of a port by octets, which may be no capture.
+    pub fn set_octets(&mut self, said: &mut LineOutput, rest: &str) {
+        let (port, octets) = split_first_word(rest);
+        let octets = parse_hex(said, octets);
         *self.text(said, port) = octets;
     }
 
-    /// The first octets of the capture of a port.
-    pub fn cut(&mut self, said: &mut Said, rest: &str) {
-        let (port, count) = first_of(rest);
-        let count = number(said, count);
+    /// Cuts the capture of a port after the first octets.
+    pub fn cut_capture(&mut self, said: &mut LineOutput, rest: &str) {
+        let (port, count) = split_first_word(rest);
+        let count = parse_number(said, count);
         let text = self.text(said, port);
         for _ in count..text.len() as u64 {
             let _ = text.pop();
         }
     }
 
-    /// Any frames on the ports 2 and 3, from a moment on.
-    pub fn draw(&mut self, said: &mut Said, numbers: &mut Numbers, from: &str) {
-        let from = number(said, from);
-        self.second = drawn(said, numbers, from);
-        self.third = drawn(said, numbers, from);
+    /// Replaces the frames of ports 2 and 3 by random frames from time `from` on, in ns.
+    pub fn set_random_frames(
+        &mut self,
+        said: &mut LineOutput,
+        numbers: &mut RandomNumbers,
+        from: &str,
+    ) {
+        let from = parse_number(said, from);
+        self.second = random_capture(said, numbers, from);
+        self.third = random_capture(said, numbers, from);
     }
 }
 
-/// A text after a change: the lines to be found, and behind a line `--` those that come in their place.
-fn changed(said: &mut Said, text: &str, change: &str) -> String {
+/// Returns a text with a change. The lines before `--` are replaced by the lines after it.
+fn apply_change(said: &mut LineOutput, text: &str, change: &str) -> String {
     let alloc = said.alloc;
     if let Some((old, new)) = change.split_once("--\n")
         && let Some((before, behind)) = text.split_once(old)
     {
-        return said.made(format!(in alloc; "{before}{new}{behind}"));
+        return said.piece_or_stop(format!(in alloc; "{before}{new}{behind}"));
     }
     said.stop("a change without lines, or a plan without them");
     String::new(alloc)
 }
 
-/// The text of a command, `MOMENT FLAG NUMBER`, or of none.
-fn command_text(said: &mut Said, rest: &str) -> String {
+/// Returns the text of a command `MOMENT FLAG NUMBER`, or an empty text for an incomplete line.
+fn command_text(said: &mut LineOutput, rest: &str) -> String {
     let alloc = said.alloc;
-    let (at, rest) = first_of(rest);
-    let (clear, number) = first_of(rest);
+    let (at, rest) = split_first_word(rest);
+    let (clear, number) = split_first_word(rest);
     if number.is_empty() {
         return String::new(alloc);
     }
-    said.made(format!(in alloc; "[[command]]\nat = {at}\nclear = \"{clear}\"\nnumber = {number}\n"))
+    said.piece_or_stop(format!(in alloc;
+        "[[command]]\nat = {at}\nclear = \"{clear}\"\nnumber = {number}\n"
+    ))
 }

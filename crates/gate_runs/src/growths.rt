@@ -1,27 +1,29 @@
-//! Runs and reports of which each growth is refused in turn.
+//! Refuses the allocations of runs and reports, one by one.
 
 use crate::case::Case;
-use crate::failing::{are_fronts, whole_of};
-use crate::said::{Said, add};
-use crate::ways::{Form, Moves, held, ran_into, ran_through, sinks_of};
-use app_failure::accepted_of;
+use crate::failures::{are_prefixes, whole_outputs};
+use crate::line_output::{LineOutput, add};
+use crate::run_forms::{
+    Form, Moves, port_sinks, run_into_sinks, run_with_growing_writers, sink_octets,
+};
+use app_failure::accepted_plan;
 use bridge_check::Accepted;
 use bridge_core::{Outcome, RunFault};
 use bridge_report::{ReportFault, has_section, report, section, summary, write_report};
-use fixture_alloc::{Ending, RefusesOne};
+use fixture_bridge::{Ending, RefusesOne};
 use std::alloc::{Allocator, Global};
 
-/// How a report into a writer ends.
+/// Returns how a report into a writer ends.
 fn written_ending<A: Allocator + Copy>(gate: A, heap: Global, outcome: &Outcome<A>) -> Ending {
     match write_report(gate, outcome, Vec::new(heap)) {
         Ok(_) => Ending::Whole,
-        Err(fault) => Ending::of(false, fault == ReportFault::NoMemory),
+        Err(fault) => Ending::from_flags(false, fault == ReportFault::NoMemory),
     }
 }
 
-/// How something of what a run tells ends: the section of filter 10, the report, the line that sums the run up, or the report
-/// into a writer. Whole where it is none of them.
-fn told_ending<A: Allocator + Copy>(
+/// Returns how an output of a run ends: section of filter 10, report, line of counts, or report into a writer. Any other `what` ends
+/// `Whole`.
+fn output_ending<A: Allocator + Copy>(
     gate: A,
     heap: Global,
     outcome: &Outcome<A>,
@@ -29,55 +31,54 @@ fn told_ending<A: Allocator + Copy>(
 ) -> Ending {
     match what {
         "section" => {
-            Ending::of(
+            Ending::from_flags(
                 has_section(outcome, 10) && section(gate, outcome, 10).is_ok(),
                 true,
             )
         }
-        "report" => Ending::of(report(gate, outcome).is_ok(), true),
-        "line" => Ending::of(summary(gate, outcome).is_ok(), true),
+        "report" => Ending::from_flags(report(gate, outcome).is_ok(), true),
+        "line" => Ending::from_flags(summary(gate, outcome).is_ok(), true),
         "written" => written_ending(gate, heap, outcome),
         _ => Ending::Whole,
     }
 }
 
-/// How a run from sources to sinks and something of what it tells ends: whole where the sinks hold what the whole run leaves,
-/// without memory where they hold a front of it.
+/// Returns how a run with an output ends. Its sinks must contain the whole run's octets, or a prefix after refused memory.
 fn run_ending<A: Allocator + Copy>(
     gate: A,
-    said: &mut Said,
+    said: &mut LineOutput,
     accepted: &Accepted<A>,
     case: &Case,
     what: &str,
     whole: [&[u8]; 3],
 ) -> Ending {
     let (heap, moves) = (said.alloc, Moves::AtOnce);
-    let mut sinks = sinks_of(heap, moves);
-    match ran_into(gate, said, accepted, case, Form::Plain, moves, &mut sinks) {
+    let mut sinks = port_sinks(heap, moves);
+    match run_into_sinks(gate, said, accepted, case, Form::Plain, moves, &mut sinks) {
         Ok(outcome) => {
-            let ending = told_ending(gate, heap, &outcome, what);
+            let ending = output_ending(gate, heap, &outcome, what);
             drop(outcome);
-            if held(&sinks) == whole {
+            if sink_octets(&sinks) == whole {
                 ending
             } else {
                 Ending::Wrong
             }
         }
         Err(fault) => {
-            let is_front = are_fronts(held(&sinks), whole);
-            Ending::of(false, is_front && fault == RunFault::NoMemory)
+            let is_front = are_prefixes(sink_octets(&sinks), whole);
+            Ending::from_flags(false, is_front && fault == RunFault::NoMemory)
         }
     }
 }
 
-/// How a run from readers to writers ends, where these may grow too.
-fn over_ending<A: Allocator + Copy>(
+/// Returns how a run from readers to writers ends. Its writers allocate too.
+fn readers_ending<A: Allocator + Copy>(
     gate: A,
-    said: &mut Said,
+    said: &mut LineOutput,
     accepted: &Accepted<A>,
     case: &Case,
 ) -> Ending {
-    match ran_through(gate, said, accepted, case) {
+    match run_with_growing_writers(gate, said, accepted, case) {
         Ok(_) => Ending::Whole,
         Err(halted) => match halted.fault {
             RunFault::NoMemory | RunFault::Write { .. } => Ending::NoMemory,
@@ -86,10 +87,10 @@ fn over_ending<A: Allocator + Copy>(
     }
 }
 
-/// How what is made under an accepted plan ends.
-fn ending_under<A: Allocator + Copy>(
+/// Returns how a run or an output under an accepted plan ends.
+fn accepted_ending<A: Allocator + Copy>(
     gate: A,
-    said: &mut Said,
+    said: &mut LineOutput,
     accepted: &Accepted<A>,
     case: &Case,
     what: &str,
@@ -97,36 +98,38 @@ fn ending_under<A: Allocator + Copy>(
 ) -> Ending {
     match what {
         "plan" => Ending::Whole,
-        "over" => over_ending(gate, said, accepted, case),
+        "over" => readers_ending(gate, said, accepted, case),
         _ => run_ending(gate, said, accepted, case, what, whole),
     }
 }
 
-/// How a plan and what is made under it ends.
-fn ending_in<A: Allocator + Copy>(
+/// Returns how a plan, and a run or an output under it, ends.
+fn plan_ending<A: Allocator + Copy>(
     gate: A,
-    said: &mut Said,
+    said: &mut LineOutput,
     case: &Case,
     what: &str,
     whole: [&[u8]; 3],
 ) -> Ending {
-    match accepted_of(gate, said.alloc, case.plan.as_bytes()) {
-        Ok(accepted) => ending_under(gate, said, &accepted, case, what, whole),
+    match accepted_plan(gate, said.alloc, case.plan.as_bytes()) {
+        Ok(accepted) => accepted_ending(gate, said, &accepted, case, what, whole),
         Err(_) => Ending::NoMemory,
     }
 }
 
-/// Tells how many growths a plan and what is made under it have, each of which is refused once, and has to be answered with want
-/// of memory.
-fn refuse_each(said: &mut Said, case: &Case, what: &str, whole: [&[u8]; 3]) {
+/// Adds the number of allocations of a plan and its output, each refused once. A refusal must end in `NoMemory`.
+fn refuse_each(said: &mut LineOutput, case: &Case, what: &str, whole: [&[u8]; 3]) {
     let alloc = said.alloc;
     for n in 1..100_000u64 {
         let gate = RefusesOne::new(alloc, n);
-        match (ending_in(&gate, said, case, what, whole), gate.refused()) {
+        match (
+            plan_ending(&gate, said, case, what, whole),
+            gate.has_refused(),
+        ) {
             (Ending::NoMemory, true) => {}
             (Ending::Whole, false) => {
                 let form = "{0} growths, each refused: no memory\n";
-                return said.text.fill(form, &[n - 1], &[]);
+                return said.text.put_template(form, &[n - 1], &[]);
             }
             (ending, _) => {
                 add(
@@ -140,8 +143,8 @@ fn refuse_each(said: &mut Said, case: &Case, what: &str, whole: [&[u8]; 3]) {
     said.stop("some growth was always refused")
 }
 
-/// Tells how many growths there are: `plan`, `run`, `over`, `section`, `report`, `line` or `written`.
-pub fn refuse(said: &mut Said, accepted: &Accepted<Global>, case: &Case, what: &str) {
-    let sinks = whole_of(said, accepted, case);
-    refuse_each(said, case, what, held(&sinks));
+/// Adds the number of allocations: `plan`, `run`, `over`, `section`, `report`, `line` or `written`.
+pub fn refuse(said: &mut LineOutput, accepted: &Accepted<Global>, case: &Case, what: &str) {
+    let sinks = whole_outputs(said, accepted, case);
+    refuse_each(said, case, what, sink_octets(&sinks));
 }

@@ -1,25 +1,25 @@
 #![tactic(auto)]
-//! Whole runs of a bridge: scripts whose lines say what its plan is, what comes to it, and what to look at.
+//! Runs whole runs of a bridge: scripts whose lines set the plan and the inputs, and print results.
 //!
-//! The words are the paths of the names and of the scripts; `data/README.md` says how both are written. Each line of a script is
-//! printed, with what comes of it behind it. A line that can't be done ends all with status 1.
+//! The arguments are the paths of names and scripts; the README of `data` defines both. Each line is printed before its output. A failed
+//! line ends the run with status 1.
 
 mod captures;
 mod case;
-mod drawing;
-mod failing;
+mod failures;
 mod growths;
+mod line_output;
+mod random_capture;
 mod reading;
 mod reports;
-mod said;
-mod seeing;
-mod telling;
+mod result_text;
+mod run_forms;
+mod run_results;
 mod verbs;
-mod ways;
 
-use app_cli::words_of;
+use app_cli::read_arguments;
 use case::Case;
-use said::Said;
+use line_output::LineOutput;
 use std::fs;
 use std::rt::{Env, Files};
 use std::test::Fail;
@@ -29,9 +29,9 @@ fn main(rt: HostRuntime) -> Result<(), Fail> {
     run(&rt)
 }
 
-/// Does the scripts of the words, the first of which is the file of names.
+/// Plays the scripts of the arguments. The first argument is the file of names.
 fn run(rt: &(impl AllocGlobal + Print + Env + Files)) -> Result<(), Fail> {
-    let Ok(words) = words_of(rt) else {
+    let Ok(words) = read_arguments(rt) else {
         return Err(Fail::from("no words"));
     };
     let [names, scripts @ ..] = words.as_slice() else {
@@ -41,7 +41,7 @@ fn run(rt: &(impl AllocGlobal + Print + Env + Files)) -> Result<(), Fail> {
     play_all(rt, names.as_str(), scripts)
 }
 
-/// Does scripts, one after the other.
+/// Plays scripts, one after the other.
 fn play_all(
     rt: &(impl AllocGlobal + Print + Files),
     names: &str,
@@ -54,23 +54,23 @@ fn play_all(
     Ok(())
 }
 
-/// Does a script.
+/// Plays a script.
 fn play(rt: &(impl AllocGlobal + Print), names: &str, script: &str) -> Result<(), Fail> {
-    let mut said = Said::new(rt.alloc());
+    let mut said = LineOutput::new(rt.alloc());
     let mut case = Case::new(&mut said);
     play_lines(rt, &mut said, &mut case, names, script)
 }
 
-/// Does what a script says, line by line, and prints each with what comes of it.
+/// Plays a script line by line, and prints each line with its output.
 fn play_lines(
     rt: &impl Print,
-    said: &mut Said,
+    said: &mut LineOutput,
     case: &mut Case,
     names: &str,
     script: &str,
 ) -> Result<(), Fail> {
     for line in script.lines() {
-        said.text.fill("{a}\n", &[], &[line]);
+        said.text.put_template("{a}\n", &[], &[line]);
         let done = step(said, names, case, line);
         let why = said.print(rt);
         done?;

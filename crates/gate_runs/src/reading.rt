@@ -1,15 +1,15 @@
-//! Parts of a line of a script.
+//! Reads parts of a script's line.
 
-use crate::said::Said;
-use bridge_capture::octets_of;
+use crate::line_output::LineOutput;
+use bridge_capture::parse_octets;
 
-/// The first word of a text, and what is behind the space that ends it.
-pub fn first_of(text: &str) -> (&str, &str) {
+/// Returns the first word of a text, and the text after its space.
+pub fn split_first_word(text: &str) -> (&str, &str) {
     text.split_once(' ').unwrap_or((text, ""))
 }
 
-/// A number; 0 where the word is none, which can't be done.
-pub fn number(said: &mut Said, word: &str) -> u64 {
+/// Reads a number. If `word` is none, the line fails and the result is 0.
+pub fn parse_number(said: &mut LineOutput, word: &str) -> u64 {
     match word.parse::<u64>() {
         Ok(number) => number,
         Err(_) => {
@@ -19,9 +19,9 @@ pub fn number(said: &mut Said, word: &str) -> u64 {
     }
 }
 
-/// The octets that hexadecimals spell; none where they spell none, which can't be done.
-pub fn spelled(said: &mut Said, word: &str) -> Vec<u8> {
-    match octets_of(said.alloc, word.as_bytes()) {
+/// Reads octets in hexadecimal. If `word` isn't hexadecimal, the line fails and the result is empty.
+pub fn parse_hex(said: &mut LineOutput, word: &str) -> Vec<u8> {
+    match parse_octets(said.alloc, word.as_bytes()) {
         Ok(octets) => octets,
         Err(_) => {
             said.stop("no hexadecimals");
@@ -30,8 +30,8 @@ pub fn spelled(said: &mut Said, word: &str) -> Vec<u8> {
     }
 }
 
-/// What stands below a name in the file of names; nothing where the name is not there, which can't be done.
-pub fn named<'a>(said: &mut Said, names: &'a str, name: &str) -> &'a str {
+/// Returns the lines below `name` in the file of names. If the name is missing, the line fails.
+pub fn find_named<'a>(said: &mut LineOutput, names: &'a str, name: &str) -> &'a str {
     for part in names.split("== ") {
         if let Some((first, rest)) = part.split_once(": ")
             && first == name

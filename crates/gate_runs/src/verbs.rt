@@ -1,32 +1,32 @@
-//! What the lines of a script say.
+//! Carries out the lines of a script.
 
 use crate::case::Case;
-use crate::drawing::Numbers;
-use crate::failing::{fails, rooms};
+use crate::failures::{put_failures, put_rooms};
 use crate::growths::refuse;
-use crate::reading::{first_of, number};
+use crate::line_output::{LineOutput, add};
+use crate::random_capture::RandomNumbers;
+use crate::reading::{parse_number, split_first_word};
 use crate::reports::reports;
-use crate::said::{Said, add};
-use crate::seeing::seen;
-use app_failure::accepted_of;
+use crate::run_results::compared_result;
+use app_failure::accepted_plan;
 use bridge_check::{Accepted, check};
 use bridge_config::plan_of;
 use bridge_core::{Agenda, RowAgenda, TreeAgenda};
 use std::alloc::Global;
 use std::test::Fail;
 
-/// Does what a line says.
-pub fn step(said: &mut Said, names: &str, case: &mut Case, line: &str) -> Result<(), Fail> {
-    let (word, rest) = first_of(line);
+/// Carries out a line.
+pub fn step(said: &mut LineOutput, names: &str, case: &mut Case, line: &str) -> Result<(), Fail> {
+    let (word, rest) = split_first_word(line);
     match word {
         "" | "#" => {}
-        "new" => case.begin(said),
-        "plan" => case.change(said, names, rest),
-        "command" => case.command(said, rest),
-        "come" => case.come(said, names, rest),
-        "octets" => case.spell(said, rest),
-        "cut" => case.cut(said, rest),
-        "draw" => case.draw(said, &mut Numbers::of(1), rest),
+        "new" => case.reset(said),
+        "plan" => case.change_plan(said, names, rest),
+        "command" => case.set_command(said, rest),
+        "come" => case.set_frames(said, names, rest),
+        "octets" => case.set_octets(said, rest),
+        "cut" => case.cut_capture(said, rest),
+        "draw" => case.set_random_frames(said, &mut RandomNumbers::from_seed(1), rest),
         "check" => judge(said, case.plan.as_str()),
         "agenda" => {
             put_agenda::<RowAgenda>(said, rest);
@@ -37,10 +37,10 @@ pub fn step(said: &mut Said, names: &str, case: &mut Case, line: &str) -> Result
     Ok(())
 }
 
-/// Looks at what comes of a case under its plan.
-fn look(said: &mut Said, case: &mut Case, word: &str, rest: &str) -> Result<(), Fail> {
-    match accepted_of(said.alloc, said.alloc, case.plan.as_bytes()) {
-        Ok(accepted) => look_under(said, &accepted, case, word, rest),
+/// Prints results of a case under its plan.
+fn look(said: &mut LineOutput, case: &mut Case, word: &str, rest: &str) -> Result<(), Fail> {
+    match accepted_plan(said.alloc, said.alloc, case.plan.as_bytes()) {
+        Ok(accepted) => look_at_case(said, &accepted, case, word, rest),
         Err(_) => {
             said.stop("a plan that is refused");
             Ok(())
@@ -48,9 +48,9 @@ fn look(said: &mut Said, case: &mut Case, word: &str, rest: &str) -> Result<(), 
     }
 }
 
-/// Looks at what comes of a case under an accepted plan.
-fn look_under(
-    said: &mut Said,
+/// Prints results of a case under an accepted plan.
+fn look_at_case(
+    said: &mut LineOutput,
     accepted: &Accepted<Global>,
     case: &mut Case,
     word: &str,
@@ -58,9 +58,9 @@ fn look_under(
 ) -> Result<(), Fail> {
     match word {
         "run" | "section" => return show(said, accepted, case, word),
-        "beside" => return beside(said, accepted, case, rest),
-        "fails" => fails(said, accepted, case, rest),
-        "rooms" => rooms(said, accepted, case, rest),
+        "beside" => return put_isolation(said, accepted, case, rest),
+        "fails" => put_failures(said, accepted, case, rest),
+        "rooms" => put_rooms(said, accepted, case, rest),
         "report" => reports(said, accepted, case, rest),
         "refuse" => refuse(said, accepted, case, rest),
         _ => said.stop("no line of a script"),
@@ -68,8 +68,8 @@ fn look_under(
     Ok(())
 }
 
-/// Tells the fault of a plan, or that it is accepted.
-fn judge(said: &mut Said, text: &str) {
+/// Adds the fault of a plan, or that it is accepted.
+fn judge(said: &mut LineOutput, text: &str) {
     let alloc = said.alloc;
     let Ok(plan) = plan_of(alloc, alloc, text.as_bytes()) else {
         return said.stop("no plan");
@@ -84,9 +84,8 @@ fn judge(said: &mut Said, text: &str) {
     }
 }
 
-/// Tells the least moment of an empty agenda, and behind each step, which gives a port a moment or takes it away:
-/// `PORT MOMENT, PORT, ..`.
-fn put_agenda<G: Agenda + Drop>(said: &mut Said, steps: &str) {
+/// Adds the earliest time of an empty agenda, and again after each step, which sets or clears a port's time: `PORT MOMENT, PORT, ..`.
+fn put_agenda<G: Agenda + Drop>(said: &mut LineOutput, steps: &str) {
     let mut agenda = G::empty();
     put_least(said, &agenda);
     for step in steps.split(", ") {
@@ -95,35 +94,41 @@ fn put_agenda<G: Agenda + Drop>(said: &mut Said, steps: &str) {
     }
 }
 
-fn put_least<G: Agenda>(said: &mut Said, agenda: &G) {
+fn put_least<G: Agenda>(said: &mut LineOutput, agenda: &G) {
     let (alloc, least) = (said.alloc, agenda.least());
     add(&mut said.text, format!(in alloc; "{least:?}\n"));
 }
 
-/// Gives a port a moment, or takes it away.
-fn change_agenda<G: Agenda>(said: &mut Said, agenda: &mut G, step: &str) {
-    let (port, moment) = first_of(step);
-    let port = number(said, port).clamp(1, 16) as u8;
+/// Sets the time of a port in an agenda, or clears it.
+fn change_agenda<G: Agenda>(said: &mut LineOutput, agenda: &mut G, step: &str) {
+    let (port, moment) = split_first_word(step);
+    let port = parse_number(said, port).clamp(1, 16) as u8;
     if moment.is_empty() {
         agenda.clear(port);
     } else {
-        agenda.set(port, number(said, moment));
+        agenda.set(port, parse_number(said, moment));
     }
 }
 
-/// The section with which what is seen of a run begins, but for its last line.
-fn section_of(text: &str) -> &str {
+/// Returns the first section of a result, without its last line.
+fn first_section(text: &str) -> &str {
     text.split_once("\nend\n").unwrap_or(("", "")).0
 }
 
-/// Tells the section of filter 10 of what is seen of a run.
-fn put_section(said: &mut Said, text: &str) {
-    said.text.fill("{a}\nend\n", &[], &[section_of(text)]);
+/// Adds the section of filter 10 of a result.
+fn put_section(said: &mut LineOutput, text: &str) {
+    said.text
+        .put_template("{a}\nend\n", &[], &[first_section(text)]);
 }
 
-/// Tells what is seen of a run, or its section of filter 10.
-fn show(said: &mut Said, accepted: &Accepted<Global>, case: &Case, word: &str) -> Result<(), Fail> {
-    let text = seen(said, accepted, case)?;
+/// Adds the result of a run, or its section of filter 10.
+fn show(
+    said: &mut LineOutput,
+    accepted: &Accepted<Global>,
+    case: &Case,
+    word: &str,
+) -> Result<(), Fail> {
+    let text = compared_result(said, accepted, case)?;
     if word == "run" {
         said.text.put(text.as_str());
     } else {
@@ -132,39 +137,38 @@ fn show(said: &mut Said, accepted: &Accepted<Global>, case: &Case, word: &str) -
     Ok(())
 }
 
-/// Tells the section of filter 10, and how often it is the same beside any frames on the ports 2 and 3, from a moment on:
-/// `COUNT MOMENT`.
-fn beside(
-    said: &mut Said,
+/// Adds the section of filter 10, and how often it is equal in runs with random frames at ports 2 and 3: `COUNT MOMENT`.
+fn put_isolation(
+    said: &mut LineOutput,
     accepted: &Accepted<Global>,
     case: &mut Case,
     rest: &str,
 ) -> Result<(), Fail> {
-    let alone = seen(said, accepted, case)?;
+    let alone = compared_result(said, accepted, case)?;
     put_section(said, alone.as_str());
-    compare_beside(said, accepted, case, section_of(alone.as_str()), rest)
+    compare_isolation(said, accepted, case, first_section(alone.as_str()), rest)
 }
 
-/// Tells how often the section of filter 10 is that of what was seen alone.
-fn compare_beside(
-    said: &mut Said,
+/// Adds how often the section of filter 10 equals the section `alone`.
+fn compare_isolation(
+    said: &mut LineOutput,
     accepted: &Accepted<Global>,
     case: &mut Case,
     alone: &str,
     rest: &str,
 ) -> Result<(), Fail> {
-    let (count, from) = first_of(rest);
-    let count = number(said, count);
-    let mut numbers = Numbers::of(1);
+    let (count, from) = split_first_word(rest);
+    let count = parse_number(said, count);
+    let mut numbers = RandomNumbers::from_seed(1);
     let mut same = 0u64;
     for _ in 0..count {
-        case.draw(said, &mut numbers, from);
-        let text = seen(said, accepted, case)?;
-        if section_of(text.as_str()) == alone {
+        case.set_random_frames(said, &mut numbers, from);
+        let text = compared_result(said, accepted, case)?;
+        if first_section(text.as_str()) == alone {
             same = same.saturating_add(1);
         }
     }
     let form = "the same beside {0} of {1}\n";
-    said.text.fill(form, &[same, count], &[]);
+    said.text.put_template(form, &[same, count], &[]);
     Ok(())
 }

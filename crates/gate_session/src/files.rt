@@ -1,145 +1,161 @@
-//! Lines of a script that look at files, or make them.
+//! Carries out the script lines that show, compare or change files.
 
-use bridge_capture::lines_of;
-use bridge_text::Text;
+use bridge_capture::hex_lines;
+use bridge_text::TextBuilder;
 use std::alloc::Global;
 use std::fs;
 use std::rt::Files;
 
-/// What a file holds; nothing where it can't be read, which no line may tell of.
-pub fn octets_of<H: AllocGlobal + Files>(rt: &H, said: &mut Text<Global>, path: &str) -> Vec<u8> {
+/// Reads the octets of a file. A failure discards `said`, so the script ends.
+pub fn read_octets<H: AllocGlobal + Files>(
+    rt: &H,
+    said: &mut TextBuilder<Global>,
+    path: &str,
+) -> Vec<u8> {
     match fs::read(rt, path) {
         Ok(octets) => octets,
         Err(_) => {
-            said.give_up();
+            said.discard();
             Vec::new(rt.alloc())
         }
     }
 }
 
-/// What a file of text holds; nothing where it can't be read, which no line may tell of.
-pub fn text_of<H: AllocGlobal + Files>(rt: &H, said: &mut Text<Global>, path: &str) -> String {
+/// Reads a text file. A failure discards `said`, so the script ends.
+pub fn read_text<H: AllocGlobal + Files>(
+    rt: &H,
+    said: &mut TextBuilder<Global>,
+    path: &str,
+) -> String {
     match fs::read_to_string(rt, path) {
         Ok(text) => text,
         Err(_) => {
-            said.give_up();
+            said.discard();
             String::new(rt.alloc())
         }
     }
 }
 
-/// Two words, which a space parts; where none does, nothing may be told of the line.
-pub fn pair_of<'a>(said: &mut Text<Global>, rest: &'a str) -> (&'a str, &'a str) {
+/// Splits `rest` at its first space. If `rest` has no space, discards `said`.
+pub fn split_pair<'a>(said: &mut TextBuilder<Global>, rest: &'a str) -> (&'a str, &'a str) {
     match rest.split_once(' ') {
         Some(pair) => pair,
         None => {
-            said.give_up();
+            said.discard();
             (rest, "")
         }
     }
 }
 
-/// Tells a file of text: `show FILE`.
-pub fn show<H: AllocGlobal + Files>(rt: &H, said: &mut Text<Global>, path: &str) {
-    let text = text_of(rt, said, path);
+/// Adds the text of a file: `show FILE`.
+pub fn show<H: AllocGlobal + Files>(rt: &H, said: &mut TextBuilder<Global>, path: &str) {
+    let text = read_text(rt, said, path);
     said.put(text.as_str());
 }
 
-/// Tells the first lines of a file, and how many octets it holds: `first NUMBER FILE`.
-pub fn first<H: AllocGlobal + Files>(rt: &H, said: &mut Text<Global>, rest: &str) {
-    let (number, path) = pair_of(said, rest);
+/// Adds the first `NUMBER` lines of a file, then its length in octets: `first NUMBER FILE`.
+pub fn show_first_lines<H: AllocGlobal + Files>(
+    rt: &H,
+    said: &mut TextBuilder<Global>,
+    rest: &str,
+) {
+    let (number, path) = split_pair(said, rest);
     let Ok(number) = number.parse::<usize>() else {
-        return said.give_up();
+        return said.discard();
     };
-    let text = text_of(rt, said, path);
+    let text = read_text(rt, said, path);
     for line in text.as_str().lines().take(number) {
-        said.fill("{a}\n", &[], &[line]);
+        said.put_template("{a}\n", &[], &[line]);
     }
-    said.fill("{a}: {0} octets\n", &[text.len() as u64], &[path]);
+    said.put_template("{a}: {0} octets\n", &[text.len() as u64], &[path]);
 }
 
-/// Tells the octets of a capture: `octets FILE`.
-pub fn octets<H: AllocGlobal + Files>(rt: &H, said: &mut Text<Global>, path: &str) {
-    let octets = octets_of(rt, said, path);
-    match lines_of(rt.alloc(), &octets) {
+/// Adds the octets of a capture in hexadecimal: `octets FILE`.
+pub fn show_octets<H: AllocGlobal + Files>(rt: &H, said: &mut TextBuilder<Global>, path: &str) {
+    let octets = read_octets(rt, said, path);
+    match hex_lines(rt.alloc(), &octets) {
         Ok(lines) => said.put(lines.as_str()),
-        Err(_) => said.give_up(),
+        Err(_) => said.discard(),
     }
 }
 
-/// Tells how many octets each of some files holds: `count FILE ..`.
-pub fn count<H: AllocGlobal + Files>(rt: &H, said: &mut Text<Global>, paths: &str) {
+/// Adds the length of each file in octets: `count FILE ..`.
+pub fn show_lengths<H: AllocGlobal + Files>(rt: &H, said: &mut TextBuilder<Global>, paths: &str) {
     for path in paths.split(' ') {
-        let length = octets_of(rt, said, path).len() as u64;
-        said.fill("{a} {0} octets\n", &[length], &[path]);
+        let length = read_octets(rt, said, path).len() as u64;
+        said.put_template("{a} {0} octets\n", &[length], &[path]);
     }
 }
 
-/// Tells whether two files hold the same: `same FILE FILE`.
-pub fn same<H: AllocGlobal + Files>(rt: &H, said: &mut Text<Global>, rest: &str) {
-    let (one, other) = pair_of(said, rest);
-    let octets = octets_of(rt, said, one);
-    let others = octets_of(rt, said, other);
+/// Adds whether two files have equal contents, and the length of the second file: `same FILE FILE`.
+pub fn show_if_same<H: AllocGlobal + Files>(rt: &H, said: &mut TextBuilder<Global>, rest: &str) {
+    let (one, other) = split_pair(said, rest);
+    let octets = read_octets(rt, said, one);
+    let others = read_octets(rt, said, other);
     let word = if octets == others {
         "the same"
     } else {
         "other"
     };
-    said.fill(
+    said.put_template(
         "{a}: {b}, {0} octets\n",
         &[others.len() as u64],
         &[other, word],
     );
 }
 
-/// Tells the lines of a file that hold a text: `holding TEXT FILE`.
-pub fn holding<H: AllocGlobal + Files>(rt: &H, said: &mut Text<Global>, rest: &str) {
+/// Adds the lines of a file that contain a text: `holding TEXT FILE`.
+pub fn show_matching_lines<H: AllocGlobal + Files>(
+    rt: &H,
+    said: &mut TextBuilder<Global>,
+    rest: &str,
+) {
     let Some((part, path)) = rest.rsplit_once(' ') else {
-        return said.give_up();
+        return said.discard();
     };
-    let text = text_of(rt, said, path);
+    let text = read_text(rt, said, path);
     for line in text.as_str().lines() {
         if line.contains(part) {
-            said.fill("{a}\n", &[], &[line]);
+            said.put_template("{a}\n", &[], &[line]);
         }
     }
 }
 
-/// Makes a folder, and those above it: `folder PATH`. Removes a file: `remove PATH`.
-pub fn change<H: Files>(rt: &H, said: &mut Text<Global>, word: &str, path: &str) {
+/// Makes a folder and its parent folders (`folder PATH`), or removes a file (`remove PATH`).
+pub fn change<H: Files>(rt: &H, said: &mut TextBuilder<Global>, word: &str, path: &str) {
     let done = match word {
         "folder" => fs::create_dir_all(rt, path),
         _ => fs::remove_file(rt, path),
     };
     if done.is_err() {
-        said.give_up();
+        said.discard();
     }
 }
 
-/// Makes a path lead to a file: `link FILE PATH`. Copies a file: `copy FILE PATH`.
-pub fn double<H: Files>(rt: &H, said: &mut Text<Global>, word: &str, rest: &str) {
-    let (file, path) = pair_of(said, rest);
+/// Makes a hard link to a file (`link FILE PATH`), or copies a file (`copy FILE PATH`).
+pub fn link_or_copy<H: Files>(rt: &H, said: &mut TextBuilder<Global>, word: &str, rest: &str) {
+    let (file, path) = split_pair(said, rest);
     let is_done = match word {
         "link" => fs::hard_link(rt, file, path).is_ok(),
         _ => fs::copy(rt, file, path).is_ok(),
     };
     if !is_done {
-        said.give_up();
+        said.discard();
     }
 }
 
-/// Writes a file's text with a comment behind it into another file, so that this has `NUMBER` octets: `pad NUMBER FILE FILE`.
-pub fn pad<H: AllocGlobal + Files>(rt: &H, said: &mut Text<Global>, rest: &str) {
-    let (number, files) = pair_of(said, rest);
-    let (from, to) = pair_of(said, files);
+/// Copies a file and appends `#` up to `NUMBER` octets: `pad NUMBER FILE FILE`.
+pub fn pad<H: AllocGlobal + Files>(rt: &H, said: &mut TextBuilder<Global>, rest: &str) {
+    let (number, files) = split_pair(said, rest);
+    let (from, to) = split_pair(said, files);
     let Ok(number) = number.parse::<usize>() else {
-        return said.give_up();
+        return said.discard();
     };
-    let mut octets = octets_of(rt, said, from);
+    let mut octets = read_octets(rt, said, from);
     if octets.len() > number || octets.resize(number, b'#').is_err() {
-        return said.give_up();
+        return said.discard();
     }
     if fs::write(rt, to, &octets).is_err() {
-        said.give_up();
+        said.discard();
     }
 }

@@ -1,18 +1,23 @@
 #![tactic(auto)]
-//! Sessions of the program: scripts whose lines are jobs, and what is looked at of the files that these write.
+//! Runs sessions of the program: scripts whose lines are commands, or show and change files.
 //!
-//! The words are the paths of the scripts. Each line of one is printed, with what comes of it behind it; a line that is none of
-//! a script, or a file that it can't read or make, ends all with status 1. `$ WORDS` does the job of the words, parted by single
-//! spaces, and prints what is said: on standard output as it is, on standard error behind `! `, then the status if it isn't 0.
+//! The arguments are paths of scripts. The program prints each line, then its output. An unknown line or a file error ends the run with
+//! status 1.
+//!
+//! `$ WORDS` runs the command with these arguments, which single spaces separate. Lines of standard error begin with `! `. An exit status
+//! other than 0 is printed last.
 
 mod files;
 mod pipes;
 mod sections;
 
-use app_cli::words_of;
+use app_cli::read_arguments;
 use app_networks::{Output, perform};
-use bridge_text::Text;
-use files::{change, count, double, first, holding, octets, octets_of, pad, pair_of, same, show};
+use bridge_text::TextBuilder;
+use files::{
+    change, link_or_copy, pad, read_octets, show, show_first_lines, show_if_same, show_lengths,
+    show_matching_lines, show_octets, split_pair,
+};
 use pipes::put_pipe;
 use sections::compare;
 use std::alloc::Global;
@@ -24,9 +29,9 @@ fn main(rt: HostRuntime) -> ExitCode {
     ExitCode::from(if run(&rt) { 0 } else { 1 })
 }
 
-/// Does the scripts of the words; whether all was done.
+/// Plays the scripts that the arguments name, and returns whether all lines succeeded.
 fn run<H: Input + AllocGlobal + Print + Eprint + Env + Files>(rt: &H) -> bool {
-    let Ok(words) = words_of(rt) else {
+    let Ok(words) = read_arguments(rt) else {
         return false;
     };
     for path in &words {
@@ -37,7 +42,7 @@ fn run<H: Input + AllocGlobal + Print + Eprint + Env + Files>(rt: &H) -> bool {
     true
 }
 
-/// Does a script line by line; where it can't, the line is told.
+/// Plays a script line by line. If a line fails, prints it on standard error and returns false.
 fn play<H: Input + AllocGlobal + Print + Eprint + Files>(rt: &H, path: &str) -> bool {
     let Ok(script) = fs::read_to_string(rt, path) else {
         return false;
@@ -51,22 +56,22 @@ fn play<H: Input + AllocGlobal + Print + Eprint + Files>(rt: &H, path: &str) -> 
     true
 }
 
-/// Prints a line of a script, does what it says, and prints what is told of it, unless it can't be done.
+/// Prints a line of a script, carries it out, and prints its output. Returns false if it fails.
 fn step<H: Input + AllocGlobal + Print + Eprint + Files>(rt: &H, line: &str) -> bool {
     let is_begun = println!(rt; "{line}").is_ok();
-    let mut said = Text::new(rt.alloc());
+    let mut said = TextBuilder::new(rt.alloc());
     let (word, rest) = line.split_once(' ').unwrap_or((line, ""));
     look(rt, &mut said, word, rest);
-    match said.done() {
+    match said.finish() {
         Ok(text) => is_begun & rt.print(text.as_str()).is_ok(),
         Err(_) => false,
     }
 }
 
-/// Does what a line of a script says, and tells what comes of it.
+/// Carries out a line of a script, and adds its output to `said`.
 fn look<H: Input + AllocGlobal + Print + Eprint + Files>(
     rt: &H,
-    said: &mut Text<Global>,
+    said: &mut TextBuilder<Global>,
     word: &str,
     rest: &str,
 ) {
@@ -74,22 +79,22 @@ fn look<H: Input + AllocGlobal + Print + Eprint + Files>(
         "" | "#" => {}
         "$" => job(rt, said, rest),
         "show" => show(rt, said, rest),
-        "first" => first(rt, said, rest),
-        "octets" => octets(rt, said, rest),
-        "count" => count(rt, said, rest),
-        "same" => same(rt, said, rest),
-        "holding" => holding(rt, said, rest),
+        "first" => show_first_lines(rt, said, rest),
+        "octets" => show_octets(rt, said, rest),
+        "count" => show_lengths(rt, said, rest),
+        "same" => show_if_same(rt, said, rest),
+        "holding" => show_matching_lines(rt, said, rest),
         "compare" => compare(rt, said, rest),
         "folder" | "remove" => change(rt, said, word, rest),
-        "link" | "copy" => double(rt, said, word, rest),
+        "link" | "copy" => link_or_copy(rt, said, word, rest),
         "pad" => pad(rt, said, rest),
         "pipe" => pipe(rt, said, rest),
-        _ => said.give_up(),
+        _ => said.discard(),
     }
 }
 
-/// The words of a line, which single spaces part.
-fn words_in(alloc: Global, said: &mut Text<Global>, line: &str) -> Vec<String> {
+/// Splits a line at its single spaces.
+fn split_words(alloc: Global, said: &mut TextBuilder<Global>, line: &str) -> Vec<String> {
     let mut words = Vec::new(alloc);
     for word in line.split(' ') {
         let is_added = match String::from_str(alloc, word) {
@@ -97,45 +102,45 @@ fn words_in(alloc: Global, said: &mut Text<Global>, line: &str) -> Vec<String> {
             Err(_) => false,
         };
         if !is_added {
-            said.give_up();
+            said.discard();
         }
     }
     words
 }
 
-/// Does the job of the words of a line, and tells what is said.
+/// Runs the command that `line` has as arguments, and adds its output.
 fn job<H: Input + AllocGlobal + Print + Eprint + Files>(
     rt: &H,
-    said: &mut Text<Global>,
+    said: &mut TextBuilder<Global>,
     line: &str,
 ) {
-    let words = words_in(rt.alloc(), said, line);
+    let words = split_words(rt.alloc(), said, line);
     match perform(rt, &words, false) {
         Ok(output) => tell(said, &output),
-        Err(_) => said.give_up(),
+        Err(_) => said.discard(),
     }
 }
 
-/// Adds the output of a command: standard output, each line of standard error behind `! `, and the exit status if it isn't 0.
-fn tell(said: &mut Text<Global>, output: &Output) {
+/// Adds the output of a command: standard output, each line of standard error after `! `, and the exit status if it isn't 0.
+fn tell(said: &mut TextBuilder<Global>, output: &Output) {
     said.put(output.stdout.as_str());
     for line in output.stderr.as_str().lines() {
-        said.fill("! {a}\n", &[], &[line]);
+        said.put_template("! {a}\n", &[], &[line]);
     }
     if output.status != 0 {
-        said.fill("status {0}\n", &[output.status as u64], &[]);
+        said.put_template("status {0}\n", &[output.status as u64], &[]);
     }
 }
 
-/// Does a job while a path leads to a pipe that gives what a file holds, once: `pipe FILE PATH WORDS`.
+/// Runs a command while `PATH` leads to a pipe that gives a file's contents once: `pipe FILE PATH WORDS`.
 fn pipe<H: Input + AllocGlobal + Print + Eprint + Files>(
     rt: &H,
-    said: &mut Text<Global>,
+    said: &mut TextBuilder<Global>,
     rest: &str,
 ) {
-    let (file, rest) = pair_of(said, rest);
-    let (path, words) = pair_of(said, rest);
-    let octets = octets_of(rt, said, file);
+    let (file, rest) = split_pair(said, rest);
+    let (path, words) = split_pair(said, rest);
+    let octets = read_octets(rt, said, file);
     let end = put_pipe(rt, said, &octets, path);
     job(rt, said, words);
     drop(end);

@@ -1,29 +1,29 @@
-//! The sections of two reports, and what they say of each filter.
+//! Compares two reports section by section: one section for each filter.
 ghost use Rattle.std.specs.Prelude.{◌≡◌, ◌≢◌};
 ghost use Rattle.gate_session.specs.declared.sections.Finding.TheVariants as finding;
 
-use crate::files::{pair_of, text_of};
-use bridge_text::Text;
+use crate::files::{read_text, split_pair};
+use bridge_text::TextBuilder;
 use std::alloc::Global;
 use std::rt::Files;
 
-/// The last line of a section, with the line feeds around it.
+/// Last line of a section, with the line feeds around it.
 const END: &str = "\nend\n";
 
-/// What two runs of a plan say of a stream filter.
+/// Comparison of a stream filter's sections in two reports.
 #[derive(Clone, Copy)]
 pub enum Finding {
-    /// The plan protects the filter, and its sections are the same octets.
+    /// Protected filter with equal sections.
     Kept,
-    /// The plan protects the filter, and its sections differ.
+    /// Protected filter with different sections.
     Broken,
-    /// The plan doesn't protect the filter, and its sections are the same octets.
+    /// Unprotected filter with equal sections.
     Idle,
-    /// The plan doesn't protect the filter, and its sections differ.
+    /// Unprotected filter with different sections.
     Moved,
 }
 
-/// How many sections were found to be what.
+/// Numbers of sections by comparison. Equal sections of unprotected filters aren't counted.
 #[derive(Clone, Copy)]
 struct Findings {
     kept: u64,
@@ -31,22 +31,22 @@ struct Findings {
     moved: u64,
 }
 
-/// Compares two reports, and tells a line for each filter, then how many were found to be what: `compare NAME FILE FILE`.
-pub fn compare<H: AllocGlobal + Files>(rt: &H, said: &mut Text<Global>, rest: &str) {
-    let (name, pair) = pair_of(said, rest);
-    let (one, other) = pair_of(said, pair);
-    let one = text_of(rt, said, one);
-    let other = text_of(rt, said, other);
+/// Compares two reports, and adds a line for each filter, then the counts: `compare NAME FILE FILE`.
+pub fn compare<H: AllocGlobal + Files>(rt: &H, said: &mut TextBuilder<Global>, rest: &str) {
+    let (name, pair) = split_pair(said, rest);
+    let (one, other) = split_pair(said, pair);
+    let one = read_text(rt, said, one);
+    let other = read_text(rt, said, other);
     let found = compare_all(said, one.as_str(), other.as_str());
-    said.fill(
+    said.put_template(
         "{a}: {0} protected sections are the same, {1} differ; {2} others changed\n",
         &[found.kept, found.broken, found.moved],
         &[name],
     );
 }
 
-/// Tells a line for each section of two reports, and counts what was found.
-fn compare_all(said: &mut Text<Global>, one: &str, other: &str) -> Findings {
+/// Adds a line for each pair of sections, and counts the comparisons.
+fn compare_all(said: &mut TextBuilder<Global>, one: &str, other: &str) -> Findings {
     let mut found = Findings {
         kept: 0,
         broken: 0,
@@ -55,14 +55,14 @@ fn compare_all(said: &mut Text<Global>, one: &str, other: &str) -> Findings {
     for (one, other) in one.split(END).zip(other.split(END)) {
         if !one.is_empty() || !other.is_empty() {
             put_compared(said, one, other);
-            found = with_found(found, compared(one, other));
+            found = add_finding(found, compare_sections(one, other));
         }
     }
     found
 }
 
-/// The counts with one more.
-fn with_found(found: Findings, finding: Finding) -> Findings {
+/// Returns the counts with `finding` added.
+fn add_finding(found: Findings, finding: Finding) -> Findings {
     let mut found = found;
     match finding {
         Finding::Kept => found.kept = found.kept.saturating_add(1),
@@ -73,15 +73,15 @@ fn with_found(found: Findings, finding: Finding) -> Findings {
     found
 }
 
-/// What two sections of a filter are to each other.
-fn compared(one: &str, other: &str) -> Finding
+/// Compares two sections of a filter. The heading of the first section shows whether the filter is protected.
+fn compare_sections(one: &str, other: &str) -> Finding
     ensures kept { result ≡ finding.Kept → one.now ≡ other.now }
     ensures idle { result ≡ finding.Idle → one.now ≡ other.now }
     ensures broken { result ≡ finding.Broken → one.now ≢ other.now }
     ensures moved { result ≡ finding.Moved → one.now ≢ other.now }
 {
     let is_same = one == other;
-    if heading(one).ends_with(" protected") {
+    if first_line(one).ends_with(" protected") {
         return if is_same {
             Finding::Kept
         } else {
@@ -95,38 +95,38 @@ fn compared(one: &str, other: &str) -> Finding
     }
 }
 
-/// Tells how many octets of two sections are the same, or the counters of both.
-fn put_compared(said: &mut Text<Global>, one: &str, other: &str) {
-    let filter = heading(one);
+/// Adds the length of two equal sections in octets, or the counters of two different sections.
+fn put_compared(said: &mut TextBuilder<Global>, one: &str, other: &str) {
+    let filter = first_line(one);
     if one == other {
         let length = one.len().saturating_add(END.len()) as u64;
-        return said.fill("{a}: the same {0} octets\n", &[length], &[filter]);
+        return said.put_template("{a}: the same {0} octets\n", &[length], &[filter]);
     }
-    said.fill("{a}:", &[], &[filter]);
+    said.put_template("{a}:", &[], &[filter]);
     put_counters(said, one);
     said.put("; then");
     put_counters(said, other);
     said.put("\n");
 }
 
-/// Tells the counters of a section that show what else came.
-fn put_counters(said: &mut Text<Global>, section: &str) {
-    let matching = line_of(section, "matching ");
-    let red = line_of(section, "red ");
-    let queued = line_of(section, "queued ");
-    said.fill(" {a}, {b}, {c}", &[], &[matching, red, queued]);
+/// Adds the counters of a section that other traffic can change.
+fn put_counters(said: &mut TextBuilder<Global>, section: &str) {
+    let matching = section_line(section, "matching ");
+    let red = section_line(section, "red ");
+    let queued = section_line(section, "queued ");
+    said.put_template(" {a}, {b}, {c}", &[], &[matching, red, queued]);
 }
 
-/// The first line of a section.
-fn heading(section: &str) -> &str {
+/// Returns the first line of a section.
+fn first_line(section: &str) -> &str {
     match section.split_once('\n') {
         Some((line, _)) => line,
         None => section,
     }
 }
 
-/// The line of a section that begins so; empty where there is none.
-fn line_of<'a>(section: &'a str, front: &str) -> &'a str {
+/// Returns the line of a section that begins with `front`, or an empty text.
+fn section_line<'a>(section: &'a str, front: &str) -> &'a str {
     for line in section.split('\n') {
         if line.starts_with(front) {
             return line;

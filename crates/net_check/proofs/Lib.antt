@@ -1,4 +1,3 @@
-pub mod Folders
 pub mod Named
 pub mod Refused
 pub mod Told

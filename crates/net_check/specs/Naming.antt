@@ -1,9 +1,9 @@
--- The names of bridges.
+-- Names of bridges.
 use Rattle.std.specs.Prelude.{ℕ, zero, suc, List, [], ◌∷◌}
 use Rattle.net_file.specs.Model.{Bridge}
 
--- the name of the bridge at a place, nothing where there is none
-abbrev pub name_at : List Bridge → ℕ → List ℕ
-name_at [] b = []
-name_at (x ∷ xs) zero = x.name
-name_at (x ∷ xs) (suc b) = name_at xs b
+-- The name of the bridge with index `b`; empty if it is missing.
+abbrev pub bridge_name : List Bridge → ℕ → List ℕ
+bridge_name [] b = []
+bridge_name (x ∷ xs) zero = x.name
+bridge_name (x ∷ xs) (suc b) = bridge_name xs b

@@ -1,4 +1,4 @@
--- What is told of a network that is accepted: where frames may go round, and what of it is of no use.
+-- Warnings of an accepted network: frames that may loop, filters in no stream, and limits that fall along a stream.
 use Rattle.std.specs.Prelude.{◌≡◌, ℕ, suc, ◌+◌, ◌-◌, ◌^◌, Bool, true, false, not, ◌&&◌, ◌||◌, nat_eq, nat_lt, List, [], ◌∷◌, ◌++◌, Option, Some, None, length, flat_map, slice_get, slice_index, codes, decimal, if◌then◌else◌}
 use Rattle.std.specs.List.{list_any}
 use Rattle.std.specs.Map.{lookup}
@@ -6,137 +6,137 @@ use Rattle.std.specs.Fmt.{digits, format_spec, padded_integral}
 use Rattle.bridge_ident.specs.declared.StreamEntry.{StreamEntry}
 use Rattle.bridge_filter.specs.declared.FilterPlan.{FilterPlan}
 use Rattle.bridge_config.specs.Model.{Plan}
-use Rattle.net_file.specs.declared.links.LinkRow.{LinkRow}
+use Rattle.net_file.specs.declared.link_row.LinkRow.{LinkRow}
 use Rattle.net_file.specs.Model.{Bridge, Stream}
 use Rattle.net_file.specs.Model as file
-use Rattle.net_model.specs.Wiring.{Parts}
-use Rattle.net_loops.specs.declared.circulations.Circulation.{Circulation}
-use Rattle.net_loops.specs.Circulations.{AreCirculations}
-use Rattle.net_loops.specs.Steps.{all_below}
-use Rattle.net_check.specs.Naming.{name_at}
+use Rattle.net_model.specs.NetworkParts.{NetworkParts}
+use Rattle.net_loops.specs.declared.forwarding_loop.ForwardingLoop.{ForwardingLoop}
+use Rattle.net_loops.specs.ForwardingLoops.{AreForwardingLoops}
+use Rattle.net_loops.specs.Steps.{collect_below}
+use Rattle.net_check.specs.Naming.{bridge_name}
 
--- FRAMES THAT MAY GO ROUND
+-- FRAMES THAT MAY LOOP
 
--- a VLAN that a tag may name
+-- The number of an optional VLAN, or `none`.
 abbrev pub vlan_text : Option ℕ → List ℕ
 vlan_text None = codes "none"
 vlan_text (Some vid) = decimal vid
 
--- an octet as two hexadecimal digits
+-- An octet as two hexadecimal digits.
 abbrev pub octet_text : ℕ → List ℕ
 octet_text n = padded_integral (format_spec 32 0 4 2 (2 ^ 64 - 1)) false [] (digits 16 true n)
 
--- an address as six of them, joined by hyphens
+-- An address as six octets, joined by hyphens.
 unfoldable pub address_text : List ℕ → List ℕ
 address_text a =
     octet_text (slice_index a 0) ++ (codes "-" ++ (octet_text (slice_index a 1) ++ (codes "-" ++ (octet_text (slice_index a 2) ++ (codes "-"
     ++ (octet_text (slice_index a 3) ++ (codes "-" ++ (octet_text (slice_index a 4) ++ (codes "-" ++ octet_text (slice_index a 5))))))))))
 
--- a destination, or all that no static entry names
+-- A destination, or all destinations without a static entry.
 abbrev pub destination_text : Option (List ℕ) → List ℕ
 destination_text None = codes "any other destination"
 destination_text (Some address) = codes "destination " ++ address_text address
 
--- the line of frames that may go round, by what tells them and by the name of a bridge
-unfoldable pub round_words : List ℕ → List ℕ → List ℕ → ℕ → List ℕ
-round_words vlan destination name port =
+-- The line of frames that may loop, from the texts of its parts.
+unfoldable pub loop_words : List ℕ → List ℕ → List ℕ → ℕ → List ℕ
+loop_words vlan destination name port =
     codes "may go round: VLAN " ++ (vlan ++ (codes " " ++ (destination ++ (codes " at " ++ (name ++ (codes "." ++ (decimal port ++ codes "\n")))))))
 
--- the line of frames that may go round, with a port to which they may come again and again
-abbrev pub round_line : List Bridge → Circulation → List ℕ
-round_line bridges c = round_words (vlan_text c.group.vlan) (destination_text c.group.destination) (name_at bridges c.at.bridge) c.at.port
+-- The line of frames that may loop, with a port at which they can arrive again and again.
+abbrev pub loop_line : List Bridge → ForwardingLoop → List ℕ
+loop_line bridges c = loop_words (vlan_text c.group.vlan) (destination_text c.group.destination) (bridge_name bridges c.at.bridge) c.at.port
 
--- FILTERS THAT ARE IN NO STREAM
+-- FILTERS IN NO STREAM
 
--- whether one of some hops is a filter of a bridge
+-- True if one of these hops is filter `n` of bridge `b`.
 abbrev pub is_hop : List (ℕ × ℕ) → ℕ → ℕ → Bool
 is_hop hops b n = list_any (λ (h : ℕ × ℕ). nat_eq h.0 b && nat_eq h.1 n) hops
 
--- whether a stream has a filter of a bridge as a hop
+-- True if a stream has filter `n` of bridge `b` as a hop.
 abbrev pub has_hop : List Stream → ℕ → ℕ → Bool
 has_hop streams b n = list_any (λ (s : Stream). is_hop s.hops b n) streams
 
--- whether a port of a bridge has a link
+-- True if port `q` of bridge `b` has a link.
 abbrev pub has_link : List LinkRow → ℕ → ℕ → Bool
 has_link links b q = list_any (λ (l : LinkRow). (nat_eq l.one.0 b && nat_eq l.one.1 q) || (nat_eq l.other.0 b && nat_eq l.other.1 q)) links
 
--- whether one of some entries is of a port with a link, and gives a handle
-abbrev pub has_linked : List LinkRow → ℕ → List StreamEntry → ℕ → Bool
-has_linked links b entries h = list_any (λ (e : StreamEntry). nat_eq e.handle h && has_link links b e.port) entries
+-- True if one of these entries has handle `h` and stands on a linked port.
+abbrev pub has_linked_entry : List LinkRow → ℕ → List StreamEntry → ℕ → Bool
+has_linked_entry links b entries h = list_any (λ (e : StreamEntry). nat_eq e.handle h && has_link links b e.port) entries
 
--- whether an entry of a port with a link gives a handle
-abbrev pub comes_linked : {A : Type 0} → List LinkRow → ℕ → Plan A → Option ℕ → Bool
-comes_linked links b p None = false
-comes_linked links b p (Some h) = has_linked links b p.streams h
+-- True if an entry of the plan has the optional handle and stands on a linked port.
+abbrev pub is_entered_by_link : {A : Type 0} → List LinkRow → ℕ → Plan A → Option ℕ → Bool
+is_entered_by_link links b p None = false
+is_entered_by_link links b p (Some h) = has_linked_entry links b p.streams h
 
--- whether frames of a protected filter may come over a link, and it is a hop of no stream
-abbrev pub is_left_out : {A : Type 0} → List LinkRow → List Stream → ℕ → Plan A → ℕ × FilterPlan → Bool
-is_left_out links streams b p f = f.1.protected && (comes_linked links b p f.1.handle && not (has_hop streams b f.0))
+-- True if a filter is protected, its frames can arrive over a link, and it is a hop of no stream.
+abbrev pub is_unlisted : {A : Type 0} → List LinkRow → List Stream → ℕ → Plan A → ℕ × FilterPlan → Bool
+is_unlisted links streams b p f = f.1.protected && (is_entered_by_link links b p f.1.handle && not (has_hop streams b f.0))
 
--- the line of such a filter, by the name of its bridge
-unfoldable pub left_words : List ℕ → ℕ → List ℕ
-left_words name n = codes "in no stream: " ++ (name ++ (codes "." ++ (decimal n ++ codes "\n")))
+-- The warning of a filter in no stream, with its bridge's name.
+unfoldable pub unlisted_words : List ℕ → ℕ → List ℕ
+unlisted_words name n = codes "in no stream: " ++ (name ++ (codes "." ++ (decimal n ++ codes "\n")))
 
--- its line, where a filter is one
-abbrev pub left_text : {A : Type 0} → file.Network → ℕ → Plan A → ℕ × FilterPlan → List ℕ
-left_text f b p x = if is_left_out f.links f.streams b p x then left_words (name_at f.bridges b) x.0 else []
+-- The line of a filter if it is in no stream, otherwise empty.
+abbrev pub unlisted_text : {A : Type 0} → file.Network → ℕ → Plan A → ℕ × FilterPlan → List ℕ
+unlisted_text f b p x = if is_unlisted f.links f.streams b p x then unlisted_words (bridge_name f.bridges b) x.0 else []
 
--- the lines of the filters of a plan
-abbrev pub left_of : {A : Type 0} → file.Network → ℕ → Plan A → List ℕ
-left_of f b p = flat_map (left_text f b p) p.filters
+-- The lines of a plan's filters in no stream.
+abbrev pub unlisted_of_plan : {A : Type 0} → file.Network → ℕ → Plan A → List ℕ
+unlisted_of_plan f b p = flat_map (unlisted_text f b p) p.filters
 
--- the lines of the filters of all plans, the first of which is that of bridge b
-abbrev pub left_from : {A : Type 0} → file.Network → ℕ → List (Plan A) → List ℕ
-left_from f b [] = []
-left_from f b (p ∷ ps) = left_of f b p ++ left_from f (suc b) ps
+-- The lines of the filters in no stream of these plans. The first plan has bridge index `b`.
+abbrev pub unlisted_filters : {A : Type 0} → file.Network → ℕ → List (Plan A) → List ℕ
+unlisted_filters f b [] = []
+unlisted_filters f b (p ∷ ps) = unlisted_of_plan f b p ++ unlisted_filters f (suc b) ps
 
--- FRAMES THAT ARE TOO LONG FOR A LATER HOP
+-- LIMITS THAT FALL ALONG A STREAM
 
--- the greatest service data unit of a filter that may be missing
-abbrev pub sdu_of : Option FilterPlan → Option ℕ
-sdu_of None = None
-sdu_of (Some f) = f.max_sdu
+-- The largest service data unit of an optional filter; `None` without a filter or a limit.
+abbrev pub sdu_if_any : Option FilterPlan → Option ℕ
+sdu_if_any None = None
+sdu_if_any (Some f) = f.max_sdu
 
--- that of a filter of a plan that may be missing
-abbrev pub sdu_in : {A : Type 0} → Option (Plan A) → ℕ → Option ℕ
-sdu_in None n = None
-sdu_in (Some p) n = sdu_of (lookup (nat_eq n) p.filters)
+-- The largest service data unit of filter `n` of an optional plan.
+abbrev pub filter_sdu : {A : Type 0} → Option (Plan A) → ℕ → Option ℕ
+filter_sdu None n = None
+filter_sdu (Some p) n = sdu_if_any (lookup (nat_eq n) p.filters)
 
--- that of a hop
+-- The largest service data unit of a hop's filter; `None` without a hop or a limit.
 abbrev pub hop_sdu : {A : Type 0} → List (Plan A) → ℕ × ℕ → Option ℕ
-hop_sdu plans h = sdu_in (slice_get plans h.0) h.1
+hop_sdu plans h = filter_sdu (slice_get plans h.0) h.1
 
--- whether the second of two limits is below the first
-abbrev pub is_less : Option ℕ → Option ℕ → Bool
-is_less (Some a) (Some b) = nat_lt b a
-is_less a b = false
+-- True if the second of two limits is less than the first.
+abbrev pub is_smaller_limit : Option ℕ → Option ℕ → Bool
+is_smaller_limit (Some a) (Some b) = nat_lt b a
+is_smaller_limit a b = false
 
--- whether a hop lets through shorter frames alone than the hop before it
-abbrev pub falls : {A : Type 0} → List (Plan A) → Option (ℕ × ℕ) → Option (ℕ × ℕ) → Bool
-falls plans (Some a) (Some b) = is_less (hop_sdu plans a) (hop_sdu plans b)
-falls plans a b = false
+-- True if a hop has a lower limit than the hop before, so that it passes only shorter frames.
+abbrev pub is_sdu_falling : {A : Type 0} → List (Plan A) → Option (ℕ × ℕ) → Option (ℕ × ℕ) → Bool
+is_sdu_falling plans (Some a) (Some b) = is_smaller_limit (hop_sdu plans a) (hop_sdu plans b)
+is_sdu_falling plans a b = false
 
--- the line of such a hop; streams and hops are counted from 1
-unfoldable pub fall_line : ℕ → ℕ → List ℕ
-fall_line i k = codes "max_sdu falls: stream " ++ (decimal (i + 1) ++ (codes " hop " ++ (decimal (k + 1) ++ codes "\n")))
+-- The line of a hop with a lower limit. Streams and hops are counted from 1.
+unfoldable pub sdu_fall_line : ℕ → ℕ → List ℕ
+sdu_fall_line i k = codes "max_sdu falls: stream " ++ (decimal (i + 1) ++ (codes " hop " ++ (decimal (k + 1) ++ codes "\n")))
 
--- its line, where the hop of a stream behind the one at a place is one
-abbrev pub fall_text : {A : Type 0} → List (Plan A) → ℕ → List (ℕ × ℕ) → ℕ → List ℕ
-fall_text plans i hops k = if falls plans (slice_get hops k) (slice_get hops (k + 1)) then fall_line i (k + 1) else []
+-- The line of the hop after index `k` if it has a lower limit, otherwise empty.
+abbrev pub sdu_fall_text : {A : Type 0} → List (Plan A) → ℕ → List (ℕ × ℕ) → ℕ → List ℕ
+sdu_fall_text plans i hops k = if is_sdu_falling plans (slice_get hops k) (slice_get hops (k + 1)) then sdu_fall_line i (k + 1) else []
 
--- the lines of the hops of a stream
-abbrev pub falls_of : {A : Type 0} → List (Plan A) → ℕ → List (ℕ × ℕ) → List ℕ
-falls_of plans i hops = all_below (length hops) (fall_text plans i hops)
+-- The lines of a stream's hops with a lower limit than the hop before.
+abbrev pub stream_sdu_falls : {A : Type 0} → List (Plan A) → ℕ → List (ℕ × ℕ) → List ℕ
+stream_sdu_falls plans i hops = collect_below (length hops) (sdu_fall_text plans i hops)
 
--- the lines of the hops of all streams, the first of which is stream i
-abbrev pub falls_from : {A : Type 0} → List (Plan A) → ℕ → List Stream → List ℕ
-falls_from plans i [] = []
-falls_from plans i (s ∷ ss) = falls_of plans i s.hops ++ falls_from plans (suc i) ss
+-- The lines of the hops with a lower limit, for streams with indexes from `i` on.
+abbrev pub sdu_falls : {A : Type 0} → List (Plan A) → ℕ → List Stream → List ℕ
+sdu_falls plans i [] = []
+sdu_falls plans i (s ∷ ss) = stream_sdu_falls plans i s.hops ++ sdu_falls plans (suc i) ss
 
--- ALL OF IT
+-- ALL WARNINGS
 
--- what is told of a network of these plans, nothing where nothing is
-abbrev pub AreTold : {A : Type 0} → file.Network → Parts A → List ℕ → Type 0
-AreTold {A} f n text =
-    (rows : List Circulation) × AreCirculations n.plans n.links rows
-    × (text ≡ flat_map (round_line f.bridges) rows ++ (left_from f 0 n.plans ++ falls_from n.plans 0 f.streams))
+-- Holds if `text` has the warnings of this network; it is empty without a warning.
+abbrev pub AreNetworkWarnings : {A : Type 0} → file.Network → NetworkParts A → List ℕ → Type 0
+AreNetworkWarnings {A} f n text =
+    (rows : List ForwardingLoop) × AreForwardingLoops n.plans n.links rows
+    × (text ≡ flat_map (loop_line f.bridges) rows ++ (unlisted_filters f 0 n.plans ++ sdu_falls n.plans 0 f.streams))

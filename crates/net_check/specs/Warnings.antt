@@ -1,4 +1,4 @@
--- The warnings of an accepted network: those of `Telling`, then those of its streams.
+-- All warnings of an accepted network: the warnings of `Telling`, then the warnings of its streams.
 use Rattle.std.specs.Prelude.{◌≡◌, ℕ, suc, ◌+◌, Bool, true, false, not, ◌&&◌, List, [], ◌∷◌, ◌++◌, Option, Some, None, Vec, flat_map, is_some, length, map, nat_eq, slice_get, codes, decimal, if◌then◌else◌}
 use Rattle.std.specs.List.{list_any}
 use Rattle.bridge_config.specs.declared.ports.PortPlan.{PortPlan}
@@ -6,81 +6,81 @@ use Rattle.bridge_config.specs.Model.{Plan}
 use Rattle.net_file.specs.Model.{Stream}
 use Rattle.net_file.specs.Model as file
 use Rattle.net_model.specs.declared.links.StreamHop.{StreamHop}
-use Rattle.net_model.specs.Wiring.{Parts}
-use Rattle.net_loops.specs.Steps.{all_below}
+use Rattle.net_model.specs.NetworkParts.{NetworkParts}
+use Rattle.net_loops.specs.Steps.{collect_below}
 use Rattle.net_latency.specs.Entering.{may_come_in}
 use Rattle.net_latency.specs.declared.bounds.QueueBound.{QueueBound}
-use Rattle.net_check.specs.Naming.{name_at}
-use Rattle.net_latency.specs.Streams.{AreBoundsOf, hop_in, rows_if}
-use Rattle.net_latency.specs.Talkers.{is_of}
-use Rattle.net_check.specs.Telling.{AreTold}
+use Rattle.net_check.specs.Naming.{bridge_name}
+use Rattle.net_latency.specs.Streams.{AreQueueBoundsOfPlans, stream_hop_value, bounds_if_any}
+use Rattle.net_latency.specs.Talkers.{is_queue_of_hop}
+use Rattle.net_check.specs.Telling.{AreNetworkWarnings}
 
--- FRAMES THAT MAY ALSO COME IN
+-- FRAMES OF OTHER TALKERS
 
--- The warning that frames of other talkers may come to a hop by a port, by the name of its bridge; stream and hop are counted from 1.
+-- The warning that frames of other talkers can arrive at a hop by a port. Streams and hops are counted from 1.
 unfoldable pub entering_line : ℕ → ℕ → List ℕ → ℕ → List ℕ
 entering_line i k name port =
     codes "may also come in: stream " ++ (decimal (i + 1) ++ (codes " hop " ++ (decimal (k + 1) ++ (codes " " ++ (name ++ (codes "." ++ (decimal port ++ codes "\n")))))))
 
--- That warning, if it holds of the port.
-abbrev pub entering_text : {A : Type 0} → file.Network → Parts A → ℕ → ℕ → StreamHop → Plan A → PortPlan A → List ℕ
+-- The warning of a port, if frames of other devices can get the hop's handle there; otherwise empty.
+abbrev pub entering_text : {A : Type 0} → file.Network → NetworkParts A → ℕ → ℕ → StreamHop → Plan A → PortPlan A → List ℕ
 entering_text f n i k h p on =
-    if may_come_in n.links (nat_eq k 0) h p on then entering_line i k (name_at f.bridges h.bridge) on.number else []
+    if may_come_in n.links (nat_eq k 0) h p on then entering_line i k (bridge_name f.bridges h.bridge) on.number else []
 
--- The warnings for all ports of the hop's bridge, if its plan is there.
-abbrev pub entering_at : {A : Type 0} → file.Network → Parts A → ℕ → ℕ → StreamHop → Option (Plan A) → List ℕ
+-- The warnings for all ports of the hop's bridge; empty if its plan is missing.
+abbrev pub entering_at : {A : Type 0} → file.Network → NetworkParts A → ℕ → ℕ → StreamHop → Option (Plan A) → List ℕ
 entering_at f n i k h None = []
 entering_at f n i k h (Some p) = flat_map (entering_text f n i k h p) p.ports
 
--- The warnings for the hop, if the talker keeps a period: only then other frames keep the stream from having figures.
-abbrev pub entering_if : {A : Type 0} → file.Network → Parts A → ℕ → Bool → ℕ → StreamHop → List ℕ
+-- The warnings for a hop, if the talker is periodic. Without a period, the delays of the stream are unknown anyway.
+abbrev pub entering_if : {A : Type 0} → file.Network → NetworkParts A → ℕ → Bool → ℕ → StreamHop → List ℕ
 entering_if f n i false k h = []
 entering_if f n i true k h = entering_at f n i k h (slice_get n.plans h.bridge)
 
--- HOPS THAT LEAD NOWHERE
+-- HOPS WITHOUT REACHABLE QUEUE
 
--- True if one of the bounds is of a queue of the hop: its frames can leave the bridge.
+-- True if one of the bounds belongs to a queue of the hop. Then the hop's frames can leave the bridge.
 abbrev pub has_queue : {A : Type 0} → List (Vec QueueBound A) → StreamHop → Bool
-has_queue bounds h = list_any (is_of h) (rows_if (slice_get bounds h.bridge))
+has_queue bounds h = list_any (is_queue_of_hop h) (bounds_if_any (slice_get bounds h.bridge))
 
--- The warning that the hop's frames reach no queue; stream and hop are counted from 1.
+-- The warning that a hop's frames have no reachable queue. Streams and hops are counted from 1.
 unfoldable pub nowhere_line : ℕ → ℕ → List ℕ
 nowhere_line i k = codes "leads nowhere: stream " ++ (decimal (i + 1) ++ (codes " hop " ++ (decimal (k + 1) ++ codes "\n")))
 
--- That warning, if it holds of the hop.
+-- The warning of a hop without reachable queue; otherwise empty.
 abbrev pub nowhere_text : {A : Type 0} → List (Vec QueueBound A) → ℕ → ℕ → StreamHop → List ℕ
 nowhere_text bounds i k h = if has_queue bounds h then [] else nowhere_line i k
 
--- ALL OF THEM
+-- ALL WARNINGS
 
--- The warnings of a hop.
-abbrev pub hop_text : {A : Type 0} → file.Network → Parts A → List (Vec QueueBound A) → ℕ → Bool → ℕ → StreamHop → List ℕ
+-- The warnings of a hop: entries for other devices, and no reachable queue.
+abbrev pub hop_text : {A : Type 0} → file.Network → NetworkParts A → List (Vec QueueBound A) → ℕ → Bool → ℕ → StreamHop → List ℕ
 hop_text f n bounds i periodic k h = entering_if f n i periodic k h ++ nowhere_text bounds i k h
 
--- The warnings of an optional hop, which has this place in its stream.
-abbrev pub place_text : {A : Type 0} → file.Network → Parts A → List (Vec QueueBound A) → ℕ → Bool → ℕ → Option StreamHop → List ℕ
+-- The warnings of an optional hop, which has index `k` in its stream.
+abbrev pub place_text : {A : Type 0} → file.Network → NetworkParts A → List (Vec QueueBound A) → ℕ → Bool → ℕ → Option StreamHop → List ℕ
 place_text f n bounds i periodic k None = []
 place_text f n bounds i periodic k (Some h) = hop_text f n bounds i periodic k h
 
--- The warnings of all hops of a stream, in their order.
-abbrev pub hops_text : {A : Type 0} → file.Network → Parts A → List (Vec QueueBound A) → ℕ → Bool → List StreamHop → List ℕ
+-- The warnings of all hops of a stream, in order.
+abbrev pub hops_text : {A : Type 0} → file.Network → NetworkParts A → List (Vec QueueBound A) → ℕ → Bool → List StreamHop → List ℕ
 hops_text f n bounds i periodic hops =
-    all_below (length hops) (λ (k : ℕ). place_text f n bounds i periodic k (slice_get hops k))
+    collect_below (length hops) (λ (k : ℕ). place_text f n bounds i periodic k (slice_get hops k))
 
--- The warnings of a stream.
-abbrev pub stream_text : {A : Type 0} → file.Network → Parts A → List (Vec QueueBound A) → ℕ → Stream → List ℕ
+-- The warnings of a stream: of its hops, in order.
+abbrev pub stream_text : {A : Type 0} → file.Network → NetworkParts A → List (Vec QueueBound A) → ℕ → Stream → List ℕ
 stream_text f n bounds i s =
-    hops_text f n bounds i (is_some s.talker) (map hop_in s.hops)
+    hops_text f n bounds i (is_some s.talker) (map stream_hop_value s.hops)
 
--- The warnings of all streams, the first of which has index `i`.
-abbrev pub streams_text : {A : Type 0} → file.Network → Parts A → List (Vec QueueBound A) → ℕ → List Stream → List ℕ
+-- The warnings of all streams. The first stream has index `i`.
+abbrev pub streams_text : {A : Type 0} → file.Network → NetworkParts A → List (Vec QueueBound A) → ℕ → List Stream → List ℕ
 streams_text f n bounds i [] = []
 streams_text f n bounds i (s ∷ ss) = stream_text f n bounds i s ++ streams_text f n bounds (suc i) ss
 
--- all warnings of an accepted network
-pub record AreWarnings {A : Type 0} (f : file.Network) (n : Parts A) (text : List ℕ) : Type 0 where
+-- Holds if `text` has all warnings of an accepted network.
+pub record AreWarnings {A : Type 0} (f : file.Network) (n : NetworkParts A) (text : List ℕ) : Type 0 where
   pub bounds : List (Vec QueueBound A)
-  pub are_bounds : AreBoundsOf n.plans bounds
+  pub are_bounds : AreQueueBoundsOfPlans n.plans bounds
   pub told : List ℕ
-  pub are_told : AreTold f n told
+  pub are_told : AreNetworkWarnings f n told
   pub text_is : text ≡ told ++ streams_text f n bounds 0 f.streams

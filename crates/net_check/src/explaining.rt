@@ -1,64 +1,66 @@
-//! What is told beside the line of a network that is refused: what is wrong, and what to change. Nothing here can fail: what can't be
-//! read again is left out.
+//! Explanations of a refused network: the fault and a remedy. No call fails: files that can't be read again are left out.
 ghost use Rattle.std.specs.Prelude.{◌≤◌, length};
 
-use crate::link_faults::said_of_link;
-use crate::network::{beside, links_of, read_network, read_plans, streams_of, tested};
-use crate::open_streams::said_of_open;
-use crate::telling::push_rounds;
-use app_failure::Fault;
+use crate::link_faults::explain_link_fault;
+use crate::network::{
+    check_network_file, network_links, network_streams, read_network, read_plans, sibling_path,
+};
+use crate::open_streams::explain_open_stream;
+use crate::warning_lines::push_loops;
+use app_failure::Failure;
 use app_files::CommandFiles;
 use bridge_check::Accepted;
-use bridge_text::{Document, Text, put_text};
-use net_file::{NetFault, NetField, NetSection, NetworkFile, document_of, network_of};
-use net_latency::{NetworkText, first_misfit, said_of_hop, said_of_period, text_of};
-use net_loops::circulations_in;
+use bridge_text::{Document, TextBuilder, put_text};
+use net_file::{NetFault, NetField, NetSection, NetworkFile, parse_network, read_document};
+use net_latency::{NetworkText, explain_hop_fault, explain_period, first_misfit, reread_text};
+use net_loops::find_forwarding_loops;
 use net_model::{Network, NetworkFault, RefusedNetwork, check_network};
 use std::alloc::Global;
 use std::rt::Files;
 use toml::Table;
 
-/// Returns why the network of a file is refused whose text is accepted, made anew of the file and of its plans: where it names a plan that
-/// can't be read, else what its tests say.
+/// Explains why a network is refused whose text is accepted: a plan can't be read, or the network has a fault. Reads all files again.
+/// Returns `None` if this fails or memory runs out.
 pub fn explain_network<H: AllocGlobal + Files>(rt: &H, path: &str) -> Option<String> {
     let alloc = rt.alloc();
-    let octets = text_of(rt, path)?;
+    let octets = reread_text(rt, path)?;
     let text = str::from_utf8(&octets).ok()?;
-    let Ok(table) = document_of(alloc, &octets) else {
+    let Ok(table) = read_document(alloc, &octets) else {
         return None;
     };
-    let Ok(file) = network_of(alloc, alloc, &octets) else {
+    let Ok(file) = parse_network(alloc, alloc, &octets) else {
         return None;
     };
     let asked = network_text(path, text, &table, &file);
     let mut files = CommandFiles::new(rt);
     match read_plans(alloc, &mut files, path, file.bridges()) {
-        Ok(plans) => said_of_plans(alloc, asked, plans),
-        Err(Fault::File(error)) => said_of_path(alloc, asked, error.path.as_str()),
+        Ok(plans) => explain_plans(alloc, asked, plans),
+        Err(Failure::File(error)) => explain_plan_path(alloc, asked, error.path.as_str()),
         Err(_) => None,
     }
 }
 
-/// Returns which bridge of a network has its plan at a path, and where the file says so.
-fn said_of_path(alloc: Global, asked: NetworkText<'_>, plan: &str) -> Option<String> {
+/// Returns a sentence with the bridge whose plan has the path `plan`, and the position in the network file. Returns `None` if no bridge
+/// names this file.
+fn explain_plan_path(alloc: Global, asked: NetworkText<'_>, plan: &str) -> Option<String> {
     let mut index = 0usize;
     for bridge in asked.file.bridges() {
         index = index.saturating_add(1);
-        let place = beside(alloc, asked.path, bridge.plan()).ok()?;
+        let place = sibling_path(alloc, asked.path, bridge.plan()).ok()?;
         if place.as_str() == plan {
             let key = NetField::Plan.key();
-            let mut said = Text::new(alloc);
+            let mut said = TextBuilder::new(alloc);
             asked.put_place(&mut said, NetSection::Bridge, index, Some(key));
-            said.fill("`plan` of bridge {a} is ", &[], &[bridge.name()]);
+            said.put_template("`plan` of bridge {a} is ", &[], &[bridge.name()]);
             put_text(&mut said, bridge.plan());
             said.put(":\n");
-            return said.done().ok();
+            return said.finish().ok();
         }
     }
     None
 }
 
-/// Returns the network of a file, by its path, with its text and its document.
+/// Bundles a network file's path, text, document and network in one value.
 fn network_text<'a>(
     path: &'a str,
     text: &'a str,
@@ -73,8 +75,8 @@ fn network_text<'a>(
     }
 }
 
-/// Returns a line for the frames of each VLAN and destination that may go round in the network of a file, made anew of the file and of
-/// the plans beside it.
+/// Returns a line for each group of frames that may loop, after a network run without end. Reads the network file and its plans again.
+/// Returns `None` if this fails.
 pub fn explain_loops<H: AllocGlobal + Files>(rt: &H, path: &str) -> Option<String> {
     let alloc = rt.alloc();
     let mut files = CommandFiles::new(rt);
@@ -84,37 +86,42 @@ pub fn explain_loops<H: AllocGlobal + Files>(rt: &H, path: &str) -> Option<Strin
     let Ok(plans) = read_plans(alloc, &mut files, path, file.bridges()) else {
         return None;
     };
-    let Ok(network) = tested(alloc, alloc, &file, plans) else {
+    let Ok(network) = check_network_file(alloc, alloc, &file, plans) else {
         return None;
     };
-    let said = loops_of(alloc, &file, &network);
+    let said = loop_lines(alloc, &file, &network);
     drop(network);
     said
 }
 
-/// Returns these lines of a network.
-fn loops_of(alloc: Global, file: &NetworkFile<Global>, network: &Network<Global>) -> Option<String>
+/// Returns a line for each group of frames that may loop in the network. Returns `None` if memory runs out.
+fn loop_lines(
+    alloc: Global,
+    file: &NetworkFile<Global>,
+    network: &Network<Global>,
+) -> Option<String>
     requires few { length network.now.plans ≤ 64 }
 {
-    let rows = circulations_in(alloc, network.plans(), network.links()).ok()?;
+    let rows = find_forwarding_loops(alloc, network.plans(), network.links()).ok()?;
     let mut text = String::new(alloc);
-    match push_rounds(alloc, &mut text, file.bridges(), &rows) {
+    match push_loops(alloc, &mut text, file.bridges(), &rows) {
         Ok(()) => Some(text),
         Err(_) => None,
     }
 }
 
-/// What is told of the network of these plans, where it is refused.
-fn said_of_plans(
+/// Explains why the network of these plans is refused: its first fault, or a talker's period. Returns `None` if it is accepted or memory
+/// runs out.
+fn explain_plans(
     alloc: Global,
     asked: NetworkText<'_>,
     plans: Vec<Accepted<Global>>,
 ) -> Option<String> {
-    let Ok(links) = links_of(alloc, asked.file.links()) else {
+    let Ok(links) = network_links(alloc, asked.file.links()) else {
         drop(plans);
         return None;
     };
-    let Ok(streams) = streams_of(alloc, asked.file.streams()) else {
+    let Ok(streams) = network_streams(alloc, asked.file.streams()) else {
         drop(plans);
         drop(links);
         return None;
@@ -122,27 +129,29 @@ fn said_of_plans(
     match check_network(plans, links, streams) {
         Ok(network) => match first_misfit(network.plans(), asked.file.streams()) {
             Some(NetFault::OutOfRange(place)) => {
-                said_of_period(alloc, asked, network.plans(), place.index)
+                explain_period(alloc, asked, network.plans(), place.index)
             }
             _ => None,
         },
-        Err(refused) => said_of_refused(alloc, asked, &refused),
+        Err(refused) => explain_refusal(alloc, asked, &refused),
     }
 }
 
-/// What is told of a network that is refused.
-fn said_of_refused(
+/// Explains the fault of a refused network by the function for its kind: open stream, link, or hop.
+fn explain_refusal(
     alloc: Global,
     asked: NetworkText<'_>,
     refused: &RefusedNetwork<Global>,
 ) -> Option<String> {
     match refused.fault {
-        NetworkFault::NotClosed { .. } => said_of_open(alloc, asked, refused),
+        NetworkFault::NotClosed { .. } => explain_open_stream(alloc, asked, refused),
         NetworkFault::Unresolved { link }
         | NetworkFault::LinkTwice { link, .. }
-        | NetworkFault::SpeedsDiffer { link } => said_of_link(alloc, asked, refused, link),
+        | NetworkFault::SpeedsDiffer { link } => explain_link_fault(alloc, asked, refused, link),
         NetworkFault::NotProtected { stream, hop }
         | NetworkFault::HopTwice { stream, hop }
-        | NetworkFault::NotFed { stream, hop } => said_of_hop(alloc, asked, refused, stream, hop),
+        | NetworkFault::NotFed { stream, hop } => explain_hop_fault(
+            alloc, asked, refused, stream, hop,
+        ),
     }
 }

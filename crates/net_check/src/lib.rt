@@ -1,6 +1,5 @@
 #![tactic(auto)]
-//! Checks of networks: a network of files from its text to its line, its refusal, its warnings, its streams with their delays, and
-//! why a text was refused.
+//! Checks of network files: faults, warnings, streams with their delays, and explanations.
 
 mod explaining;
 mod link_faults;
@@ -8,11 +7,13 @@ mod network;
 mod open_streams;
 mod refusable_streams;
 mod refusing;
-mod telling;
+mod warning_lines;
 mod warnings;
 
 pub use explaining::{explain_loops, explain_network};
-pub use network::{NetworkSaid, beside, network_job, paths_of, read_network, read_plans, tested};
+pub use network::{
+    NetworkOutput, check_network_file, network_job, network_paths, read_network, read_plans,
+    sibling_path,
+};
 pub use refusable_streams::explain_refusable_streams;
-pub use refusing::said_of_network;
-pub use warnings::warnings_of;
+pub use warnings::all_warnings;

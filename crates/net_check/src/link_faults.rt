@@ -1,14 +1,14 @@
-//! Why a link of a network is refused.
+//! Explanations of a refused link.
 
 use bridge_check::Accepted;
-use bridge_text::Text;
+use bridge_text::TextBuilder;
 use net_file::{NetField, NetSection};
 use net_latency::{NetworkText, put_numbers};
-use net_model::{End, Link, NetworkFault, RefusedNetwork};
+use net_model::{BridgePort, Link, NetworkFault, RefusedNetwork};
 use std::alloc::Global;
 
-/// Returns why a link is refused, by its place, from 1.
-pub(crate) fn said_of_link(
+/// Explains why link `place`, counted from 1, is refused. Returns `None` if the link is missing or memory runs out.
+pub(crate) fn explain_link_fault(
     alloc: Global,
     asked: NetworkText<'_>,
     refused: &RefusedNetwork<Global>,
@@ -17,7 +17,7 @@ pub(crate) fn said_of_link(
     let links = refused.links.as_slice();
     let link = *links.get(place.checked_sub(1)?)?;
     let plans = refused.plans.as_slice();
-    let mut said = Text::new(alloc);
+    let mut said = TextBuilder::new(alloc);
     match refused.fault {
         NetworkFault::LinkTwice { end, .. } => {
             put_twice(&mut said, asked, links, place, link, end)
@@ -25,32 +25,32 @@ pub(crate) fn said_of_link(
         NetworkFault::SpeedsDiffer { .. } => put_speeds(&mut said, asked, plans, place, link),
         _ => put_ports(alloc, &mut said, asked, plans, place, link),
     }
-    said.done().ok()
+    said.finish().ok()
 }
 
-/// Whether two ends are one port.
-fn is_one_port(one: End, other: End) -> bool {
+/// Whether two ends of links name one bridge port.
+fn is_one_port(one: BridgePort, other: BridgePort) -> bool {
     one.bridge == other.bridge && one.port == other.port
 }
 
-/// The name of the bridge of an end.
-fn name_at<'a>(asked: NetworkText<'a>, end: End) -> &'a str {
+/// Returns the name of an end's bridge, or an empty text.
+fn bridge_name<'a>(asked: NetworkText<'a>, end: BridgePort) -> &'a str {
     match asked.bridge(end.bridge) {
         Some(bridge) => bridge.name(),
         None => "",
     }
 }
 
-/// The path of the plan of an end's bridge, as the network's file has it.
-fn plan_at<'a>(asked: NetworkText<'a>, end: End) -> &'a str {
+/// Returns the path of the plan of an end's bridge, as the network file writes it.
+fn bridge_plan<'a>(asked: NetworkText<'a>, end: BridgePort) -> &'a str {
     match asked.bridge(end.bridge) {
         Some(bridge) => bridge.plan(),
         None => "",
     }
 }
 
-/// The place from 1 of the first of some links that ends at a port; 0 if none does.
-fn first_with(links: &[Link], end: End) -> u64 {
+/// Returns the number, from 1, of the first link that ends at the port, or 0 if none does.
+fn first_link_index(links: &[Link], end: BridgePort) -> u64 {
     let mut place = 0u64;
     for link in links {
         place = place.saturating_add(1);
@@ -61,33 +61,34 @@ fn first_with(links: &[Link], end: End) -> u64 {
     0
 }
 
-/// Adds where a link has an end, and the end.
+/// Appends the position of an end of link `place`, and the end as the file writes it. All explanations of links except unequal speeds begin
+/// like this.
 fn put_end(
-    said: &mut Text<Global>,
+    said: &mut TextBuilder<Global>,
     asked: NetworkText<'_>,
     place: usize,
     field: NetField,
-    end: End,
+    end: BridgePort,
 ) {
     asked.put_place(said, NetSection::Link, place, Some(field.key()));
-    said.fill("`{a}` of `link` {0} is ", &[place as u64], &[field.key()]);
-    said.fill(
+    said.put_template("`{a}` of `link` {0} is ", &[place as u64], &[field.key()]);
+    said.put_template(
         "\"{a}.{0}\", ",
         &[u64::from(end.port)],
-        &[name_at(asked, end)],
+        &[bridge_name(asked, end)],
     );
 }
 
-/// Adds which link has the port of an end too: an earlier link, or this one at its other end.
+/// Appends which other link ends at the port of `end`: an earlier link, or the other end of this link.
 fn put_twice(
-    said: &mut Text<Global>,
+    said: &mut TextBuilder<Global>,
     asked: NetworkText<'_>,
     links: &[Link],
     place: usize,
     link: Link,
-    end: End,
+    end: BridgePort,
 ) {
-    let earlier = first_with(links, end);
+    let earlier = first_link_index(links, end);
     if earlier < place as u64 {
         let field = if is_one_port(link.one, end) {
             NetField::One
@@ -95,7 +96,7 @@ fn put_twice(
             NetField::Other
         };
         put_end(said, asked, place, field, end);
-        return said.fill(
+        return said.put_template(
             "but `link` {0} ends at this port too.\nA port has at most one link: correct one of the two.\n",
             &[earlier],
             &[],
@@ -105,8 +106,8 @@ fn put_twice(
     said.put("and so is `one`.\nA link joins two ports: correct one of its ends.\n");
 }
 
-/// The speed of the port of an end, in Mb/s; 0 if its plan has no such port.
-fn speed_at(plans: &[Accepted<Global>], end: End) -> u64 {
+/// Returns the speed of an end's port in Mb/s, or 0 if the plan has no such port.
+fn port_mbps(plans: &[Accepted<Global>], end: BridgePort) -> u64 {
     let Some(accepted) = plans.get(end.bridge as usize) else {
         return 0;
     };
@@ -116,9 +117,9 @@ fn speed_at(plans: &[Accepted<Global>], end: End) -> u64 {
     }
 }
 
-/// Adds the speeds of the two ports of a link.
+/// Appends the speeds of the two ports of a link, with the plans to correct.
 fn put_speeds(
-    said: &mut Text<Global>,
+    said: &mut TextBuilder<Global>,
     asked: NetworkText<'_>,
     plans: &[Accepted<Global>],
     place: usize,
@@ -126,30 +127,30 @@ fn put_speeds(
 ) {
     let Link { one, other, .. } = link;
     asked.put_place(said, NetSection::Link, place, None);
-    said.fill(
+    said.put_template(
         "`link` {0} joins port {1} of {a} (`mbps` {2} in {b}) ",
-        &[place as u64, u64::from(one.port), speed_at(plans, one)],
-        &[name_at(asked, one), plan_at(asked, one)],
+        &[place as u64, u64::from(one.port), port_mbps(plans, one)],
+        &[bridge_name(asked, one), bridge_plan(asked, one)],
     );
-    said.fill(
+    said.put_template(
         "and port {0} of {a} (`mbps` {1} in {b}).\nGive both ports the same `mbps`.\n",
-        &[u64::from(other.port), speed_at(plans, other)],
-        &[name_at(asked, other), plan_at(asked, other)],
+        &[u64::from(other.port), port_mbps(plans, other)],
+        &[bridge_name(asked, other), bridge_plan(asked, other)],
     );
 }
 
-/// Whether the plan of an end's bridge has its port.
-fn has_port(plans: &[Accepted<Global>], end: End) -> bool {
+/// Whether the plan of an end's bridge has the port.
+fn has_port(plans: &[Accepted<Global>], end: BridgePort) -> bool {
     match plans.get(end.bridge as usize) {
         Some(accepted) => accepted.plan().port(end.port).is_some(),
         None => false,
     }
 }
 
-/// Adds which end of a link its bridge doesn't have, and the ports that it has.
+/// Appends the end of a link whose port is missing, and the ports that its bridge has.
 fn put_ports(
     alloc: Global,
-    said: &mut Text<Global>,
+    said: &mut TextBuilder<Global>,
     asked: NetworkText<'_>,
     plans: &[Accepted<Global>],
     place: usize,
@@ -161,16 +162,16 @@ fn put_ports(
         (NetField::One, link.one)
     };
     put_end(said, asked, place, field, end);
-    said.fill(
+    said.put_template(
         "but the plan of {a} ({b}) has no port {0}.\n",
         &[u64::from(end.port)],
-        &[name_at(asked, end), plan_at(asked, end)],
+        &[bridge_name(asked, end), bridge_plan(asked, end)],
     );
     let mut numbers = Vec::new(alloc);
     if let Some(accepted) = plans.get(end.bridge as usize) {
         for port in accepted.plan().ports() {
             if numbers.push(u64::from(port.number)).is_err() {
-                return said.give_up();
+                return said.discard();
             }
         }
     }

@@ -1,46 +1,46 @@
-//! Networks of files, from their text to their line.
-ghost use Rattle.std.specs.Prelude.{◌≡◌, ◌≤◌, ℕ, All, List, None, Ok, Vec, length, map, IfOk, IfErr, OnOk, option_map, string_bytes};
+//! Network files: reading, checking and their lines.
+ghost use Rattle.std.specs.Prelude.{◌≡◌, ◌≤◌, ℕ, All, List, None, Ok, Vec, length, map, IfOk, IfErr, OnOk, string_bytes};
 ghost use Rattle.net_file.specs.Document.{network_of_text};
 ghost use Rattle.net_file.specs.Model.{Stream};
 ghost use Rattle.net_model.specs.declared.links.StreamHop.{StreamHop as Hop};
-ghost use Rattle.net_model.specs.Refusing.{first_fault};
-ghost use Rattle.net_latency.specs.Bounds.{IsPlaced};
+ghost use Rattle.net_model.specs.Faults.{first_fault};
+ghost use Rattle.net_latency.specs.Bounds.{HasValidPort};
 ghost use Rattle.net_check.specs.Warnings.{AreWarnings};
 ghost use Rattle.app_failure.specs.Jobs.{Accepts};
-ghost use Rattle.net_check.specs.Networks.{AddsPlanAt, AreLinesOfNetwork, ArePlansAt, EndsNetwork, EndsPlanOf, EndsPlans, EndsText, IsMadeOf, IsNetworkAt, IsPlanAt, PrintsNetwork, RefusesNetwork, RefusesPeriods, RefusesPlanBy, RefusesTextBy, SaysPlan, SaysText, accepted_line, beside, folder_of, hops_in, is_absolute, link_in, paths_of};
-ghost use Rattle.net_latency.specs.Streams.{AreBoundsOf, hop_in};
+ghost use Rattle.net_check.specs.Networks.{AddsPlanAt, AreLinesOfNetwork, ArePlansAt, EndsNetwork, EndsPlanOf, EndsPlans, EndsText, IsNetworkOfFile, IsNetworkAt, IsPlanAt, PrintsNetwork, RefusesNetwork, RefusesPeriods, RefusesPlanBy, RefusesTextBy, SaysPlan, SaysText, accepted_line, beside, count_hops, is_absolute, link_row_value, paths_of};
+ghost use Rattle.net_latency.specs.Streams.{AreQueueBoundsOfPlans, stream_hop_value};
 ghost use Rattle.net_latency.specs.Talkers.{first_misfit};
 
-use crate::refusing::said_of_network;
-use crate::warnings::warnings_of;
-use app_failure::{Fault, accepted_of, fault_line as plan_line, file_failure};
-use app_files::{MOST_TEXT, ReadFiles};
+use crate::refusing::network_fault_line;
+use crate::warnings::all_warnings;
+use app_failure::{Failure, accepted_plan, fault_line as plan_line, file_failure};
+use app_files::{MOST_TEXT, ReadFiles, parent_folder};
 use bridge_check::Accepted;
 use bridge_limits::NoMemory;
-use net_file::{BridgeRow, LinkRow, NetFault, NetworkFile, StreamRow, fault_line, network_of};
+use net_file::{BridgeRow, LinkRow, NetFault, NetworkFile, StreamRow, fault_line, parse_network};
 use net_latency::{
-    QueueBound, StreamLines, bounds_of_all, first_misfit as misfit_in, hops_of, stream_lines,
+    QueueBound, StreamLines, all_queue_bounds, first_misfit as misfit_in, stream_hops, stream_lines,
 };
-use net_model::{End, Link, Network, StreamHop, check_network};
+use net_model::{BridgePort, Link, Network, StreamHop, check_network};
 use std::alloc::{Allocator, Global};
 
-/// The status of a plan that is refused, and not for want of memory.
+/// Exit status of a plan that is refused. `plan_failure` tells a refused plan from memory that ran out by it.
 const REFUSED: u8 = 1;
 
-/// The links of a network, by the places of their bridges.
-pub(crate) fn links_of<A: Allocator + Copy>(
+/// Converts the links of a network file to the links of `net_model`.
+pub(crate) fn network_links<A: Allocator + Copy>(
     alloc: A,
     rows: &[LinkRow],
 ) -> Result<Vec<Link, A>, NoMemory>
-    ensures { IfOk result (λ links. links.items ≡ map link_in rows.now) }
+    ensures { IfOk result (λ links. links.items ≡ map link_row_value rows.now) }
 {
     let mut links = Vec::new(alloc);
     for row in rows {
-        let one = End {
+        let one = BridgePort {
             bridge: row.one.0,
             port: row.one.1,
         };
-        let other = End {
+        let other = BridgePort {
             bridge: row.other.0,
             port: row.other.1,
         };
@@ -52,17 +52,17 @@ pub(crate) fn links_of<A: Allocator + Copy>(
     Ok(links)
 }
 
-/// The streams of a network.
-pub(crate) fn streams_of<A: Allocator + Copy>(
+/// Converts the streams of a network file to lists of hops of `net_model`.
+pub(crate) fn network_streams<A: Allocator + Copy>(
     alloc: A,
     rows: &[StreamRow<A>],
 ) -> Result<Vec<Vec<StreamHop, A>, A>, NoMemory>
     ensures { IfOk result (λ streams. map (λ (v : Vec Hop A). v.items) streams.items
-        ≡ map (λ (s : Stream). map hop_in s.hops) rows.now) }
+        ≡ map (λ (s : Stream). map stream_hop_value s.hops) rows.now) }
 {
     let mut streams = Vec::new(alloc);
     for row in rows {
-        let Ok(hops) = hops_of(alloc, row.hops()) else {
+        let Ok(hops) = stream_hops(alloc, row.hops()) else {
             return Err(NoMemory);
         };
         let Ok(()) = streams.push(hops) else {
@@ -72,12 +72,12 @@ pub(crate) fn streams_of<A: Allocator + Copy>(
     Ok(streams)
 }
 
-/// The network, where the periods of its talkers suit its plans.
-fn suited<A: Allocator + Copy>(
+/// Returns the network if the period of each talker suits the plans, otherwise the fault of the first stream whose period doesn't.
+fn check_periods<A: Allocator + Copy>(
     heap: Global,
     file: &NetworkFile<A>,
     network: Network<A>,
-) -> Result<Network<A>, Fault>
+) -> Result<Network<A>, Failure>
     ensures same { IfOk result (λ n. n ≡ network) }
     ensures suit { IfOk result (λ n. first_misfit n.plans 1 file.now.streams ≡ None) }
     ensures refused { IfErr result (RefusesPeriods file.now network.plans) }
@@ -87,53 +87,52 @@ fn suited<A: Allocator + Copy>(
     };
     drop(network);
     match fault_line(heap, &fault) {
-        Ok(line) => Err(Fault::Network(line)),
-        Err(_) => Err(Fault::NoMemory),
+        Ok(line) => Err(Failure::Network(line)),
+        Err(_) => Err(Failure::NoMemory),
     }
 }
 
-/// The network of a text and of the plans of its bridges, where its streams are closed and the periods of its talkers suit the
-/// plans.
+/// Checks a network file with its plans: streams must be closed, and periods must suit the plans.
 ///
-/// `Network` with the line of the first fault, or `Run` with `NoMemory`.
-pub fn tested<A: Allocator + Copy>(
+/// Returns `Network` with the line of the first fault, or `NoMemory`.
+pub fn check_network_file<A: Allocator + Copy>(
     alloc: A,
     heap: Global,
     file: &NetworkFile<A>,
     plans: Vec<Accepted<A>, A>,
-) -> Result<Network<A>, Fault>
+) -> Result<Network<A>, Failure>
     requires plans { length plans.items ≡ length file.now.bridges }
-    ensures accepted { IfOk result (λ n. IsMadeOf file.now plans.items n × (first_fault n ≡ None)) }
+    ensures accepted { IfOk result (λ n. IsNetworkOfFile file.now plans.items n × (first_fault n ≡ None)) }
     ensures suit { IfOk result (λ n. first_misfit n.plans 1 file.now.streams ≡ None) }
     ensures refused { IfErr result (RefusesNetwork file.now plans.items) }
 {
-    let Ok(links) = links_of(alloc, file.links()) else {
+    let Ok(links) = network_links(alloc, file.links()) else {
         drop(plans);
-        return Err(Fault::NoMemory);
+        return Err(Failure::NoMemory);
     };
-    let Ok(streams) = streams_of(alloc, file.streams()) else {
+    let Ok(streams) = network_streams(alloc, file.streams()) else {
         drop(plans);
         drop(links);
-        return Err(Fault::NoMemory);
+        return Err(Failure::NoMemory);
     };
     match check_network(plans, links, streams) {
-        Ok(network) => suited(heap, file, network),
+        Ok(network) => check_periods(heap, file, network),
         Err(refused) => {
-            let said = said_of_network(heap, file.bridges(), &refused.fault);
+            let said = network_fault_line(heap, file.bridges(), &refused.fault);
             drop(refused);
             match said {
-                Ok(line) => Err(Fault::Network(line)),
-                Err(_) => Err(Fault::NoMemory),
+                Ok(line) => Err(Failure::Network(line)),
+                Err(_) => Err(Failure::NoMemory),
             }
         }
     }
 }
 
-/// How many hops all streams have.
-fn hops_in<A: Allocator + Copy>(streams: &[StreamRow<A>]) -> u64
+/// Returns the number of hops of all streams, for the line of an accepted network.
+fn count_hops<A: Allocator + Copy>(streams: &[StreamRow<A>]) -> u64
     requires few { length streams.now ≤ 1024 }
     requires each { All (λ s. length s.hops ≤ 64) streams.now }
-    ensures { result ≡ hops_in streams.now }
+    ensures { result ≡ count_hops streams.now }
 {
     let mut count = 0u64;
     for stream in streams {
@@ -142,7 +141,7 @@ fn hops_in<A: Allocator + Copy>(streams: &[StreamRow<A>]) -> u64
     count
 }
 
-/// The line of a network that is accepted, with its line feed: how many bridges, links, streams and hops it has.
+/// Returns the line of an accepted network, with the numbers of its bridges, links, streams and hops.
 #[tactic(auto, unfolding(crate::specs::Networks::accepted_line))]
 fn accepted_line<A: Allocator + Copy>(
     heap: Global,
@@ -153,24 +152,23 @@ fn accepted_line<A: Allocator + Copy>(
     let bridges = file.bridges().len();
     let links = file.links().len();
     let streams = file.streams().len();
-    let hops = hops_in(file.streams());
+    let hops = count_hops(file.streams());
     Ok(format!(in heap;
         "accepted: {bridges} bridges {links} links {streams} streams {hops} hops\n"
     )?)
 }
 
-/// The lines of a network that is accepted: how many bridges, links, streams and hops it has, and for each stream, in the
-/// order of the text, how long a frame takes, by what its talker keeps to or at most, where it goes once through each of its
-/// hops.
-fn lines_of<A: Allocator + Copy>(
+/// Returns the lines of an accepted network: its numbers of parts, and the delays of each stream. A stream without periodic talker has its
+/// bound.
+fn network_lines<A: Allocator + Copy>(
     alloc: A,
     heap: Global,
     file: &NetworkFile<A>,
     network: &Network<A>,
     bounds: &[Vec<QueueBound, A>],
 ) -> Result<StreamLines<Global>, NoMemory>
-    requires bounds { AreBoundsOf network.now.plans bounds.now }
-    requires placed { All (λ v. All IsPlaced v.items) bounds.now }
+    requires bounds { AreQueueBoundsOfPlans network.now.plans bounds.now }
+    requires placed { All (λ v. All HasValidPort v.items) bounds.now }
     ensures { IfOk result (λ x. AreLinesOfNetwork file.now network.now (string_bytes x.text) x.kept) }
 {
     let Ok(line) = accepted_line(heap, file) else {
@@ -186,55 +184,45 @@ fn lines_of<A: Allocator + Copy>(
     Ok(StreamLines { text, kept })
 }
 
-/// Reads the network of the file at a path.
+/// Reads the network of the file at `path`.
 ///
-/// `File` if the file can't be read, `Network` with the line of the text's first fault, or `NoMemory`.
+/// Returns `File` if the file can't be read, `Network` with the line of the text's first fault, or `NoMemory`.
 pub fn read_network<F: ReadFiles>(
     alloc: Global,
     files: &mut F,
     path: &str,
-) -> Result<NetworkFile<Global>, Fault>
+) -> Result<NetworkFile<Global>, Failure>
     ensures file { IfOk result (IsNetworkAt (F.octets_at files.old) path.now) }
     ensures ends { IfErr result (EndsText path.now) }
     ensures same { (p : List ℕ) → F.octets_at files.new p ≡ F.octets_at files.old p }
 {
     match files.read(path, MOST_TEXT) {
-        Ok(text) => network_in(alloc, &text),
+        Ok(text) => parse_network_text(alloc, &text),
         Err(fault) => Err(file_failure(fault)),
     }
 }
 
-/// Returns the network of a text, or its first fault.
-fn network_in(alloc: Global, text: &[u8]) -> Result<NetworkFile<Global>, Fault>
+/// Returns the network of a text. A refused text is the program's fault, with the line of the text's first fault.
+fn parse_network_text(alloc: Global, text: &[u8]) -> Result<NetworkFile<Global>, Failure>
     ensures file { IfOk result (λ file. network_of_text text.now ≡ Ok file) }
     ensures refused { IfErr result (RefusesTextBy (network_of_text text.now)) }
 {
-    match network_of(alloc, alloc, text) {
+    match parse_network(alloc, alloc, text) {
         Ok(file) => Ok(file),
-        Err(fault) => Err(refused_text(alloc, &fault)),
+        Err(fault) => Err(refused_text_fault(alloc, &fault)),
     }
 }
 
-/// Returns the fault of a network whose text is refused.
-fn refused_text(alloc: Global, fault: &NetFault) -> Fault
+/// Returns the program's fault for a network whose text is refused.
+fn refused_text_fault(alloc: Global, fault: &NetFault) -> Failure
     ensures { SaysText fault.now result }
 {
     if let NetFault::NoMemory = fault {
-        return Fault::NoMemory;
+        return Failure::NoMemory;
     }
     match fault_line(alloc, fault) {
-        Ok(line) => Fault::Network(line),
-        Err(_) => Fault::NoMemory,
-    }
-}
-
-/// Returns the folder of a file: what stands before the last `/` of its path, if it has one.
-fn folder_of(path: &str) -> Option<&str>
-    ensures { option_map (λ folder. folder.now) result ≡ folder_of path.now }
-{
-    match path.rsplit_once('/') {
-        Some((folder, _)) => Some(folder),
-        None => None,
+        Ok(line) => Failure::Network(line),
+        Err(_) => Failure::NoMemory,
     }
 }
 
@@ -245,102 +233,103 @@ fn is_absolute(path: &str) -> bool
     path.starts_with('/')
 }
 
-/// Returns the path of a file by its path in another file: an absolute path as it is, else the path in the folder of the other file.
-pub fn beside(alloc: Global, path: &str, file: &str) -> Result<String, NoMemory>
+/// Returns the path of `file`. A relative path counts from the folder of the file at `path`, so that a network with its plans can be moved.
+pub fn sibling_path(alloc: Global, path: &str, file: &str) -> Result<String, NoMemory>
     ensures { IfOk result (λ place. string_bytes place ≡ beside path.now file.now) }
 {
     if is_absolute(file) {
         return Ok(String::from_str(alloc, file)?);
     }
-    match folder_of(path) {
+    match parent_folder(path) {
         Some(folder) => Ok(format!(in alloc; "{folder}/{file}")?),
         None => Ok(String::from_str(alloc, file)?),
     }
 }
 
-/// Returns the fault of a network for a plan of it that is refused: its line has the name of the bridge, and the plan's own
-/// line behind it. If memory ran out for the plan, it ran out for the network.
+/// Returns the program's fault for a refused plan: a line with the bridge's name, then the plan's own line. If the plan's fault is lack of
+/// memory, this stays the fault.
 #[tactic(auto, unfolding(crate::specs::Networks::plan_lines))]
-fn said_of_plan(alloc: Global, name: &str, fault: &Fault) -> Fault
+fn plan_failure(alloc: Global, name: &str, fault: &Failure) -> Failure
     ensures { SaysPlan name.now fault.now result }
 {
     let Ok((line, status)) = plan_line(alloc, fault) else {
-        return Fault::NoMemory;
+        return Failure::NoMemory;
     };
     if status != REFUSED {
-        return Fault::NoMemory;
+        return Failure::NoMemory;
     }
     match format!(in alloc; "network refused: Plan {name}\n{line}") {
-        Ok(line) => Fault::Network(line),
-        Err(_) => Fault::NoMemory,
+        Ok(line) => Failure::Network(line),
+        Err(_) => Failure::NoMemory,
     }
 }
 
-/// Returns the accepted plan of a text, or the fault of the network with the name of the bridge.
-fn plan_in(alloc: Global, name: &str, text: &[u8]) -> Result<Accepted<Global>, Fault>
+/// Returns the accepted plan of a text, or the network's fault with the bridge's name.
+fn check_bridge_plan(alloc: Global, name: &str, text: &[u8]) -> Result<Accepted<Global>, Failure>
     ensures accepts { IfOk result (Accepts text.now) }
     ensures refused { IfErr result (RefusesPlanBy Global name.now text.now) }
 {
-    match accepted_of(alloc, alloc, text) {
+    match accepted_plan(alloc, alloc, text) {
         Ok(accepted) => Ok(accepted),
         Err(fault) => {
-            let said = said_of_plan(alloc, name, &fault);
+            let said = plan_failure(alloc, name, &fault);
             drop(fault);
             Err(said)
         }
     }
 }
 
-/// Reads the plan of a bridge, if it is accepted. Its path is absolute, or relative to the folder of the network's file.
+/// Reads the plan of a bridge. Its path is absolute, or relative to the folder of the network file.
 pub(crate) fn read_plan<F: ReadFiles>(
     alloc: Global,
     files: &mut F,
     path: &str,
     bridge: &BridgeRow<Global>,
-) -> Result<Accepted<Global>, Fault>
+) -> Result<Accepted<Global>, Failure>
     ensures plan { IfOk result (IsPlanAt (F.octets_at files.old) (beside path.now bridge.now.plan)) }
     ensures ends { IfErr result (EndsPlanOf Global path.now bridge.now) }
     ensures same { (p : List ℕ) → F.octets_at files.new p ≡ F.octets_at files.old p }
 {
-    let Ok(place) = beside(alloc, path, bridge.plan()) else {
-        return Err(Fault::NoMemory);
+    let Ok(place) = sibling_path(alloc, path, bridge.plan()) else {
+        return Err(Failure::NoMemory);
     };
     match files.read(place.as_str(), MOST_TEXT) {
-        Ok(text) => plan_in(alloc, bridge.name(), &text),
+        Ok(text) => check_bridge_plan(alloc, bridge.name(), &text),
         Err(fault) => Err(file_failure(fault)),
     }
 }
 
-/// Adds the plan of a bridge.
+/// Appends the accepted plan of a bridge to `plans`, or returns the fault of its file.
 fn push_plan<F: ReadFiles>(
     alloc: Global,
     files: &mut F,
     path: &str,
     bridge: &BridgeRow<Global>,
     plans: &mut Vec<Accepted<Global>>,
-) -> Result<(), Fault>
-    ensures more { OnOk result (AddsPlanAt (F.octets_at files.old) (beside path.now bridge.now.plan) plans.old.items plans.new.items) }
+) -> Result<(), Failure>
+    ensures more { OnOk result (AddsPlanAt (F.octets_at files.old) (beside path.now bridge.now.plan) plans.old.items
+        plans.new.items) }
     ensures ends { IfErr result (EndsPlanOf Global path.now bridge.now) }
     ensures same { (p : List ℕ) → F.octets_at files.new p ≡ F.octets_at files.old p }
 {
     match read_plan(alloc, files, path, bridge) {
         Ok(accepted) => match plans.push(accepted) {
             Ok(()) => Ok(()),
-            Err(_) => Err(Fault::NoMemory),
+            Err(_) => Err(Failure::NoMemory),
         },
         Err(fault) => Err(fault),
     }
 }
 
-/// Reads the plans of the bridges, in their order.
+/// Reads the plans of the bridges, in order.
 ///
-/// `File` of a plan that can't be read, `Network` with the lines of one that is refused, or `NoMemory`.
+/// Returns `File` for a plan that can't be read, `Network` with the lines of a refused plan, or `NoMemory`.
 pub fn read_plans<F: ReadFiles>(
     alloc: Global,
     files: &mut F,
     path: &str,
     bridges: &[BridgeRow<Global>],
-) -> Result<Vec<Accepted<Global>>, Fault>
+) -> Result<Vec<Accepted<Global>>, Failure>
     ensures each { IfOk result (λ plans. length plans.items ≡ length bridges.now) }
     ensures plans { IfOk result (λ plans. ArePlansAt (F.octets_at files.old) path.now bridges.now plans.items) }
     ensures ends { IfErr result (EndsPlans Global path.now bridges.now) }
@@ -355,8 +344,9 @@ pub fn read_plans<F: ReadFiles>(
     Ok(plans)
 }
 
-/// Returns the paths of the files of a network: its own, and those of the plans of its bridges.
-pub fn paths_of(
+/// Returns the paths of a network's files: the network file and the bridges' plans. `can_read_network_again` tests whether each of them can
+/// be read a second time.
+pub fn network_paths(
     alloc: Global,
     path: &str,
     bridges: &[BridgeRow<Global>],
@@ -366,75 +356,71 @@ pub fn paths_of(
     let mut paths = Vec::new(alloc);
     paths.push(String::from_str(alloc, path)?)?;
     for bridge in bridges {
-        paths.push(beside(alloc, path, bridge.plan())?)?;
+        paths.push(sibling_path(alloc, path, bridge.plan())?)?;
     }
     Ok(paths)
 }
 
-/// What is said of a network that is accepted.
+/// Result of `net check` for an accepted network, from which the command's output is made.
 #[derive(Drop)]
-pub struct NetworkSaid {
-    /// The lines that are printed: how many bridges, links, streams and hops it has, and how long each stream takes.
+pub struct NetworkOutput {
+    /// Lines for standard output: numbers of bridges, links, streams and hops, and the delays of each stream.
     pub lines: String,
-    /// The lines behind them, of what is told and not refused; none where nothing is.
+    /// Warnings, one a line; empty without a warning.
     pub told: String,
-    /// Whether each stream whose talker keeps a period passes, and each meets its deadline.
+    /// Whether each stream meets its deadline, and each frame of a periodic talker passes. If false, the exit status reports it.
     pub kept: bool,
 }
 
-/// What is said of a network of these plans that is accepted.
-fn said_of<A: Allocator + Copy>(
+/// Returns the output of `net check` for an accepted network: its lines and its warnings.
+fn describe_network<A: Allocator + Copy>(
     alloc: A,
     heap: Global,
     file: &NetworkFile<A>,
     network: &Network<A>,
-) -> Result<NetworkSaid, NoMemory>
+) -> Result<NetworkOutput, NoMemory>
     requires few { length network.now.plans ≤ 64 }
     ensures lines { IfOk result (λ said. AreLinesOfNetwork file.now network.now (string_bytes said.lines) said.kept) }
     ensures told { IfOk result (λ said. AreWarnings file.now network.now (string_bytes said.told)) }
 {
-    let Ok(bounds) = bounds_of_all(alloc, network.plans()) else {
+    let Ok(bounds) = all_queue_bounds(alloc, network.plans()) else {
         return Err(NoMemory);
     };
-    let Ok(lines) = lines_of(alloc, heap, file, network, &bounds) else {
+    let Ok(lines) = network_lines(alloc, heap, file, network, &bounds) else {
         return Err(NoMemory);
     };
     let StreamLines { text, kept } = lines;
-    let Ok(told) = warnings_of(alloc, heap, file, network, &bounds) else {
+    let Ok(told) = all_warnings(alloc, heap, file, network, &bounds) else {
         return Err(NoMemory);
     };
-    Ok(NetworkSaid {
+    Ok(NetworkOutput {
         lines: text,
         told,
         kept,
     })
 }
 
-/// Checks the network of the file at a path, with the plans that the file names. Returns one line that counts its bridges, links,
-/// streams and hops, and one line for each stream with its delays in ns: the worst and the best delay if its talker keeps a period, else
-/// the delay bound. Warnings are apart.
+/// Checks the network of the file at `path`, with its plans. Returns its lines and its warnings.
 ///
-/// Faults in this order: the file opened and read, its text; then by the order of the bridges the plan opened and read, its text, its
-/// check; then the tests on the network, and the periods of its talkers by its plans. `File` of a file, `Network` with the line of a
-/// refusal, and `NoMemory`.
+/// Faults come in this order: network file, plans by bridge, tests of the network, periods of talkers.
 pub fn network_job<F: ReadFiles>(
     alloc: Global,
     files: &mut F,
     path: &str,
-) -> Result<NetworkSaid, Fault>
+) -> Result<NetworkOutput, Failure>
     ensures ok { IfOk result (λ said. PrintsNetwork Global (string_bytes said.lines)
         (string_bytes said.told) said.kept) }
     ensures err { IfErr result (EndsNetwork Global path.now) }
 {
     let file = read_network(alloc, files, path)?;
     let plans = read_plans(alloc, files, path, file.bridges())?;
-    match tested(alloc, alloc, &file, plans) {
+    match check_network_file(alloc, alloc, &file, plans) {
         Ok(network) => {
-            let said = said_of(alloc, alloc, &file, &network);
+            let said = describe_network(alloc, alloc, &file, &network);
             drop(network);
             match said {
                 Ok(said) => Ok(said),
-                Err(_) => Err(Fault::NoMemory),
+                Err(_) => Err(Failure::NoMemory),
             }
         }
         Err(fault) => Err(fault),

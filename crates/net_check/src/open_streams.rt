@@ -1,35 +1,38 @@
-//! Why a stream of a network isn't closed: a frame that is taken for one of its frames, and the ways to keep such frames away.
+//! Explanations of a stream that isn't closed: an example of a stray frame, and remedies.
 
-use crate::refusing::name_of;
-use crate::telling::address_words;
+use crate::refusing::bridge_name;
+use crate::warning_lines::address_words;
 use bridge_bounds::find_filter;
-use bridge_check::{Accepted, reach_of};
+use bridge_check::{Accepted, filter_reach};
 use bridge_config::Plan;
 use bridge_filter::FilterPlan;
 use bridge_frame::Tag;
 use bridge_ident::Kind;
-use bridge_text::Text;
+use bridge_text::TextBuilder;
 use net_file::{BridgeRow, NetField, NetSection};
 use net_latency::NetworkText;
-use net_model::{End, Link, NetworkFault, RefusedNetwork, Stray, StreamHop, peer_of, stray_at};
+use net_model::{
+    BridgePort, Link, NetworkFault, RefusedNetwork, StrayFrame, StreamHop, find_stray, peer_port,
+};
 use std::alloc::{Allocator, Global};
 
-/// A stream that isn't closed: the places of its hop, with the numbers that its line has.
+/// A stream that isn't closed, with the hop and the stray frames that the fault line names.
 #[derive(Clone, Copy)]
-struct Open {
-    /// Counted from 1.
+struct OpenStream {
+    /// Number of the stream, from 1.
     stream: usize,
-    /// Counted from 1.
+    /// Number of the hop in the stream, from 1.
     hop: usize,
-    /// The port of the hop.
+    /// Port of the hop.
     port: u8,
-    /// The filter of the stray at the sender, and the port on which it comes there.
+    /// Filter of the stray frames at the sender, or `None` if no filter matches.
     filter: Option<u32>,
+    /// Port of the sender on which the stray frames arrive.
     from: u8,
 }
 
-/// Returns which hop the fault of a network says that other frames can enter.
-fn open_of(refused: &RefusedNetwork<Global>) -> Option<Open> {
+/// Returns the stream that the fault `NotClosed` names, or `None` for other faults.
+fn open_stream(refused: &RefusedNetwork<Global>) -> Option<OpenStream> {
     match refused.fault {
         NetworkFault::NotClosed {
             stream,
@@ -38,7 +41,7 @@ fn open_of(refused: &RefusedNetwork<Global>) -> Option<Open> {
             filter,
             from,
             ..
-        } => Some(Open {
+        } => Some(OpenStream {
             stream,
             hop,
             port,
@@ -49,13 +52,14 @@ fn open_of(refused: &RefusedNetwork<Global>) -> Option<Open> {
     }
 }
 
-/// What is told of a stream that isn't closed.
-pub(crate) fn said_of_open(
+/// Explains a stream that isn't closed: the hop, an example of a stray frame, and remedies. Returns `None` for other faults or without
+/// memory.
+pub(crate) fn explain_open_stream(
     heap: Global,
     asked: NetworkText<'_>,
     refused: &RefusedNetwork<Global>,
 ) -> Option<String> {
-    let open = open_of(refused)?;
+    let open = open_stream(refused)?;
     let file = asked.file;
     let place = open.stream.checked_sub(1)?;
     let row = file.streams().get(place)?;
@@ -63,22 +67,22 @@ pub(crate) fn said_of_open(
     let hop = *hops.get(open.hop.checked_sub(1)?)?;
     let plans = refused.plans.as_slice();
     let links = refused.links.as_slice();
-    let stray = stray_at(plans, links, hops, hop, open.port)?;
-    let end = peer_of(links, hop.bridge, open.port)?;
+    let stray = find_stray(plans, links, hops, hop, open.port)?;
+    let end = peer_port(links, hop.bridge, open.port)?;
     let sender = plans.get(end.bridge as usize)?.plan();
-    let mut said = Text::new(heap);
-    put_hop(&mut said, asked, row.name(), hop, open);
-    put_frame(heap, &mut said, file.bridges(), &stray, end, open);
+    let mut said = TextBuilder::new(heap);
+    put_open_hop(&mut said, asked, row.name(), hop, open);
+    put_stray_frame(heap, &mut said, file.bridges(), &stray, end, open);
     if is_left_out(refused, hops, end, open) {
         put_left_out(&mut said, file.bridges(), row.name(), end, open);
     } else {
         put_front(&mut said, "Repair", file.bridges(), end);
     }
-    put_ways(&mut said, sender, hops, &stray, end, open);
-    said.done().ok()
+    put_remedies(&mut said, sender, hops, &stray, end, open);
+    said.finish().ok()
 }
 
-/// Whether a filter of a bridge is a hop of some stream.
+/// Whether a filter of a bridge is a hop of one of these streams.
 fn is_hop<A: Allocator + Copy>(streams: &[Vec<StreamHop, A>], bridge: u16, filter: u32) -> bool {
     for hops in streams {
         for hop in hops {
@@ -90,7 +94,8 @@ fn is_hop<A: Allocator + Copy>(streams: &[Vec<StreamHop, A>], bridge: u16, filte
     false
 }
 
-/// Whether frames of a hop of the stream may leave over the link to a port.
+/// Whether frames of a hop of the stream may arrive on this port. The port must have a link, and a hop's frames must be able to leave by
+/// the link's other end.
 fn is_fed<A: Allocator + Copy>(
     plans: &[Accepted<A>],
     links: &[Link],
@@ -98,7 +103,7 @@ fn is_fed<A: Allocator + Copy>(
     bridge: u16,
     port: u8,
 ) -> bool {
-    let Some(end) = peer_of(links, bridge, port) else {
+    let Some(end) = peer_port(links, bridge, port) else {
         return false;
     };
     let Some(feeder) = plans.get(end.bridge as usize) else {
@@ -107,7 +112,7 @@ fn is_fed<A: Allocator + Copy>(
     for hop in hops {
         if hop.bridge == end.bridge {
             if let Some(filter) = find_filter(feeder.plan().filters(), hop.filter) {
-                if leads_to(feeder.plan(), &filter, end.port) {
+                if can_leave_by_port(feeder.plan(), &filter, end.port) {
                     return true;
                 }
             }
@@ -116,7 +121,7 @@ fn is_fed<A: Allocator + Copy>(
     false
 }
 
-/// Whether the filter of a hop has a handle.
+/// Whether the filter of one of these hops has this handle.
 fn is_of_stream<A: Allocator + Copy>(
     plans: &[Accepted<A>],
     hops: &[StreamHop],
@@ -134,18 +139,23 @@ fn is_of_stream<A: Allocator + Copy>(
     false
 }
 
-/// Whether frames of a filter may leave by a port.
-fn leads_to<A: Allocator + Copy>(plan: &Plan<A>, filter: &FilterPlan, port: u8) -> bool {
-    let reach = reach_of(plan, filter);
+/// Whether a filter has a reachable queue at a port, so that its frames can leave by the port.
+fn can_leave_by_port<A: Allocator + Copy>(plan: &Plan<A>, filter: &FilterPlan, port: u8) -> bool {
+    let reach = filter_reach(plan, filter);
     match reach.ports.get(usize::from(port).saturating_sub(1)) {
         Some(reaches) => *reaches,
         None => false,
     }
 }
 
-/// Whether the filter of the frame at the sender is likely a hop that was left out: it is protected and a hop of no stream, and it
-/// has the handle of a hop of the stream, or the stream feeds it.
-fn is_left_out(refused: &RefusedNetwork<Global>, hops: &[StreamHop], end: End, open: Open) -> bool {
+/// Whether the stray frames' filter is likely a missing hop. It is protected and in no stream, and it has a hop's handle or the stream
+/// feeds it.
+fn is_left_out(
+    refused: &RefusedNetwork<Global>,
+    hops: &[StreamHop],
+    end: BridgePort,
+    open: OpenStream,
+) -> bool {
     let plans = refused.plans.as_slice();
     let (Some(number), Some(sender)) = (open.filter, plans.get(end.bridge as usize)) else {
         return false;
@@ -160,55 +170,55 @@ fn is_left_out(refused: &RefusedNetwork<Global>, hops: &[StreamHop], end: End, o
         || is_fed(plans, refused.links.as_slice(), hops, end.bridge, open.from)
 }
 
-/// Adds which hop was left out, and how what follows begins.
+/// Appends the remedy to add the missing hop, and the heading of the other remedies.
 fn put_left_out<A: Allocator + Copy>(
-    said: &mut Text<Global>,
+    said: &mut TextBuilder<Global>,
     bridges: &[BridgeRow<A>],
     stream: &str,
-    end: End,
-    open: Open,
+    end: BridgePort,
+    open: OpenStream,
 ) {
-    said.fill(
+    said.put_template(
         "Add \"{a}.{0}\" to the `hops` of stream \"{b}\": filter {0} of {a} is protected and belongs to no stream.\n",
         &[u64::from(open.filter.unwrap_or(0))],
-        &[name_of(bridges, end.bridge), stream],
+        &[bridge_name(bridges, end.bridge), stream],
     );
     put_front(said, "Otherwise repair", bridges, end);
 }
 
-/// Adds how the list of repairs begins.
+/// Appends the heading of the list of remedies: which bridge's plan to repair. `word` begins the sentence.
 fn put_front<A: Allocator + Copy>(
-    said: &mut Text<Global>,
+    said: &mut TextBuilder<Global>,
     word: &str,
     bridges: &[BridgeRow<A>],
-    end: End,
+    end: BridgePort,
 ) {
-    said.fill(
+    said.put_template(
         "{a} the plan of {b} in one of these ways:\n",
         &[],
-        &[word, name_of(bridges, end.bridge)],
+        &[word, bridge_name(bridges, end.bridge)],
     );
 }
 
-/// Adds which hop takes what isn't its.
-fn put_hop(
-    said: &mut Text<Global>,
+/// Appends the position of the stream's key `hops` and a sentence with the hop that accepts stray frames.
+fn put_open_hop(
+    said: &mut TextBuilder<Global>,
     asked: NetworkText<'_>,
     stream: &str,
     hop: StreamHop,
-    open: Open,
+    open: OpenStream,
 ) {
     let key = NetField::Hops.key();
     asked.put_place(said, NetSection::Stream, open.stream, Some(key));
-    said.fill(
+    said.put_template(
         "hop {0} of stream \"{a}\" (filter {1} of {b}) accepts frames from outside the stream on port {2}.\n",
         &[open.hop as u64, u64::from(hop.filter), u64::from(open.port)],
-        &[stream, name_of(asked.file.bridges(), hop.bridge)],
+        &[stream, bridge_name(asked.file.bridges(), hop.bridge)],
     );
 }
 
-/// Adds what frames of a tag have.
-fn put_tag(said: &mut Text<Global>, tag: Option<Tag>) {
+/// Appends the tag of the example frame in words; `None` stands for an untagged frame.
+fn put_tag(said: &mut TextBuilder<Global>, tag: Option<Tag>) {
     let Some(tag) = tag else {
         return said.put("no tag");
     };
@@ -217,20 +227,21 @@ fn put_tag(said: &mut Text<Global>, tag: Option<Tag>) {
     } else {
         "VLAN {1} and priority {0}"
     };
-    said.fill(template, &[u64::from(tag.pcp), u64::from(tag.vid)], &[]);
+    said.put_template(template, &[u64::from(tag.pcp), u64::from(tag.vid)], &[]);
 }
 
-/// Adds the frame that is taken: its tag, its address, where it comes in, and which filter lets it through.
-fn put_frame<A: Allocator + Copy>(
+/// Appends an example of a stray frame: its tag, its address, the port of arrival, and the filter that passes it. If memory runs out, the
+/// whole text is discarded.
+fn put_stray_frame<A: Allocator + Copy>(
     heap: Global,
-    said: &mut Text<Global>,
+    said: &mut TextBuilder<Global>,
     bridges: &[BridgeRow<A>],
-    stray: &Stray,
-    end: End,
-    open: Open,
+    stray: &StrayFrame,
+    end: BridgePort,
+    open: OpenStream,
 ) {
     let Ok(address) = address_words(heap, &stray.entry.address) else {
-        return said.give_up();
+        return said.discard();
     };
     let looks = match stray.entry.kind {
         Kind::Null => "to",
@@ -238,21 +249,21 @@ fn put_frame<A: Allocator + Copy>(
     };
     said.put("Example: a frame with ");
     put_tag(said, stray.tag);
-    said.fill(
+    said.put_template(
         ", {a} {b}, enters {c} on port {0}. ",
         &[u64::from(open.from)],
-        &[looks, address.as_str(), name_of(bridges, end.bridge)],
+        &[looks, address.as_str(), bridge_name(bridges, end.bridge)],
     );
     let template = match open.filter {
         Some(_) => "Filter {0} passes it to port {1}.\n",
         None => "It has no filter, and leaves by port {1}.\n",
     };
     let filter = open.filter.unwrap_or(0);
-    said.fill(template, &[u64::from(filter), u64::from(end.port)], &[]);
+    said.put_template(template, &[u64::from(filter), u64::from(end.port)], &[]);
 }
 
-/// The VLAN in which a port of the sender classifies the frame.
-fn vlan_at<A: Allocator + Copy>(sender: &Plan<A>, from: u8, tag: Option<Tag>) -> u16 {
+/// Returns the VLAN in which the sender's port `from` classifies the example frame: the remedies name it. Returns 0 if the port is missing.
+fn sender_vlan<A: Allocator + Copy>(sender: &Plan<A>, from: u8, tag: Option<Tag>) -> u16 {
     match (tag, sender.port(from)) {
         (Some(tag), _) if tag.vid != 0 => tag.vid,
         (_, Some(on)) => on.vid,
@@ -260,8 +271,8 @@ fn vlan_at<A: Allocator + Copy>(sender: &Plan<A>, from: u8, tag: Option<Tag>) ->
     }
 }
 
-/// The filter of the first hop of the stream at the sender.
-fn hop_filter_at<A: Allocator + Copy>(
+/// Returns the filter of the stream's first hop at the sending bridge, or `None` if the stream has no hop there.
+fn first_hop_filter<A: Allocator + Copy>(
     sender: &Plan<A>,
     hops: &[StreamHop],
     bridge: u16,
@@ -274,30 +285,32 @@ fn hop_filter_at<A: Allocator + Copy>(
     None
 }
 
-/// The handle by which a hop of the stream at the sender takes frames of every priority, if it does.
-fn handle_at<A: Allocator + Copy>(
+/// Returns the handle of the stream's hop at the sender if its filter accepts every priority, otherwise `None`. Only then can an entry with
+/// this handle catch all stray frames.
+fn stream_handle<A: Allocator + Copy>(
     sender: &Plan<A>,
     hops: &[StreamHop],
     bridge: u16,
 ) -> Option<u32> {
-    let filter = hop_filter_at(sender, hops, bridge)?;
+    let filter = first_hop_filter(sender, hops, bridge)?;
     match filter.priority {
         None => filter.handle,
         Some(_) => None,
     }
 }
 
-/// Adds the ways to keep such frames away: by an entry of the stream's handle only if a filter of the stream takes every priority.
-fn put_ways<A: Allocator + Copy>(
-    said: &mut Text<Global>,
+/// Appends the remedies against stray frames. An entry with the stream's handle helps only if a filter of the stream accepts every
+/// priority.
+fn put_remedies<A: Allocator + Copy>(
+    said: &mut TextBuilder<Global>,
     sender: &Plan<A>,
     hops: &[StreamHop],
-    stray: &Stray,
-    end: End,
-    open: Open,
+    stray: &StrayFrame,
+    end: BridgePort,
+    open: OpenStream,
 ) {
     let from = u64::from(open.from);
-    let vid = u64::from(vlan_at(sender, open.from, stray.tag));
+    let vid = u64::from(sender_vlan(sender, open.from, stray.tag));
     let filter = u64::from(open.filter.unwrap_or(0));
     let (first, last) = match open.filter {
         Some(_) => (
@@ -309,13 +322,13 @@ fn put_ways<A: Allocator + Copy>(
             "  add a `stream` entry on port {1} with a handle for strays; its filter has a closed gate.\n",
         ),
     };
-    said.fill(first, &[filter, from, vid], &[]);
-    if let Some(handle) = handle_at(sender, hops, end.bridge) {
-        said.fill(
+    said.put_template(first, &[filter, from, vid], &[]);
+    if let Some(handle) = stream_handle(sender, hops, end.bridge) {
+        said.put_template(
             "  add a `stream` entry of handle {1} on port {0}, so that the stream's gate and meter police these frames too;\n",
             &[from, u64::from(handle)],
             &[],
         );
     }
-    said.fill(last, &[filter, from], &[]);
+    said.put_template(last, &[filter, from], &[]);
 }

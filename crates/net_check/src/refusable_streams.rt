@@ -1,30 +1,31 @@
-//! What is told beside the figures of a stream of a network of which frames may be refused: at which hop, and why. Nothing here can
-//! fail: what can't be read again is left out.
+//! Explanations of streams whose frames may be refused: the hop and the condition. No call fails: files that can't be read again are left
+//! out.
 ghost use Rattle.std.specs.Prelude.{◌≤◌, All, IfSome, length};
 ghost use Rattle.std.specs.Option.{ForSome};
 ghost use Rattle.net_file.specs.Rules.{IsTalker};
 ghost use Rattle.net_periods.specs.Traffic.{IsTraffic};
-ghost use Rattle.net_latency.specs.Bounds.{IsPlaced};
+ghost use Rattle.net_latency.specs.Bounds.{HasValidPort};
 
-use crate::network::{read_network, read_plans, tested};
-use crate::refusing::name_of;
+use crate::network::{check_network_file, read_network, read_plans};
+use crate::refusing::bridge_name;
 use app_files::CommandFiles;
 use bridge_bounds::find_filter;
 use bridge_config::Plan;
 use bridge_filter::FilterPlan;
 use bridge_limits::{END_OF_TIME, LONGEST_FRAME};
-use bridge_text::Text;
+use bridge_text::TextBuilder;
 use net_file::{NetworkFile, StreamRow, Talker};
 use net_latency::{
-    Course, QueueBound, bounds_of_all, course_over, hops_of, may_come_in, put_reason, rows_at,
+    QueueBound, StreamLatency, all_queue_bounds, bounds_of_bridge, can_others_enter,
+    latency_through_hops, put_reason, stream_hops,
 };
 use net_model::{Link, Network, StreamHop};
 use net_periods::{Traffic, passes};
 use std::alloc::Global;
 use std::rt::Files;
 
-/// Returns a sentence for each stream of the network of a file whose line says `refusable`, made anew of the file and its plans:
-/// the first hop at which a frame may be refused, and the first condition that fails there.
+/// Explains each stream whose line says `refusable`: the first hop at which a frame may be refused, and why. Reads all files again. Returns
+/// `None` if this fails.
 pub fn explain_refusable_streams<H: AllocGlobal + Files>(rt: &H, path: &str) -> Option<String> {
     let alloc = rt.alloc();
     let mut files = CommandFiles::new(rt);
@@ -34,42 +35,42 @@ pub fn explain_refusable_streams<H: AllocGlobal + Files>(rt: &H, path: &str) -> 
     let Ok(plans) = read_plans(alloc, &mut files, path, file.bridges()) else {
         return None;
     };
-    let Ok(network) = tested(alloc, alloc, &file, plans) else {
+    let Ok(network) = check_network_file(alloc, alloc, &file, plans) else {
         return None;
     };
-    let said = said_of_network(alloc, &file, &network);
+    let said = explain_streams(alloc, &file, &network);
     drop(network);
     said
 }
 
-/// Returns the sentences of the streams of a network.
-fn said_of_network(
+/// Explains each stream whose frames may be refused: the first such hop and the condition that fails. Returns `None` if memory runs out.
+fn explain_streams(
     alloc: Global,
     file: &NetworkFile<Global>,
     network: &Network<Global>,
 ) -> Option<String> {
-    let bounds = bounds_of_all(alloc, network.plans()).ok()?;
-    let mut said = Text::new(alloc);
+    let bounds = all_queue_bounds(alloc, network.plans()).ok()?;
+    let mut said = TextBuilder::new(alloc);
     put_streams(alloc, &mut said, file, network, &bounds, file.streams());
-    said.done().ok()
+    said.finish().ok()
 }
 
-/// Adds the sentences of streams.
+/// Appends a sentence for each of these streams that has a periodic talker whose frames may be refused.
 fn put_streams(
     alloc: Global,
-    said: &mut Text<Global>,
+    said: &mut TextBuilder<Global>,
     file: &NetworkFile<Global>,
     network: &Network<Global>,
     bounds: &[Vec<QueueBound>],
     streams: &[StreamRow<Global>],
 )
-    requires placed { All (λ v. All IsPlaced v.items) bounds.now }
+    requires placed { All (λ v. All HasValidPort v.items) bounds.now }
     requires few { All (λ s. length s.hops ≤ 64) streams.now }
     requires talkers { All (λ s. ForSome s.talker IsTalker) streams.now }
 {
     for stream in streams {
         if let Some(talker) = stream.talker() {
-            if let Ok(hops) = hops_of(alloc, stream.hops()) {
+            if let Ok(hops) = stream_hops(alloc, stream.hops()) {
                 put_stream(
                     alloc,
                     said,
@@ -85,10 +86,10 @@ fn put_streams(
     }
 }
 
-/// Adds the sentence of a stream: its first hop at which not each frame passes if the stream ended there.
+/// Appends a sentence about a stream if its frames may be refused. Finds the hop by computing delays for one hop, two hops, and so on.
 fn put_stream(
     alloc: Global,
-    said: &mut Text<Global>,
+    said: &mut TextBuilder<Global>,
     file: &NetworkFile<Global>,
     network: &Network<Global>,
     bounds: &[Vec<QueueBound>],
@@ -96,13 +97,13 @@ fn put_stream(
     hops: &[StreamHop],
     talker: &Talker,
 )
-    requires placed { All (λ v. All IsPlaced v.items) bounds.now }
+    requires placed { All (λ v. All HasValidPort v.items) bounds.now }
     requires few { length hops.now ≤ 64 }
     requires talker { IsTalker talker.now }
 {
     let mut before = None;
     for place in 0..hops.len() {
-        let Ok(course) = course_over(
+        let Ok(course) = latency_through_hops(
             alloc,
             network.plans(),
             network.links(),
@@ -116,16 +117,16 @@ fn put_stream(
             Some(course) if course.passes => before = Some(course),
             course => {
                 put_start(said, file, name, hops, place);
-                let traffic = traffic_at(network.links(), hops, place, talker, before);
+                let traffic = hop_traffic(network.links(), hops, place, talker, before);
                 return put_hop(said, network, bounds, hops, place, traffic, course);
             }
         }
     }
 }
 
-/// Adds the beginning of a sentence: the stream and the hop.
+/// Appends the beginning of a sentence: the stream, and its hop with index `place`.
 fn put_start(
-    said: &mut Text<Global>,
+    said: &mut TextBuilder<Global>,
     file: &NetworkFile<Global>,
     name: &str,
     hops: &[StreamHop],
@@ -134,43 +135,43 @@ fn put_start(
     let Some(hop) = hops.get(place) else {
         return;
     };
-    said.fill(
+    said.put_template(
         "Stream {a} is refusable at hop {0} ({b}.{1}): ",
         &[(place as u64).saturating_add(1), u64::from(hop.filter)],
-        &[name, name_of(file.bridges(), hop.bridge)],
+        &[name, bridge_name(file.bridges(), hop.bridge)],
     );
 }
 
-/// Returns when the frames of a talker come to the hop at a place, by the figures of the stream up to the hop before it. None if
-/// they come in two periods, or if no link leads there.
-fn traffic_at(
+/// Returns the traffic of a talker at hop `place`, from the delays up to the hop before. Returns `None` if its phases lie in two periods or
+/// no link leads to the hop.
+fn hop_traffic(
     links: &[Link],
     hops: &[StreamHop],
     place: usize,
     talker: &Talker,
-    before: Option<Course>,
+    before: Option<StreamLatency>,
 ) -> Option<Traffic>
     requires { IsTalker talker.now }
     ensures { IfSome result IsTraffic }
 {
     if place == 0 {
-        return checked(talker, talker.from, talker.to);
+        return traffic_with_phases(talker, talker.from, talker.to);
     }
     let done = before?.phases;
-    let delay = delay_to(links, hops, place)?;
+    let delay = link_delay(links, hops, place)?;
     let start = u128::from(done.from).saturating_add(u128::from(delay));
     let end = u128::from(done.to).saturating_add(u128::from(delay));
     let period = u128::from(talker.period.max(1));
     let whole = start - start % period;
-    checked(
+    traffic_with_phases(
         talker,
         (start % period) as u64,
         end.saturating_sub(whole).min(u128::from(u64::MAX)) as u64,
     )
 }
 
-/// Returns the frames of a talker with other phases, if these lie in one period.
-fn checked(talker: &Talker, from: u64, to: u64) -> Option<Traffic>
+/// Returns the traffic of a talker with the phases `from` to `to`, or `None` if they don't lie in one period.
+fn traffic_with_phases(talker: &Talker, from: u64, to: u64) -> Option<Traffic>
     requires { IsTalker talker.now }
     ensures { IfSome result IsTraffic }
 {
@@ -186,8 +187,9 @@ fn checked(talker: &Talker, from: u64, to: u64) -> Option<Traffic>
     })
 }
 
-/// Returns the delay of the first link between the bridges of the hop at a place and of the hop before it, in ns.
-fn delay_to(links: &[Link], hops: &[StreamHop], place: usize) -> Option<u64> {
+/// Returns the delay in ns of the first link between the bridges of hop `place` and the hop before. Returns `None` if there is no such
+/// link.
+fn link_delay(links: &[Link], hops: &[StreamHop], place: usize) -> Option<u64> {
     let hop = hops.get(place)?.bridge;
     let before = hops.get(place.checked_sub(1)?)?.bridge;
     for link in links {
@@ -199,19 +201,19 @@ fn delay_to(links: &[Link], hops: &[StreamHop], place: usize) -> Option<u64> {
     None
 }
 
-/// Whether each hop up to the one at a place follows the hop before it over a link, so that the figures of the stream up to a hop say
-/// when frames leave this hop.
+/// Whether a link leads to each hop up to `place` from the hop before. Only then the delays of the stream up to a hop give the phases
+/// there.
 fn is_chain(links: &[Link], hops: &[StreamHop], place: usize) -> bool {
     for next in 1..=place {
-        if delay_to(links, hops, next).is_none() {
+        if link_delay(links, hops, next).is_none() {
             return false;
         }
     }
     true
 }
 
-/// Whether a hop before a place is at a bridge.
-fn is_before(hops: &[StreamHop], place: usize, bridge: u16) -> bool {
+/// Whether a hop before index `place` is at this bridge. Delays are unknown if a stream crosses a bridge twice.
+fn has_earlier_hop(hops: &[StreamHop], place: usize, bridge: u16) -> bool {
     for (k, hop) in hops.iter().enumerate() {
         if k < place && hop.bridge == bridge {
             return true;
@@ -220,15 +222,15 @@ fn is_before(hops: &[StreamHop], place: usize, bridge: u16) -> bool {
     false
 }
 
-/// Adds why frames may be refused at the hop at a place.
+/// Appends why frames may be refused at hop `place`: the first reason that applies, in the order of this function.
 fn put_hop(
-    said: &mut Text<Global>,
+    said: &mut TextBuilder<Global>,
     network: &Network<Global>,
     bounds: &[Vec<QueueBound>],
     hops: &[StreamHop],
     place: usize,
     traffic: Option<Traffic>,
-    course: Option<Course>,
+    course: Option<StreamLatency>,
 )
     requires { IfSome traffic IsTraffic }
 {
@@ -240,16 +242,16 @@ fn put_hop(
     };
     let plan = accepted.plan();
     if let Some(port) = port_of_others(network.links(), place == 0, *hop, plan) {
-        return said.fill(
+        return said.put_template(
             "frames of other devices may also come in on port {0}. Remove the `stream` entry of this port.\n",
             &[u64::from(port)],
             &[],
         );
     }
-    if is_before(hops, place, hop.bridge) {
+    if has_earlier_hop(hops, place, hop.bridge) {
         return said.put("another hop of the stream is at the same bridge.\n");
     }
-    let Some(class) = class_of(bounds, *hop) else {
+    let Some(class) = first_queue_class(bounds, *hop) else {
         return said.put("its frames can enter no queue. Correct the `static` entry or the VLAN.\n");
     };
     if !is_chain(network.links(), hops, place) {
@@ -265,9 +267,10 @@ fn put_hop(
     }
 }
 
-/// Adds the first condition that fails at a hop to which frames come so, by whether the stream has figures up to this hop.
+/// Appends the first condition that fails for this traffic at a hop. `has_figures` is true if the delays of the stream up to this hop are
+/// known; then the next filter may differ.
 fn put_condition(
-    said: &mut Text<Global>,
+    said: &mut TextBuilder<Global>,
     plan: &Plan<Global>,
     filter: &FilterPlan,
     traffic: &Traffic,
@@ -284,7 +287,7 @@ fn put_condition(
     put_reason(said, plan, filter, traffic, class);
 }
 
-/// Returns the number of the first port of a hop's bridge on which frames of other devices may get the hop's handle.
+/// Returns the number of the first port of a hop's bridge on which frames of other devices may get the hop's handle, or `None`.
 fn port_of_others(
     links: &[Link],
     is_first: bool,
@@ -292,16 +295,16 @@ fn port_of_others(
     plan: &Plan<Global>,
 ) -> Option<u8> {
     for port in plan.ports() {
-        if may_come_in(links, is_first, hop, plan, port) {
+        if can_others_enter(links, is_first, hop, plan, port) {
             return Some(port.number);
         }
     }
     None
 }
 
-/// Returns the class of the first queue that the frames of a hop can enter.
-fn class_of(bounds: &[Vec<QueueBound>], hop: StreamHop) -> Option<u8> {
-    for row in rows_at(bounds, hop.bridge) {
+/// Returns the class of the first queue that the frames of a hop can enter, or `None` if they can enter none.
+fn first_queue_class(bounds: &[Vec<QueueBound>], hop: StreamHop) -> Option<u8> {
+    for row in bounds_of_bridge(bounds, hop.bridge) {
         if row.filter == hop.filter {
             return Some(row.class);
         }

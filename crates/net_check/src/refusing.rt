@@ -1,47 +1,52 @@
-//! The line of a network that is refused.
+//! Fault lines of refused networks.
 ghost use Rattle.std.specs.Prelude.{◌≡◌, IfOk, string_bytes};
 ghost use Rattle.bridge_text.specs.Growth.{HasGrown};
-ghost use Rattle.net_check.specs.Networks.{line_of, of_hop, of_link, port_text, sent_text};
-ghost use Rattle.net_check.specs.Naming.{name_at};
+ghost use Rattle.net_check.specs.Networks.{network_fault_line, hop_fault_text, link_fault_text, port_text, sender_text};
+ghost use Rattle.net_check.specs.Naming.{bridge_name};
 
 use bridge_limits::NoMemory;
-use bridge_text::Text;
+use bridge_text::TextBuilder;
 use net_file::BridgeRow;
 use net_model::NetworkFault;
 use std::alloc::Allocator;
 
-/// The line of a network that a test refuses, without a line feed: `network refused: NotFed stream 1 hop 2`. Bridges have
-/// their names, filters and ports their numbers.
-pub fn said_of_network<A: Allocator + Copy, B: Allocator + Copy>(
+/// Returns the fault line of a network without line feed, for example `network refused: NotFed stream 1 hop 2`. Bridges have their names,
+/// filters and ports their numbers.
+pub fn network_fault_line<A: Allocator + Copy, B: Allocator + Copy>(
     alloc: A,
     bridges: &[BridgeRow<B>],
     fault: &NetworkFault,
 ) -> Result<String<A>, NoMemory>
-    ensures { IfOk result (λ line. string_bytes line ≡ line_of bridges.now fault.now) }
+    ensures { IfOk result (λ line. string_bytes line ≡ network_fault_line bridges.now fault.now) }
 {
-    let mut text = Text::new(alloc);
-    put_fault(&mut text, bridges, fault);
-    text.done()
+    let mut text = TextBuilder::new(alloc);
+    put_network_fault(&mut text, bridges, fault);
+    text.finish()
 }
 
-/// Puts the line of a network that a test refuses.
-fn put_fault<A: Allocator, B: Allocator + Copy>(
-    text: &mut Text<A>,
+/// Writes the fault line of a network: fault, link or stream and hop, and the details of the fault.
+fn put_network_fault<A: Allocator, B: Allocator + Copy>(
+    text: &mut TextBuilder<A>,
     bridges: &[BridgeRow<B>],
     fault: &NetworkFault,
 )
-    ensures { HasGrown text.old (line_of bridges.now fault.now) text.new }
+    ensures { HasGrown text.old (network_fault_line bridges.now fault.now) text.new }
 {
     match fault {
-        NetworkFault::Unresolved { link } => put_link(text, "Unresolved", *link),
+        NetworkFault::Unresolved { link } => put_link_fault(text, "Unresolved", *link),
         NetworkFault::LinkTwice { link, end } => {
-            put_link(text, "LinkTwice", *link);
+            put_link_fault(text, "LinkTwice", *link);
             text.put(" ");
             put_port(text, bridges, end.bridge, end.port);
         }
-        NetworkFault::SpeedsDiffer { link } => put_link(text, "SpeedsDiffer", *link),
-        NetworkFault::NotProtected { stream, hop } => put_hop(text, "NotProtected", *stream, *hop),
-        NetworkFault::HopTwice { stream, hop } => put_hop(text, "HopTwice", *stream, *hop),
+        NetworkFault::SpeedsDiffer { link } => put_link_fault(text, "SpeedsDiffer", *link),
+        NetworkFault::NotProtected { stream, hop } => put_hop_fault(
+            text,
+            "NotProtected",
+            *stream,
+            *hop,
+        ),
+        NetworkFault::HopTwice { stream, hop } => put_hop_fault(text, "HopTwice", *stream, *hop),
         NetworkFault::NotClosed {
             stream,
             hop,
@@ -50,18 +55,18 @@ fn put_fault<A: Allocator, B: Allocator + Copy>(
             filter,
             from,
         } => {
-            put_hop(text, "NotClosed", *stream, *hop);
+            put_hop_fault(text, "NotClosed", *stream, *hop);
             text.put(" ");
             put_port(text, bridges, *bridge, *port);
-            put_sent(text, filter, *from);
+            put_sender(text, filter, *from);
         }
-        NetworkFault::NotFed { stream, hop } => put_hop(text, "NotFed", *stream, *hop),
+        NetworkFault::NotFed { stream, hop } => put_hop_fault(text, "NotFed", *stream, *hop),
     }
 }
 
-/// Puts what is refused about a link.
-fn put_link<A: Allocator>(text: &mut Text<A>, name: &str, link: usize)
-    ensures { HasGrown text.old (of_link name.now link) text.new }
+/// Writes the start of the fault line for a link: fault name and link number.
+fn put_link_fault<A: Allocator>(text: &mut TextBuilder<A>, name: &str, link: usize)
+    ensures { HasGrown text.old (link_fault_text name.now link) text.new }
 {
     text.put("network refused: ");
     text.put(name);
@@ -69,9 +74,9 @@ fn put_link<A: Allocator>(text: &mut Text<A>, name: &str, link: usize)
     text.put_number(link as u64);
 }
 
-/// Puts what is refused about a hop.
-fn put_hop<A: Allocator>(text: &mut Text<A>, name: &str, stream: usize, hop: usize)
-    ensures { HasGrown text.old (of_hop name.now stream hop) text.new }
+/// Writes the start of the fault line for a hop: fault name, stream number and hop number.
+fn put_hop_fault<A: Allocator>(text: &mut TextBuilder<A>, name: &str, stream: usize, hop: usize)
+    ensures { HasGrown text.old (hop_fault_text name.now stream hop) text.new }
 {
     text.put("network refused: ");
     text.put(name);
@@ -81,23 +86,23 @@ fn put_hop<A: Allocator>(text: &mut Text<A>, name: &str, stream: usize, hop: usi
     text.put_number(hop as u64);
 }
 
-/// Puts a port of a bridge by its name.
+/// Writes a port as network files write it: the name of its bridge, a dot, and its number.
 fn put_port<A: Allocator, B: Allocator + Copy>(
-    text: &mut Text<A>,
+    text: &mut TextBuilder<A>,
     bridges: &[BridgeRow<B>],
     bridge: u16,
     port: u8,
 )
     ensures { HasGrown text.old (port_text bridges.now bridge port) text.new }
 {
-    text.put(name_of(bridges, bridge));
+    text.put(bridge_name(bridges, bridge));
     text.put(".");
     text.put_number(u64::from(port));
 }
 
-/// Puts what comes to a port: the frames of a filter, or of none, that came in on a port of the sender.
-fn put_sent<A: Allocator>(text: &mut Text<A>, filter: &Option<u32>, from: u8)
-    ensures { HasGrown text.old (sent_text filter.now from) text.new }
+/// Writes the filter of the stray frames at the sender, or `none`, and the port on which they arrive there.
+fn put_sender<A: Allocator>(text: &mut TextBuilder<A>, filter: &Option<u32>, from: u8)
+    ensures { HasGrown text.old (sender_text filter.now from) text.new }
 {
     text.put(" sends ");
     match filter {
@@ -108,9 +113,12 @@ fn put_sent<A: Allocator>(text: &mut Text<A>, filter: &Option<u32>, from: u8)
     text.put_number(u64::from(from));
 }
 
-/// The name of the bridge at a place.
-pub(crate) fn name_of<'a, A: Allocator + Copy>(bridges: &'a [BridgeRow<A>], bridge: u16) -> &'a str
-    ensures { result.now ≡ name_at bridges.now bridge }
+/// Returns the name of the bridge with this index, or an empty text.
+pub(crate) fn bridge_name<'a, A: Allocator + Copy>(
+    bridges: &'a [BridgeRow<A>],
+    bridge: u16,
+) -> &'a str
+    ensures { result.now ≡ bridge_name bridges.now bridge }
 {
     let place = bridge as usize;
     if place < bridges.len() {

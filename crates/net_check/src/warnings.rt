@@ -1,19 +1,19 @@
-//! The warnings of an accepted network: frames that may go round, filters in no stream, and what its streams lack.
+//! All warnings of an accepted network: frames that may loop, filters in no stream, and warnings of streams.
 ghost use Rattle.std.specs.Prelude.{◌≡◌, ◌<◌, ◌≤◌, ◌++◌, All, IfOk, OnOk, Some, length, string_bytes, true};
-ghost use Rattle.net_latency.specs.Streams.{AreBoundsOf, hop_in};
+ghost use Rattle.net_latency.specs.Streams.{AreQueueBoundsOfPlans, stream_hop_value};
 ghost use Rattle.net_check.specs.Warnings as spec;
 ghost use Rattle.net_check.specs.Warnings.{AreWarnings, entering_line, nowhere_line};
 
-use crate::refusing::name_of;
-use crate::telling::told_of;
+use crate::refusing::bridge_name;
+use crate::warning_lines::network_warnings;
 use bridge_config::{Plan, PortPlan};
 use bridge_limits::NoMemory;
 use net_file::{NetworkFile, StreamRow};
-use net_latency::{QueueBound, hops_of, may_come_in, rows_at};
+use net_latency::{QueueBound, bounds_of_bridge, can_others_enter, stream_hops};
 use net_model::{Network, StreamHop, find_plan};
 use std::alloc::{AllocError, Allocator, Global};
 
-/// Adds the warning that frames of other talkers may come to a hop by a port.
+/// Appends the warning that frames of other devices can arrive at hop `k` of stream `i` by a port of bridge `name`.
 #[tactic(auto, unfolding(crate::specs::Warnings::entering_line))]
 fn push_entering_line(
     text: &mut String,
@@ -34,7 +34,7 @@ fn push_entering_line(
     )
 }
 
-/// Adds the warning that a hop's frames reach no queue.
+/// Appends the warning that a hop's frames have no reachable queue. Indexes count from 0.
 #[tactic(auto, unfolding(crate::specs::Warnings::nowhere_line))]
 fn push_nowhere_line(text: &mut String, i: usize, k: usize) -> Result<(), AllocError>
     requires stream { i < 1024 }
@@ -46,7 +46,7 @@ fn push_nowhere_line(text: &mut String, i: usize, k: usize) -> Result<(), AllocE
     write!(text, "leads nowhere: stream {stream} hop {hop}\n")
 }
 
-/// An accepted network, with the names of its bridges.
+/// An accepted network and its file, which has the names of its bridges.
 #[derive(Clone, Copy)]
 pub(crate) struct Named<'a, A: Allocator + Copy> {
     file: &'a NetworkFile<A>,
@@ -54,7 +54,7 @@ pub(crate) struct Named<'a, A: Allocator + Copy> {
 }
 
 impl<'a, A: Allocator + Copy> Named<'a, A> {
-    /// Adds the warning of a port of a hop, if frames of other talkers may come in there.
+    /// Appends a warning if frames of other devices can get the handle of hop `k` of stream `i` at port `on`.
     fn push_entering(
         &self,
         text: &mut String,
@@ -69,15 +69,15 @@ impl<'a, A: Allocator + Copy> Named<'a, A> {
         ensures { OnOk result (string_bytes text.new ≡ string_bytes text.old
             ++ spec.entering_text self.now.file.now self.now.network.now i k hop plan.now on.now) }
     {
-        if !may_come_in(self.network.links(), k == 0, hop, plan, on) {
+        if !can_others_enter(self.network.links(), k == 0, hop, plan, on) {
             return Ok(());
         }
-        let name = name_of(self.file.bridges(), hop.bridge);
+        let name = bridge_name(self.file.bridges(), hop.bridge);
         push_entering_line(text, i, k, name, on.number)
     }
 
-    /// Adds the warnings of the ports of a hop's bridge.
-    fn push_entering_at(
+    /// Appends the warnings of all ports of a hop's bridge at which frames of other devices can get its handle.
+    fn push_entry_warnings(
         &self,
         text: &mut String,
         i: usize,
@@ -98,7 +98,8 @@ impl<'a, A: Allocator + Copy> Named<'a, A> {
         Ok(())
     }
 
-    /// Adds the warnings of a hop of a stream whose talker keeps a period.
+    /// Appends these warnings for a hop of a stream with a periodic talker; nothing if the bridge is missing. Only delays of periodic
+    /// talkers depend on other devices.
     fn push_entering_hop(
         &self,
         text: &mut String,
@@ -113,11 +114,11 @@ impl<'a, A: Allocator + Copy> Named<'a, A> {
     {
         match find_plan(self.network.plans(), hop.bridge) {
             None => Ok(()),
-            Some(plan) => self.push_entering_at(text, i, k, hop, plan),
+            Some(plan) => self.push_entry_warnings(text, i, k, hop, plan),
         }
     }
 
-    /// Adds the warnings of a hop of a stream.
+    /// Appends the warnings of a hop: entries for other devices if the talker is periodic, and no reachable queue.
     fn push_hop(
         &self,
         text: &mut String,
@@ -138,7 +139,7 @@ impl<'a, A: Allocator + Copy> Named<'a, A> {
         push_nowhere(text, bounds, i, k, hop)
     }
 
-    /// Adds the warnings of all hops of a stream.
+    /// Appends the warnings of all hops of a stream, in order.
     fn push_hops(
         &self,
         text: &mut String,
@@ -160,7 +161,8 @@ impl<'a, A: Allocator + Copy> Named<'a, A> {
         Ok(())
     }
 
-    /// Adds the warnings of a stream.
+    /// Appends the warnings of the hops of stream `i`. Hops without reachable queue always count; entries for other devices count only for
+    /// periodic talkers.
     fn push_stream(
         &self,
         alloc: A,
@@ -174,7 +176,7 @@ impl<'a, A: Allocator + Copy> Named<'a, A> {
         ensures { OnOk result (string_bytes text.new ≡ string_bytes text.old
             ++ spec.stream_text self.now.file.now self.now.network.now bounds.now i stream.now) }
     {
-        let hops = hops_of(alloc, stream.hops())?;
+        let hops = stream_hops(alloc, stream.hops())?;
         let periodic = stream.talker().is_some();
         match self.push_hops(text, bounds, i, periodic, &hops) {
             Ok(()) => Ok(()),
@@ -182,7 +184,7 @@ impl<'a, A: Allocator + Copy> Named<'a, A> {
         }
     }
 
-    /// Adds the warnings of all streams.
+    /// Appends the warnings of all streams, in file order.
     fn push_streams(
         &self,
         alloc: A,
@@ -204,15 +206,15 @@ impl<'a, A: Allocator + Copy> Named<'a, A> {
     }
 }
 
-/// Whether one of the bounds is of a queue of a hop.
+/// Whether one of the bounds belongs to a queue of a hop. Bounds list each reachable queue, so without one the frames leave nowhere.
 fn has_queue<A: Allocator + Copy>(bounds: &[Vec<QueueBound, A>], hop: StreamHop) -> bool
     ensures { result ≡ spec.has_queue bounds.now hop }
 {
-    let rows = rows_at(bounds, hop.bridge);
+    let rows = bounds_of_bridge(bounds, hop.bridge);
     rows.iter().any(|row| row.filter == hop.filter)
 }
 
-/// Adds the warning of a hop whose frames reach no queue.
+/// Appends a warning if the frames of hop `k` of stream `i` have no reachable queue.
 fn push_nowhere<A: Allocator + Copy>(
     text: &mut String,
     bounds: &[Vec<QueueBound, A>],
@@ -230,7 +232,7 @@ fn push_nowhere<A: Allocator + Copy>(
     push_nowhere_line(text, i, k)
 }
 
-/// Adds the warnings of the streams of a network.
+/// Appends the warnings of a network's streams, after the warnings of `network_warnings`.
 fn push_warnings<A: Allocator + Copy>(
     alloc: A,
     text: &mut String,
@@ -245,10 +247,9 @@ fn push_warnings<A: Allocator + Copy>(
     named.push_streams(alloc, text, bounds, file.streams())
 }
 
-/// The warnings of an accepted network, one a line, with the bounds of its queues: those of `told_of`; for each stream, by its
-/// hops, one for each port by which frames of other talkers may get the hop's handle, if the stream's talker keeps a period,
-/// and one for a hop whose frames reach no queue.
-pub fn warnings_of<A: Allocator + Copy>(
+/// Returns the warnings of an accepted network, one a line. After the lines of `network_warnings` come, for each stream, ports for frames
+/// of other talkers and hops without queue.
+pub fn all_warnings<A: Allocator + Copy>(
     alloc: A,
     heap: Global,
     file: &NetworkFile<A>,
@@ -256,10 +257,10 @@ pub fn warnings_of<A: Allocator + Copy>(
     bounds: &[Vec<QueueBound, A>],
 ) -> Result<String, NoMemory>
     requires few { length network.now.plans ≤ 64 }
-    requires bounds { AreBoundsOf network.now.plans bounds.now }
+    requires bounds { AreQueueBoundsOfPlans network.now.plans bounds.now }
     ensures { IfOk result (λ text. AreWarnings file.now network.now (string_bytes text)) }
 {
-    let mut text = told_of(alloc, heap, file, network)?;
+    let mut text = network_warnings(alloc, heap, file, network)?;
     push_warnings(alloc, &mut text, file, network, bounds)?;
     Ok(text)
 }

@@ -1,4 +1,4 @@
--- One row more, whose filter no row before it has.
+-- One row more, whose filter no earlier row has.
 use Rattle.std.proofs.Common.{◌≡◌, false, List, [], ◌∷◌, ◌++◌}
 use Rattle.std.specs.Prelude.{nat_eq}
 use Rattle.bridge_limits.proofs.Lists.{are_own-push, each_push}

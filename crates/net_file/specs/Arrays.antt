@@ -1,16 +1,16 @@
--- What the arrays of a document's sections keep. No public clause speaks of it.
+-- Properties of the arrays of a document's sections. No public clause uses them.
 use Rattle.std.specs.Prelude.{◌≡◌, ◌<◌, ◌≤◌, true, length}
 use Rattle.toml.specs.View.{items_view}
 use Rattle.bridge_schema.specs.Readers.{are_tables}
-use Rattle.net_file.specs.declared.network.Arrays.{Arrays}
+use Rattle.net_file.specs.declared.network_file.SectionArrays.{SectionArrays}
 use Rattle.net_file.specs.Document as doc
 
--- the items that the arrays hold
-abbrev pub items_of_arrays : Arrays → doc.Arrays
+-- The items of the code's arrays in the form of these definitions, for contracts of `read_sections`.
+abbrev pub items_of_arrays : SectionArrays → doc.Arrays
 items_of_arrays a = record { bridges = items_view a.bridges.now; links = items_view a.links.now; streams = items_view a.streams.now }
 
--- each array has at most as many items as its section may have, and there is a bridge
-pub record AreFew (a : Arrays) : Type 0 where
+-- Holds if there is a bridge, and no array has more items than its section allows.
+pub record AreFew (a : SectionArrays) : Type 0 where
   pub some_bridge : 0 < length a.bridges.now
   pub tables : are_tables (items_view a.bridges.now) ≡ true
   pub bridges : length a.bridges.now ≤ 64

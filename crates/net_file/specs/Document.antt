@@ -1,4 +1,4 @@
--- The network of a text: what it stands for, or the first fault in order.
+-- The network of a text, or its first fault in order.
 use Rattle.std.specs.Prelude.{ℕ, Bool, not, List, [], ◌∷◌, Result, Ok}
 use Rattle.toml.specs.Data.{Items, Members}
 use Rattle.bridge_schema.specs.Readers.{◌>>=◌, is_empty}
@@ -8,55 +8,55 @@ use Rattle.net_file.specs.declared.fault.NetSection.TheVariants as section
 use Rattle.net_file.specs.declared.fault.NetField.TheVariants as field
 use Rattle.net_file.specs.declared.fault.NetFault.{NetFault}
 use Rattle.net_file.specs.declared.fault.NetFault.TheVariants as fault
-use Rattle.net_file.specs.Faults.{name_of}
+use Rattle.net_file.specs.Faults.{section_name}
 use Rattle.net_file.specs.Model.{Network}
-use Rattle.net_file.specs.Reading.{provided, items_of, instances}
-use Rattle.net_file.specs.Sections.{bridge_at, link_at, stream_at}
+use Rattle.net_file.specs.Keys.{provided, section_items, instances}
+use Rattle.net_file.specs.Sections.{read_bridge, read_link_in_list, read_stream}
 
--- the sections of a network
+-- The sections of a network.
 abbrev pub net_sections : List NetSection
 net_sections = section.Bridge ∷ section.Link ∷ section.Stream ∷ []
 
--- whether a document has no key but these sections
-abbrev pub are_sections : List NetSection → Members → Bool
-are_sections = reading.are_known name_of
+-- True if a document has no key except these sections.
+abbrev pub has_only_sections : List NetSection → Members → Bool
+has_only_sections = reading.are_known section_name
 
--- the items of all sections
+-- The items of a network's three sections, before any is read.
 pub record Arrays : Type 0 where
   pub bridges : Items
   pub links : Items
   pub streams : Items
 
--- there is no bridge: the key at the top that has to stand there
+-- The fault of a network without bridges: the section of bridges is missing at the top.
 abbrev pub no_bridges : NetFault
 no_bridges = fault.Missing (record { section = section.Top; index = 0; field = field.Bridge })
 
--- first pass: the sections, as arrays of tables
-unfoldable pub first_pass : Members → Result Arrays NetFault
-first_pass members = do
-  keys ← provided (are_sections net_sections members) (fault.UnknownKey section.Top 0)
-  bridges ← items_of section.Bridge members
+-- First pass: takes the sections as arrays of tables, or returns the first fault. No instance is read yet.
+unfoldable pub read_arrays : Members → Result Arrays NetFault
+read_arrays members = do
+  keys ← provided (has_only_sections net_sections members) (fault.UnknownKey section.Top 0)
+  bridges ← section_items section.Bridge members
   some ← provided (not (is_empty bridges)) no_bridges
-  links ← items_of section.Link members
-  streams ← items_of section.Stream members
+  links ← section_items section.Link members
+  streams ← section_items section.Stream members
   Ok (record { bridges = bridges; links = links; streams = streams })
 
--- second pass: the instances, section by section, each by what stands before
-unfoldable pub second_pass : Arrays → Result Network NetFault
-second_pass arrays = do
-  bridges ← instances bridge_at arrays.bridges
-  links ← instances (link_at bridges) arrays.links
-  streams ← instances (stream_at bridges) arrays.streams
+-- Second pass: reads the instances, section by section. An instance may depend on earlier ones.
+unfoldable pub read_sections : Arrays → Result Network NetFault
+read_sections arrays = do
+  bridges ← instances read_bridge arrays.bridges
+  links ← instances (read_link_in_list bridges) arrays.links
+  streams ← instances (read_stream bridges) arrays.streams
   Ok (record { bridges = bridges; links = links; streams = streams })
 
--- the network of a document
+-- The network of a document, or its first fault.
 abbrev pub network_of_document : Members → Result Network NetFault
-network_of_document members = first_pass members >>= second_pass
+network_of_document members = read_arrays members >>= read_sections
 
--- the document of a text, which is not too long and is UTF-8
-unfoldable pub document_of : List ℕ → Result Members NetFault
-document_of = reading.document_of fault.TooLong fault.Syntax
+-- The TOML document of a text, or the fault TooLong or Syntax.
+unfoldable pub read_document : List ℕ → Result Members NetFault
+read_document = reading.document_of fault.TooLong fault.Syntax
 
--- the network of a text
+-- The network of a text, or its first fault.
 abbrev pub network_of_text : List ℕ → Result Network NetFault
-network_of_text text = document_of text >>= network_of_document
+network_of_text text = read_document text >>= network_of_document

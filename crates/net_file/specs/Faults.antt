@@ -1,4 +1,4 @@
--- The numbers of the faults of a text of a network or of traffic, and the spelling of its sections and keys.
+-- Numbers of the faults of network and traffic files, and the spelling of sections and keys.
 use Rattle.std.specs.Prelude.{ℕ, List, codes}
 use Rattle.net_file.specs.declared.fault.NetSection.{NetSection}
 use Rattle.net_file.specs.declared.fault.NetSection.TheVariants as section
@@ -7,41 +7,41 @@ use Rattle.net_file.specs.declared.fault.NetField.TheVariants as field
 use Rattle.net_file.specs.declared.fault.NetFault.{NetFault}
 use Rattle.net_file.specs.declared.fault.NetFault.TheVariants as fault
 
--- the name of a section
-abbrev pub name_of : NetSection → List ℕ
-name_of section.Top = codes "top"
-name_of section.Bridge = codes "bridge"
-name_of section.Link = codes "link"
-name_of section.Stream = codes "stream"
-name_of section.Traffic = codes "traffic"
+-- Name of a section.
+abbrev pub section_name : NetSection → List ℕ
+section_name section.Top = codes "top"
+section_name section.Bridge = codes "bridge"
+section_name section.Link = codes "link"
+section_name section.Stream = codes "stream"
+section_name section.Traffic = codes "traffic"
 
--- the spelling of a key
-abbrev pub key_of : NetField → List ℕ
-key_of field.Bridge = codes "bridge"
-key_of field.Name = codes "name"
-key_of field.Plan = codes "plan"
-key_of field.One = codes "one"
-key_of field.Other = codes "other"
-key_of field.Delay = codes "delay"
-key_of field.Hops = codes "hops"
-key_of field.Filter = codes "filter"
-key_of field.Period = codes "period"
-key_of field.From = codes "from"
-key_of field.To = codes "to"
-key_of field.Least = codes "least"
-key_of field.Longest = codes "longest"
-key_of field.Deadline = codes "deadline"
+-- Spelling of a key.
+abbrev pub key_name : NetField → List ℕ
+key_name field.Bridge = codes "bridge"
+key_name field.Name = codes "name"
+key_name field.Plan = codes "plan"
+key_name field.One = codes "one"
+key_name field.Other = codes "other"
+key_name field.Delay = codes "delay"
+key_name field.Hops = codes "hops"
+key_name field.Filter = codes "filter"
+key_name field.Period = codes "period"
+key_name field.From = codes "from"
+key_name field.To = codes "to"
+key_name field.Least = codes "least"
+key_name field.Longest = codes "longest"
+key_name field.Deadline = codes "deadline"
 
--- the number of a fault, whatever it names
-abbrev pub number_of : NetFault → ℕ
-number_of fault.Syntax = 1
-number_of fault.TooLong = 2
-number_of (fault.UnknownKey section index) = 3
-number_of (fault.NotAList section) = 4
-number_of (fault.Missing place) = 5
-number_of (fault.WrongKind place) = 6
-number_of (fault.OutOfRange place) = 7
-number_of (fault.Duplicate section index) = 8
-number_of (fault.Unresolved place) = 9
-number_of (fault.TooMany section) = 10
-number_of fault.NoMemory = 11
+-- Number of a fault. It doesn't depend on the fault's location.
+abbrev pub fault_code : NetFault → ℕ
+fault_code fault.Syntax = 1
+fault_code fault.TooLong = 2
+fault_code (fault.UnknownKey section index) = 3
+fault_code (fault.NotAList section) = 4
+fault_code (fault.Missing place) = 5
+fault_code (fault.WrongKind place) = 6
+fault_code (fault.OutOfRange place) = 7
+fault_code (fault.Duplicate section index) = 8
+fault_code (fault.Unresolved place) = 9
+fault_code (fault.TooMany section) = 10
+fault_code fault.NoMemory = 11

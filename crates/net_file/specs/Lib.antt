@@ -4,7 +4,7 @@ pub mod Faults
 pub mod Lines
 pub mod Model
 pub mod Names
-pub mod Reading
+pub mod Keys
 pub mod Rules
 pub mod Sections
 pub mod TrafficRows

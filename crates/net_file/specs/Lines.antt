@@ -1,41 +1,41 @@
--- What is said of a text that is refused, without a line feed.
+-- Fault lines of refused files, without line feed.
 use Rattle.std.specs.Prelude.{ℕ, List, ◌++◌, ◌==◌, if◌then◌else◌, codes, decimal}
 use Rattle.net_file.specs.declared.fault.NetSection.{NetSection}
-use Rattle.net_file.specs.declared.fault.NetPlace.{NetPlace}
+use Rattle.net_file.specs.declared.fault.NetKeyLocation.{NetKeyLocation}
 use Rattle.net_file.specs.declared.fault.NetFault.{NetFault}
 use Rattle.net_file.specs.declared.fault.NetFault.TheVariants as fault
-use Rattle.net_file.specs.Faults.{key_of, name_of}
+use Rattle.net_file.specs.Faults.{key_name, section_name}
 
--- an instance of a section by its place from 1; the section alone where there is no place
-abbrev pub instance : NetSection → ℕ → List ℕ
-instance section index = if index == 0 then name_of section else name_of section ++ (codes " " ++ decimal index)
+-- A section's name and an instance's number from 1. If the number is 0, only the name.
+abbrev pub instance_text : NetSection → ℕ → List ℕ
+instance_text section index = if index == 0 then section_name section else section_name section ++ (codes " " ++ decimal index)
 
--- a key of an instance
-abbrev pub key_at : NetPlace → List ℕ
-key_at place = instance place.section place.index ++ (codes " " ++ key_of place.field)
+-- A section's name, an instance's number from 1 and its key, such as `link 2 delay`.
+abbrev pub key_text : NetKeyLocation → List ℕ
+key_text place = instance_text place.section place.index ++ (codes " " ++ key_name place.field)
 
--- a text is refused, by its kind and the name of its fault
-abbrev pub refused : List ℕ → List ℕ → List ℕ
-refused kind name = kind ++ (codes " refused: " ++ name)
+-- The line `KIND refused: NAME` of a fault without location.
+abbrev pub refusal_text : List ℕ → List ℕ → List ℕ
+refusal_text kind name = kind ++ (codes " refused: " ++ name)
 
--- the same, with what is wrong
-abbrev pub refused_at : List ℕ → List ℕ → List ℕ → List ℕ
-refused_at kind name place = kind ++ (codes " refused: " ++ (name ++ (codes " " ++ place)))
+-- The line `KIND refused: NAME PLACE` of a fault with a location.
+abbrev pub refusal_with_detail : List ℕ → List ℕ → List ℕ → List ℕ
+refusal_with_detail kind name place = kind ++ (codes " refused: " ++ (name ++ (codes " " ++ place)))
 
--- the line of a fault of a text of a kind
-abbrev pub line_for : List ℕ → NetFault → List ℕ
-line_for kind fault.Syntax = refused kind (codes "Syntax")
-line_for kind fault.TooLong = refused kind (codes "TooLong")
-line_for kind (fault.UnknownKey section index) = refused_at kind (codes "UnknownKey") (instance section index)
-line_for kind (fault.NotAList section) = refused_at kind (codes "NotAList") (name_of section)
-line_for kind (fault.Missing place) = refused_at kind (codes "Missing") (key_at place)
-line_for kind (fault.WrongKind place) = refused_at kind (codes "WrongKind") (key_at place)
-line_for kind (fault.OutOfRange place) = refused_at kind (codes "OutOfRange") (key_at place)
-line_for kind (fault.Duplicate section index) = refused_at kind (codes "Duplicate") (instance section index)
-line_for kind (fault.Unresolved place) = refused_at kind (codes "Unresolved") (key_at place)
-line_for kind (fault.TooMany section) = refused_at kind (codes "TooMany") (name_of section)
-line_for kind fault.NoMemory = codes "no memory"
+-- The fault line of a file of this kind.
+abbrev pub refusal_line : List ℕ → NetFault → List ℕ
+refusal_line kind fault.Syntax = refusal_text kind (codes "Syntax")
+refusal_line kind fault.TooLong = refusal_text kind (codes "TooLong")
+refusal_line kind (fault.UnknownKey section index) = refusal_with_detail kind (codes "UnknownKey") (instance_text section index)
+refusal_line kind (fault.NotAList section) = refusal_with_detail kind (codes "NotAList") (section_name section)
+refusal_line kind (fault.Missing place) = refusal_with_detail kind (codes "Missing") (key_text place)
+refusal_line kind (fault.WrongKind place) = refusal_with_detail kind (codes "WrongKind") (key_text place)
+refusal_line kind (fault.OutOfRange place) = refusal_with_detail kind (codes "OutOfRange") (key_text place)
+refusal_line kind (fault.Duplicate section index) = refusal_with_detail kind (codes "Duplicate") (instance_text section index)
+refusal_line kind (fault.Unresolved place) = refusal_with_detail kind (codes "Unresolved") (key_text place)
+refusal_line kind (fault.TooMany section) = refusal_with_detail kind (codes "TooMany") (section_name section)
+refusal_line kind fault.NoMemory = codes "no memory"
 
--- the line of a fault of a network
-abbrev pub line_of : NetFault → List ℕ
-line_of e = line_for (codes "network") e
+-- The fault line of a network file.
+abbrev pub fault_line : NetFault → List ℕ
+fault_line e = refusal_line (codes "network") e

@@ -1,25 +1,25 @@
--- The rows of a text of traffic, or its first fault.
+-- The rows of a traffic file, or its first fault.
 use Rattle.std.specs.Prelude.{ℕ, List, [], ◌∷◌, Result}
 use Rattle.toml.specs.Data.{Items, Members}
 use Rattle.bridge_schema.specs.Readers.{◌>>=◌}
 use Rattle.net_file.specs.declared.fault.NetSection.TheVariants as section
 use Rattle.net_file.specs.declared.fault.NetFault.{NetFault}
 use Rattle.net_file.specs.declared.fault.NetFault.TheVariants as fault
-use Rattle.net_file.specs.Document.{are_sections, document_of}
-use Rattle.net_file.specs.Reading.{instances, items_of, provided}
+use Rattle.net_file.specs.Document.{has_only_sections, read_document}
+use Rattle.net_file.specs.Keys.{instances, section_items, provided}
 use Rattle.net_file.specs.declared.traffic_row.TrafficRow.{TrafficRow}
-use Rattle.net_file.specs.TrafficRows.{row_at}
+use Rattle.net_file.specs.TrafficRows.{read_row_in_list}
 
--- the items of the one section of a document
+-- The items of the document's section of traffic, or the first fault.
 unfoldable pub row_items : Members → Result Items NetFault
 row_items members = do
-  keys ← provided (are_sections (section.Traffic ∷ []) members) (fault.UnknownKey section.Top 0)
-  items_of section.Traffic members
+  keys ← provided (has_only_sections (section.Traffic ∷ []) members) (fault.UnknownKey section.Top 0)
+  section_items section.Traffic members
 
--- the rows of a document
+-- The rows of a document, or the first fault.
 abbrev pub rows_of_document : Members → Result (List TrafficRow) NetFault
-rows_of_document members = row_items members >>= λ items. instances row_at items
+rows_of_document members = row_items members >>= λ items. instances read_row_in_list items
 
--- the rows of a text
+-- The rows of a text, or the first fault.
 abbrev pub rows_of_text : List ℕ → Result (List TrafficRow) NetFault
-rows_of_text text = document_of text >>= rows_of_document
+rows_of_text text = read_document text >>= rows_of_document

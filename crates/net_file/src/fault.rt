@@ -1,18 +1,18 @@
-//! What is wrong with the text of a network or of traffic, and where.
+//! Faults of a network file or a traffic file, with their locations.
 ghost use Rattle.std.specs.Prelude.{◌≡◌};
 ghost use Rattle.net_file.specs.declared.fault.NetFault.TheVariants as the_fault;
 ghost use Rattle.net_file.specs.declared.fault.NetFault.TheVariants.{NoMemory};
-ghost use Rattle.net_file.specs.Faults.{key_of, name_of, number_of};
-ghost use Rattle.net_file.specs.Reading as spec;
+ghost use Rattle.net_file.specs.Faults.{key_name, section_name, fault_code};
+ghost use Rattle.net_file.specs.Keys as spec;
 
 use bridge_schema::{Flaw, ReaderFault, Spell, TextSection};
 use std::alloc::{AllocError, AllocFailed};
 use thiserror::Error;
 
-/// The top of a text, the sections of a network in the order in which they are read, and the section of traffic.
+/// Sections: the top of a file, a network's sections in the order of reading, and the section of traffic.
 #[derive(Clone, Copy, Debug)]
 pub enum NetSection {
-    /// The top of the text.
+    /// Top of the file.
     Top,
     /// Bridges, 1 to 64.
     Bridge,
@@ -20,14 +20,14 @@ pub enum NetSection {
     Link,
     /// Streams, at most 1,024.
     Stream,
-    /// Traffic, at most 1,024.
+    /// Traffic, at most 1,024 rows.
     Traffic,
 }
 
 impl NetSection {
-    /// The name of a section, as a text and a fault line spell it; the top of a text is `top`.
+    /// Returns the section's name, as files and fault lines spell it. The top of a file has the name `top`.
     pub fn name(self) -> &'static str
-        ensures name { result.now ≡ name_of self }
+        ensures name { result.now ≡ section_name self }
     {
         match self {
             NetSection::Top => "top",
@@ -39,43 +39,43 @@ impl NetSection {
     }
 }
 
-/// The keys of the tables of a network and of traffic, and the one key that has to stand at a network's top.
+/// Keys of the tables of networks and traffic, and the one required key at a network's top.
 #[derive(Clone, Copy, Debug, PartialEq, Eq)]
 pub enum NetField {
-    /// The section of bridges, at the top.
+    /// Section of bridges, at the top.
     Bridge,
-    /// The name of a bridge or of a stream.
+    /// Name of a bridge or of a stream.
     Name,
-    /// The file of a bridge's plan.
+    /// File of a bridge's plan.
     Plan,
-    /// A port at one end of a link.
+    /// Port at one end of a link.
     One,
-    /// The port at the other end of a link.
+    /// Port at the other end of a link.
     Other,
-    /// How long a frame is under way over a link, in ns.
+    /// Delay of a link in ns.
     Delay,
-    /// The filters of a stream, from talker to listener.
+    /// Filters of a stream, from talker to listener.
     Hops,
-    /// The filter of frames that come once in each period.
+    /// Filter of periodic traffic.
     Filter,
-    /// Their period, in ns.
+    /// Period in ns.
     Period,
-    /// The first phase at which one may come, in ns.
+    /// First phase at which a frame may arrive, in ns.
     From,
-    /// The last one.
+    /// Last phase at which a frame may arrive, in ns.
     To,
-    /// The octets of the shortest, as it is captured.
+    /// Captured length of the shortest frame in octets.
     Least,
-    /// The octets of the longest.
+    /// Captured length of the longest frame in octets.
     Longest,
-    /// How long one may take at most, in ns.
+    /// Largest allowed delay of a frame in ns.
     Deadline,
 }
 
 impl NetField {
-    /// The spelling of a key.
+    /// Returns the key as files and fault lines spell it.
     pub fn key(self) -> &'static str
-        ensures spelling { result.now ≡ key_of self }
+        ensures spelling { result.now ≡ key_name self }
     {
         match self {
             NetField::Bridge => "bridge",
@@ -96,59 +96,59 @@ impl NetField {
     }
 }
 
-/// A key of one instance of a section.
+/// Location of a key: section, instance and key.
 #[derive(Clone, Copy, Debug)]
-pub struct NetPlace {
-    /// The section.
+pub struct NetKeyLocation {
+    /// Section of the key.
     pub section: NetSection,
-    /// The place of the instance in its array, from 1; 0 at the top.
+    /// Number of the instance in its section, from 1; 0 at the top.
     pub index: u32,
-    /// The key.
+    /// Key of the instance.
     pub field: NetField,
 }
 
-/// Why a text is no network, or no traffic. An index is the place of an instance in its section, from 1, and 0 at the top.
+/// Why a network file or a traffic file is refused. Instances are counted in their section from 1; the top has 0.
 #[derive(Clone, Copy, Debug, Error)]
 pub enum NetFault {
-    /// The text is no TOML document in UTF-8.
+    /// The file isn't a TOML document in UTF-8.
     #[error("the text isn't a TOML document")]
     Syntax,
-    /// The text has more than 1,048,576 octets.
+    /// The file has more than 1,048,576 octets.
     #[error("the text is too long")]
     TooLong,
-    /// A key that is not allowed there.
+    /// The instance has a key that isn't allowed there.
     #[error("an unknown key")]
     UnknownKey(NetSection, u32),
-    /// A section that is no array of tables.
+    /// The section isn't an array of tables, such as `[[bridge]]`.
     #[error("a section that isn't an array of tables")]
     NotAList(NetSection),
-    /// A required key is absent; at the top, there is no bridge.
+    /// A required key is absent. At the top, this is the section of bridges.
     #[error("a required key is absent")]
-    Missing(NetPlace),
-    /// A value of another kind than the key's.
+    Missing(NetKeyLocation),
+    /// The key's value is of a wrong kind.
     #[error("a value of a wrong kind")]
-    WrongKind(NetPlace),
-    /// A number, a text or the length of an array that isn't allowed.
+    WrongKind(NetKeyLocation),
+    /// The key's number, text or array length isn't allowed.
     #[error("a value that is not allowed")]
-    OutOfRange(NetPlace),
-    /// A bridge or a stream whose name an earlier one of its section has, or traffic of a filter that an earlier row has.
+    OutOfRange(NetKeyLocation),
+    /// An earlier bridge or stream has the name, or an earlier row of traffic has the filter.
     #[error("a repeated instance")]
     Duplicate(NetSection, u32),
-    /// An end or a hop names a bridge that the network doesn't have.
+    /// A link's end or a hop names a bridge that the network lacks.
     #[error("a name that the network doesn't have")]
-    Unresolved(NetPlace),
-    /// A section has more instances than its limit.
+    Unresolved(NetKeyLocation),
+    /// The section has more instances than its limit.
     #[error("too many instances")]
     TooMany(NetSection),
-    /// A growth of memory was refused.
+    /// Memory ran out.
     #[error("no memory")]
     NoMemory,
 }
 
 impl NetFault {
-    /// Its number, 1 to 11 in the order of the variants.
+    /// Returns the fault's number, 1 to 11 in the order of the variants.
     pub fn number(self) -> u8
-        ensures { result ≡ number_of self }
+        ensures { result ≡ fault_code self }
     {
         match self {
             NetFault::Syntax => 1,
@@ -182,9 +182,9 @@ impl<T: Drop> From<AllocFailed<T>> for NetFault {
     }
 }
 
-/// The most instances of a section.
-pub fn limit_of(section: NetSection) -> usize
-    ensures { result ≡ spec.limit_of section }
+/// Returns the largest number of instances of a section; 0 for the top, which has none.
+pub fn max_instances(section: NetSection) -> usize
+    ensures { result ≡ spec.max_instances section }
 {
     match section {
         NetSection::Top => 0,
@@ -196,7 +196,7 @@ pub fn limit_of(section: NetSection) -> usize
 }
 
 impl Spell for NetSection {
-    ghost spelling = { name_of };
+    ghost spelling = { section_name };
 
     fn spell(&self) -> &'static str {
         self.name()
@@ -204,15 +204,15 @@ impl Spell for NetSection {
 }
 
 impl TextSection for NetSection {
-    ghost limit = { spec.limit_of };
+    ghost limit = { spec.max_instances };
 
     fn limit(&self) -> usize {
-        limit_of(*self)
+        max_instances(*self)
     }
 }
 
 impl Spell for NetField {
-    ghost spelling = { key_of };
+    ghost spelling = { key_name };
 
     fn spell(&self) -> &'static str {
         self.key()
@@ -222,7 +222,7 @@ impl Spell for NetField {
 impl ReaderFault for NetFault {
     type Section = NetSection;
 
-    type Place = NetPlace;
+    type Place = NetKeyLocation;
 
     ghost is_memory = { spec.is_no_memory };
 
@@ -238,7 +238,7 @@ impl ReaderFault for NetFault {
 
     ghost missing = { λ place. the_fault.Missing place };
 
-    ghost flawed = { spec.flawed };
+    ghost flawed = { spec.flaw_fault };
 
     fn no_memory() -> NetFault {
         NetFault::NoMemory
@@ -260,11 +260,11 @@ impl ReaderFault for NetFault {
         NetFault::TooMany(section)
     }
 
-    fn missing(place: NetPlace) -> NetFault {
+    fn missing_key(place: NetKeyLocation) -> NetFault {
         NetFault::Missing(place)
     }
 
-    fn flawed(place: NetPlace, flaw: Flaw) -> NetFault {
+    fn flaw_fault(place: NetKeyLocation, flaw: Flaw) -> NetFault {
         match flaw {
             Flaw::WrongKind => NetFault::WrongKind(place),
             Flaw::OutOfRange => NetFault::OutOfRange(place),

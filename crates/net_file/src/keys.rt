@@ -1,59 +1,58 @@
-//! The keys of the tables of a network and of traffic, and what may stand at each. The readers take the keys and the ranges from here,
-//! and so does the explanation of a fault.
+//! Keys of the tables of networks and traffic, and their ranges. The readers and the explanations of faults use them.
 
 use crate::fault::{NetField, NetSection};
 use bridge_limits::{END_OF_TIME, LONGEST_FRAME};
-use bridge_schema::{Between, NUMBER};
+use bridge_schema::{NUMBER, NumberRange};
 
-/// The most octets of a name.
+/// Largest length of a name in octets.
 pub const LONGEST_NAME: usize = 32;
 
-/// The most hops of a stream.
-pub const MOST_HOPS: usize = 64;
+/// Largest number of a stream's hops.
+pub const MAX_HOPS: usize = 64;
 
-/// The least number of a port.
+/// Lowest port number.
 pub const FIRST_PORT: u32 = 1;
 
-/// The greatest number of a port.
+/// Highest port number.
 pub const LAST_PORT: u32 = 16;
 
-/// How long a frame is under way over a link, in ns: at most 1 s.
-pub const DELAY: Between = Between {
+/// Allowed delays of a link in ns, at most 1 s.
+pub const DELAY: NumberRange = NumberRange {
     low: 0,
     high: 1_000_000_000,
 };
 
-/// A period, in ns.
-pub const PERIOD: Between = Between {
+/// Allowed periods of periodic traffic in ns.
+pub const PERIOD: NumberRange = NumberRange {
     low: 1,
     high: END_OF_TIME,
 };
 
-/// A phase of a period, in ns.
-pub const PHASE: Between = Between {
+/// Allowed phases in ns: the time from the start of a period to an arrival.
+pub const PHASE: NumberRange = NumberRange {
     low: 0,
     high: END_OF_TIME - 1,
 };
 
-/// The octets of a frame.
-pub const OCTETS: Between = Between {
+/// Allowed captured lengths of a frame in octets.
+pub const OCTETS: NumberRange = NumberRange {
     low: 1,
     high: LONGEST_FRAME as u64,
 };
 
-/// How long a frame may take at most, in ns.
-pub const DEADLINE: Between = Between {
+/// Allowed deadlines in ns: the largest allowed delay of a frame.
+pub const DEADLINE: NumberRange = NumberRange {
     low: 0,
     high: END_OF_TIME,
 };
 
-/// The keys of a bridge.
+/// Keys of a bridge.
 pub const BRIDGE_KEYS: [NetField; 2] = [NetField::Name, NetField::Plan];
 
-/// The keys of a link.
+/// Keys of a link.
 pub const LINK_KEYS: [NetField; 3] = [NetField::One, NetField::Other, NetField::Delay];
 
-/// The keys of a stream.
+/// Keys of a stream.
 pub const STREAM_KEYS: [NetField; 8] = [
     NetField::Name,
     NetField::Hops,
@@ -65,7 +64,7 @@ pub const STREAM_KEYS: [NetField; 8] = [
     NetField::Deadline,
 ];
 
-/// The keys of what the talker of a stream keeps to: a stream has all of them or none.
+/// Keys of a stream's periodic talker. A stream has all of them or none.
 pub const TALKER_KEYS: [NetField; 5] = [
     NetField::Period,
     NetField::From,
@@ -74,7 +73,7 @@ pub const TALKER_KEYS: [NetField; 5] = [
     NetField::Longest,
 ];
 
-/// The keys of a row of traffic.
+/// Keys of a row of traffic.
 pub const TRAFFIC_KEYS: [NetField; 7] = [
     NetField::Filter,
     NetField::Period,
@@ -85,8 +84,8 @@ pub const TRAFFIC_KEYS: [NetField; 7] = [
     NetField::Deadline,
 ];
 
-/// The keys of a table of a section, in the order in which they are listed.
-pub fn fields_of(section: NetSection) -> &'static [NetField] {
+/// Returns the keys of a section's tables, in the order of explanations.
+pub fn section_fields(section: NetSection) -> &'static [NetField] {
     match section {
         NetSection::Top => &[],
         NetSection::Bridge => &BRIDGE_KEYS,
@@ -96,29 +95,29 @@ pub fn fields_of(section: NetSection) -> &'static [NetField] {
     }
 }
 
-/// What may stand at a key.
+/// Values that a key allows, in the form that explanations print.
 #[derive(Clone, Copy)]
 pub enum NetAllowed {
-    /// Tables.
+    /// Array of tables: the value is a section.
     Tables,
-    /// A name.
+    /// Name.
     Name,
-    /// The path of a plan.
+    /// Path of a plan's file.
     Path,
-    /// The name of a bridge, a dot and the number of one of its ports.
+    /// Name of a bridge, dot and port number.
     Port,
-    /// Some names of bridges, each with a dot and the number of a filter.
+    /// List of filters: each has the name of a bridge, a dot and a filter number.
     Hops,
-    /// The number of a filter.
-    Number(Between),
-    /// A time in ns.
-    Time(Between),
-    /// A length of frames in octets.
-    Octets(Between),
+    /// Filter number in this range.
+    Number(NumberRange),
+    /// Time in ns.
+    Time(NumberRange),
+    /// Length of frames in octets.
+    Octets(NumberRange),
 }
 
-/// Returns what may stand at a key. The phases, the period and the lengths of a talker limit each other too.
-pub fn allowed_at(field: NetField) -> NetAllowed {
+/// Returns the values that a key allows, for explanations of faults. A talker's phases, period and lengths limit each other, too.
+pub fn allowed_value(field: NetField) -> NetAllowed {
     match field {
         NetField::Bridge => NetAllowed::Tables,
         NetField::Name => NetAllowed::Name,

@@ -1,36 +1,34 @@
 #![tactic(auto)]
-//! The text of a network: its bridges with their plans, the links between their ports, and the streams that go through them. Also the
-//! text of traffic: the frames of filters that arrive once in each period.
+//! Network files: bridges with their plans, links between ports, and streams. Traffic files: the periodic frames of filters.
 
-mod bridges;
+mod bridge_row;
 mod fault;
+mod fault_lines;
 mod keys;
-mod lines;
-mod links;
+mod link_row;
 mod names;
-mod network;
+mod network_file;
 mod reading;
-mod streams;
-mod talkers;
+mod stream_row;
+mod talker;
 mod traffic;
 mod traffic_fault;
 mod traffic_row;
 
+pub use bridge_row::BridgeRow;
 pub use bridge_schema::MOST_OCTETS;
-pub use bridges::BridgeRow;
-pub use fault::{NetFault, NetField, NetPlace, NetSection, limit_of};
+pub use fault::{NetFault, NetField, NetKeyLocation, NetSection, max_instances};
+pub use fault_lines::{fault_line, refusal_line};
 pub use keys::{
-    BRIDGE_KEYS, DEADLINE, DELAY, FIRST_PORT, LAST_PORT, LINK_KEYS, LONGEST_NAME, MOST_HOPS,
-    NetAllowed, OCTETS, PERIOD, PHASE, STREAM_KEYS, TALKER_KEYS, TRAFFIC_KEYS, allowed_at,
-    fields_of,
+    FIRST_PORT, LAST_PORT, LONGEST_NAME, MAX_HOPS, NetAllowed, OCTETS, STREAM_KEYS, TALKER_KEYS,
+    allowed_value, section_fields,
 };
-pub use lines::{fault_line, refusal_line};
-pub use links::LinkRow;
-pub use names::is_in_form;
-pub use network::{NetworkFile, document_of, network_of};
-pub use reading::{optional, required};
-pub use streams::StreamRow;
-pub use talkers::Talker;
-pub use traffic::traffic_of;
-pub use traffic_fault::{TrafficFault, fault_line as traffic_fault_line};
+pub use link_row::LinkRow;
+pub use names::is_numbered_name;
+pub use network_file::{NetworkFile, parse_network, read_document};
+pub use reading::{read_optional, read_required};
+pub use stream_row::StreamRow;
+pub use talker::Talker;
+pub use traffic::parse_traffic;
+pub use traffic_fault::{TrafficFault, traffic_fault_line};
 pub use traffic_row::TrafficRow;

@@ -1,62 +1,67 @@
-//! The keys of a table: whether they must be there, and what stands there.
+//! Reading of required and optional keys.
 ghost use Rattle.std.specs.Prelude.{◌≡◌, IfErr, IfOk, option_map, true};
 ghost use Rattle.std.specs.Option.{ForSome};
 ghost use Rattle.toml.specs.View.{view, table_view};
 ghost use Rattle.net_file.specs.declared.fault.NetFault.TheVariants.{NoMemory};
-ghost use Rattle.net_file.specs.Names.{is_name};
-ghost use Rattle.net_file.specs.Reading as spec;
-ghost use Rattle.net_file.specs.Reading.{Gives, GivesAs};
+ghost use Rattle.net_file.specs.Names.{is_valid_name};
+ghost use Rattle.net_file.specs.Keys as spec;
+ghost use Rattle.net_file.specs.Keys.{Gives, GivesAs};
 
-use crate::fault::{NetFault, NetPlace};
-use crate::names::is_name;
-use bridge_schema::{Kind, default_in, optional_in, required_in, value_at};
+use crate::fault::{NetFault, NetKeyLocation};
+use crate::names::is_valid_name;
+use bridge_schema::{ValueKind, get_value, optional_value, required_value, value_or_default};
 use toml::{Table, Value};
 
-/// The value of a place's key, which must be there. Takes no memory.
-#[tactic(auto, unfolding(crate::specs::Reading::required))]
-pub fn required<K: Kind>(table: &Table, place: NetPlace, kind: &K) -> Result<K::Out, NetFault>
-    ensures reads { Gives result (spec.required place (K.reading kind.now) (table_view table.now)) }
+/// Reads the value of a required key. Returns the fault `Missing` if the key is absent. Allocates no memory.
+#[tactic(auto, unfolding(crate::specs::Keys::read_required))]
+pub fn read_required<K: ValueKind>(
+    table: &Table,
+    place: NetKeyLocation,
+    kind: &K,
+) -> Result<K::Out, NetFault>
+    ensures reads { Gives result (spec.read_required place (K.reading kind.now) (table_view table.now)) }
     ensures fits { IfOk result (K.Fits kind.now) }
     ensures takes_no_memory { IfErr result (λ e. ¬ (e ≡ NoMemory)) }
 {
-    required_in(place, kind, value_at(table, place.field.key()))
+    required_value(place, kind, get_value(table, place.field.key()))
 }
 
-/// The value of a place's key, which may be absent. Takes no memory.
-#[tactic(auto, unfolding(crate::specs::Reading::optional))]
-pub fn optional<K: Kind>(
+/// Reads the value of an optional key. Returns `None` if the key is absent. Allocates no memory.
+#[tactic(auto, unfolding(crate::specs::Keys::read_optional))]
+pub fn read_optional<K: ValueKind>(
     table: &Table,
-    place: NetPlace,
+    place: NetKeyLocation,
     kind: &K,
 ) -> Result<Option<K::Out>, NetFault>
-    ensures reads { Gives result (spec.optional place (K.reading kind.now) (table_view table.now)) }
+    ensures reads { Gives result (spec.read_optional place (K.reading kind.now) (table_view table.now)) }
     ensures fits { IfOk result (λ x. ForSome x (K.Fits kind.now)) }
     ensures takes_no_memory { IfErr result (λ e. ¬ (e ≡ NoMemory)) }
 {
-    optional_in(place, kind, value_at(table, place.field.key()))
+    optional_value(place, kind, get_value(table, place.field.key()))
 }
 
-/// The value of a place's key, or the default where the key is absent. Takes no memory.
-#[tactic(auto, unfolding(crate::specs::Reading::default_to))]
-pub(crate) fn default_to<K: Kind>(
+/// Reads the value of a key, or returns `default` if the key is absent. Allocates no memory.
+#[tactic(auto, unfolding(crate::specs::Keys::read_or_default))]
+pub(crate) fn read_or_default<K: ValueKind>(
     default: K::Out,
     table: &Table,
-    place: NetPlace,
+    place: NetKeyLocation,
     kind: &K,
 ) -> Result<K::Out, NetFault>
 where
     K::Out: Drop,
     requires fits { K.Fits kind.now default }
-    ensures reads { Gives result (spec.default_to default place (K.reading kind.now) (table_view table.now)) }
+    ensures reads { Gives result (spec.read_or_default default place (K.reading kind.now) (table_view table.now)) }
     ensures fits { IfOk result (K.Fits kind.now) }
     ensures takes_no_memory { IfErr result (λ e. ¬ (e ≡ NoMemory)) }
 {
-    default_in(default, place, kind, value_at(table, place.field.key()))
+    value_or_default(default, place, kind, get_value(table, place.field.key()))
 }
 
-#[tactic(auto, unfolding(crate::specs::Reading::any_text))]
-fn text_in<'a>(place: NetPlace, value: Option<&'a Value>) -> Result<&'a str, NetFault>
-    ensures reads { GivesAs (λ x. x.now) result (spec.required_in place spec.any_text
+#[tactic(auto, unfolding(crate::specs::Keys::any_text))]
+/// Returns the text of a required value. The fault is `Missing` without a value, and `WrongKind` for another kind.
+fn text_value<'a>(place: NetKeyLocation, value: Option<&'a Value>) -> Result<&'a str, NetFault>
+    ensures reads { GivesAs (λ x. x.now) result (spec.required_value place spec.any_text
         (option_map (λ v. view v.now) value.entry)) }
     ensures takes_no_memory { IfErr result (λ e. ¬ (e ≡ NoMemory)) }
 {
@@ -67,27 +72,28 @@ fn text_in<'a>(place: NetPlace, value: Option<&'a Value>) -> Result<&'a str, Net
     }
 }
 
-/// The text of a place's key, which must be there. Takes no memory.
-#[tactic(auto, unfolding(crate::specs::Reading::required))]
-pub(crate) fn text_at<'a>(table: &'a Table, place: NetPlace) -> Result<&'a str, NetFault>
-    ensures reads { GivesAs (λ x. x.now) result (spec.required place spec.any_text (table_view table.now)) }
+/// Reads the text of a required key. The result borrows from the table, so no memory is allocated.
+#[tactic(auto, unfolding(crate::specs::Keys::read_required))]
+pub(crate) fn read_text<'a>(table: &'a Table, place: NetKeyLocation) -> Result<&'a str, NetFault>
+    ensures reads { GivesAs (λ x. x.now) result (spec.read_required place spec.any_text (table_view table.now)) }
     ensures takes_no_memory { IfErr result (λ e. ¬ (e ≡ NoMemory)) }
 {
-    text_in(place, value_at(table, place.field.key()))
+    text_value(place, get_value(table, place.field.key()))
 }
 
-#[tactic(auto, unfolding(crate::specs::Reading::name_text))]
-fn name_in<'a>(place: NetPlace, value: Option<&'a Value>) -> Result<&'a str, NetFault>
-    ensures reads { GivesAs (λ x. x.now) result (spec.required_in place spec.name_text
+#[tactic(auto, unfolding(crate::specs::Keys::name_text))]
+/// Returns the name of a required value. Other texts are `OutOfRange`; other kinds of values are `WrongKind`.
+fn name_value<'a>(place: NetKeyLocation, value: Option<&'a Value>) -> Result<&'a str, NetFault>
+    ensures reads { GivesAs (λ x. x.now) result (spec.required_value place spec.name_text
         (option_map (λ v. view v.now) value.entry)) }
-    ensures name { IfOk result (λ x. is_name x.now ≡ true) }
+    ensures name { IfOk result (λ x. is_valid_name x.now ≡ true) }
     ensures takes_no_memory { IfErr result (λ e. ¬ (e ≡ NoMemory)) }
 {
     match value {
         None => Err(NetFault::Missing(place)),
         Some(Value::String(text)) => {
             let name = text.as_str();
-            if is_name(name) {
+            if is_valid_name(name) {
                 Ok(name)
             } else {
                 Err(NetFault::OutOfRange(place))
@@ -97,12 +103,12 @@ fn name_in<'a>(place: NetPlace, value: Option<&'a Value>) -> Result<&'a str, Net
     }
 }
 
-/// The name of a place's key, which must be there. Takes no memory.
-#[tactic(auto, unfolding(crate::specs::Reading::required))]
-pub(crate) fn name_at<'a>(table: &'a Table, place: NetPlace) -> Result<&'a str, NetFault>
-    ensures reads { GivesAs (λ x. x.now) result (spec.required place spec.name_text (table_view table.now)) }
-    ensures name { IfOk result (λ x. is_name x.now ≡ true) }
+/// Reads a required key whose value must be a name: 1 to 32 letters, digits, `-` and `_`. The result borrows from the table.
+#[tactic(auto, unfolding(crate::specs::Keys::read_required))]
+pub(crate) fn read_name<'a>(table: &'a Table, place: NetKeyLocation) -> Result<&'a str, NetFault>
+    ensures reads { GivesAs (λ x. x.now) result (spec.read_required place spec.name_text (table_view table.now)) }
+    ensures name { IfOk result (λ x. is_valid_name x.now ≡ true) }
     ensures takes_no_memory { IfErr result (λ e. ¬ (e ≡ NoMemory)) }
 {
-    name_in(place, value_at(table, place.field.key()))
+    name_value(place, get_value(table, place.field.key()))
 }

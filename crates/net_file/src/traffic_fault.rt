@@ -1,27 +1,27 @@
-//! What is wrong with a text of traffic, by itself and by the plan for which it is.
+//! Faults of a traffic file, by itself or compared with its plan.
 ghost use Rattle.std.specs.Prelude.{◌≡◌, IfOk, string_bytes};
 ghost use Rattle.net_file.specs.TrafficFaults.{traffic_line};
 
 use crate::fault::NetFault;
-use crate::lines::refusal_line;
+use crate::fault_lines::refusal_line;
 use bridge_limits::NoMemory;
 use std::alloc::Allocator;
 use thiserror::Error;
 
-/// Why a text is no traffic for a plan. An index is the place of a row in the text, from 1.
+/// Why a traffic file is refused for a plan: by itself, or compared with the plan. Rows are counted from 1.
 #[derive(Clone, Copy, Debug, Error)]
 pub enum TrafficFault {
-    /// What is wrong with the text; by the plan also a filter that it doesn't have (`Unresolved`), and a period that is no
-    /// multiple of each cycle on the way (`OutOfRange`).
+    /// Fault of the file. Compared with the plan: `Unresolved` if the filter is missing, `OutOfRange` if a cycle on the route doesn't
+    /// divide the period.
     #[error("the text isn't traffic")]
     Text(NetFault),
-    /// The filter isn't protected.
+    /// The filter of this row, from 1, isn't protected.
     #[error("a filter that isn't protected")]
     NotProtected(u32),
 }
 
-/// The line of a fault, without a line feed: `traffic refused: NotProtected traffic 1`, or `no memory`.
-pub fn fault_line<A: Allocator + Copy>(
+/// Returns the fault line without line feed, for example `traffic refused: NotProtected traffic 1` or `no memory`.
+pub fn traffic_fault_line<A: Allocator + Copy>(
     alloc: A,
     fault: &TrafficFault,
 ) -> Result<String<A>, NoMemory>

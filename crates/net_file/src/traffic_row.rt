@@ -1,73 +1,73 @@
-//! The rows of a text of traffic.
+//! Rows of a traffic file.
 ghost use Rattle.std.specs.Prelude.{◌≡◌, IfErr, IfOk, false};
 ghost use Rattle.toml.specs.View.{table_view};
 ghost use Rattle.net_file.specs.declared.fault.NetFault.TheVariants.{NoMemory};
 ghost use Rattle.net_file.specs.declared.fault.NetSection.TheVariants as the_section;
-ghost use Rattle.net_file.specs.Reading.{Gives};
+ghost use Rattle.net_file.specs.Keys.{Gives};
 ghost use Rattle.net_file.specs.TrafficRows as spec;
 ghost use Rattle.net_file.specs.TrafficRows.{AreRows, IsRow};
 
-use crate::fault::{NetFault, NetField, NetPlace, NetSection};
+use crate::fault::{NetFault, NetField, NetKeyLocation, NetSection};
 use crate::keys::{DEADLINE, OCTETS, PERIOD, PHASE, TRAFFIC_KEYS};
-use crate::reading::{optional, required};
-use bridge_schema::{Between, NUMBER, SectionReader, has_only};
+use crate::reading::{read_optional, read_required};
+use bridge_schema::{NUMBER, NumberRange, SectionReader, has_only};
 use net_periods::Traffic;
 use std::alloc::Allocator;
 use toml::Table;
 
-/// The frames of a filter that come once in each period.
+/// A row of a traffic file: periodic traffic of one filter, with an optional deadline.
 #[derive(Clone, Copy)]
 pub struct TrafficRow {
-    /// The number of the filter.
+    /// Number of the filter whose frames the row describes.
     pub filter: u32,
-    /// When its frames come, and how long they are.
+    /// Period, phases and lengths of the filter's frames.
     pub traffic: Traffic,
-    /// How long one may take at most in each queue, in ns from when it came until it is done.
+    /// Largest allowed delay in each queue in ns, from arrival to the end of transmission. `None` means no limit.
     pub deadline: Option<u64>,
 }
 
-/// The place of a key of a row, by the row's place.
-fn place_of(index: u32, field: NetField) -> NetPlace
+/// Returns the location of a key of row `index`, from 1, for a fault.
+fn row_key(index: u32, field: NetField) -> NetKeyLocation
     ensures { result ≡ record { section = the_section.Traffic; index = index; field = field } }
 {
-    NetPlace {
+    NetKeyLocation {
         section: NetSection::Traffic,
         index,
         field,
     }
 }
 
-/// The row of a table, by its place.
-#[tactic(auto, unfolding(crate::specs::TrafficRows::row_of))]
-fn row_of(index: u32, table: &Table) -> Result<TrafficRow, NetFault>
-    ensures reads { Gives result (spec.row_of index (table_view table.now)) }
+/// Reads row `index`, from 1, from its table, or returns its first fault. `next_row` compares it with the earlier rows.
+#[tactic(auto, unfolding(crate::specs::TrafficRows::read_row))]
+fn read_row(index: u32, table: &Table) -> Result<TrafficRow, NetFault>
+    ensures reads { Gives result (spec.read_row index (table_view table.now)) }
     ensures row { IfOk result IsRow }
     ensures takes_no_memory { IfErr result (λ e. ¬ (e ≡ NoMemory)) }
 {
     if !has_only(table, &TRAFFIC_KEYS) {
         return Err(NetFault::UnknownKey(NetSection::Traffic, index));
     }
-    let filter = required(table, place_of(index, NetField::Filter), &NUMBER)?;
-    let period = required(table, place_of(index, NetField::Period), &PERIOD)?;
-    let from = required(table, place_of(index, NetField::From), &PHASE)?;
+    let filter = read_required(table, row_key(index, NetField::Filter), &NUMBER)?;
+    let period = read_required(table, row_key(index, NetField::Period), &PERIOD)?;
+    let from = read_required(table, row_key(index, NetField::From), &PHASE)?;
     if from >= period {
-        return Err(NetFault::OutOfRange(place_of(index, NetField::Period)));
+        return Err(NetFault::OutOfRange(row_key(index, NetField::Period)));
     }
-    let to = required(
+    let to = read_required(
         table,
-        place_of(index, NetField::To),
-        &Between {
+        row_key(index, NetField::To),
+        &NumberRange {
             low: from,
             high: period - 1,
         },
     )?;
-    let least = required(table, place_of(index, NetField::Least), &OCTETS)?;
-    let longer = Between {
+    let least = read_required(table, row_key(index, NetField::Least), &OCTETS)?;
+    let longer = NumberRange {
         low: least,
         high: OCTETS.high,
     };
-    let longest = required(table, place_of(index, NetField::Longest), &longer)?;
-    let deadline = optional(table, place_of(index, NetField::Deadline), &DEADLINE)?;
+    let longest = read_required(table, row_key(index, NetField::Longest), &longer)?;
+    let deadline = read_optional(table, row_key(index, NetField::Deadline), &DEADLINE)?;
     Ok(TrafficRow {
         filter: filter as u32,
         traffic: Traffic {
@@ -81,36 +81,36 @@ fn row_of(index: u32, table: &Table) -> Result<TrafficRow, NetFault>
     })
 }
 
-/// Whether one of these rows is of a filter.
+/// Whether one of these rows has this filter. A filter has at most one row.
 fn has_filter(rows: &[TrafficRow], filter: u32) -> bool
     ensures { result ≡ spec.has_filter rows.now filter }
 {
     rows.iter().any(|row| row.filter == filter)
 }
 
-/// The row of a table, by those before it and its place.
-fn row_behind(earlier: &[TrafficRow], index: u32, table: &Table) -> Result<TrafficRow, NetFault>
-    ensures reads { Gives result (spec.row_at earlier.now index (table_view table.now)) }
+/// Reads row `index` from its table. An earlier row with its filter is the fault `Duplicate`.
+fn next_row(earlier: &[TrafficRow], index: u32, table: &Table) -> Result<TrafficRow, NetFault>
+    ensures reads { Gives result (spec.read_row_in_list earlier.now index (table_view table.now)) }
     ensures own { IfOk result (λ r. spec.has_filter earlier.now r.filter ≡ false) }
     ensures row { IfOk result IsRow }
 {
-    let row = row_of(index, table)?;
+    let row = read_row(index, table)?;
     if has_filter(earlier, row.filter) {
         return Err(NetFault::Duplicate(NetSection::Traffic, index));
     }
     Ok(row)
 }
 
-/// The section of traffic.
+/// Reads the section `traffic` for `read_instances`, one table at a time.
 #[derive(Clone, Copy)]
-pub(crate) struct Rows;
+pub(crate) struct TrafficSection;
 
-impl<A: Allocator + Copy> SectionReader<A> for Rows {
+impl<A: Allocator + Copy> SectionReader<A> for TrafficSection {
     type Fault = NetFault;
 
     type Instance = TrafficRow;
 
-    ghost reading = { λ _. spec.row_at };
+    ghost reading = { λ _. spec.read_row_in_list };
 
     ghost Keeps = { λ _. AreRows };
 
@@ -122,6 +122,6 @@ impl<A: Allocator + Copy> SectionReader<A> for Rows {
         index: u32,
         table: &Table,
     ) -> Result<TrafficRow, NetFault> {
-        row_behind(earlier, index, table)
+        next_row(earlier, index, table)
     }
 }

@@ -1,22 +1,22 @@
--- Figures that are gathered queue by queue, and row by row.
+-- Delays, added queue by queue and row by row.
 use Rattle.std.proofs.Common.{◌≡◌, ◌<◌, ◌≤◌, ◌+◌, ℕ, Bool, zero, suc, get_or, take, inl, inr, true, false, Result, Ok, Err, List, [], ◌∷◌, ◌++◌, length, refl, ap, sym, subst, ◌∙◌, arith}
 use Rattle.std.proofs.lemmas.List.{append-nil, append_assoc, length-take-le, map_more, take_more}
 use Rattle.std.specs.Prelude.{nat_eq, ◌||◌, ◌≢◌, map, IfErr, IfOk}
 use Rattle.std.proofs.lemmas.Bool.{false≢true}
-use Rattle.bridge_limits.specs.Members.{In}
+use Rattle.bridge_limits.specs.Members.{IsMember}
 use Rattle.bridge_limits.proofs.Cases.{by_bool}
 use Rattle.bridge_config.specs.Model.{Plan}
 use Rattle.bridge_config.specs.Rules.{IsPlan}
 use Rattle.bridge_config.proofs.PlanPorts.{number_is}
-use Rattle.bridge_check.specs.Reach.{any_below}
+use Rattle.bridge_check.specs.Reach.{some_number_passes}
 use Rattle.bridge_check.proofs.Isolated.{class_few}
-use Rattle.bridge_bounds.specs.Bounds.{HasNoBound, IsBound}
+use Rattle.bridge_bounds.specs.Bounds.{HasNoBound, IsQueueBound}
 use Rattle.net_file.specs.declared.traffic_row.TrafficRow.{TrafficRow}
 use Rattle.net_latency.specs.declared.bounds.QueueBound.{QueueBound}
 use Rattle.net_latency.specs.declared.timings.QueueTiming.{QueueTiming}
 use Rattle.net_latency.specs.declared.timings.TrafficFigures.{TrafficFigures}
 use Rattle.net_latency.specs.declared.timings.TrafficFigures.TheVariants as figures
-use Rattle.net_latency.specs.Traffic.{AreRowTimings, AreTimingsFrom, Begins, IsRowTiming, row_figures}
+use Rattle.net_latency.specs.Traffic.{AreRowTimings, AreTimingsOfRows, Begins, IsRowTiming, row_figures}
 
 begins_more : {X : Type 0} (P : X → Type 0) (Q R : List X → Type 0) (x : X) (xs : List X) → ((ys : List X) → Q ys → R (ys ++ x ∷ [])) → Begins P Q xs → Begins P R (xs ++ x ∷ [])
 begins_more P Q R x [] go h = absurd h
@@ -26,7 +26,7 @@ begins_as : {X : Type 0} (P : X → Type 0) (Q R : List X → Type 0) (xs : List
 begins_as P Q R [] go h = absurd h
 begins_as P Q R (y ∷ ys) go (a, b) = (a, go ys b)
 
--- the figures of one more queue of the row's filter
+-- The delays of one more queue of the row's filter.
 pub row_more : {A : Type 0} (p : Plan A) (index : ℕ) (r : TrafficRow) (b : QueueBound) (x : QueueTiming) (bs : List QueueBound) (xs : List QueueTiming) → nat_eq b.filter r.filter ≡ true → IsRowTiming p index r b x → AreRowTimings p index r bs xs → AreRowTimings p index r (bs ++ b ∷ []) (xs ++ x ∷ [])
 row_more p index r b x [] xs own is h = rw (h, own) (is, refl)
 row_more p index r b x (a ∷ bs) xs own is h = by_bool (nat_eq a.filter r.filter)
@@ -35,7 +35,7 @@ row_more p index r b x (a ∷ bs) xs own is h = by_bool (nat_eq a.filter r.filte
     rw k (begins_more (IsRowTiming p index r a) (AreRowTimings p index r bs) (AreRowTimings p index r (bs ++ b ∷ [])) x xs (λ ys more. row_more p index r b x bs ys own is more) here))
     (λ k. let past : AreRowTimings p index r bs xs = rw k at h in rw k (row_more p index r b x bs xs own is past))
 
--- a queue of another filter adds none
+-- A queue of another filter adds nothing.
 pub row_past : {A : Type 0} (p : Plan A) (index : ℕ) (r : TrafficRow) (b : QueueBound) (bs : List QueueBound) (xs : List QueueTiming) → nat_eq b.filter r.filter ≡ false → AreRowTimings p index r bs xs → AreRowTimings p index r (bs ++ b ∷ []) xs
 row_past p index r b [] xs other h = rw other h
 row_past p index r b (a ∷ bs) xs other h = by_bool (nat_eq a.filter r.filter)
@@ -44,18 +44,18 @@ row_past p index r b (a ∷ bs) xs other h = by_bool (nat_eq a.filter r.filter)
     rw k (begins_as (IsRowTiming p index r a) (AreRowTimings p index r bs) (AreRowTimings p index r (bs ++ b ∷ [])) xs (λ ys more. row_past p index r b bs ys other more) here))
     (λ k. let past : AreRowTimings p index r bs xs = rw k at h in rw k (row_past p index r b bs xs other past))
 
--- one item more behind some that stand before all
+-- One item more after earlier items.
 pub map_behind : {X Y : Type 0} (f : X → Y) (old : List Y) (xs : List X) (i : ℕ) (d : X) (now new : List Y) → i < length xs → now ≡ old ++ map f (take i xs) → new ≡ now ++ f (get_or xs i d) ∷ [] → new ≡ old ++ map f (take (i + 1) xs)
 map_behind f old xs i d now new there so_far is =
     is ∙ (ap (λ l. l ++ f (get_or xs i d) ∷ []) so_far ∙ (append_assoc old (map f (take i xs)) (f (get_or xs i d) ∷ []) ∙ ap (λ l. old ++ l) (sym (map_more f xs i d there))))
 
--- the figures of queues are those of a row that has some
+-- A row with at least one queue has the delays of its queues.
 pub figures_of : (row filter : ℕ) (xs : List QueueTiming) → length xs ≢ 0 → row_figures row filter xs ≡ map figures.Queue xs
 figures_of row filter [] some = absurd (some refl)
 figures_of row filter (x ∷ xs) some = refl
 
--- one row more
-pub rows_more : {A : Type 0} (p : Plan A) (bounds : List QueueBound) (index : ℕ) (r : TrafficRow) (rs : List TrafficRow) (xs : List TrafficFigures) (ys : List QueueTiming) → AreTimingsFrom p bounds index rs xs → AreRowTimings p (index + length rs) r bounds ys → AreTimingsFrom p bounds index (rs ++ r ∷ []) (xs ++ row_figures (index + length rs) r.filter ys)
+-- One row more.
+pub rows_more : {A : Type 0} (p : Plan A) (bounds : List QueueBound) (index : ℕ) (r : TrafficRow) (rs : List TrafficRow) (xs : List TrafficFigures) (ys : List QueueTiming) → AreTimingsOfRows p bounds index rs xs → AreRowTimings p (index + length rs) r bounds ys → AreTimingsOfRows p bounds index (rs ++ r ∷ []) (xs ++ row_figures (index + length rs) r.filter ys)
 rows_more p bounds index r [] xs ys h more =
     let same : index + length {A = TrafficRow} [] ≡ index = omega arith in
     (ys, [], ap (λ zs. zs ++ row_figures (index + length {A = TrafficRow} []) r.filter ys) h ∙ (ap (λ (i : ℕ). row_figures i r.filter ys) same ∙ sym (append-nil (row_figures index r.filter ys))), subst (λ (i : ℕ). AreRowTimings p i r bounds ys) same more, refl)
@@ -66,8 +66,8 @@ rows_more p bounds index r (a ∷ rs) xs ys h more =
     let back : ℕ → List TrafficFigures = λ i. row_figures i r.filter ys in
     (us, vs ++ back (index + 1 + length rs), ap (λ zs. zs ++ back (index + length (a ∷ rs))) e ∙ (append_assoc front vs (back (index + length (a ∷ rs))) ∙ ap (λ (i : ℕ). front ++ (vs ++ back i)) same), here, rows_more p bounds (index + 1) r rs vs ys rest (subst (λ (i : ℕ). AreRowTimings p i r bounds ys) same more))
 
--- so of the row at a place
-pub next_row : {A : Type 0} (p : Plan A) (bounds bs : List QueueBound) (rows : List TrafficRow) (k index : ℕ) (d : TrafficRow) (made : List TrafficFigures) (more slice : List QueueTiming) (new : List TrafficFigures) → k < length rows → index ≡ k + 1 → bs ≡ bounds → AreTimingsFrom p bounds 1 (take k rows) made → AreRowTimings p index (get_or rows k d) bs more → slice ≡ more → new ≡ made ++ row_figures index (get_or rows k d).filter slice → AreTimingsFrom p bounds 1 (take (k + 1) rows) new
+-- The row at index `k`.
+pub next_row : {A : Type 0} (p : Plan A) (bounds bs : List QueueBound) (rows : List TrafficRow) (k index : ℕ) (d : TrafficRow) (made : List TrafficFigures) (more slice : List QueueTiming) (new : List TrafficFigures) → k < length rows → index ≡ k + 1 → bs ≡ bounds → AreTimingsOfRows p bounds 1 (take k rows) made → AreRowTimings p index (get_or rows k d) bs more → slice ≡ more → new ≡ made ++ row_figures index (get_or rows k d).filter slice → AreTimingsOfRows p bounds 1 (take (k + 1) rows) new
 next_row p bounds bs rows k index d made more slice new before at same timings row is grown =
     let counted : length (take k rows) ≡ k = length-take-le k rows (omega (arith, before)) in
     let place : index ≡ 1 + length (take k rows) = omega (arith, at, counted) in
@@ -77,45 +77,45 @@ next_row p bounds bs rows k index d made more slice new before at same timings r
     let all = rows_more p bounds 1 r (take k rows) made more timings there in
     let longer : made ++ row_figures (1 + length (take k rows)) r.filter more ≡ new =
     ap (λ (i : ℕ). made ++ row_figures i r.filter more) (sym place) ∙ (ap (λ (xs : List QueueTiming). made ++ row_figures index r.filter xs) (sym is) ∙ sym grown) in
-    subst (λ (xs : List TrafficFigures). AreTimingsFrom p bounds 1 (take (k + 1) rows) xs) longer
-    (subst (λ (rs : List TrafficRow). AreTimingsFrom p bounds 1 rs (made ++ row_figures (1 + length (take k rows)) r.filter more)) (sym (take_more rows k d before)) all)
+    subst (λ (xs : List TrafficFigures). AreTimingsOfRows p bounds 1 (take (k + 1) rows) xs) longer
+    (subst (λ (rs : List TrafficRow). AreTimingsOfRows p bounds 1 rs (made ++ row_figures (1 + length (take k rows)) r.filter more)) (sym (take_more rows k d before)) all)
 
 -- A QUEUE THAT HAS A BOUND
 
--- it is one of eight at one of 16 ports
+-- A queue has one of eight classes at one of 16 ports.
 pub record IsPlaced (q c : ℕ) : Type 0 where
   pub from : 1 ≤ q
   pub to : q ≤ 16
   pub class : c < 8
 
-pub placed : {A : Type 0} (p : Plan A) (n q c b : ℕ) → IsPlan p → IsBound p n q c b → IsPlaced q c
+pub placed : {A : Type 0} (p : Plan A) (n q c b : ℕ) → IsPlan p → IsQueueBound p n q c b → IsPlaced q c
 placed p n q c b plan bound =
     let (from, to) = number_is p.ports q bound.out plan.ports bound.at in
     record { from = from; to = to; class = class_few p bound.filter q c bound.out plan bound.at bound.reach }
 
--- so the queue isn't without one
-pub not_without : {A : Type 0} (p : Plan A) (n q c b : ℕ) → HasNoBound p n q c → IsBound p n q c b → ⊥
+-- A queue with a bound isn't a queue without bound.
+pub not_without : {A : Type 0} (p : Plan A) (n q c b : ℕ) → HasNoBound p n q c → IsQueueBound p n q c b → ⊥
 not_without p n q c b none bound = false≢true (sym (none bound.filter bound.found bound.protected) ∙ bound.reach)
 
 -- MEMBERS
 
--- what stands at a place is a member
-pub in_at : {X : Type 0} (xs : List X) (i : ℕ) (d : X) → i < length xs → In (get_or xs i d) xs
+-- The item at an index is a member.
+pub in_at : {X : Type 0} (xs : List X) (i : ℕ) (d : X) → i < length xs → IsMember (get_or xs i d) xs
 in_at [] i d h = absurd (omega (arith, h))
 in_at (x ∷ xs) zero d h = inl refl
 in_at (x ∷ xs) (suc i) d h = inr (in_at xs i d (omega (arith, h)))
 
 -- TESTS OF NUMBERS
 
--- one number more was tested
-pub below_more : (n : ℕ) (t : ℕ → Bool) (a b r : Bool) → r ≡ (a || b) → a ≡ any_below n t → b ≡ t n → r ≡ any_below (n + 1) t
+-- One number more was tested.
+pub below_more : (n : ℕ) (t : ℕ → Bool) (a b r : Bool) → r ≡ (a || b) → a ≡ some_number_passes n t → b ≡ t n → r ≡ some_number_passes (n + 1) t
 below_more n t a b r is before here =
     let next : suc n ≡ n + 1 = omega arith in
-    is ∙ (ap (λ x. x || b) before ∙ (ap (λ x. any_below n t || x) here ∙ ap (λ k. any_below k t) next))
+    is ∙ (ap (λ x. x || b) before ∙ (ap (λ x. some_number_passes n t || x) here ∙ ap (λ k. some_number_passes k t) next))
 
 -- ANSWERS
 
--- what is said of an answer, said with less
+-- A weaker statement about a result.
 pub ok_as : {X F : Type 0} (r : Result X F) (P Q : X → Type 0) → ((x : X) → P x → Q x) → IfOk r P → IfOk r Q
 ok_as (Ok x) P Q go h = go x h
 ok_as (Err e) P Q go h = tt

@@ -1,11 +1,11 @@
--- Tight bounds that are gathered queue by queue.
+-- Tight bounds, added queue by queue.
 use Rattle.std.proofs.Common.{List, [], ◌∷◌, ◌++◌}
 use Rattle.bridge_config.specs.Model.{Plan}
 use Rattle.net_latency.specs.declared.bounds.QueueBound.{QueueBound}
-use Rattle.net_latency.specs.Bounds.{AreTightened, IsTighter}
+use Rattle.net_latency.specs.Bounds.{AreTightened, HasTightBound}
 
--- that of one queue more
-pub tighter_more : {A : Type 0} (p : Plan A) (r t : QueueBound) (rs ts : List QueueBound) → IsTighter p r t → AreTightened p rs ts → AreTightened p (rs ++ r ∷ []) (ts ++ t ∷ [])
+-- The tight bound of one queue more.
+pub tighter_more : {A : Type 0} (p : Plan A) (r t : QueueBound) (rs ts : List QueueBound) → HasTightBound p r t → AreTightened p rs ts → AreTightened p (rs ++ r ∷ []) (ts ++ t ∷ [])
 tighter_more p r t [] [] is h = (is, tt)
 tighter_more p r t [] (y ∷ ts) is h = absurd h
 tighter_more p r t (x ∷ rs) [] is h = absurd h

@@ -1,69 +1,69 @@
--- The bounds of the queues of a plan, in their order.
+-- Delay bounds of a plan's queues, in their order.
 use Rattle.std.specs.Prelude.{◌≡◌, ◌⊎◌, ℕ, true, ◌+◌, ◌-◌, ◌*◌, ◌<◌, ◌≤◌, Some, List, [], ◌∷◌, nat_eq, slice_get}
 use Rattle.std.specs.Map.{lookup}
-use Rattle.bridge_limits.specs.Members.{In, Rising}
+use Rattle.bridge_limits.specs.Members.{IsMember, IsOrdered}
 use Rattle.bridge_filter.specs.declared.FilterPlan.{FilterPlan}
 use Rattle.bridge_config.specs.Model.{Plan}
 use Rattle.bridge_check.specs.declared.reach.Reach.{Reach}
-use Rattle.bridge_check.specs.Reach.{reaches}
-use Rattle.bridge_check.specs.Reached.{reach_of}
-use Rattle.bridge_bounds.specs.Bounds.{IsBound, IsTightBound}
+use Rattle.bridge_check.specs.Reach.{reaches_queue}
+use Rattle.bridge_check.specs.ReachTables.{filter_reach}
+use Rattle.bridge_bounds.specs.Bounds.{IsQueueBound, IsTightBound}
 use Rattle.net_latency.specs.declared.bounds.QueueBound.{QueueBound}
 
--- the bound of a queue
+-- Builds the delay bound `b` of filter `n` in the queue of class `c` at port `q`.
 abbrev pub queue_bound : ℕ → ℕ → ℕ → ℕ → QueueBound
 queue_bound n q c b = record { filter = n; port = q; class = c; bound = b }
 
--- the place of a queue among those of a filter: by port, then by class
-abbrev pub place_of : ℕ → ℕ → ℕ
-place_of q c = (q - 1) * 8 + c
+-- The index of a queue among a filter's 128 queues: by port, then by class.
+abbrev pub queue_index : ℕ → ℕ → ℕ
+queue_index q c = (q - 1) * 8 + c
 
--- by filter, then by port, then by class
-abbrev pub IsBefore : QueueBound → QueueBound → Type 0
-IsBefore a b = (a.filter < b.filter) ⊎ ((a.filter ≡ b.filter) × (place_of a.port a.class < place_of b.port b.class))
+-- Holds if `a` comes before `b`: by filter, then by port, then by class.
+abbrev pub PrecedesQueue : QueueBound → QueueBound → Type 0
+PrecedesQueue a b = (a.filter < b.filter) ⊎ ((a.filter ≡ b.filter) × (queue_index a.port a.class < queue_index b.port b.class))
 
--- the bounds of all queues of a plan that frames of a protected filter may come to, each once, in their order
+-- Holds if `rows` has the delay bound of every reachable queue of protected filters, each once and in order.
 pub record AreBounds {A : Type 0} (p : Plan A) (rows : List QueueBound) : Type 0 where
-  pub rises : Rising IsBefore rows
-  pub each : (r : QueueBound) → In r rows → IsBound p r.filter r.port r.class r.bound
-  pub all : (n q c : ℕ) (f : FilterPlan) → lookup (nat_eq n) p.filters ≡ Some f → f.protected ≡ true → 1 ≤ q → q ≤ 16 → c < 8 → reaches p f q c ≡ true
-      → (b : ℕ) × In (queue_bound n q c b) rows
+  pub rises : IsOrdered PrecedesQueue rows
+  pub each : (r : QueueBound) → IsMember r rows → IsQueueBound p r.filter r.port r.class r.bound
+  pub all : (n q c : ℕ) (f : FilterPlan) → lookup (nat_eq n) p.filters ≡ Some f → f.protected ≡ true → 1 ≤ q → q ≤ 16 → c < 8 → reaches_queue p f q c ≡ true
+      → (b : ℕ) × IsMember (queue_bound n q c b) rows
 
--- a row of the same queue with its tight bound
-pub record IsTighter {A : Type 0} (p : Plan A) (r t : QueueBound) : Type 0 where
+-- Holds if row `t` has the queue of row `r` and its tight bound.
+pub record HasTightBound {A : Type 0} (p : Plan A) (r t : QueueBound) : Type 0 where
   pub filter : t.filter ≡ r.filter
   pub port : t.port ≡ r.port
   pub class : t.class ≡ r.class
   pub bound : IsTightBound p r.filter r.port r.class t.bound
 
--- row by row the same queues with their tight bounds
+-- Holds if the second list has the queues of the first, row by row, with their tight bounds.
 abbrev pub AreTightened : {A : Type 0} → Plan A → List QueueBound → List QueueBound → Type 0
 AreTightened p [] [] = Unit {0}
-AreTightened p (r ∷ rs) (t ∷ ts) = IsTighter p r t × AreTightened p rs ts
+AreTightened p (r ∷ rs) (t ∷ ts) = HasTightBound p r t × AreTightened p rs ts
 AreTightened p rs ts = ⊥
 
--- the tight bounds of all queues of a plan that have a bound, in the order of these
+-- Holds if `tight` has the tight bounds of all reachable queues of a plan, in order.
 abbrev pub AreTightBounds : {A : Type 0} → Plan A → List QueueBound → Type 0
 AreTightBounds p tight = (rows : List QueueBound) × AreBounds p rows × AreTightened p rows tight
 
--- a queue is one of 16 ports
-pub record IsPlaced (r : QueueBound) : Type 0 where
+-- Holds if a queue is of a port from 1 to 16 and a class from 0 to 7.
+pub record HasValidPort (r : QueueBound) : Type 0 where
   pub from : 1 ≤ r.port
   pub to : r.port ≤ 16
   pub class : r.class < 8
 
--- a filter by its place in a list and a queue of it come before these
-abbrev pub IsDone : ℕ → ℕ → ℕ → ℕ → Type 0
-IsDone i j at place = (i < at) ⊎ ((i ≡ at) × (j < place))
+-- Holds if queue `j` of filter `i` comes before queue `place` of filter `at`. All are indexes. Clauses about unfinished lists use it.
+abbrev pub IsHandledQueue : ℕ → ℕ → ℕ → ℕ → Type 0
+IsHandledQueue i j at place = (i < at) ⊎ ((i ≡ at) × (j < place))
 
--- the bounds of the queues of the filters before one, and of its own before a place
-pub record AreUpTo {A : Type 0} (p : Plan A) (order : List (ℕ × FilterPlan)) (at place : ℕ) (rows : List QueueBound) : Type 0 where
-  pub rises : Rising IsBefore rows
-  pub each : (r : QueueBound) → In r rows → IsBound p r.filter r.port r.class r.bound
-  pub below : (r : QueueBound) → In r rows → (i : ℕ) × (f : FilterPlan) × (slice_get order i ≡ Some (r.filter, f)) × IsDone i (place_of r.port r.class) at place
-  pub all : (i q c n : ℕ) (f : FilterPlan) → slice_get order i ≡ Some (n, f) → f.protected ≡ true → 1 ≤ q → q ≤ 16 → c < 8 → reaches p f q c ≡ true
-      → IsDone i (place_of q c) at place → (b : ℕ) × In (queue_bound n q c b) rows
+-- Holds if `rows` has the bounds of all filters before index `at`, and of this filter's queues before index `place`.
+pub record AreBoundsSoFar {A : Type 0} (p : Plan A) (order : List (ℕ × FilterPlan)) (at place : ℕ) (rows : List QueueBound) : Type 0 where
+  pub rises : IsOrdered PrecedesQueue rows
+  pub each : (r : QueueBound) → IsMember r rows → IsQueueBound p r.filter r.port r.class r.bound
+  pub below : (r : QueueBound) → IsMember r rows → (i : ℕ) × (f : FilterPlan) × (slice_get order i ≡ Some (r.filter, f)) × IsHandledQueue i (queue_index r.port r.class) at place
+  pub all : (i q c n : ℕ) (f : FilterPlan) → slice_get order i ≡ Some (n, f) → f.protected ≡ true → 1 ≤ q → q ≤ 16 → c < 8 → reaches_queue p f q c ≡ true
+      → IsHandledQueue i (queue_index q c) at place → (b : ℕ) × IsMember (queue_bound n q c b) rows
 
--- this is the reach of the filter at a place
-abbrev pub IsReachAt : {A : Type 0} → Plan A → List (ℕ × FilterPlan) → ℕ → Reach → Type 0
-IsReachAt p order at reach = (x : ℕ × FilterPlan) → slice_get order at ≡ Some x → reach ≡ reach_of p x.1
+-- Holds if `reach` is the reach of the filter with index `at`.
+abbrev pub IsFilterReach : {A : Type 0} → Plan A → List (ℕ × FilterPlan) → ℕ → Reach → Type 0
+IsFilterReach p order at reach = (x : ℕ × FilterPlan) → slice_get order at ≡ Some x → reach ≡ filter_reach p x.1

@@ -1,7 +1,7 @@
--- Courses of small streams.
+-- Examples of delays, computed.
 use Rattle.std.specs.Prelude.{◌≡◌, refl, ℕ, Option, Some, None, true, false, List, [], ◌∷◌}
-use Rattle.net_latency.specs.Courses.{both_of, whole}
+use Rattle.net_latency.specs.StreamLatency.{combine_if_both, whole_periods}
 
--- of phases 1,250,000 and more of a period of 1,000,000 one whole period lies before them
-pub one_period : whole 1000000 1250000 ≡ 1000000
+-- In a period of 1,000,000 ns, one whole period lies before phase 1,250,000.
+pub one_period : whole_periods 1000000 1250000 ≡ 1000000
 one_period = refl

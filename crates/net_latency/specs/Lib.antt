@@ -1,6 +1,6 @@
-pub mod Leading
+pub mod NextHop
 pub mod Trees
-pub mod Courses
+pub mod StreamLatency
 pub mod Entering
 pub mod Examples
 pub mod Bounds

@@ -1,89 +1,87 @@
--- The way of a frame whose talker keeps a period: when it is done there, and how long it takes.
+-- Routes of frames with a periodic talker: phases and delays.
 use Rattle.std.specs.Prelude.{◌≡◌, ◌⊎◌, ℕ, Bool, true, ◌+◌, ◌-◌, ◌≤◌, nat_eq, List, [], ◌∷◌, None, Some}
 use Rattle.std.specs.Map.{lookup}
-use Rattle.bridge_limits.specs.Members.{In}
+use Rattle.bridge_limits.specs.Members.{IsMember}
 use Rattle.bridge_filter.specs.declared.Clear.{Clear}
 use Rattle.bridge_filter.specs.declared.FilterPlan.{FilterPlan}
 use Rattle.bridge_port.specs.Schedule.{Copy, Started}
-use Rattle.bridge_semantics.specs.Events.{Cleared, own}
-use Rattle.bridge_semantics.specs.Merge.{Input, events, frame, own_inputs}
-use Rattle.bridge_semantics.specs.Offers.{Carried}
-use Rattle.bridge_semantics.specs.Outputs.{departure}
+use Rattle.bridge_semantics.specs.Events.{Cleared, own_events}
+use Rattle.bridge_semantics.specs.Merge.{Input, input_events, capture_input, own_inputs}
+use Rattle.bridge_semantics.specs.Offers.{CarriedFrame}
+use Rattle.bridge_semantics.specs.Outputs.{departed_frame}
 use Rattle.net_model.specs.declared.links.Link.{Link}
 use Rattle.net_model.specs.declared.links.StreamHop.{StreamHop}
-use Rattle.net_model.specs.Networks.{Network, later, sender}
+use Rattle.net_model.specs.Networks.{Network, delayed_frame, sender}
 use Rattle.net_model.specs.Latency.{IsMultiple}
 use Rattle.net_periods.specs.declared.timing.Phases.{Phases}
 use Rattle.net_periods.specs.declared.timing.Timing.{Timing}
 use Rattle.net_periods.specs.declared.traffic.Traffic.{Traffic}
 use Rattle.net_periods.specs.Timings.{IsTiming}
 use Rattle.net_periods.specs.Traffic.{KeepsTraffic}
-use Rattle.net_latency.specs.declared.courses.Course.{Course}
-use Rattle.net_latency.specs.declared.stops.Coming.{Coming}
-use Rattle.net_latency.specs.declared.trees.HopQueue.{HopQueue}
-use Rattle.net_latency.specs.Courses.{IsWithin, coming_first, course_at, lie_in_one, moved}
-use Rattle.net_latency.specs.Leading.{leads_to}
-use Rattle.net_latency.specs.Ways.{Leg, done_of, last_of}
+use Rattle.net_latency.specs.declared.latency.StreamLatency.{StreamLatency}
+use Rattle.net_latency.specs.declared.queue_exit.HopArrival.{HopArrival}
+use Rattle.net_latency.specs.declared.tree.HopQueue.{HopQueue}
+use Rattle.net_latency.specs.StreamLatency.{IsLatencyWithinOther, first_hop_arrival, latency_at_last_queue, is_in_one_period, arrival_over_link}
+use Rattle.net_latency.specs.NextHop.{next_hop}
+use Rattle.net_latency.specs.Ways.{RouteHop, hop_end, last_hop}
 
--- WHAT COMES OF THE STREAM
+-- ARRIVALS OF THE STREAM
 
--- what comes of the filter of a leg to its bridge comes as traffic says
-abbrev pub KeepsAt : {A : Type 0} → (ℕ → List Input) → Traffic → Leg A → Type 0
-KeepsAt inputs t leg =
+-- Holds if the filter's frames that arrive at the bridge of the route hop `leg` keep the traffic.
+abbrev pub KeepsTrafficAtHop : {A : Type 0} → (ℕ → List Input) → Traffic → RouteHop A → Type 0
+KeepsTrafficAtHop inputs t leg =
     (f : FilterPlan) → lookup (nat_eq leg.filter) leg.plan.filters ≡ Some f
-    → KeepsTraffic t (own leg.plan leg.filter f (events (inputs leg.bridge)))
+    → KeepsTraffic t (own_events leg.plan leg.filter f (input_events (inputs leg.bridge)))
 
--- an input is a copy of the queue of a leg, which came over a link to a port so long after it was done
-pub record IsSentOn {A : Type 0} (lists : ℕ → ℕ → List (Copy Carried)) (leg : Leg A) (port delay : ℕ) (x : Input) : Type 0 where
-  pub copy : Copy Carried
+-- Holds if input `x` is a copy from the queue of `leg`, `delay` ns after its end of transmission.
+pub record IsForwardedCopy {A : Type 0} (lists : ℕ → ℕ → List (Copy CarriedFrame)) (leg : RouteHop A) (port delay : ℕ) (x : Input) : Type 0 where
+  pub copy : Copy CarriedFrame
   pub start : ℕ
-  pub listed : In copy (lists leg.bridge leg.port)
+  pub listed : IsMember copy (lists leg.bridge leg.port)
   pub flow : copy.item.flow ≡ Some leg.filter
   pub class : copy.class ≡ leg.copy.class
   pub started : copy.fate ≡ Started start
-  pub is : x ≡ frame port (later delay (departure leg.out.speed start copy.item))
+  pub is : x ≡ capture_input port (delayed_frame delay (departed_frame leg.out.speed start copy.item))
 
--- an input is of the filter of a leg
-abbrev pub IsOwnInput : {A : Type 0} → (ℕ → List Input) → Leg A → Input → Type 0
+-- Holds if input `x` belongs to the filter of `leg`.
+abbrev pub IsOwnInput : {A : Type 0} → (ℕ → List Input) → RouteHop A → Input → Type 0
 IsOwnInput inputs leg x =
     (f : FilterPlan) × (lookup (nat_eq leg.filter) leg.plan.filters ≡ Some f)
-    × In x (own_inputs leg.plan leg.filter f (inputs leg.bridge))
+    × IsMember x (own_inputs leg.plan leg.filter f (inputs leg.bridge))
 
--- an input is a command
+-- Holds if an input is a command.
 abbrev pub IsCommand : Input → Type 0
 IsCommand x = (clear : Clear) × (m : ℕ) × (x.event ≡ Cleared clear m)
 
--- of the filter of the next leg nothing comes but copies of the queue of a leg, over the link between them, and commands
-abbrev pub IsFedBy : {A : Type 0} → Network A → (ℕ → List Input) → (ℕ → ℕ → List (Copy Carried)) → Leg A → Leg A → ℕ → Type 0
-IsFedBy n inputs lists leg next delay =
+-- Holds if the filter of `next` receives over its link only copies from the queue of `leg`, and otherwise only commands.
+abbrev pub IsFedByHop : {A : Type 0} → Network A → (ℕ → List Input) → (ℕ → ℕ → List (Copy CarriedFrame)) → RouteHop A → RouteHop A → ℕ → Type 0
+IsFedByHop n inputs lists leg next delay =
     (port : ℕ) (x : Input)
     → sender n.links next.bridge port ≡ Some (record { from = record { bridge = leg.bridge; port = leg.port }; delay = delay })
     → IsOwnInput inputs next x
-    → IsSentOn lists leg port delay x ⊎ IsCommand x
+    → IsForwardedCopy lists leg port delay x ⊎ IsCommand x
 
--- so on the whole way
-abbrev pub AreFedBy : {A : Type 0} → Network A → (ℕ → List Input) → (ℕ → ℕ → List (Copy Carried)) → Leg A → List (ℕ × Leg A) → Type 0
-AreFedBy n inputs lists leg [] = Unit {0}
-AreFedBy n inputs lists leg (x ∷ more) = IsFedBy n inputs lists leg x.1 x.0 × AreFedBy n inputs lists x.1 more
+-- Holds if each hop of the route feeds the next one.
+abbrev pub AreFedInTurn : {A : Type 0} → Network A → (ℕ → List Input) → (ℕ → ℕ → List (Copy CarriedFrame)) → RouteHop A → List (ℕ × RouteHop A) → Type 0
+AreFedInTurn n inputs lists leg [] = Unit {0}
+AreFedInTurn n inputs lists leg (x ∷ more) = IsFedByHop n inputs lists leg x.1 x.0 × AreFedInTurn n inputs lists x.1 more
 
--- WHEN IT IS DONE
+-- DELAYS AND PHASES OF A ROUTE
 
--- the figures of frames that come so in the queue of a leg, and the phases between which they are done
-pub record IsTimedAt {A : Type 0} (leg : Leg A) (a : Coming) (x : Timing) (done : Phases) : Type 0 where
+-- Holds if `x` has the delays in the queue of `leg` for arrival `a`, with the phases `done`.
+pub record HasHopTiming {A : Type 0} (leg : RouteHop A) (a : HopArrival) (x : Timing) (done : Phases) : Type 0 where
   pub timing : IsTiming leg.plan leg.filter leg.port leg.copy.class a.traffic x
   pub phases : x.phases ≡ Some done
 
--- the figures of a way of frames that come so to its first leg, whether they pass or not, and the phases between which they
--- are done on its last one
-abbrev pub IsCourseOfWay : {A : Type 0} → ℕ → Coming → Leg A → List (ℕ × Leg A) → Course → Phases → Type 0
-IsCourseOfWay from a leg [] r done = (x : Timing) × (passes : Bool) × IsTimedAt leg a x done × (r ≡ course_at from a x done passes)
-IsCourseOfWay from a leg (y ∷ more) r done =
-    (x : Timing) × (d : Phases) × (passes : Bool) × IsTimedAt leg a x d × (lie_in_one (moved a x d y.0 passes).traffic ≡ true)
-    × IsCourseOfWay from (moved a x d y.0 passes) y.1 more r done
+-- Holds if `r` has the delays of a route for arrival `a` at its first hop, and `done` the phases at its last hop. Frames may pass or not.
+abbrev pub IsRouteLatency : {A : Type 0} → ℕ → HopArrival → RouteHop A → List (ℕ × RouteHop A) → StreamLatency → Phases → Type 0
+IsRouteLatency from a leg [] r done = (x : Timing) × (passes : Bool) × HasHopTiming leg a x done × (r ≡ latency_at_last_queue from a x done passes)
+IsRouteLatency from a leg (y ∷ more) r done =
+    (x : Timing) × (d : Phases) × (passes : Bool) × HasHopTiming leg a x d × (is_in_one_period (arrival_over_link a x d y.0 passes).traffic ≡ true)
+    × IsRouteLatency from (arrival_over_link a x d y.0 passes) y.1 more r done
 
--- a frame that came at a moment is done at another one: between these phases of a period, which the figures have, and between the best and the
--- worst time after it came
-pub record IsInCourse (period at end : ℕ) (r : Course) (done : Phases) : Type 0 where
+-- Holds if a frame that arrives at time `at` leaves at time `end` between the phases `done` of a period. Its delay is from best to worst.
+pub record IsWithinRouteLatency (period at end : ℕ) (r : StreamLatency) (done : Phases) : Type 0 where
   pub period_start : ℕ
   pub multiple : IsMultiple period period_start
   pub from : done.from + period_start ≤ end
@@ -92,28 +90,28 @@ pub record IsInCourse (period at end : ℕ) (r : Course) (done : Phases) : Type 
   pub best : at + r.best ≤ end
   pub worst : end ≤ at + r.worst
 
--- ONE OF THE WAYS OF A STREAM
+-- A ROUTE OF A STREAM
 
--- the hop of a leg
-abbrev pub hop_of : {A : Type 0} → Leg A → StreamHop
-hop_of leg = record { bridge = leg.bridge; filter = leg.filter }
+-- The route hop as a hop of `net_model`.
+abbrev pub stream_hop : {A : Type 0} → RouteHop A → StreamHop
+stream_hop leg = record { bridge = leg.bridge; filter = leg.filter }
 
--- the queue of a leg
-abbrev pub queue_at : {A : Type 0} → Leg A → HopQueue
-queue_at leg = record { hop = hop_of leg; port = leg.port; class = leg.copy.class }
+-- The route hop as a reachable queue of a stream.
+abbrev pub queue_of_route_hop : {A : Type 0} → RouteHop A → HopQueue
+queue_of_route_hop leg = record { hop = stream_hop leg; port = leg.port; class = leg.copy.class }
 
--- a way goes through queues of a stream, each of whose ports leads to the hop of the next one, until it leaves the hops
-abbrev pub IsWayOf : {A : Type 0} → List Link → List StreamHop → List HopQueue → Leg A → List (ℕ × Leg A) → Type 0
-IsWayOf links hops queues leg [] = In (queue_at leg) queues × (leads_to links hops leg.bridge leg.port ≡ None)
-IsWayOf links hops queues leg (x ∷ more) =
-    In (queue_at leg) queues
-    × (leads_to links hops leg.bridge leg.port ≡ Some (record { hop = hop_of x.1; delay = x.0 }))
-    × IsWayOf links hops queues x.1 more
+-- Holds if a route uses queues of a stream. Each port leads to the next hop, and the last port leaves the hops.
+abbrev pub IsRouteOfStream : {A : Type 0} → List Link → List StreamHop → List HopQueue → RouteHop A → List (ℕ × RouteHop A) → Type 0
+IsRouteOfStream links hops queues leg [] = IsMember (queue_of_route_hop leg) queues × (next_hop links hops leg.bridge leg.port ≡ None)
+IsRouteOfStream links hops queues leg (x ∷ more) =
+    IsMember (queue_of_route_hop leg) queues
+    × (next_hop links hops leg.bridge leg.port ≡ Some (record { hop = stream_hop x.1; delay = x.0 }))
+    × IsRouteOfStream links hops queues x.1 more
 
--- the frame of a way keeps to the figures of the way, and these lie within those of its stream
-pub record KeepsCourse {A : Type 0} (t : Traffic) (leg : Leg A) (more : List (ℕ × Leg A)) (r : Course) : Type 0 where
-  pub figures : Course
+-- Holds if the frame keeps the delays of its route, and these lie within the delays of its stream.
+pub record KeepsStreamLatency {A : Type 0} (t : Traffic) (leg : RouteHop A) (more : List (ℕ × RouteHop A)) (r : StreamLatency) : Type 0 where
+  pub figures : StreamLatency
   pub done : Phases
-  pub are : IsCourseOfWay t.from (coming_first t) leg more figures done
-  pub within : IsWithin figures r
-  pub keeps : IsInCourse t.period leg.copy.at (done_of (last_of leg more)) figures done
+  pub are : IsRouteLatency t.from (first_hop_arrival t) leg more figures done
+  pub within : IsLatencyWithinOther figures r
+  pub keeps : IsWithinRouteLatency t.period leg.copy.at (hop_end (last_hop leg more)) figures done

@@ -1,22 +1,22 @@
--- What is printed of bounds.
+-- Lines of delay bounds.
 use Rattle.std.specs.Prelude.{◌≡◌, ℕ, List, ◌++◌, flat_map, codes, decimal}
 use Rattle.bridge_config.specs.Model.{Plan}
 use Rattle.app_failure.specs.Jobs.{Accepts}
 use Rattle.net_latency.specs.declared.bounds.QueueBound.{QueueBound}
 use Rattle.net_latency.specs.Bounds.{AreTightBounds}
 
--- the line of the bound of a queue
+-- The line of a queue's delay bound.
 unfoldable pub bound_line : QueueBound → List ℕ
 bound_line r = codes "filter " ++ (decimal r.filter ++ (codes " port " ++ (decimal r.port ++ (codes " class " ++ (decimal r.class ++ (codes " bound " ++ (decimal r.bound ++ codes "\n")))))))
 
--- a line for each
+-- One line for each delay bound.
 abbrev pub bounds_text : List QueueBound → List ℕ
 bounds_text rows = flat_map bound_line rows
 
--- the lines are those of all tight bounds of a plan
-abbrev pub AreLinesOf : {A : Type 0} → Plan A → List ℕ → Type 0
-AreLinesOf p lines = (rows : List QueueBound) × AreTightBounds p rows × (lines ≡ bounds_text rows)
+-- Holds if `lines` has the lines of all tight bounds of a plan.
+abbrev pub AreBoundLines : {A : Type 0} → Plan A → List ℕ → Type 0
+AreBoundLines p lines = (rows : List QueueBound) × AreTightBounds p rows × (lines ≡ bounds_text rows)
 
--- the text is that of a plan that is accepted, and the lines are those of its tight bounds
+-- Holds if `input` is the file of an accepted plan, and `lines` has the lines of its tight bounds.
 abbrev pub PrintsBounds : (A : Type 0) → List ℕ → List ℕ → Type 0
-PrintsBounds A input lines = (plan : Plan A) × Accepts input plan × AreLinesOf plan lines
+PrintsBounds A input lines = (plan : Plan A) × Accepts input plan × AreBoundLines plan lines

@@ -1,90 +1,89 @@
--- Streams of a network whose talkers keep a period: which periods suit the plans, and how long their frames take.
+-- Streams with periodic talkers: the periods that suit the plans, and the delays of their frames.
 use Rattle.std.specs.Prelude.{◌≡◌, ℕ, Bool, true, ◌+◌, List, [], ◌∷◌, Option, Some, None, Vec, All, filter, flat_map, map, nat_eq, slice_get, if◌then◌else◌}
 use Rattle.std.specs.List.{list_all}
 use Rattle.std.specs.Map.{lookup}
 use Rattle.bridge_filter.specs.declared.FilterPlan.{FilterPlan}
 use Rattle.bridge_config.specs.Model.{Plan}
-use Rattle.net_latency.specs.declared.courses.Course.{Course}
-use Rattle.net_latency.specs.declared.trees.HopQueue.{HopQueue}
+use Rattle.net_latency.specs.declared.latency.StreamLatency.{StreamLatency}
+use Rattle.net_latency.specs.declared.tree.HopQueue.{HopQueue}
 use Rattle.net_latency.specs.Entering.{IsStreamCourse}
 use Rattle.net_file.specs.declared.fault.NetField.TheVariants as field
 use Rattle.net_file.specs.declared.fault.NetFault.{NetFault}
 use Rattle.net_file.specs.declared.fault.NetFault.TheVariants as net
 use Rattle.net_file.specs.declared.fault.NetSection.TheVariants as section
-use Rattle.net_file.specs.declared.links.LinkRow.{LinkRow}
-use Rattle.net_file.specs.declared.talkers.Talker.{Talker}
+use Rattle.net_file.specs.declared.link_row.LinkRow.{LinkRow}
+use Rattle.net_file.specs.declared.talker.Talker.{Talker}
 use Rattle.net_file.specs.Model.{Stream}
 use Rattle.net_model.specs.declared.links.Link.{Link}
 use Rattle.net_model.specs.declared.links.StreamHop.{StreamHop}
 use Rattle.net_periods.specs.declared.traffic.Traffic.{Traffic}
 use Rattle.net_latency.specs.declared.bounds.QueueBound.{QueueBound}
-use Rattle.net_latency.specs.Streams.{are_kept, hop_in, rows_if, stream_lines}
+use Rattle.net_latency.specs.Streams.{are_in_time, stream_hop_value, bounds_if_any, stream_lines}
 use Rattle.net_latency.specs.Traffic.{suits}
 
 -- PERIODS THAT SUIT
 
--- whether a period is a multiple of each cycle on the way of a filter's frames, where the filter is there
+-- True if a period is a multiple of each cycle time on the route of an optional filter. True without a filter.
 abbrev pub suits_filter : {A : Type 0} → Plan A → ℕ → Option FilterPlan → Bool
 suits_filter p period None = true
 suits_filter p period (Some f) = suits p f period
 
--- of the filter of a number, where its plan is there
-abbrev pub suits_at : {A : Type 0} → Option (Plan A) → ℕ → ℕ → Bool
-suits_at None n period = true
-suits_at (Some p) n period = suits_filter p period (lookup (nat_eq n) p.filters)
+-- True if a period suits filter `n` of an optional plan. True without a plan.
+abbrev pub suits_hop : {A : Type 0} → Option (Plan A) → ℕ → ℕ → Bool
+suits_hop None n period = true
+suits_hop (Some p) n period = suits_filter p period (lookup (nat_eq n) p.filters)
 
--- of each hop of a stream whose talker keeps it
+-- True if the period of an optional talker suits each hop of its stream.
 abbrev pub suits_hops : {A : Type 0} → List (Plan A) → Option Talker → List (ℕ × ℕ) → Bool
 suits_hops plans None hops = true
-suits_hops plans (Some t) hops = list_all (λ (h : ℕ × ℕ). suits_at (slice_get plans h.0) h.1 t.period) hops
+suits_hops plans (Some t) hops = list_all (λ (h : ℕ × ℕ). suits_hop (slice_get plans h.0) h.1 t.period) hops
 
--- the first of some streams, counted from an index, whose period doesn't suit a hop
+-- The fault of the first stream, counted from `index`, whose period doesn't suit a hop, or `None`.
 abbrev pub first_misfit : {A : Type 0} → List (Plan A) → ℕ → List Stream → Option NetFault
 first_misfit plans index [] = None
 first_misfit plans index (s ∷ ss) =
     if suits_hops plans s.talker s.hops then first_misfit plans (index + 1) ss
     else Some (net.OutOfRange (record { section = section.Stream; index = index; field = field.Period }))
 
--- COURSES
+-- DELAYS OF TALKERS' FRAMES
 
--- the frames of a talker
-abbrev pub traffic_of : Talker → Traffic
-traffic_of t = record { period = t.period; from = t.from; to = t.to; least = t.least; longest = t.longest }
+-- The traffic of a network file's talker, in the form of `net_periods`.
+abbrev pub talker_traffic : Talker → Traffic
+talker_traffic t = record { period = t.period; from = t.from; to = t.to; least = t.least; longest = t.longest }
 
--- a queue of a hop
-abbrev pub queue_of : StreamHop → QueueBound → HopQueue
-queue_of h r = record { hop = h; port = r.port; class = r.class }
+-- A reachable queue of a hop, from its delay bound.
+abbrev pub hop_queue : StreamHop → QueueBound → HopQueue
+hop_queue h r = record { hop = h; port = r.port; class = r.class }
 
--- whether a queue is one of the filter of a hop
-abbrev pub is_of : StreamHop → QueueBound → Bool
-is_of h r = nat_eq r.filter h.filter
+-- True if a queue belongs to the filter of a hop.
+abbrev pub is_queue_of_hop : StreamHop → QueueBound → Bool
+is_queue_of_hop h r = nat_eq r.filter h.filter
 
--- the queues of a hop, among those of its plan's filters
-abbrev pub queues_among : List QueueBound → StreamHop → List HopQueue
-queues_among rows h = map (queue_of h) (filter (is_of h) rows)
+-- The queues of a hop, among the queues of its bridge.
+abbrev pub filter_queues : List QueueBound → StreamHop → List HopQueue
+filter_queues rows h = map (hop_queue h) (filter (is_queue_of_hop h) rows)
 
--- the bounds of the queues of a hop
-abbrev pub queues_at : {A : Type 0} → List (Vec QueueBound A) → StreamHop → List HopQueue
-queues_at bounds h = queues_among (rows_if (slice_get bounds h.bridge)) h
+-- The reachable queues of a hop, from the delay bounds of all bridges.
+abbrev pub queues_of_hop : {A : Type 0} → List (Vec QueueBound A) → StreamHop → List HopQueue
+queues_of_hop bounds h = filter_queues (bounds_if_any (slice_get bounds h.bridge)) h
 
--- the queues of all hops
-abbrev pub queues_of : {A : Type 0} → List (Vec QueueBound A) → List StreamHop → List HopQueue
-queues_of bounds hops = flat_map (queues_at bounds) hops
+-- The reachable queues of all hops, hop by hop.
+abbrev pub hop_queues : {A : Type 0} → List (Vec QueueBound A) → List StreamHop → List HopQueue
+hop_queues bounds hops = flat_map (queues_of_hop bounds) hops
 
--- how long the frames of a stream take, where its talker keeps a period
-abbrev pub IsCourseOf : {A : Type 0} → List (Plan A) → List Link → List (Vec QueueBound A) → Option Talker → List StreamHop → Option Course → Type 0
-IsCourseOf plans links bounds None hops r = r ≡ None
-IsCourseOf plans links bounds (Some t) hops r = IsStreamCourse plans links hops (queues_of bounds hops) (traffic_of t) r
+-- Holds if `r` has the delays of a stream's frames; `None` without a periodic talker.
+abbrev pub IsTalkerLatency : {A : Type 0} → List (Plan A) → List Link → List (Vec QueueBound A) → Option Talker → List StreamHop → Option StreamLatency → Type 0
+IsTalkerLatency plans links bounds None hops r = r ≡ None
+IsTalkerLatency plans links bounds (Some t) hops r = IsStreamCourse plans links hops (hop_queues bounds hops) (talker_traffic t) r
 
--- some streams, each with its figures
-pub record AreCourses {A : Type 0} (plans : List (Plan A)) (links : List Link) (bounds : List (Vec QueueBound A)) (streams : List Stream) (rows : List (Stream × Option Course)) : Type 0 where
-  pub are_streams : map (λ (r : Stream × Option Course). r.0) rows ≡ streams
-  pub courses : All (λ (r : Stream × Option Course). IsCourseOf plans links bounds r.0.talker (map hop_in r.0.hops) r.1) rows
+-- Holds if `rows` has the streams, each with its delays.
+pub record AreStreamLatencies {A : Type 0} (plans : List (Plan A)) (links : List Link) (bounds : List (Vec QueueBound A)) (streams : List Stream) (rows : List (Stream × Option StreamLatency)) : Type 0 where
+  pub are_streams : map (λ (r : Stream × Option StreamLatency). r.0) rows ≡ streams
+  pub courses : All (λ (r : Stream × Option StreamLatency). IsTalkerLatency plans links bounds r.0.talker (map stream_hop_value r.0.hops) r.1) rows
 
--- the lines of streams, each with its figures, and whether each passes, where its talker keeps a period, and meets its
--- deadline
+-- Holds if `lines` has the lines of the streams with their delays. `kept` is true if all pass and meet their deadlines.
 pub record AreStreamLines {A : Type 0} (plans : List (Plan A)) (links : List Link) (bounds : List (Vec QueueBound A)) (rows : List LinkRow) (streams : List Stream) (lines : List ℕ) (kept : Bool) : Type 0 where
-  pub figures : List (Stream × Option Course)
-  pub are_courses : AreCourses plans links bounds streams figures
+  pub figures : List (Stream × Option StreamLatency)
+  pub are_courses : AreStreamLatencies plans links bounds streams figures
   pub lines_are : lines ≡ stream_lines bounds rows figures
-  pub kept_is : kept ≡ are_kept bounds rows figures
+  pub kept_is : kept ≡ are_in_time bounds rows figures

@@ -1,44 +1,43 @@
--- Whether the hops of a stream are a tree.
+-- The test whether the hops of a stream are a tree.
 use Rattle.std.specs.Prelude.{ℕ, Bool, true, false, ◌&&◌, List, Option, Some, None, filter, length, map, nat_eq, nat_le}
 use Rattle.std.specs.List.{list_all}
 use Rattle.net_model.specs.declared.links.Link.{Link}
 use Rattle.net_model.specs.declared.links.StreamHop.{StreamHop}
 use Rattle.net_model.specs.Networks.{Sender, sender}
-use Rattle.net_model.specs.Wiring.{link_of}
-use Rattle.net_latency.specs.declared.trees.HopQueue.{HopQueue}
-use Rattle.net_latency.specs.Leading.{hop_at}
+use Rattle.net_model.specs.NetworkParts.{link_value}
+use Rattle.net_latency.specs.declared.tree.HopQueue.{HopQueue}
+use Rattle.net_latency.specs.NextHop.{hop_at_bridge}
 
--- whether a link leads to a bridge
+-- True if an optional link end is at bridge `b`.
 abbrev pub is_linked_to : ℕ → Option Sender → Bool
 is_linked_to b None = false
 is_linked_to b (Some s) = nat_eq s.from.bridge b
 
--- whether a queue leads to a bridge
-abbrev pub feeds : List Link → ℕ → HopQueue → Bool
-feeds links b x = is_linked_to b (sender (map link_of links) x.hop.bridge x.port)
+-- True if the port of a queue has a link to bridge `b`.
+abbrev pub is_feeder : List Link → ℕ → HopQueue → Bool
+is_feeder links b x = is_linked_to b (sender (map link_value links) x.hop.bridge x.port)
 
--- how many of some queues lead to a bridge
-abbrev pub feeders : List Link → List HopQueue → ℕ → ℕ
-feeders links queues b = length (filter (feeds links b) queues)
+-- Number of these queues that lead to bridge `b`.
+abbrev pub count_feeders : List Link → List HopQueue → ℕ → ℕ
+count_feeders links queues b = length (filter (is_feeder links b) queues)
 
--- whether a hop has the filter of another one
+-- True if the optional hop is present and has the filter of hop `h`.
 abbrev pub has_filter : StreamHop → Option StreamHop → Bool
 has_filter h None = false
 has_filter h (Some g) = nat_eq g.filter h.filter
 
--- whether a hop is the first of some at its bridge
-abbrev pub is_own : List StreamHop → StreamHop → Bool
-is_own hops h = has_filter h (hop_at hops h.bridge)
+-- True if a hop is the first of these hops at its bridge.
+abbrev pub is_first_at_bridge : List StreamHop → StreamHop → Bool
+is_first_at_bridge hops h = has_filter h (hop_at_bridge hops h.bridge)
 
--- whether each hop is the first at its bridge
-abbrev pub are_own : List StreamHop → Bool
-are_own hops = list_all (is_own hops) hops
+-- True if each hop is the first at its bridge.
+abbrev pub have_distinct_bridges : List StreamHop → Bool
+have_distinct_bridges hops = list_all (is_first_at_bridge hops) hops
 
--- whether no two queues lead to one hop
-abbrev pub are_fed_once : List Link → List StreamHop → List HopQueue → Bool
-are_fed_once links hops queues = list_all (λ (h : StreamHop). nat_le (feeders links queues h.bridge) 1) hops
+-- True if at most one queue leads to each hop.
+abbrev pub have_single_feeders : List Link → List StreamHop → List HopQueue → Bool
+have_single_feeders links hops queues = list_all (λ (h : StreamHop). nat_le (count_feeders links queues h.bridge) 1) hops
 
--- whether the hops of a stream are a tree from the first one: none has a bridge with another one, no two queues lead to one,
--- and none to the first
+-- True if the hops are a tree with root `first`. Then they have different bridges, at most one queue leads to each, and none to the root.
 abbrev pub is_tree : List Link → List StreamHop → List HopQueue → StreamHop → Bool
-is_tree links hops queues first = are_own hops && are_fed_once links hops queues && nat_eq (feeders links queues first.bridge) 0
+is_tree links hops queues first = have_distinct_bridges hops && have_single_feeders links hops queues && nat_eq (count_feeders links queues first.bridge) 0

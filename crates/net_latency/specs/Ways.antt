@@ -1,56 +1,56 @@
--- The way of a frame through several bridges, and how long it takes at most.
+-- The route of a frame through several bridges, and its delay bound.
 use Rattle.std.specs.Prelude.{◌≡◌, ℕ, ◌+◌, List, [], ◌∷◌, Some, slice_get}
-use Rattle.bridge_limits.specs.Members.{In}
-use Rattle.bridge_frame.specs.Link.{occupied}
+use Rattle.bridge_limits.specs.Members.{IsMember}
+use Rattle.bridge_frame.specs.Link.{transmission_time}
 use Rattle.bridge_port.specs.Schedule.{Copy, Started}
 use Rattle.bridge_config.specs.declared.ports.PortPlan.{PortPlan}
 use Rattle.bridge_config.specs.Model.{Plan}
-use Rattle.bridge_config.specs.Rules.{port_at}
-use Rattle.bridge_semantics.specs.Offers.{Carried}
+use Rattle.bridge_config.specs.Rules.{find_port}
+use Rattle.bridge_semantics.specs.Offers.{CarriedFrame}
 use Rattle.net_model.specs.Networks.{Network, sender}
-use Rattle.bridge_bounds.specs.Bounds.{IsBound}
+use Rattle.bridge_bounds.specs.Bounds.{IsQueueBound}
 
--- a leg of the way: at a bridge a queue of a filter took a copy of the frame, which started; and the bound of the queue
-pub record Leg (A : Type 0) : Type 0 where
+-- A hop of a frame's route: a queue of a filter at a bridge, with a started copy of the frame, and the queue's bound.
+pub record RouteHop (A : Type 0) : Type 0 where
   pub bridge : ℕ
   pub plan : Plan A
   pub port : ℕ
   pub out : PortPlan A
   pub filter : ℕ
-  pub copy : Copy Carried
+  pub copy : Copy CarriedFrame
   pub start : ℕ
   pub bound : ℕ
 
--- when its copy is done
-abbrev pub done_of : {A : Type 0} → Leg A → ℕ
-done_of leg = leg.start + occupied leg.copy.item.len leg.out.speed
+-- The end of transmission of the copy at this hop.
+abbrev pub hop_end : {A : Type 0} → RouteHop A → ℕ
+hop_end leg = leg.start + transmission_time leg.copy.item.len leg.out.speed
 
--- it is one of a run of a network, whose ports have these copies
-pub record IsLeg {A : Type 0} (n : Network A) (lists : ℕ → ℕ → List (Copy Carried)) (leg : Leg A) : Type 0 where
+-- Holds if the hop belongs to a run of the network whose ports have these copies.
+pub record IsRouteHop {A : Type 0} (n : Network A) (lists : ℕ → ℕ → List (Copy CarriedFrame)) (leg : RouteHop A) : Type 0 where
   pub plan : slice_get n.bridges leg.bridge ≡ Some leg.plan
-  pub port : port_at leg.plan.ports leg.port ≡ Some leg.out
-  pub listed : In leg.copy (lists leg.bridge leg.port)
+  pub port : find_port leg.plan.ports leg.port ≡ Some leg.out
+  pub listed : IsMember leg.copy (lists leg.bridge leg.port)
   pub flow : leg.copy.item.flow ≡ Some leg.filter
   pub started : leg.copy.fate ≡ Started leg.start
-  pub bound : IsBound leg.plan leg.filter leg.port leg.copy.class leg.bound
+  pub bound : IsQueueBound leg.plan leg.filter leg.port leg.copy.class leg.bound
 
--- the next leg begins where the frame comes to it over a link, so long after it was done on the one before
-pub record IsJoined {A : Type 0} (n : Network A) (leg next : Leg A) (delay : ℕ) : Type 0 where
+-- Holds if the frame arrives at the next hop over a link, `delay` ns after its end of transmission at `leg`.
+pub record IsNextHop {A : Type 0} (n : Network A) (leg next : RouteHop A) (delay : ℕ) : Type 0 where
   pub port : ℕ
   pub linked : sender n.links next.bridge port ≡ Some (record { from = record { bridge = leg.bridge; port = leg.port }; delay = delay })
-  pub comes : next.copy.at ≡ done_of leg + delay
+  pub comes : next.copy.at ≡ hop_end leg + delay
 
--- a first leg and those behind it, each with the delay of the link before it, are a way
-abbrev pub IsWay : {A : Type 0} → Network A → (ℕ → ℕ → List (Copy Carried)) → Leg A → List (ℕ × Leg A) → Type 0
-IsWay n lists leg [] = IsLeg n lists leg
-IsWay n lists leg (x ∷ more) = IsLeg n lists leg × IsJoined n leg x.1 x.0 × IsWay n lists x.1 more
+-- Holds if the first hop and the later hops, each with the delay of the link before it, are a route.
+abbrev pub IsRoute : {A : Type 0} → Network A → (ℕ → ℕ → List (Copy CarriedFrame)) → RouteHop A → List (ℕ × RouteHop A) → Type 0
+IsRoute n lists leg [] = IsRouteHop n lists leg
+IsRoute n lists leg (x ∷ more) = IsRouteHop n lists leg × IsNextHop n leg x.1 x.0 × IsRoute n lists x.1 more
 
--- the last leg
-abbrev pub last_of : {A : Type 0} → Leg A → List (ℕ × Leg A) → Leg A
-last_of leg [] = leg
-last_of leg (x ∷ more) = last_of x.1 more
+-- The last hop of a route: its end of transmission ends the delay.
+abbrev pub last_hop : {A : Type 0} → RouteHop A → List (ℕ × RouteHop A) → RouteHop A
+last_hop leg [] = leg
+last_hop leg (x ∷ more) = last_hop x.1 more
 
--- the bounds of all legs and the delays of all links
-abbrev pub bound_of_way : {A : Type 0} → Leg A → List (ℕ × Leg A) → ℕ
-bound_of_way leg [] = leg.bound
-bound_of_way leg (x ∷ more) = leg.bound + (x.0 + bound_of_way x.1 more)
+-- The sum of all hops' bounds and all links' delays.
+abbrev pub route_bound : {A : Type 0} → RouteHop A → List (ℕ × RouteHop A) → ℕ
+route_bound leg [] = leg.bound
+route_bound leg (x ∷ more) = leg.bound + (x.0 + route_bound x.1 more)

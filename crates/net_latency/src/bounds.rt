@@ -1,36 +1,37 @@
-//! The bounds of all queues of a plan.
+//! Delay bounds of all queues of a plan.
 ghost use Rattle.std.specs.Prelude.{All, ◌≡◌, ℕ, ◌+◌, ◌<◌, ◌≤◌, [], Some, length, nat_eq, OnOk, IfOk, MatchOption};
 ghost use Rattle.std.specs.Map.{lookup};
-ghost use Rattle.bridge_limits.specs.Members.{Rising};
-ghost use Rattle.bridge_check.specs.Reach.{reaches};
-ghost use Rattle.bridge_check.specs.Reached.{reach_of};
-ghost use Rattle.bridge_bounds.specs.Bounds.{HasNoBound, IsBound};
-ghost use Rattle.net_latency.specs.Bounds.{AreBounds, AreUpTo, IsPlaced, IsReachAt};
+ghost use Rattle.bridge_limits.specs.Members.{IsOrdered};
+ghost use Rattle.bridge_check.specs.Reach.{reaches_queue};
+ghost use Rattle.bridge_check.specs.ReachTables.{filter_reach};
+ghost use Rattle.bridge_bounds.specs.Bounds.{HasNoBound, IsQueueBound};
+ghost use Rattle.net_latency.specs.Bounds.{AreBounds, AreBoundsSoFar, HasValidPort, IsFilterReach};
 
-use bridge_bounds::bound_of;
-use bridge_check::{Accepted, Reach, may_wait_at, reach_of};
+use bridge_bounds::queue_bound;
+use bridge_check::{Accepted, Reach, can_wait_in_reach, filter_reach};
 use bridge_config::Plan;
 use bridge_filter::FilterPlan;
 use bridge_limits::NoMemory;
 use std::alloc::Allocator;
 
-/// How long a frame of a protected filter takes at most in a queue that its frames may come to.
+/// Delay bound of a protected filter's frames in one of its reachable queues.
 #[derive(Clone, Copy)]
 pub struct QueueBound {
-    /// The number of the filter.
+    /// Filter number.
     pub filter: u32,
-    /// The number of the port, 1 to 16.
+    /// Port number, 1 to 16.
     pub port: u8,
-    /// The class of the queue, 0 to 7.
+    /// Class of the queue, 0 to 7.
     pub class: u8,
-    /// A copy that the queue takes is done, with its gap, at most so many ns after its frame came.
+    /// Largest delay in ns of a sent copy, from arrival to the end of transmission, gap included.
     pub bound: u64,
 }
 
-/// How many queues there are at 16 ports.
+/// Number of queues at 16 ports.
 const QUEUES: u8 = 128;
 
-/// Whether frames of a filter with this reach may be queued in a class of a port.
+/// Whether the queue of `class` at `port` is reachable for the filter. `reach` is the filter's reach, computed once by the caller. Returns
+/// false if the port is missing.
 pub(crate) fn is_reached<A: Allocator + Copy>(
     plan: &Plan<A>,
     filter: &FilterPlan,
@@ -38,20 +39,21 @@ pub(crate) fn is_reached<A: Allocator + Copy>(
     port: u8,
     class: u8,
 ) -> bool
-    requires reach { reach.now ≡ reach_of plan.now filter.now }
+    requires reach { reach.now ≡ filter_reach plan.now filter.now }
     requires from { 1 ≤ port }
     requires to { port ≤ 16 }
-    ensures { result ≡ reaches plan.now filter.now port class }
+    ensures { result ≡ reaches_queue plan.now filter.now port class }
 {
     match plan.port(port) {
-        Some(found) => may_wait_at(plan, filter, reach, found, class),
+        Some(found) => can_wait_in_reach(plan, filter, reach, found, class),
         None => false,
     }
 }
 
-/// The bound of a queue, by the reach of the filter, which is made once for all of its queues.
+/// Returns the delay bound of a queue in ns, or `None` if the filter can't reach the queue. The caller computes `reach` once for all queues
+/// of the filter.
 #[tactic(auto, using(crate::proofs::Bounded::unprotected, crate::proofs::Bounded::unreached_by))]
-fn bound_by<A: Allocator + Copy>(
+fn bound_in_reach<A: Allocator + Copy>(
     accepted: &Accepted<A>,
     filter: (u32, FilterPlan),
     reach: &Reach,
@@ -59,12 +61,12 @@ fn bound_by<A: Allocator + Copy>(
     class: u8,
 ) -> Option<u64>
     requires found { lookup (nat_eq filter.0) accepted.now.filters ≡ Some filter.1 }
-    requires reach { reach.now ≡ reach_of accepted.now filter.1 }
+    requires reach { reach.now ≡ filter_reach accepted.now filter.1 }
     requires from { 1 ≤ port }
     requires to { port ≤ 16 }
     requires class { class < 8 }
     ensures { MatchOption result (HasNoBound accepted.now filter.0 port class)
-        (IsBound accepted.now filter.0 port class) }
+        (IsQueueBound accepted.now filter.0 port class) }
 {
     if !filter.1.protected {
         return None;
@@ -72,10 +74,11 @@ fn bound_by<A: Allocator + Copy>(
     if !is_reached(accepted.plan(), &filter.1, reach, port, class) {
         return None;
     }
-    bound_of(accepted, filter.0, port, class)
+    queue_bound(accepted, filter.0, port, class)
 }
 
-/// Adds the bound of the queue of a place, by port and class, where frames of the filter at a place may come to it.
+/// Appends to `rows` the bound of queue `place` (0 to 127) for the filter with index `at` in `order`. Appends nothing if the filter is
+/// unprotected or can't reach the queue.
 fn put_bound<A: Allocator + Copy>(
     accepted: &Accepted<A>,
     order: &[(u32, FilterPlan)],
@@ -86,16 +89,16 @@ fn put_bound<A: Allocator + Copy>(
 ) -> Result<(), NoMemory>
     requires at { at < length order.now }
     requires place { place < 128 }
-    requires rises { Rising (λ x y. x.0 < y.0) order.now }
+    requires rises { IsOrdered (λ x y. x.0 < y.0) order.now }
     requires same { (n : ℕ) → lookup (nat_eq n) order.now ≡ lookup (nat_eq n) accepted.now.filters }
-    requires reach { IsReachAt accepted.now order.now at reach.now }
-    requires so_far { AreUpTo accepted.now order.now at place rows.old.items }
-    ensures one_more { OnOk result (AreUpTo accepted.now order.now at (place + 1) rows.new.items) }
+    requires reach { IsFilterReach accepted.now order.now at reach.now }
+    requires so_far { AreBoundsSoFar accepted.now order.now at place rows.old.items }
+    ensures one_more { OnOk result (AreBoundsSoFar accepted.now order.now at (place + 1) rows.new.items) }
 {
     let filter = order[at];
     let port = place / 8 + 1;
     let class = place % 8;
-    if let Some(bound) = bound_by(accepted, filter, reach, port, class) {
+    if let Some(bound) = bound_in_reach(accepted, filter, reach, port, class) {
         rows.push(QueueBound {
             filter: filter.0,
             port,
@@ -106,20 +109,20 @@ fn put_bound<A: Allocator + Copy>(
     Ok(())
 }
 
-/// Adds the bounds of all queues of the filter at a place.
-fn put_filter<A: Allocator + Copy>(
+/// Appends to `rows` the bounds of all queues that the filter with index `at` can reach, by rising port and class.
+fn put_filter_bounds<A: Allocator + Copy>(
     accepted: &Accepted<A>,
     order: &[(u32, FilterPlan)],
     at: usize,
     rows: &mut Vec<QueueBound, A>,
 ) -> Result<(), NoMemory>
     requires at { at < length order.now }
-    requires rises { Rising (λ x y. x.0 < y.0) order.now }
+    requires rises { IsOrdered (λ x y. x.0 < y.0) order.now }
     requires same { (n : ℕ) → lookup (nat_eq n) order.now ≡ lookup (nat_eq n) accepted.now.filters }
-    requires so_far { AreUpTo accepted.now order.now at 0 rows.old.items }
-    ensures one_more { OnOk result (AreUpTo accepted.now order.now (at + 1) 0 rows.new.items) }
+    requires so_far { AreBoundsSoFar accepted.now order.now at 0 rows.old.items }
+    ensures one_more { OnOk result (AreBoundsSoFar accepted.now order.now (at + 1) 0 rows.new.items) }
 {
-    let reach = reach_of(accepted.plan(), &order[at].1);
+    let reach = filter_reach(accepted.plan(), &order[at].1);
     for place in 0..QUEUES {
         let Ok(()) = put_bound(accepted, order, at, &reach, place, rows) else {
             return Err(NoMemory);
@@ -128,39 +131,39 @@ fn put_filter<A: Allocator + Copy>(
     Ok(())
 }
 
-/// Adds the bounds of all queues of all filters.
-fn put_all<A: Allocator + Copy>(
+/// Appends to `rows` the bounds of all protected filters. `order` has the filters by rising number.
+fn put_all_bounds<A: Allocator + Copy>(
     accepted: &Accepted<A>,
     order: &[(u32, FilterPlan)],
     rows: &mut Vec<QueueBound, A>,
 ) -> Result<(), NoMemory>
-    requires rises { Rising (λ x y. x.0 < y.0) order.now }
+    requires rises { IsOrdered (λ x y. x.0 < y.0) order.now }
     requires same { (n : ℕ) → lookup (nat_eq n) order.now ≡ lookup (nat_eq n) accepted.now.filters }
     requires none { rows.old.items ≡ [] }
     ensures all { OnOk result (AreBounds accepted.now rows.new.items) }
 {
     for at in 0..order.len() {
-        let Ok(()) = put_filter(accepted, order, at, rows) else {
+        let Ok(()) = put_filter_bounds(accepted, order, at, rows) else {
             return Err(NoMemory);
         };
     }
     Ok(())
 }
 
-/// The bounds of all queues of a plan that frames of its protected filters may come to, by rising filter, port and class.
+/// Returns the delay bounds of all reachable queues of protected filters, by rising filter, port and class.
 #[tactic(auto, using(crate::proofs::Placed::all_placed))]
-pub fn bounds_of<A: Allocator + Copy>(
+pub fn queue_bounds<A: Allocator + Copy>(
     alloc: A,
     accepted: &Accepted<A>,
 ) -> Result<Vec<QueueBound, A>, NoMemory>
     ensures bounds { IfOk result (λ rows. AreBounds accepted.now rows.items) }
-    ensures placed { IfOk result (λ rows. All IsPlaced rows.items) }
+    ensures placed { IfOk result (λ rows. All HasValidPort rows.items) }
 {
     let Ok(order) = accepted.plan().filters_in_order(alloc) else {
         return Err(NoMemory);
     };
     let mut rows = Vec::new(alloc);
-    let Ok(()) = put_all(accepted, &order, &mut rows) else {
+    let Ok(()) = put_all_bounds(accepted, &order, &mut rows) else {
         return Err(NoMemory);
     };
     Ok(rows)

@@ -1,61 +1,64 @@
-//! What is told beside the line of traffic that is refused by its plan, and of a talker whose period doesn't suit the plans of a network:
-//! which filter or which cycles are there, and what to change. Nothing here can fail: what can't be read again is left out.
+//! Explanations of refused traffic and of talkers whose period doesn't suit the plans. They list filters or cycles, and name a remedy. No
+//! call fails: files that can't be read again are left out.
 
 use crate::hop_faults::put_protected;
-use crate::texts::{NetworkText, text_of};
-use crate::traffic::{comes_to, row_fault};
-use app_failure::planned;
+use crate::texts::{NetworkText, reread_text};
+use crate::traffic::{can_wait_at_port, row_fault};
+use app_failure::read_accepted_plan;
 use bridge_bounds::find_filter;
-use bridge_check::{Accepted, find_gate, reach_of};
+use bridge_check::{Accepted, filter_reach, find_gate};
 use bridge_config::Plan;
 use bridge_cycle::{Egress, Timeline};
 use bridge_filter::FilterPlan;
 use bridge_gate::Schedule;
-use bridge_text::{Document, Instance, Text, put_position};
-use net_file::{NetFault, NetField, NetSection, TrafficFault, TrafficRow, document_of, traffic_of};
+use bridge_text::{Document, Instance, TextBuilder, put_position};
+use net_file::{
+    NetFault, NetField, NetSection, TrafficFault, TrafficRow, parse_traffic, read_document,
+};
 use std::alloc::Global;
 use std::fs;
 use std::rt::Files;
 use toml::Table;
 
-/// Traffic of a file for the plan of another one.
+/// A traffic file and the path of its plan, read again for an explanation.
 #[derive(Clone, Copy)]
 struct TrafficText<'a> {
-    /// The path of the file.
+    /// Path of the traffic file.
     path: &'a str,
-    /// Its text with its document.
+    /// Contents and document of the traffic file.
     document: Document<'a>,
-    /// The path of the plan.
+    /// Path of the plan.
     plan: &'a str,
 }
 
-/// Returns why the traffic of a file is refused by the plan of another one, made anew of both. The text of the traffic is accepted.
+/// Explains why the plan refuses the traffic; reads both files again. The traffic file itself has no fault. Returns `None` if a file can't
+/// be read again or memory runs out.
 pub fn explain_traffic<H: AllocGlobal + Files>(
     rt: &H,
     plan: &str,
     traffic: &str,
 ) -> Option<String> {
     let alloc = rt.alloc();
-    let octets = text_of(rt, traffic)?;
+    let octets = reread_text(rt, traffic)?;
     let text = str::from_utf8(&octets).ok()?;
-    let Ok(table) = document_of(alloc, &octets) else {
+    let Ok(table) = read_document(alloc, &octets) else {
         return None;
     };
-    let Ok(rows) = traffic_of(alloc, alloc, &octets) else {
+    let Ok(rows) = parse_traffic(alloc, alloc, &octets) else {
         return None;
     };
     let reader = fs::open(rt, plan).ok()?;
-    let accepted = match planned(alloc, alloc, plan, reader) {
+    let accepted = match read_accepted_plan(alloc, alloc, plan, reader) {
         Ok(accepted) => accepted,
         Err(_) => return None,
     };
     let asked = traffic_text(plan, traffic, text, &table);
-    let said = said_of_rows(alloc, asked, accepted.plan(), &rows);
+    let said = explain_rows(alloc, asked, accepted.plan(), &rows);
     drop(accepted);
     said
 }
 
-/// Returns the traffic of a file, by its path, its text and its document, for the plan of a path.
+/// Bundles the traffic file and the path of its plan in one value.
 fn traffic_text<'a>(
     plan: &'a str,
     path: &'a str,
@@ -70,8 +73,8 @@ fn traffic_text<'a>(
     }
 }
 
-/// Adds the path of the file of traffic, and where a key of a row stands, by the place of the row, from 1.
-fn put_place(said: &mut Text<Global>, asked: TrafficText<'_>, index: u32, field: NetField) {
+/// Appends the path of the traffic file and the position of the key `field` in row `index`, counted from 1.
+fn put_place(said: &mut TextBuilder<Global>, asked: TrafficText<'_>, index: u32, field: NetField) {
     let row = Instance {
         document: asked.document,
         section: NetSection::Traffic.name(),
@@ -81,8 +84,8 @@ fn put_place(said: &mut Text<Global>, asked: TrafficText<'_>, index: u32, field:
     put_position(said, row.position(Some(field.key())));
 }
 
-/// What is told of the first row that doesn't suit the plan.
-fn said_of_rows(
+/// Explains the first row that doesn't suit the plan, because only this row is in the fault line. Returns `None` without such a row.
+fn explain_rows(
     alloc: Global,
     asked: TrafficText<'_>,
     plan: &Plan<Global>,
@@ -94,16 +97,17 @@ fn said_of_rows(
         match row_fault(plan, index, row) {
             None => {}
             Some(TrafficFault::Text(NetFault::OutOfRange(_))) => {
-                return said_of_row(alloc, asked, plan, index, row);
+                return explain_row(alloc, asked, plan, index, row);
             }
-            Some(_) => return said_of_filter(alloc, asked, plan, index, row.filter),
+            Some(_) => return explain_unusable_filter(alloc, asked, plan, index, row.filter),
         }
     }
     None
 }
 
-/// What is told of a row whose filter the plan doesn't have or doesn't protect.
-fn said_of_filter(
+/// Explains a row whose filter is missing or unprotected in the plan, and lists the protected filters. The period of such a row isn't
+/// tested.
+fn explain_unusable_filter(
     alloc: Global,
     asked: TrafficText<'_>,
     plan: &Plan<Global>,
@@ -120,32 +124,32 @@ fn said_of_filter(
             "Correct the number, or add the filter to the plan.\n",
         ),
     };
-    let mut said = Text::new(alloc);
+    let mut said = TextBuilder::new(alloc);
     put_place(&mut said, asked, index, NetField::Filter);
-    said.fill(
+    said.put_template(
         template,
         &[u64::from(index), u64::from(number)],
         &[asked.plan],
     );
     put_protected(alloc, &mut said, plan.filters());
     said.put(remedy);
-    said.done().ok()
+    said.finish().ok()
 }
 
-/// The cycles on a route that were told, with the period that has to be a multiple of each.
+/// Cycle times on a route, and the period that must be a multiple of each.
 #[derive(Clone, Copy)]
 struct Cycles<'a> {
-    /// The period, in ns.
+    /// Period in ns.
     period: u64,
-    /// The name of the bridge; empty for a plan by itself.
+    /// Name of the bridge; empty for a plan without network.
     bridge: &'a str,
-    /// One of the cycles that is a multiple of each other one so far, in ns; 1 before any, and 0 if none is.
+    /// Cycle time in ns that is a multiple of every cycle time up to now: 1 at first, 0 if none of them is.
     common: u64,
 }
 
 impl<'a> Cycles<'a> {
-    /// Takes a cycle, and adds it with whether the period suits it.
-    fn put_cycle(&mut self, said: &mut Text<Global>, what: &str, number: u32, cycle: u64) {
+    /// Appends a sentence with the cycle time of `what` number `number`, and whether it divides the period. Updates the common multiple.
+    fn put_cycle(&mut self, said: &mut TextBuilder<Global>, what: &str, number: u32, cycle: u64) {
         let common = self.common;
         self.common = if common == 0 || cycle == 0 {
             0
@@ -162,15 +166,15 @@ impl<'a> Cycles<'a> {
         } else {
             "{a} {0}{b}{c} has a cycle of {1} ns, and the period isn't a multiple of it.\n"
         };
-        said.fill(
+        said.put_template(
             template,
             &[u64::from(number), cycle],
             &[what, link, self.bridge],
         );
     }
 
-    /// Adds the cycles of a gate.
-    fn put_gate(&mut self, said: &mut Text<Global>, plan: &Plan<Global>, number: u32) {
+    /// Appends the cycle times of the stream gate with this number: none for a fixed gate, two if its list changes.
+    fn put_gate(&mut self, said: &mut TextBuilder<Global>, plan: &Plan<Global>, number: u32) {
         let Some(gate) = find_gate(plan.gates(), number) else {
             return;
         };
@@ -185,8 +189,8 @@ impl<'a> Cycles<'a> {
         }
     }
 
-    /// Adds the cycles of a port.
-    fn put_port(&mut self, said: &mut Text<Global>, plan: &Plan<Global>, number: u8) {
+    /// Appends the cycle times of the port's gate control lists: none without a list, two if the list changes.
+    fn put_port(&mut self, said: &mut TextBuilder<Global>, plan: &Plan<Global>, number: u8) {
         let Some(port) = plan.port(number) else {
             return;
         };
@@ -202,44 +206,50 @@ impl<'a> Cycles<'a> {
         }
     }
 
-    /// Adds the cycles of the ports to which frames of a filter come.
-    fn put_ports(&mut self, said: &mut Text<Global>, plan: &Plan<Global>, filter: &FilterPlan) {
-        let reach = reach_of(plan, filter);
+    /// Appends the cycle times of each port at which the filter has a reachable queue.
+    fn put_ports(
+        &mut self,
+        said: &mut TextBuilder<Global>,
+        plan: &Plan<Global>,
+        filter: &FilterPlan,
+    ) {
+        let reach = filter_reach(plan, filter);
         for place in 0..16u8 {
-            if comes_to(plan, filter, &reach, place + 1) {
+            if can_wait_at_port(plan, filter, &reach, place + 1) {
                 self.put_port(said, plan, place + 1);
             }
         }
     }
 
-    /// Adds the cycles on the route of the frames of a filter.
-    fn put_route(&mut self, said: &mut Text<Global>, plan: &Plan<Global>, number: u32) {
+    /// Appends the cycle times on the route of a filter's frames: its stream gate, then its ports. Appends nothing if the filter is
+    /// missing.
+    fn put_route(&mut self, said: &mut TextBuilder<Global>, plan: &Plan<Global>, number: u32) {
         if let Some(filter) = find_filter(plan.filters(), number) {
             self.put_gate(said, plan, filter.gate);
             self.put_ports(said, plan, &filter);
         }
     }
 
-    /// Adds which periods suit all cycles that were told.
-    fn put_remedy(self, said: &mut Text<Global>) {
+    /// Appends a sentence with suitable periods: multiples of `common`, or a hint to find a common multiple.
+    fn put_remedy(self, said: &mut TextBuilder<Global>) {
         if self.common == 0 {
             return said.put("Use a common multiple of these cycles.\n");
         }
-        said.fill("Use a multiple of {0} ns.\n", &[self.common], &[]);
+        said.put_template("Use a multiple of {0} ns.\n", &[self.common], &[]);
     }
 }
 
-/// What is told of a row whose period isn't a multiple of each cycle on the route of its filter.
-fn said_of_row(
+/// Explains row `index`, whose period isn't a multiple of each cycle time on its filter's route: lists these cycle times and a remedy.
+fn explain_row(
     alloc: Global,
     asked: TrafficText<'_>,
     plan: &Plan<Global>,
     index: u32,
     row: &TrafficRow,
 ) -> Option<String> {
-    let mut said = Text::new(alloc);
+    let mut said = TextBuilder::new(alloc);
     put_place(&mut said, asked, index, NetField::Period);
-    said.fill(
+    said.put_template(
         "`period` of `traffic` {0} is {1} ns. It must be a multiple of each cycle on the route of filter {2}:\n",
         &[u64::from(index), row.traffic.period, u64::from(row.filter)],
         &[],
@@ -251,11 +261,11 @@ fn said_of_row(
     };
     cycles.put_route(&mut said, plan, row.filter);
     cycles.put_remedy(&mut said);
-    said.done().ok()
+    said.finish().ok()
 }
 
-/// Returns what is told of a stream whose period isn't a multiple of each cycle on its route, by its place, from 1.
-pub fn said_of_period(
+/// Explains why the period of stream `index`, counted from 1, isn't a multiple of each cycle time on its route.
+pub fn explain_period(
     alloc: Global,
     asked: NetworkText<'_>,
     plans: &[Accepted<Global>],
@@ -263,10 +273,10 @@ pub fn said_of_period(
 ) -> Option<String> {
     let row = asked.file.streams().get((index as usize).wrapping_sub(1))?;
     let period = row.talker()?.period;
-    let mut said = Text::new(alloc);
+    let mut said = TextBuilder::new(alloc);
     let key = NetField::Period.key();
     asked.put_place(&mut said, NetSection::Stream, index as usize, Some(key));
-    said.fill(
+    said.put_template(
         "`period` of stream \"{a}\" is {0} ns. It must be a multiple of each cycle on the stream's route:\n",
         &[period],
         &[row.name()],
@@ -283,5 +293,5 @@ pub fn said_of_period(
         }
     }
     cycles.put_remedy(&mut said);
-    said.done().ok()
+    said.finish().ok()
 }

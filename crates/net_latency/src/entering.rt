@@ -1,21 +1,23 @@
-//! Where frames can come in that have the handle of a hop, and whether each hop hands all of its frames to the next one.
+//! The tests whether only the talker's frames get the handle of a hop, and whether each hop's frames get the next hop's filter.
 ghost use Rattle.std.specs.Prelude.{◌≡◌, ◌≤◌, All, length, slice_get, true};
-ghost use Rattle.net_model.specs.Refusing.{enters};
+ghost use Rattle.net_model.specs.Faults.{is_entry_port};
 ghost use Rattle.net_periods.specs.Traffic.{IsTraffic};
-ghost use Rattle.net_latency.specs.Courses.{IsQueue};
+ghost use Rattle.net_latency.specs.StreamLatency.{IsQueue};
 ghost use Rattle.net_latency.specs.Entering as spec;
 ghost use Rattle.net_latency.specs.Entering.{IsStreamCourse};
 
-use crate::courses::{Course, course_of};
-use crate::leading::{far_end, hop_at};
-use crate::trees::HopQueue;
+use crate::latency::{StreamLatency, stream_latency};
+use crate::next_hop::{far_end, hop_at_bridge};
+use crate::tree::HopQueue;
 use bridge_check::Accepted;
 use bridge_config::{Plan, PortPlan};
-use net_model::{Link, StreamHop, find_plan, handle_of, hands_over, has_entry, peer_of};
+use net_model::{
+    Link, StreamHop, find_plan, has_entry, is_received_by_next_hop, peer_port, protected_handle,
+};
 use net_periods::Traffic;
 use std::alloc::Allocator;
 
-/// Whether a port is open, and an entry of it gives a handle.
+/// Whether port `on` is open and has an entry with this handle, so that frames from outside can get the handle there.
 fn enters<A: Allocator + Copy>(
     links: &[Link],
     bridge: u16,
@@ -23,15 +25,15 @@ fn enters<A: Allocator + Copy>(
     handle: u32,
     on: &PortPlan<A>,
 ) -> bool
-    ensures { result ≡ enters links.now bridge plan.now handle on.now }
+    ensures { result ≡ is_entry_port links.now bridge plan.now handle on.now }
 {
-    if peer_of(links, bridge, on.number).is_some() {
+    if peer_port(links, bridge, on.number).is_some() {
         return false;
     }
     has_entry(plan, on.number, handle)
 }
 
-/// Whether a port is that of the stream's talker: the first open one of a plan with an entry that gives the handle.
+/// Whether a port is the talker's port: the first open port that has an entry with this handle.
 fn is_talker_port<A: Allocator + Copy>(
     links: &[Link],
     bridge: u16,
@@ -49,9 +51,9 @@ fn is_talker_port<A: Allocator + Copy>(
     false
 }
 
-/// Whether frames of other devices may get a handle at a port: it is open and has an entry of the handle, and isn't the port of
-/// the talker, which is at the first hop.
-fn also_enters<A: Allocator + Copy>(
+/// Whether frames of other devices can get the handle at port `on`: it is open, has an entry, and isn't the talker's port. Only the first
+/// hop has a talker's port.
+fn is_other_entry_port<A: Allocator + Copy>(
     links: &[Link],
     is_first: bool,
     bridge: u16,
@@ -67,8 +69,8 @@ fn also_enters<A: Allocator + Copy>(
     !is_first || !is_talker_port(links, bridge, plan, handle, on.number)
 }
 
-/// Whether frames of other devices may get the handle of a hop at a port of its bridge.
-pub fn may_come_in<A: Allocator + Copy>(
+/// Whether frames of other devices can get the handle of a hop at port `on` of its bridge.
+pub fn can_others_enter<A: Allocator + Copy>(
     links: &[Link],
     is_first: bool,
     hop: StreamHop,
@@ -78,14 +80,15 @@ pub fn may_come_in<A: Allocator + Copy>(
     ensures { result ≡ spec.may_come_in links.now is_first hop plan.now on.now }
 {
     let filters = plan.filters();
-    match handle_of(filters, hop.filter) {
+    match protected_handle(filters, hop.filter) {
         None => false,
-        Some(handle) => also_enters(links, is_first, hop.bridge, plan, handle, on),
+        Some(handle) => is_other_entry_port(links, is_first, hop.bridge, plan, handle, on),
     }
 }
 
-/// Whether only frames of the stream get the handle of a hop, whose bridge has this plan.
-fn comes_in_at<A: Allocator + Copy>(
+/// Whether only frames of the stream can get the handle of a hop at the bridge with this plan. Otherwise a delay would depend on other
+/// devices.
+fn is_entry_exclusive<A: Allocator + Copy>(
     links: &[Link],
     is_first: bool,
     hop: StreamHop,
@@ -94,15 +97,15 @@ fn comes_in_at<A: Allocator + Copy>(
     ensures { result ≡ spec.comes_in_at links.now is_first hop plan.now plan.now.ports }
 {
     for on in plan.ports() {
-        if may_come_in(links, is_first, hop, plan, on) {
+        if can_others_enter(links, is_first, hop, plan, on) {
             return false;
         }
     }
     true
 }
 
-/// Whether only frames of the stream get the handle of a hop.
-fn comes_in_once<A: Allocator + Copy>(
+/// Whether only frames of the stream can get the handle of a hop. Returns true if the hop's bridge is missing.
+fn is_single_entry<A: Allocator + Copy>(
     plans: &[Accepted<A>],
     links: &[Link],
     is_first: bool,
@@ -112,12 +115,12 @@ fn comes_in_once<A: Allocator + Copy>(
 {
     match find_plan(plans, hop.bridge) {
         None => true,
-        Some(plan) => comes_in_at(links, is_first, hop, plan),
+        Some(plan) => is_entry_exclusive(links, is_first, hop, plan),
     }
 }
 
-/// Whether that holds of each hop of a stream.
-fn come_in_once<A: Allocator + Copy>(
+/// Whether only frames of the stream can get the handles of its hops. Without this, `checked_stream_latency` returns no delays.
+fn are_single_entries<A: Allocator + Copy>(
     plans: &[Accepted<A>],
     links: &[Link],
     hops: &[StreamHop],
@@ -126,7 +129,7 @@ fn come_in_once<A: Allocator + Copy>(
 {
     let mut is_first = true;
     for hop in hops {
-        if !comes_in_once(plans, links, is_first, *hop) {
+        if !is_single_entry(plans, links, is_first, *hop) {
             return false;
         }
         is_first = false;
@@ -134,7 +137,7 @@ fn come_in_once<A: Allocator + Copy>(
     true
 }
 
-/// Whether each frame that leaves a queue gets the filter of the stream's next hop, if the queue leads to one.
+/// Whether each frame that leaves a queue gets the filter of the stream's next hop. Returns true if no hop follows the queue.
 fn is_handed<A: Allocator + Copy>(
     plans: &[Accepted<A>],
     links: &[Link],
@@ -147,13 +150,13 @@ fn is_handed<A: Allocator + Copy>(
     let Some(far) = far_end(links, queue.hop.bridge, queue.port) else {
         return true;
     };
-    match hop_at(hops, far.end.bridge) {
+    match hop_at_bridge(hops, far.end.bridge) {
         None => true,
-        Some(next) => hands_over(plans, queue.hop, queue.port, far.end, next.filter),
+        Some(next) => is_received_by_next_hop(plans, queue.hop, queue.port, far.end, next.filter),
     }
 }
 
-/// Whether that holds of each queue of a stream.
+/// Whether each frame that leaves a queue of the stream gets the filter of the next hop. Otherwise the stream's line says `refusable`.
 fn are_handed<A: Allocator + Copy>(
     plans: &[Accepted<A>],
     links: &[Link],
@@ -171,11 +174,11 @@ fn are_handed<A: Allocator + Copy>(
     true
 }
 
-/// The figures with the flag `passes` cleared where not each frame is handed on.
-fn handed_course(handed: bool, course: Course) -> Course
+/// Returns the delays; clears the flag `passes` if a hop's frames may miss the next hop's filter.
+fn handed_course(handed: bool, course: StreamLatency) -> StreamLatency
     ensures { result ≡ spec.handed_course handed course }
 {
-    Course {
+    StreamLatency {
         passes: course.passes & handed,
         worst: course.worst,
         best: course.best,
@@ -183,29 +186,28 @@ fn handed_course(handed: bool, course: Course) -> Course
     }
 }
 
-/// How long the frames of a stream take whose talker keeps a period, as `course_of` has it, and whether each passes: each hop
-/// must then also hand all of its frames to the next one. No figures are told where frames that aren't of the stream may get
-/// the handle of a hop. It takes no memory.
-pub fn stream_course<A: Allocator + Copy>(
+/// Returns the delays of a stream with a periodic talker, and whether each frame passes. Returns `None` if frames of other devices may get
+/// a hop's handle. Allocates no memory.
+pub fn checked_stream_latency<A: Allocator + Copy>(
     plans: &[Accepted<A>],
     links: &[Link],
     hops: &[StreamHop],
     queues: &[HopQueue],
     traffic: &Traffic,
-) -> Option<Course>
+) -> Option<StreamLatency>
     requires few { length hops.now ≤ 64 }
     requires queues { All IsQueue queues.now }
     requires traffic { IsTraffic traffic.now }
     ensures { IsStreamCourse plans.now links.now hops.now queues.now traffic.now result }
 {
-    let course = course_of(plans, links, hops, queues, traffic);
-    let once = come_in_once(plans, links, hops);
+    let course = stream_latency(plans, links, hops, queues, traffic);
+    let once = are_single_entries(plans, links, hops);
     let handed = are_handed(plans, links, hops, queues);
     tested_course(once, handed, course)
 }
 
-/// The figures of a stream, if it has some and nothing else comes in.
-fn tested_course(once: bool, handed: bool, course: Option<Course>) -> Option<Course>
+/// Returns the delays of a stream, or `None` if they are unknown or other devices' frames can get its handles (`once` is false).
+fn tested_course(once: bool, handed: bool, course: Option<StreamLatency>) -> Option<StreamLatency>
     ensures { result ≡ spec.tested_course once handed course }
 {
     let course = course?;

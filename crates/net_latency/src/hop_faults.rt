@@ -1,30 +1,30 @@
-//! Why a hop of a stream of a network is refused.
+//! Explanations of a refused hop of a stream.
 
 use crate::texts::{NetworkText, put_numbers};
 use bridge_bounds::find_filter;
 use bridge_check::Accepted;
 use bridge_config::Plan;
 use bridge_filter::FilterPlan;
-use bridge_text::Text;
+use bridge_text::TextBuilder;
 use net_file::{BridgeRow, NetField, NetSection};
 use net_model::{Link, NetworkFault, RefusedNetwork, StreamHop};
 use std::alloc::Global;
 
-/// A hop that is refused.
+/// A refused hop, with its numbers in the fault line.
 #[derive(Clone, Copy)]
 struct RefusedHop<'a> {
-    /// The place of its stream, from 1.
+    /// Number of its stream, from 1.
     stream: usize,
-    /// Its place in the stream, from 1.
+    /// Number of the hop in the stream, from 1.
     place: usize,
     /// The hop.
     hop: StreamHop,
-    /// Its bridge.
+    /// Bridge of the hop.
     bridge: &'a BridgeRow<Global>,
 }
 
-/// Returns why a hop of a stream is refused, by the places of both, from 1.
-pub fn said_of_hop(
+/// Explains why a hop of a stream is refused. Streams and hops are counted from 1. Returns `None` if the hop is missing or memory runs out.
+pub fn explain_hop_fault(
     alloc: Global,
     asked: NetworkText<'_>,
     refused: &RefusedNetwork<Global>,
@@ -39,8 +39,8 @@ pub fn said_of_hop(
         hop,
         bridge: asked.bridge(hop.bridge)?,
     };
-    let accepted = accepted_at(refused, hop.bridge)?;
-    let mut said = Text::new(alloc);
+    let accepted = bridge_plan(refused, hop.bridge)?;
+    let mut said = TextBuilder::new(alloc);
     put_hop(&mut said, asked, found);
     match refused.fault {
         NetworkFault::HopTwice { .. } => put_twice(&mut said, asked, refused, found),
@@ -50,15 +50,15 @@ pub fn said_of_hop(
         }
         _ => put_filters(alloc, &mut said, accepted.plan(), found),
     }
-    said.done().ok()
+    said.finish().ok()
 }
 
-/// Returns the plan of the bridge at a place, from 0.
-fn accepted_at(refused: &RefusedNetwork<Global>, bridge: u16) -> Option<&Accepted<Global>> {
+/// Returns the plan of the bridge with index `bridge`, from 0, or `None`.
+fn bridge_plan(refused: &RefusedNetwork<Global>, bridge: u16) -> Option<&Accepted<Global>> {
     refused.plans.get(bridge as usize)
 }
 
-/// The name of a stream at a place, from 1.
+/// Returns the name of stream `stream`, counted from 1, or an empty text.
 fn stream_name<'a>(asked: NetworkText<'a>, stream: usize) -> &'a str {
     match asked.file.streams().get(stream.wrapping_sub(1)) {
         Some(row) => row.name(),
@@ -66,19 +66,25 @@ fn stream_name<'a>(asked: NetworkText<'a>, stream: usize) -> &'a str {
     }
 }
 
-/// Adds where the hops of a stream stand, which hop is refused, and its text.
-fn put_hop(said: &mut Text<Global>, asked: NetworkText<'_>, found: RefusedHop<'_>) {
+/// Appends the position of the stream's key `hops`, the refused hop's number, and the hop as the file writes it. All explanations of hops
+/// begin like this.
+fn put_hop(said: &mut TextBuilder<Global>, asked: NetworkText<'_>, found: RefusedHop<'_>) {
     let key = NetField::Hops.key();
     asked.put_place(said, NetSection::Stream, found.stream, Some(key));
-    said.fill(
+    said.put_template(
         "hop {0} of stream \"{a}\" is \"{b}.{1}\", ",
         &[found.place as u64, u64::from(found.hop.filter)],
         &[stream_name(asked, found.stream), found.bridge.name()],
     );
 }
 
-/// Adds that a plan has no protected filter of the number of a hop, and which protected filters it has.
-fn put_filters(alloc: Global, said: &mut Text<Global>, plan: &Plan<Global>, found: RefusedHop<'_>) {
+/// Appends that the plan lacks a protected filter with the hop's number, and the protected filters that it has.
+fn put_filters(
+    alloc: Global,
+    said: &mut TextBuilder<Global>,
+    plan: &Plan<Global>,
+    found: RefusedHop<'_>,
+) {
     let (template, remedy) = match find_filter(plan.filters(), found.hop.filter) {
         Some(_) => (
             "but the plan of {a} ({b}) doesn't protect filter {0}.\n",
@@ -89,7 +95,7 @@ fn put_filters(alloc: Global, said: &mut Text<Global>, plan: &Plan<Global>, foun
             "Correct the hop, or add this filter with `protected = true`.\n",
         ),
     };
-    said.fill(
+    said.put_template(
         template,
         &[u64::from(found.hop.filter)],
         &[found.bridge.name(), found.bridge.plan()],
@@ -98,12 +104,16 @@ fn put_filters(alloc: Global, said: &mut Text<Global>, plan: &Plan<Global>, foun
     said.put(remedy);
 }
 
-/// Adds the numbers of the filters that a plan protects.
-pub(crate) fn put_protected(alloc: Global, said: &mut Text<Global>, filters: &[(u32, FilterPlan)]) {
+/// Appends the numbers of the protected filters: the choices for a wrong number.
+pub(crate) fn put_protected(
+    alloc: Global,
+    said: &mut TextBuilder<Global>,
+    filters: &[(u32, FilterPlan)],
+) {
     let mut numbers = Vec::new(alloc);
     for (number, filter) in filters {
         if filter.protected && numbers.push(u64::from(*number)).is_err() {
-            return said.give_up();
+            return said.discard();
         }
     }
     if numbers.is_empty() {
@@ -114,8 +124,8 @@ pub(crate) fn put_protected(alloc: Global, said: &mut Text<Global>, filters: &[(
     said.put(".\n");
 }
 
-/// The place from 1 of the first of some hops that is a hop; 0 if none is.
-fn place_among(hops: &[StreamHop], hop: StreamHop) -> u64 {
+/// Returns the number, from 1, of the first hop that equals `hop`, or 0.
+fn hop_index(hops: &[StreamHop], hop: StreamHop) -> u64 {
     let mut place = 0u64;
     for other in hops {
         place = place.saturating_add(1);
@@ -126,9 +136,9 @@ fn place_among(hops: &[StreamHop], hop: StreamHop) -> u64 {
     0
 }
 
-/// Adds which earlier hop is the same.
+/// Appends the stream and number of the earlier hop that equals the refused one.
 fn put_twice(
-    said: &mut Text<Global>,
+    said: &mut TextBuilder<Global>,
     asked: NetworkText<'_>,
     refused: &RefusedNetwork<Global>,
     found: RefusedHop<'_>,
@@ -136,9 +146,9 @@ fn put_twice(
     let mut stream = 0usize;
     for hops in &refused.streams {
         stream = stream.saturating_add(1);
-        let place = place_among(hops.as_slice(), found.hop);
+        let place = hop_index(hops.as_slice(), found.hop);
         if place > 0 {
-            said.fill(
+            said.put_template(
                 "and so is hop {0} of stream \"{a}\".\n",
                 &[place],
                 &[stream_name(asked, stream)],
@@ -146,27 +156,31 @@ fn put_twice(
             break;
         }
     }
-    said.fill(
+    said.put_template(
         "A filter is one hop of one stream: name another filter of {a}.\n",
         &[],
         &[found.bridge.name()],
     );
 }
 
-/// Adds that no open port of a bridge has an entry for the filter of a talker's hop.
-fn put_no_entry(said: &mut Text<Global>, accepted: &Accepted<Global>, found: RefusedHop<'_>) {
+/// Appends that no open port of the bridge has an entry for the filter of the talker's hop. So no frame from outside can reach it.
+fn put_no_entry(
+    said: &mut TextBuilder<Global>,
+    accepted: &Accepted<Global>,
+    found: RefusedHop<'_>,
+) {
     let handle = match find_filter(accepted.plan().filters(), found.hop.filter) {
         Some(filter) => filter.handle,
         None => None,
     };
-    said.fill(
+    said.put_template(
         "but no port of {a} without a link has a `stream` entry with the filter's `handle`, {0}.\nAdd this entry at the talker's port to the plan ({b}), or begin `hops` with the talker's bridge.\n",
         &[u64::from(handle.unwrap_or(0))],
         &[found.bridge.name(), found.bridge.plan()],
     );
 }
 
-/// Whether a link joins a bridge to the bridge of one of some hops.
+/// Whether a link joins a bridge to the bridge of one of these hops.
 fn is_joined(links: &[Link], hops: &[StreamHop], bridge: u16) -> bool {
     for link in links {
         let (one, other) = (link.one.bridge, link.other.bridge);
@@ -179,10 +193,15 @@ fn is_joined(links: &[Link], hops: &[StreamHop], bridge: u16) -> bool {
     false
 }
 
-/// Adds that no frame of another hop comes to a hop.
-fn put_unfed(said: &mut Text<Global>, links: &[Link], hops: &[StreamHop], found: RefusedHop<'_>) {
+/// Appends why no frame of another hop can reach the refused hop: no link joins their bridges, or the filter accepts no such frame.
+fn put_unfed(
+    said: &mut TextBuilder<Global>,
+    links: &[Link],
+    hops: &[StreamHop],
+    found: RefusedHop<'_>,
+) {
     if !is_joined(links, hops, found.hop.bridge) {
-        return said.fill(
+        return said.put_template(
             "but no link joins {a} to the bridge of another hop of the stream.\nAdd the link, or correct `hops`.\n",
             &[],
             &[found.bridge.name()],

@@ -1,17 +1,17 @@
-//! The hops of a stream, as networks name them.
+//! Hops of a stream, in the form of networks.
 ghost use Rattle.std.specs.Prelude.{◌≡◌, map, IfOk};
-ghost use Rattle.net_latency.specs.Streams.{hop_in};
+ghost use Rattle.net_latency.specs.Streams.{stream_hop_value};
 
 use bridge_limits::NoMemory;
 use net_model::StreamHop;
 use std::alloc::Allocator;
 
-/// The hops of a stream.
-pub fn hops_of<A: Allocator + Copy>(
+/// Converts the hops of a network file to the hops of `net_model`: pairs become values of `StreamHop`.
+pub fn stream_hops<A: Allocator + Copy>(
     alloc: A,
     rows: &[(u16, u32)],
 ) -> Result<Vec<StreamHop, A>, NoMemory>
-    ensures { IfOk result (λ hops. hops.items ≡ map hop_in rows.now) }
+    ensures { IfOk result (λ hops. hops.items ≡ map stream_hop_value rows.now) }
 {
     let mut hops = Vec::new(alloc);
     for row in rows {

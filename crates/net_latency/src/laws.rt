@@ -1,24 +1,25 @@
-//! Laws of the way of a frame through a network, each the contract of a function that does nothing.
+//! Laws of a frame's route through a network: the promises that reviewers read. Each law is the contract of a function that does nothing,
+//! and that nobody calls.
 ghost use Rattle.std.specs.Prelude.{◌≡◌, ◌≤◌, ◌+◌, ℕ, List, Some, nat_eq, slice_get, true};
 ghost use Rattle.std.specs.List.{list_all};
 ghost use Rattle.std.specs.Map.{lookup};
-ghost use Rattle.bridge_limits.specs.Members.{In};
+ghost use Rattle.bridge_limits.specs.Members.{IsMember};
 ghost use Rattle.bridge_filter.specs.declared.FilterPlan.{FilterPlan};
 ghost use Rattle.bridge_port.specs.Schedule.{Copy};
 ghost use Rattle.bridge_config.specs.declared.ports.PortPlan.{PortPlan};
 ghost use Rattle.bridge_config.specs.Model.{Plan};
-ghost use Rattle.bridge_config.specs.Rules.{IsPlan, port_at};
+ghost use Rattle.bridge_config.specs.Rules.{IsPlan, find_port};
 ghost use Rattle.bridge_check.specs.Acceptable.{IsAcceptable};
-ghost use Rattle.bridge_semantics.specs.Events.{Event, own};
-ghost use Rattle.bridge_semantics.specs.Offers.{Carried};
-ghost use Rattle.bridge_semantics.specs.Runs.{AreWhole, IsOutcome, IsRun};
+ghost use Rattle.bridge_semantics.specs.Events.{Event, own_events};
+ghost use Rattle.bridge_semantics.specs.Offers.{CarriedFrame};
+ghost use Rattle.bridge_semantics.specs.Runs.{AreFinished, IsOutcome, IsRun};
 ghost use Rattle.bridge_semantics.specs.declared.outcome.View.{View};
 ghost use Rattle.net_periods.specs.declared.timing.Timing.{Timing};
 ghost use Rattle.net_periods.specs.Passing.{passes};
 ghost use Rattle.net_periods.specs.Timings.{IsTiming};
 ghost use Rattle.net_file.specs.declared.traffic_row.TrafficRow.{TrafficRow};
 ghost use Rattle.net_latency.specs.Traffic.{IsSentInTime, PassesAt};
-ghost use Rattle.bridge_capture.specs.Grammar.{Captured};
+ghost use Rattle.bridge_capture.specs.Grammar.{CapturedFrame};
 ghost use Rattle.bridge_semantics.specs.Merge.{Input};
 ghost use Rattle.bridge_semantics.specs.declared.outcome.Outcome.{Outcome};
 ghost use Rattle.net_model.specs.declared.links.Link.{Link};
@@ -27,86 +28,85 @@ ghost use Rattle.net_model.specs.Networks.{IsNetwork, IsNetworkRun, Network};
 ghost use Rattle.net_periods.specs.declared.timing.Phases.{Phases};
 ghost use Rattle.net_periods.specs.declared.traffic.Traffic.{Traffic};
 ghost use Rattle.net_periods.specs.Traffic.{IsTraffic, KeepsTraffic};
-ghost use Rattle.net_latency.specs.declared.courses.Course.{Course};
-ghost use Rattle.net_latency.specs.declared.trees.HopQueue.{HopQueue};
-ghost use Rattle.net_latency.specs.Courses.{IsCourse, coming_first};
-ghost use Rattle.net_latency.specs.Phased.{AreFedBy, IsCourseOfWay, IsInCourse, IsWayOf, KeepsAt, KeepsCourse, hop_of};
-ghost use Rattle.net_latency.specs.Ways.{IsWay, Leg, bound_of_way, done_of, last_of};
+ghost use Rattle.net_latency.specs.declared.latency.StreamLatency.{StreamLatency};
+ghost use Rattle.net_latency.specs.declared.tree.HopQueue.{HopQueue};
+ghost use Rattle.net_latency.specs.StreamLatency.{IsStreamLatency, first_hop_arrival};
+ghost use Rattle.net_latency.specs.Phased.{AreFedInTurn, IsRouteLatency, IsWithinRouteLatency, IsRouteOfStream, KeepsTrafficAtHop, KeepsStreamLatency, stream_hop};
+ghost use Rattle.net_latency.specs.Ways.{IsRoute, RouteHop, route_bound, hop_end, last_hop};
 
 use std::alloc::Allocator;
 
-/// Bounds of hops add up. In a whole run of an accepted network a frame that is taken by a queue of a protected filter at
-/// each bridge on its way is done on the last one at most so long after it came to the first as the bounds of these queues
-/// and the delays of the links between them make together, whatever any talker sends.
-pub fn way_in_time<A: Allocator + Copy>()
-    ensures { (n : Network A) (commands : ℕ → List Input) (captures : ℕ → ℕ → List Captured) (o : ℕ → Outcome A)
-        (run : IsNetworkRun n commands captures o) (leg : Leg A) (more : List (ℕ × Leg A))
+/// Bounds of hops add up. A frame's delay over its route is at most the sum of its queues' bounds and its links' delays. Talkers may send
+/// anything.
+pub fn route_in_time<A: Allocator + Copy>()
+    ensures { (n : Network A) (commands : ℕ → List Input) (captures : ℕ → ℕ → List CapturedFrame) (o : ℕ → Outcome A)
+        (run : IsNetworkRun n commands captures o) (leg : RouteHop A) (more : List (ℕ × RouteHop A))
         → IsNetwork n
-        → IsWay n run.lists leg more
-        → done_of (last_of leg more) ≤ leg.copy.at + bound_of_way leg more }
+        → IsRoute n run.lists leg more
+        → hop_end (last_hop leg more) ≤ leg.copy.at + route_bound leg more }
 {}
 
-/// The figures of a talker's period hold on a whole way. In a whole run of an accepted network, where what comes of the
-/// stream to the first bridge comes as its traffic says, and to each other bridge on the way nothing of it comes but what the
-/// queue before sends: the frame of a way is done on the last leg between the phases that follow from leg to leg, in a
-/// period, no sooner and no later after it came than the figures of the way say (`phases`); and where figures of the stream
-/// are told, as `course_of` does, those of each of its ways lie within them, so the frame keeps to them too (`course`).
-pub fn way_in_phases<A: Allocator + Copy>()
-    ensures phases { (n : Network A) (commands : ℕ → List Input) (captures : ℕ → ℕ → List Captured) (o : ℕ → Outcome A)
-        (run : IsNetworkRun n commands captures o) (leg : Leg A) (more : List (ℕ × Leg A)) (t : Traffic) (x : Course)
+/// A frame of a periodic talker keeps the delays and phases of its route (`phases`) and the delays of its stream (`course`). Bridges on the
+/// route must receive no other frames of the stream.
+pub fn route_in_phases<A: Allocator + Copy>()
+    ensures phases { (n : Network A) (commands : ℕ → List Input) (captures : ℕ → ℕ → List CapturedFrame) (o : ℕ
+        → Outcome A)
+        (run : IsNetworkRun n commands captures o) (leg : RouteHop A) (more : List (ℕ
+        × RouteHop A)) (t : Traffic) (x : StreamLatency)
         (done : Phases)
         → IsNetwork n
-        → IsWay n run.lists leg more
-        → AreFedBy n run.inputs run.lists leg more
+        → IsRoute n run.lists leg more
+        → AreFedInTurn n run.inputs run.lists leg more
         → IsTraffic t
-        → KeepsAt run.inputs t leg
-        → IsCourseOfWay t.from (coming_first t) leg more x done
-        → IsInCourse t.period leg.copy.at (done_of (last_of leg more)) x done }
-    ensures course { (n : Network A) (commands : ℕ → List Input) (captures : ℕ → ℕ → List Captured) (o : ℕ → Outcome A)
-        (run : IsNetworkRun n commands captures o) (leg : Leg A) (more : List (ℕ × Leg A)) (t : Traffic)
+        → KeepsTrafficAtHop run.inputs t leg
+        → IsRouteLatency t.from (first_hop_arrival t) leg more x done
+        → IsWithinRouteLatency t.period leg.copy.at (hop_end (last_hop leg more)) x done }
+    ensures course { (n : Network A) (commands : ℕ → List Input) (captures : ℕ → ℕ → List CapturedFrame) (o : ℕ
+        → Outcome A)
+        (run : IsNetworkRun n commands captures o) (leg : RouteHop A) (more : List (ℕ × RouteHop A)) (t : Traffic)
         (links : List Link)
-        (hops : List StreamHop) (queues : List HopQueue) (r : Course)
+        (hops : List StreamHop) (queues : List HopQueue) (r : StreamLatency)
         → IsNetwork n
-        → IsWay n run.lists leg more
-        → AreFedBy n run.inputs run.lists leg more
+        → IsRoute n run.lists leg more
+        → AreFedInTurn n run.inputs run.lists leg more
         → IsTraffic t
-        → KeepsAt run.inputs t leg
-        → slice_get hops 0 ≡ Some (hop_of leg)
-        → IsWayOf links hops queues leg more
-        → IsCourse n.bridges links hops queues t (Some r)
-        → KeepsCourse t leg more r }
+        → KeepsTrafficAtHop run.inputs t leg
+        → slice_get hops 0 ≡ Some (stream_hop leg)
+        → IsRouteOfStream links hops queues leg more
+        → IsStreamLatency n.bridges links hops queues t (Some r)
+        → KeepsStreamLatency t leg more r }
 {}
 
-/// The word `passes` in the line of a traffic row. In a whole run of an accepted plan, where the own frames of a protected
-/// filter come as a row says whose figures in a queue pass, whatever all others send: the verdict of each of its frames is
-/// that it passes (`filter`); and each of its copies in this queue is sent, between the phases of the figures, no sooner than
-/// the best time after its frame came, and no later than the worst (`queue`).
+/// If a traffic row has the word `passes`, each frame passes (`filter`). Each copy is sent between the phases, within the delays (`queue`).
+/// Other traffic doesn't matter.
 pub fn passing_row_is_sent<A: Allocator + Copy>()
-    ensures filter { (p : Plan A) (f : FilterPlan) (es : List Event) (lists : ℕ → List (Copy Carried)) (o : Outcome A)
+    ensures filter { (p : Plan A) (f : FilterPlan) (es : List Event) (lists : ℕ
+        → List (Copy CarriedFrame)) (o : Outcome A)
         (v : View A) (r : TrafficRow) (x : Timing)
         → IsPlan p
         → IsAcceptable p
-        → In (r.filter, f) p.filters
+        → IsMember (r.filter, f) p.filters
         → f.protected ≡ true
         → IsOutcome p es lists o
         → lookup (nat_eq r.filter) o.filters.items ≡ Some v
         → IsTraffic r.traffic
-        → KeepsTraffic r.traffic (own p r.filter f es)
+        → KeepsTraffic r.traffic (own_events p r.filter f es)
         → PassesAt p r x
         → list_all passes v.verdicts.items ≡ true }
-    ensures queue { (p : Plan A) (f : FilterPlan) (es : List Event) (moments : ℕ → ℕ) (lists : ℕ → List (Copy Carried))
-        (q : ℕ) (out : PortPlan A) (y : Copy Carried) (r : TrafficRow) (x : Timing)
+    ensures queue { (p : Plan A) (f : FilterPlan) (es : List Event) (moments : ℕ → ℕ) (lists : ℕ
+        → List (Copy CarriedFrame))
+        (q : ℕ) (out : PortPlan A) (y : Copy CarriedFrame) (r : TrafficRow) (x : Timing)
         → IsPlan p
         → IsAcceptable p
-        → In (r.filter, f) p.filters
+        → IsMember (r.filter, f) p.filters
         → f.protected ≡ true
         → IsRun p es moments lists
-        → AreWhole lists
-        → port_at p.ports q ≡ Some out
-        → In y (lists q)
+        → AreFinished lists
+        → find_port p.ports q ≡ Some out
+        → IsMember y (lists q)
         → y.item.flow ≡ Some r.filter
         → IsTraffic r.traffic
-        → KeepsTraffic r.traffic (own p r.filter f es)
+        → KeepsTraffic r.traffic (own_events p r.filter f es)
         → IsTiming p r.filter q y.class r.traffic x
         → PassesAt p r x
         → IsSentInTime out r x y }

@@ -1,41 +1,38 @@
 #![tactic(auto)]
-//! Delays: the bounds of queues, the figures of periodic talkers at one bridge and over several hops, and the lines and faults of
-//! both.
+//! Delay bounds of queues, delays of periodic talkers at one bridge and over several hops, and their lines and faults.
 
 mod bounds;
-mod courses;
 mod cycles;
 mod entering;
 mod hop_faults;
 mod hops;
+mod latency;
 pub mod laws;
-mod leading;
+mod next_hop;
 mod printing;
+mod queue_exit;
 mod refusable;
 mod reporting;
-mod stops;
 mod streams;
 mod talkers;
 mod texts;
 mod tight;
 mod timings;
 mod traffic;
-mod trees;
+mod tree;
 
-pub use bounds::{QueueBound, bounds_of};
-pub use courses::{Course, course_of};
-pub use cycles::{explain_traffic, said_of_period};
-pub use entering::{may_come_in, stream_course};
-pub use hop_faults::said_of_hop;
-pub use hops::hops_of;
-pub use printing::{bounds_job, bounds_text};
+pub use bounds::{QueueBound, queue_bounds};
+pub use cycles::{explain_period, explain_traffic};
+pub use entering::can_others_enter;
+pub use hop_faults::explain_hop_fault;
+pub use hops::stream_hops;
+pub use latency::StreamLatency;
+pub use printing::bounds_job;
 pub use refusable::{explain_refusable, put_reason};
 pub use reporting::{TrafficReport, traffic_job};
-pub use stops::Coming;
-pub use streams::{StreamLines, bounds_of_all, bounds_of_streams, rows_at, stream_lines};
-pub use talkers::{course_over, first_misfit};
-pub use texts::{NetworkText, put_numbers, text_of};
-pub use tight::tight_bounds_of;
-pub use timings::{QueueTiming, TrafficFigures, are_kept, timings_of, timings_text};
+pub use streams::{StreamLines, all_queue_bounds, bounds_of_bridge, stream_bounds, stream_lines};
+pub use talkers::{first_misfit, latency_through_hops};
+pub use texts::{NetworkText, put_numbers, reread_text};
+pub use tight::tight_queue_bounds;
+pub use timings::{QueueTiming, TrafficFigures, are_in_time, queue_timings};
 pub use traffic::traffic_fault;
-pub use trees::HopQueue;

@@ -1,28 +1,27 @@
-//! What is told beside the figures of traffic of which frames may be refused: which condition fails. Nothing here can fail: what
-//! can't be read again is left out.
+//! Explanations of traffic that may be refused: the condition that fails. No call fails: files that can't be read again are left out.
 ghost use Rattle.std.specs.Prelude.{◌≤◌, All, length};
 ghost use Rattle.net_periods.specs.Traffic.{IsTraffic};
 ghost use Rattle.net_file.specs.TrafficRows.{IsRow};
 
-use crate::reporting::rows_from;
-use crate::timings::{QueueTiming, TrafficFigures, timings_of};
-use app_failure::planned;
+use crate::reporting::read_rows;
+use crate::timings::{QueueTiming, TrafficFigures, queue_timings};
+use app_failure::read_accepted_plan;
 use bridge_bounds::find_filter;
 use bridge_check::Accepted;
 use bridge_config::Plan;
 use bridge_filter::FilterPlan;
-use bridge_text::Text;
+use bridge_text::TextBuilder;
 use net_file::TrafficRow;
-use net_periods::{Traffic, most_octets, passes};
+use net_periods::{Traffic, longest_sdu, passes};
 use std::alloc::Global;
 use std::fs;
 use std::rt::Files;
 
-/// The octets of a frame check sequence, which the lengths of traffic leave out.
+/// Octets of a frame check sequence, which the lengths of traffic leave out.
 const CHECK_OCTETS: u32 = 4;
 
-/// Why frames of the traffic of a file may be refused under the plan of another one, made anew of both: a sentence for each
-/// queue whose line says `refusable`.
+/// Explains why frames of a traffic file may be refused, for each queue whose line says `refusable`; reads both files again. Returns `None`
+/// if this fails or memory runs out.
 pub fn explain_refusable<H: AllocGlobal + Files>(
     rt: &H,
     plan: &str,
@@ -31,36 +30,40 @@ pub fn explain_refusable<H: AllocGlobal + Files>(
     let alloc = rt.alloc();
     let reader = fs::open(rt, plan).ok()?;
     let texts = fs::open(rt, traffic).ok()?;
-    let accepted = match planned(alloc, alloc, plan, reader) {
+    let accepted = match read_accepted_plan(alloc, alloc, plan, reader) {
         Ok(accepted) => accepted,
         Err(_) => return None,
     };
-    let said = match rows_from(alloc, alloc, traffic, texts) {
-        Ok(rows) => said_of_rows(alloc, &accepted, &rows),
+    let said = match read_rows(alloc, alloc, traffic, texts) {
+        Ok(rows) => explain_refusable_rows(alloc, &accepted, &rows),
         Err(_) => None,
     };
     drop(accepted);
     said
 }
 
-/// Why frames of rows may be refused.
-fn said_of_rows(alloc: Global, accepted: &Accepted<Global>, rows: &[TrafficRow]) -> Option<String>
+/// Explains why frames of these rows may be refused, a sentence for each row and queue. Returns `None` if memory runs out.
+fn explain_refusable_rows(
+    alloc: Global,
+    accepted: &Accepted<Global>,
+    rows: &[TrafficRow],
+) -> Option<String>
     requires few { length rows.now ≤ 1024 }
     requires rows { All IsRow rows.now }
 {
-    let timings = timings_of(alloc, accepted, rows).ok()?;
-    let mut said = Text::new(alloc);
+    let timings = queue_timings(alloc, accepted, rows).ok()?;
+    let mut said = TextBuilder::new(alloc);
     let mut index: u32 = 0;
     for row in rows {
         index = index.saturating_add(1);
         put_row(&mut said, accepted.plan(), index, row, &timings);
     }
-    said.done().ok()
+    said.finish().ok()
 }
 
-/// Adds why frames of a row may be refused, for each of its queues.
+/// Appends a sentence for each queue in which frames of this row may be refused.
 fn put_row(
-    said: &mut Text<Global>,
+    said: &mut TextBuilder<Global>,
     plan: &Plan<Global>,
     index: u32,
     row: &TrafficRow,
@@ -77,14 +80,19 @@ fn put_row(
     }
 }
 
-/// Adds why frames of a row may be refused in a queue.
-fn put_queue(said: &mut Text<Global>, plan: &Plan<Global>, row: &TrafficRow, queue: &QueueTiming)
+/// Appends a sentence: the traffic row, its filter, the port at which frames may be refused, and the first condition that fails.
+fn put_queue(
+    said: &mut TextBuilder<Global>,
+    plan: &Plan<Global>,
+    row: &TrafficRow,
+    queue: &QueueTiming,
+)
     requires row { IsRow row.now }
 {
     let Some(filter) = find_filter(plan.filters(), row.filter) else {
         return;
     };
-    said.fill(
+    said.put_template(
         "Traffic {0} (filter {1}) is refusable at port {2}: ",
         &[
             u64::from(queue.row),
@@ -96,9 +104,9 @@ fn put_queue(said: &mut Text<Global>, plan: &Plan<Global>, row: &TrafficRow, que
     put_reason(said, plan, &filter, &row.traffic, queue.class);
 }
 
-/// Adds the first condition that fails for frames that come so to a filter, whose queue has this class.
+/// Appends the first condition that fails for this traffic at the filter and its queue of `class`. `net check` also calls it for hops.
 pub fn put_reason(
-    said: &mut Text<Global>,
+    said: &mut TextBuilder<Global>,
     plan: &Plan<Global>,
     filter: &FilterPlan,
     traffic: &Traffic,
@@ -106,10 +114,10 @@ pub fn put_reason(
 )
     requires traffic { IsTraffic traffic.now }
 {
-    let octets = most_octets(plan, filter.handle, traffic.longest);
+    let octets = longest_sdu(plan, filter.handle, traffic.longest);
     let most = filter.max_sdu.unwrap_or(octets);
     if most < octets {
-        said.fill(
+        said.put_template(
             "the SDU of its longest frame has {0} octets, and `max_sdu` is {1}.",
             &[u64::from(octets), u64::from(most)],
             &[],
@@ -117,14 +125,14 @@ pub fn put_reason(
         return put_hint(said, octets - most <= CHECK_OCTETS);
     }
     if let Some(meter) = filter.meter {
-        return said.fill(
+        return said.put_template(
             "meter {0} of the filter may refuse frames.\n",
             &[u64::from(meter)],
             &[],
         );
     }
     if passes(plan, filter, traffic) {
-        return said.fill(
+        return said.put_template(
             "a frame may still be queued when the next one arrives, and the queue may then be full. Its class {0} must be open early enough.\n",
             &[u64::from(class)],
             &[],
@@ -133,9 +141,9 @@ pub fn put_reason(
     put_gate(said, plan, filter, traffic, octets);
 }
 
-/// Adds that the gate refuses a frame.
+/// Appends that the filter's stream gate may refuse a frame, and a hint if the lengths may include the frame check sequence.
 fn put_gate(
-    said: &mut Text<Global>,
+    said: &mut TextBuilder<Global>,
     plan: &Plan<Global>,
     filter: &FilterPlan,
     traffic: &Traffic,
@@ -143,7 +151,7 @@ fn put_gate(
 )
     requires traffic { IsTraffic traffic.now }
 {
-    said.fill(
+    said.put_template(
         "for some arrival between {0} and {1} ns, gate {2} is closed, or its `octets` are fewer than the {3} of the SDU.",
         &[
             traffic.from,
@@ -156,7 +164,7 @@ fn put_gate(
     put_hint(said, is_shorter_passing(plan, filter, traffic));
 }
 
-/// Whether the frames pass if each is shorter by a frame check sequence.
+/// Whether each frame would pass if it were shorter by a frame check sequence.
 fn is_shorter_passing(plan: &Plan<Global>, filter: &FilterPlan, traffic: &Traffic) -> bool
     requires traffic { IsTraffic traffic.now }
 {
@@ -173,8 +181,8 @@ fn is_shorter_passing(plan: &Plan<Global>, filter: &FilterPlan, traffic: &Traffi
     passes(plan, filter, &shorter)
 }
 
-/// Adds what often is the cause, and ends the line.
-fn put_hint(said: &mut Text<Global>, is_shorter_passing: bool) {
+/// Appends a hint if the frame would pass without 4 octets: the lengths may include the frame check sequence. Ends the line in any case.
+fn put_hint(said: &mut TextBuilder<Global>, is_shorter_passing: bool) {
     if is_shorter_passing {
         said.put(
             " With 4 octets less it would pass: `least` and `longest` leave out the frame check sequence.",

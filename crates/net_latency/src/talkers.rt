@@ -1,34 +1,35 @@
-//! Streams whose talkers keep a period: whether it suits the plans, and how long their frames take.
+//! Streams with periodic talkers: whether the period suits the plans, and the delays of their frames.
 ghost use Rattle.std.specs.Prelude.{◌≡◌, ◌++◌, ◌∷◌, ◌≤◌, All, IfOk, OnOk, [], length, map, nat_eq, option_map, slice_get, ℕ};
 ghost use Rattle.std.specs.List.{list_all};
 ghost use Rattle.std.specs.Map.{lookup};
 ghost use Rattle.std.specs.Option.{ForSome};
-ghost use Rattle.net_latency.specs.Courses.{IsQueue};
+ghost use Rattle.net_latency.specs.StreamLatency.{IsQueue};
 ghost use Rattle.net_latency.specs.Entering.{IsStreamCourse};
 ghost use Rattle.net_file.specs.Rules.{IsTalker};
 ghost use Rattle.net_periods.specs.Traffic.{IsTraffic};
-ghost use Rattle.net_latency.specs.Streams.{hop_in};
+ghost use Rattle.net_latency.specs.Streams.{stream_hop_value};
 ghost use Rattle.net_latency.specs.Talkers as spec;
-ghost use Rattle.net_latency.specs.Bounds.{IsPlaced};
-ghost use Rattle.net_latency.specs.Talkers.{IsCourseOf};
+ghost use Rattle.net_latency.specs.Bounds.{HasValidPort};
+ghost use Rattle.net_latency.specs.Talkers.{IsTalkerLatency};
 
 use crate::bounds::QueueBound;
-use crate::courses::Course;
-use crate::entering::stream_course;
-use crate::hops::hops_of;
-use crate::streams::rows_at;
+use crate::entering::checked_stream_latency;
+use crate::hops::stream_hops;
+use crate::latency::StreamLatency;
+use crate::streams::bounds_of_bridge;
 use crate::traffic::suits;
-use crate::trees::HopQueue;
+use crate::tree::HopQueue;
 use bridge_bounds::find_filter;
 use bridge_check::Accepted;
 use bridge_config::Plan;
 use bridge_limits::NoMemory;
-use net_file::{NetFault, NetField, NetPlace, NetSection, StreamRow, Talker};
+use net_file::{NetFault, NetField, NetKeyLocation, NetSection, StreamRow, Talker};
 use net_model::{Link, StreamHop};
 use net_periods::Traffic;
 use std::alloc::Allocator;
 
-/// Whether a period suits the filter of a number, where the plan has it.
+/// Whether the period suits the filter with this number: no cycle time on its route fails to divide it. Returns true if the filter is
+/// missing.
 fn suits_filter<A: Allocator + Copy>(plan: &Plan<A>, filter: u32, period: u64) -> bool
     ensures { result ≡ spec.suits_filter plan.now period (lookup (nat_eq filter) plan.now.filters) }
 {
@@ -38,31 +39,31 @@ fn suits_filter<A: Allocator + Copy>(plan: &Plan<A>, filter: u32, period: u64) -
     }
 }
 
-/// The plan of a bridge, where it is there.
-fn accepted_at<A: Allocator + Copy>(plans: &[Accepted<A>], bridge: u16) -> Option<&Accepted<A>>
+/// Returns the plan of the bridge with index `bridge`, or `None` if the bridge is missing.
+fn accepted_plan<A: Allocator + Copy>(plans: &[Accepted<A>], bridge: u16) -> Option<&Accepted<A>>
     ensures { option_map (λ p. p.now) result ≡ slice_get plans.now bridge }
 {
     plans.get(bridge as usize)
 }
 
-/// Whether it suits a hop.
+/// Whether the period suits a hop. Returns true if its bridge is missing.
 fn suits_hop<A: Allocator + Copy>(plans: &[Accepted<A>], hop: (u16, u32), period: u64) -> bool
-    ensures { result ≡ spec.suits_at (slice_get plans.now hop.0) hop.1 period }
+    ensures { result ≡ spec.suits_hop (slice_get plans.now hop.0) hop.1 period }
 {
-    match accepted_at(plans, hop.0) {
+    match accepted_plan(plans, hop.0) {
         None => true,
         Some(accepted) => suits_filter(accepted.plan(), hop.1, period),
     }
 }
 
-/// Whether it suits all of some hops.
+/// Whether the period suits all of these hops.
 fn suits_each<A: Allocator + Copy>(plans: &[Accepted<A>], hops: &[(u16, u32)], period: u64) -> bool
-    ensures { result ≡ list_all (λ (h : ℕ × ℕ). spec.suits_at (slice_get plans.now h.0) h.1 period) hops.now }
+    ensures { result ≡ list_all (λ (h : ℕ × ℕ). spec.suits_hop (slice_get plans.now h.0) h.1 period) hops.now }
 {
     hops.iter().all(|h| suits_hop(plans, *h, period))
 }
 
-/// Whether the period of a talker suits all hops of its stream.
+/// Whether the talker's period suits all hops of its stream. Returns true without a periodic talker.
 fn suits_hops<A: Allocator + Copy>(
     plans: &[Accepted<A>],
     talker: Option<Talker>,
@@ -76,8 +77,8 @@ fn suits_hops<A: Allocator + Copy>(
     }
 }
 
-/// The first of some streams whose talker keeps a period that is no multiple of each cycle on the way of its frames: of the
-/// lists of the gates of its hops, and of those of each port at which the frames may be queued.
+/// Returns the fault of the first stream whose period isn't a multiple of each cycle time on its route, or `None`. Cycles belong to stream
+/// gates and ports with reachable queues.
 pub fn first_misfit<A: Allocator + Copy>(
     plans: &[Accepted<A>],
     streams: &[StreamRow<A>],
@@ -88,7 +89,7 @@ pub fn first_misfit<A: Allocator + Copy>(
     let mut index: u32 = 1;
     for stream in streams {
         if !suits_hops(plans, stream.talker(), stream.hops()) {
-            return Some(NetFault::OutOfRange(NetPlace {
+            return Some(NetFault::OutOfRange(NetKeyLocation {
                 section: NetSection::Stream,
                 index,
                 field: NetField::Period,
@@ -99,10 +100,10 @@ pub fn first_misfit<A: Allocator + Copy>(
     None
 }
 
-/// The frames of a talker.
-fn traffic_of(talker: &Talker) -> Traffic
+/// Converts a talker of a network file to the traffic that delays are computed of.
+fn talker_traffic(talker: &Talker) -> Traffic
     requires { IsTalker talker.now }
-    ensures traffic { result ≡ spec.traffic_of talker.now }
+    ensures traffic { result ≡ spec.talker_traffic talker.now }
     ensures rules { IsTraffic result }
 {
     Traffic {
@@ -114,16 +115,16 @@ fn traffic_of(talker: &Talker) -> Traffic
     }
 }
 
-/// Adds a queue of a hop, where it is one of the hop's filter.
+/// Appends the queue of `row` to `queues` if it belongs to the hop's filter.
 #[tactic(auto, using(crate::proofs::Queued::one_more, crate::proofs::Queued::none_more))]
-fn put_row<A: Allocator + Copy>(
+fn put_hop_queue<A: Allocator + Copy>(
     row: &QueueBound,
     hop: StreamHop,
     queues: &mut Vec<HopQueue, A>,
 ) -> Result<(), NoMemory>
-    requires row { IsPlaced row.now }
+    requires row { HasValidPort row.now }
     requires before { All IsQueue queues.old.items }
-    ensures more { OnOk result (queues.new.items ≡ queues.old.items ++ spec.queues_among (row.now ∷ []) hop) }
+    ensures more { OnOk result (queues.new.items ≡ queues.old.items ++ spec.filter_queues (row.now ∷ []) hop) }
     ensures queues { OnOk result (All IsQueue queues.new.items) }
 {
     if row.filter != hop.filter {
@@ -137,47 +138,47 @@ fn put_row<A: Allocator + Copy>(
     Ok(())
 }
 
-/// Adds the queues of a hop, among those of its plan's filters.
-fn put_among<A: Allocator + Copy>(
+/// Appends to `queues` the queues of a hop. `rows` has the delay bounds of its bridge, one for each reachable queue.
+fn put_filter_queues<A: Allocator + Copy>(
     rows: &[QueueBound],
     hop: StreamHop,
     queues: &mut Vec<HopQueue, A>,
 ) -> Result<(), NoMemory>
-    requires rows { All IsPlaced rows.now }
+    requires rows { All HasValidPort rows.now }
     requires before { All IsQueue queues.old.items }
-    ensures more { OnOk result (queues.new.items ≡ queues.old.items ++ spec.queues_among rows.now hop) }
+    ensures more { OnOk result (queues.new.items ≡ queues.old.items ++ spec.filter_queues rows.now hop) }
     ensures queues { OnOk result (All IsQueue queues.new.items) }
 {
     for row in rows {
-        let Ok(()) = put_row(row, hop, queues) else {
+        let Ok(()) = put_hop_queue(row, hop, queues) else {
             return Err(NoMemory);
         };
     }
     Ok(())
 }
 
-/// Adds the queues of a hop.
+/// Appends to `queues` the reachable queues of a hop. `bounds` has the delay bounds of each bridge.
 fn put_queues<A: Allocator + Copy>(
     bounds: &[Vec<QueueBound, A>],
     hop: StreamHop,
     queues: &mut Vec<HopQueue, A>,
 ) -> Result<(), NoMemory>
-    requires rows { All (λ v. All IsPlaced v.items) bounds.now }
+    requires rows { All (λ v. All HasValidPort v.items) bounds.now }
     requires before { All IsQueue queues.old.items }
-    ensures more { OnOk result (queues.new.items ≡ queues.old.items ++ spec.queues_at bounds.now hop) }
+    ensures more { OnOk result (queues.new.items ≡ queues.old.items ++ spec.queues_of_hop bounds.now hop) }
     ensures queues { OnOk result (All IsQueue queues.new.items) }
 {
-    put_among(rows_at(bounds, hop.bridge), hop, queues)
+    put_filter_queues(bounds_of_bridge(bounds, hop.bridge), hop, queues)
 }
 
-/// The queues of all hops, by the bounds of the plans.
-fn queues_of<A: Allocator + Copy>(
+/// Returns the reachable queues of all hops, hop by hop. Delay bounds list each reachable queue, so they are the source.
+fn hop_queues<A: Allocator + Copy>(
     alloc: A,
     bounds: &[Vec<QueueBound, A>],
     hops: &[StreamHop],
 ) -> Result<Vec<HopQueue, A>, NoMemory>
-    requires rows { All (λ v. All IsPlaced v.items) bounds.now }
-    ensures same { IfOk result (λ v. v.items ≡ spec.queues_of bounds.now hops.now) }
+    requires rows { All (λ v. All HasValidPort v.items) bounds.now }
+    ensures same { IfOk result (λ v. v.items ≡ spec.hop_queues bounds.now hops.now) }
     ensures queues { IfOk result (λ v. All IsQueue v.items) }
 {
     let mut queues = Vec::new(alloc);
@@ -189,46 +190,48 @@ fn queues_of<A: Allocator + Copy>(
     Ok(queues)
 }
 
-/// How long the frames of a talker take through some hops.
-pub fn course_over<A: Allocator + Copy>(
+/// Returns the delays of a talker's frames through these hops, or `None` if they are unknown. `net check` calls it with changed hops to
+/// find the cause.
+pub fn latency_through_hops<A: Allocator + Copy>(
     alloc: A,
     plans: &[Accepted<A>],
     links: &[Link],
     bounds: &[Vec<QueueBound, A>],
     hops: &[StreamHop],
     talker: &Talker,
-) -> Result<Option<Course>, NoMemory>
-    requires rows { All (λ v. All IsPlaced v.items) bounds.now }
+) -> Result<Option<StreamLatency>, NoMemory>
+    requires rows { All (λ v. All HasValidPort v.items) bounds.now }
     requires few { length hops.now ≤ 64 }
     requires talker { IsTalker talker.now }
-    ensures { IfOk result (IsStreamCourse plans.now links.now hops.now (spec.queues_of bounds.now hops.now)
-        (spec.traffic_of talker.now)) }
+    ensures { IfOk result (IsStreamCourse plans.now links.now hops.now (spec.hop_queues bounds.now hops.now)
+        (spec.talker_traffic talker.now)) }
 {
-    let Ok(queues) = queues_of(alloc, bounds, hops) else {
+    let Ok(queues) = hop_queues(alloc, bounds, hops) else {
         return Err(NoMemory);
     };
-    let traffic = traffic_of(talker);
-    Ok(stream_course(plans, links, hops, &queues, &traffic))
+    let traffic = talker_traffic(talker);
+    Ok(checked_stream_latency(plans, links, hops, &queues, &traffic))
 }
 
-/// How long the frames of a stream take, where its talker keeps a period.
-pub(crate) fn course_for<A: Allocator + Copy>(
+/// Returns the delays of a stream's frames. Returns `None` without a periodic talker, or if the delays are unknown.
+pub(crate) fn talker_latency<A: Allocator + Copy>(
     alloc: A,
     plans: &[Accepted<A>],
     links: &[Link],
     bounds: &[Vec<QueueBound, A>],
     stream: &StreamRow<A>,
-) -> Result<Option<Course>, NoMemory>
-    requires rows { All (λ v. All IsPlaced v.items) bounds.now }
+) -> Result<Option<StreamLatency>, NoMemory>
+    requires rows { All (λ v. All HasValidPort v.items) bounds.now }
     requires few { length stream.now.hops ≤ 64 }
     requires talker { ForSome stream.now.talker IsTalker }
-    ensures { IfOk result (IsCourseOf plans.now links.now bounds.now stream.now.talker (map hop_in stream.now.hops)) }
+    ensures { IfOk result (IsTalkerLatency plans.now links.now bounds.now stream.now.talker
+        (map stream_hop_value stream.now.hops)) }
 {
     let Some(talker) = stream.talker() else {
         return Ok(None);
     };
-    let Ok(hops) = hops_of(alloc, stream.hops()) else {
+    let Ok(hops) = stream_hops(alloc, stream.hops()) else {
         return Err(NoMemory);
     };
-    course_over(alloc, plans, links, bounds, &hops, &talker)
+    latency_through_hops(alloc, plans, links, bounds, &hops, &talker)
 }

@@ -1,14 +1,15 @@
 //! Files that are read again for an explanation.
 
 use app_files::read_text;
-use bridge_text::{Document, Instance, Position, Text, put_position};
+use bridge_text::{Document, Instance, Position, TextBuilder, put_position};
 use net_file::{BridgeRow, NetSection, NetworkFile};
 use std::alloc::Global;
 use std::fs;
 use std::rt::Files;
 
-/// Reads the text of a file again. None for a pipe, which can't be read again, and for a file that can't be read.
-pub fn text_of<H: AllocGlobal + Files>(rt: &H, path: &str) -> Option<Vec<u8>> {
+/// Reads a file's contents again, for an explanation. Returns `None` for a pipe, which gives its contents once, and for a file that can't
+/// be read. Networks and traffic aren't kept after a command.
+pub fn reread_text<H: AllocGlobal + Files>(rt: &H, path: &str) -> Option<Vec<u8>> {
     if !fs::metadata(rt, path).ok()?.is_file() {
         return None;
     }
@@ -16,27 +17,28 @@ pub fn text_of<H: AllocGlobal + Files>(rt: &H, path: &str) -> Option<Vec<u8>> {
     read_text(rt.alloc(), reader).ok()
 }
 
-/// A network of a file, with its text.
+/// A network file, with its contents, for explanations that give positions in the file.
 #[derive(Clone, Copy)]
 pub struct NetworkText<'a> {
-    /// The path of the file.
+    /// Path of the file.
     pub path: &'a str,
-    /// Its text with its document.
+    /// Contents and document of the file.
     pub document: Document<'a>,
     /// The network.
     pub file: &'a NetworkFile<Global>,
 }
 
 impl<'a> NetworkText<'a> {
-    /// Returns the bridge at a place, from 0.
+    /// Returns the bridge with this index, from 0, or `None`.
     pub fn bridge(self, place: u16) -> Option<&'a BridgeRow<Global>> {
         self.file.bridges().get(place as usize)
     }
 
-    /// Adds the path of the file, and where a key of an instance stands, or its header; the place is counted from 1.
+    /// Appends the path of the file, and the position of an instance's key, or of its header if `key` is `None`. Instances are counted from
+    /// 1.
     pub fn put_place(
         self,
-        said: &mut Text<Global>,
+        said: &mut TextBuilder<Global>,
         section: NetSection,
         index: usize,
         key: Option<&str>,
@@ -45,7 +47,8 @@ impl<'a> NetworkText<'a> {
         put_position(said, self.position(section, index, key));
     }
 
-    /// Returns where a key of an instance stands, or its header, by its place from 1.
+    /// Returns the position of an instance's key, or of its header if `key` is `None`. Instances are counted from 1. Returns `None` if the
+    /// document lacks it.
     fn position(self, section: NetSection, index: usize, key: Option<&str>) -> Option<Position> {
         let instance = Instance {
             document: self.document,
@@ -56,8 +59,8 @@ impl<'a> NetworkText<'a> {
     }
 }
 
-/// Adds numbers with commas between them: the first sixteen, and two points if there are more.
-pub fn put_numbers(said: &mut Text<Global>, numbers: &[u64]) {
+/// Appends the first 16 numbers with commas between them, and two points if there are more.
+pub fn put_numbers(said: &mut TextBuilder<Global>, numbers: &[u64]) {
     let mut is_first = true;
     for number in numbers.iter().take(MOST_NUMBERS) {
         said.put_comma(is_first);
@@ -69,5 +72,5 @@ pub fn put_numbers(said: &mut Text<Global>, numbers: &[u64]) {
     }
 }
 
-/// The most numbers that are listed.
+/// Number of items after which a list in an explanation is cut.
 const MOST_NUMBERS: usize = 16;

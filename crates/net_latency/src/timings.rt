@@ -1,7 +1,7 @@
-//! How long the frames of traffic take, in each queue of their filters, and what is printed of it.
+//! Delays of traffic in each queue of its filters, and their lines.
 ghost use Rattle.std.specs.Prelude.{◌≡◌, ◌↔◌, ◌++◌, ◌∷◌, ◌≤◌, All, IfOk, List, OnOk, Some, [], length, map, string_bytes, true};
 ghost use Rattle.bridge_text.specs.Growth.{HasGrown};
-ghost use Rattle.bridge_bounds.specs.Bounds.{IsBound};
+ghost use Rattle.bridge_bounds.specs.Bounds.{IsQueueBound};
 ghost use Rattle.net_file.specs.TrafficRows.{IsRow};
 ghost use Rattle.net_latency.specs.Bounds.{AreBounds};
 ghost use Rattle.net_latency.specs.declared.timings.TrafficFigures.TheVariants.{Queue};
@@ -9,49 +9,49 @@ ghost use Rattle.net_latency.specs.Traffic as spec;
 ghost use Rattle.net_latency.specs.Traffic.{AreRowTimings, AreTimings, RowPasses};
 ghost use Rattle.net_latency.specs.TrafficText as printing;
 
-use crate::bounds::{QueueBound, bounds_of};
+use crate::bounds::{QueueBound, queue_bounds};
 use bridge_bounds::find_filter;
 use bridge_check::Accepted;
 use bridge_limits::NoMemory;
-use bridge_text::Text;
+use bridge_text::TextBuilder;
 use net_file::TrafficRow;
-use net_periods::{Phases, Timing, passes, timing_of};
+use net_periods::{Phases, Timing, passes, queue_timing};
 use std::alloc::Allocator;
 
-/// How long the frames of a row of traffic take in a queue to which they may come.
+/// Delays of a traffic row's frames in a reachable queue: one line of `bounds --traffic`.
 #[derive(Clone, Copy)]
 pub struct QueueTiming {
-    /// The place of the row in the text, from 1.
+    /// Number of the row in the file, from 1.
     pub row: u32,
-    /// The number of the filter.
+    /// Filter number.
     pub filter: u32,
-    /// The number of the port, 1 to 16.
+    /// Port number, 1 to 16.
     pub port: u8,
-    /// The class of the queue, 0 to 7.
+    /// Class of the queue, 0 to 7.
     pub class: u8,
     /// Whether each frame passes the filter, and the queue accepts it: each has left before the next one arrives.
     pub passes: bool,
-    /// How long the frames that pass take.
+    /// Delays of the frames that pass.
     pub timing: Timing,
-    /// How long they may take at most, in ns.
+    /// Largest allowed delay in ns. `None` means no limit.
     pub deadline: Option<u64>,
 }
 
-/// The figures of a row of traffic in a queue of its filter, or that no queue takes its frames.
+/// Delays of a traffic row in a queue of its filter, or the fact that no queue is reachable.
 #[derive(Clone, Copy)]
 pub enum TrafficFigures {
-    /// The figures in a queue.
+    /// Delays in one queue.
     Queue(QueueTiming),
-    /// The filter reaches no queue, so the bridge forwards none of its frames.
+    /// The filter has no reachable queue, so the bridge forwards none of its frames.
     Nowhere {
-        /// The place of the row in the text, from 1.
+        /// Number of the row in the file, from 1.
         row: u32,
-        /// The number of the filter.
+        /// Filter number.
         filter: u32,
     },
 }
 
-/// Whether each frame of a row passes its filter.
+/// Whether each frame of a row passes its filter. Returns false if the plan lacks the filter.
 fn row_passes<A: Allocator + Copy>(accepted: &Accepted<A>, row: &TrafficRow) -> bool
     requires row { IsRow row.now }
     ensures { (result ≡ true) ↔ RowPasses accepted.now row.now }
@@ -63,8 +63,8 @@ fn row_passes<A: Allocator + Copy>(accepted: &Accepted<A>, row: &TrafficRow) -> 
     }
 }
 
-/// Adds the figures of a row in a queue, where it is one of the row's filter.
-fn put_timing<A: Allocator + Copy>(
+/// Appends to `made` the delays of row `index` in the queue of `bound`, if the queue belongs to the row's filter.
+fn push_queue_timing<A: Allocator + Copy>(
     accepted: &Accepted<A>,
     bound: &QueueBound,
     index: u32,
@@ -72,7 +72,7 @@ fn put_timing<A: Allocator + Copy>(
     passes: bool,
     made: &mut Vec<QueueTiming, A>,
 ) -> Result<(), NoMemory>
-    requires bound { IsBound accepted.now bound.now.filter bound.now.port bound.now.class bound.now.bound }
+    requires bound { IsQueueBound accepted.now bound.now.filter bound.now.port bound.now.class bound.now.bound }
     requires row { IsRow row.now }
     requires passes { (passes ≡ true) ↔ RowPasses accepted.now row.now }
     ensures one_more { OnOk result ((bounds : List QueueBound)
@@ -83,7 +83,7 @@ fn put_timing<A: Allocator + Copy>(
     if bound.filter != row.filter {
         return Ok(());
     }
-    if let Some(timing) = timing_of(
+    if let Some(timing) = queue_timing(
         accepted,
         bound.filter,
         bound.port,
@@ -103,7 +103,7 @@ fn put_timing<A: Allocator + Copy>(
     Ok(())
 }
 
-/// The figures of a row, one for each queue of its filter among those that have these bounds.
+/// Returns the delays of a row, one for each reachable queue of its filter. Returns an empty list if there is none.
 fn row_timings<A: Allocator + Copy>(
     alloc: A,
     accepted: &Accepted<A>,
@@ -118,14 +118,14 @@ fn row_timings<A: Allocator + Copy>(
     let passes = row_passes(accepted, row);
     let mut made = Vec::new(alloc);
     for bound in bounds {
-        let Ok(()) = put_timing(accepted, bound, index, row, passes, &mut made) else {
+        let Ok(()) = push_queue_timing(accepted, bound, index, row, passes, &mut made) else {
             return Err(NoMemory);
         };
     }
     Ok(made)
 }
 
-/// Adds the figures in some queues.
+/// Appends one `TrafficFigures::Queue` to `made` for each of these queue timings.
 fn put_queues<A: Allocator + Copy>(
     queues: &[QueueTiming],
     made: &mut Vec<TrafficFigures, A>,
@@ -140,7 +140,7 @@ fn put_queues<A: Allocator + Copy>(
     Ok(())
 }
 
-/// Adds the figures of a row in its queues, or that it has none.
+/// Appends the delays of a row to `made`, one item for each queue. Appends one `Nowhere` if there is no queue.
 fn put_row<A: Allocator + Copy>(
     row: u32,
     filter: u32,
@@ -158,8 +158,8 @@ fn put_row<A: Allocator + Copy>(
     Ok(())
 }
 
-/// The figures of all rows of traffic, row by row, of each by rising port and class of its filter's queues.
-pub fn timings_of<A: Allocator + Copy>(
+/// Returns the delays of all rows of traffic, row by row, then by rising port and class of the filter's queues.
+pub fn queue_timings<A: Allocator + Copy>(
     alloc: A,
     accepted: &Accepted<A>,
     rows: &[TrafficRow],
@@ -168,7 +168,7 @@ pub fn timings_of<A: Allocator + Copy>(
     requires rows { All IsRow rows.now }
     ensures { IfOk result (λ v. AreTimings accepted.now rows.now v.items) }
 {
-    let Ok(bounds) = bounds_of(alloc, accepted) else {
+    let Ok(bounds) = queue_bounds(alloc, accepted) else {
         return Err(NoMemory);
     };
     let mut made = Vec::new(alloc);
@@ -185,7 +185,7 @@ pub fn timings_of<A: Allocator + Copy>(
     Ok(made)
 }
 
-/// Whether a deadline, where there is one, is met.
+/// Whether the worst delay meets the deadline. Returns true without a deadline.
 pub(crate) fn is_met(deadline: Option<u64>, worst: u128) -> bool
     ensures { result ≡ spec.is_met deadline worst }
 {
@@ -195,7 +195,7 @@ pub(crate) fn is_met(deadline: Option<u64>, worst: u128) -> bool
     }
 }
 
-/// Whether each frame passes, and meets its deadline, in a queue; without one, no frame is forwarded.
+/// Whether each frame passes and meets its deadline in a queue. Returns false for a row without queue.
 fn is_kept(figures: &TrafficFigures) -> bool
     ensures { result ≡ spec.is_row_kept figures.now }
 {
@@ -205,14 +205,14 @@ fn is_kept(figures: &TrafficFigures) -> bool
     }
 }
 
-/// Whether each row leads to a queue, and each frame passes, and meets its deadline, in each of them.
-pub fn are_kept(timings: &[TrafficFigures]) -> bool
-    ensures { result ≡ spec.are_kept timings.now }
+/// Whether each row has a queue, and each frame passes and meets its deadline in each queue.
+pub fn are_in_time(timings: &[TrafficFigures]) -> bool
+    ensures { result ≡ spec.are_in_time timings.now }
 {
     timings.iter().all(|x| is_kept(x))
 }
 
-/// Whether a deadline is met.
+/// Returns `met` or `missed` for a deadline of `limit` ns and a worst delay in ns.
 fn deadline_word(limit: u64, worst: u128) -> &'static str
     ensures { result.now ≡ printing.deadline_word (spec.is_met (Some limit) worst) }
 {
@@ -223,8 +223,12 @@ fn deadline_word(limit: u64, worst: u128) -> &'static str
     }
 }
 
-/// Puts what is said of a deadline, where there is one.
-pub(crate) fn put_deadline<A: Allocator>(text: &mut Text<A>, deadline: Option<u64>, worst: u128)
+/// Writes a deadline and whether it is met. Writes nothing without a deadline.
+pub(crate) fn put_deadline<A: Allocator>(
+    text: &mut TextBuilder<A>,
+    deadline: Option<u64>,
+    worst: u128,
+)
     ensures { HasGrown text.old (printing.deadline_words deadline worst) text.new }
 {
     if let Some(limit) = deadline {
@@ -235,8 +239,8 @@ pub(crate) fn put_deadline<A: Allocator>(text: &mut Text<A>, deadline: Option<u6
     }
 }
 
-/// Puts the row, the filter, the port and the class of a queue.
-fn put_queue<A: Allocator>(text: &mut Text<A>, x: &QueueTiming)
+/// Writes the start of a timing line: row, filter, port and class of the queue.
+fn put_queue<A: Allocator>(text: &mut TextBuilder<A>, x: &QueueTiming)
     ensures { HasGrown text.old (printing.queue_words x.now) text.new }
 {
     text.put("traffic ");
@@ -249,8 +253,8 @@ fn put_queue<A: Allocator>(text: &mut Text<A>, x: &QueueTiming)
     text.put_number(u64::from(x.class));
 }
 
-/// Puts the phases between which frames are done, if there are some.
-fn put_phases<A: Allocator>(text: &mut Text<A>, phases: Option<Phases>)
+/// Writes the phases of the ends of transmission, if they are known.
+fn put_phases<A: Allocator>(text: &mut TextBuilder<A>, phases: Option<Phases>)
     ensures { HasGrown text.old (printing.phase_words phases) text.new }
 {
     let Some(Phases { from, to }) = phases else {
@@ -262,9 +266,9 @@ fn put_phases<A: Allocator>(text: &mut Text<A>, phases: Option<Phases>)
     text.put_number(to);
 }
 
-/// Puts delays in ns: at worst, at best, their difference, and the phases between which frames are done.
+/// Writes worst delay, best delay and jitter in ns, and the phases of the ends of transmission.
 pub(crate) fn put_delays<A: Allocator>(
-    text: &mut Text<A>,
+    text: &mut TextBuilder<A>,
     worst: u128,
     best: u128,
     phases: Option<Phases>,
@@ -280,8 +284,8 @@ pub(crate) fn put_delays<A: Allocator>(
     put_phases(text, phases);
 }
 
-/// Puts the figures of a queue.
-fn put_figures<A: Allocator>(text: &mut Text<A>, x: &QueueTiming)
+/// Writes worst delay, best delay, jitter and phases in a queue.
+fn put_timing_words<A: Allocator>(text: &mut TextBuilder<A>, x: &QueueTiming)
     ensures { HasGrown text.old (printing.figure_words x.now) text.new }
 {
     let Timing {
@@ -292,27 +296,27 @@ fn put_figures<A: Allocator>(text: &mut Text<A>, x: &QueueTiming)
     put_delays(text, worst as u128, best as u128, phases);
 }
 
-/// Puts the line of a queue.
-fn put_line<A: Allocator>(text: &mut Text<A>, x: &QueueTiming)
+/// Writes the line of a row's frames in a queue: `passes` or `refusable`, the delays, and whether the deadline is met.
+fn put_timing_line<A: Allocator>(text: &mut TextBuilder<A>, x: &QueueTiming)
     ensures { HasGrown text.old (printing.timing_line x.now) text.new }
 {
     put_queue(text, x);
     text.put(" ");
     text.put(passing_word(x.passes));
-    put_figures(text, x);
+    put_timing_words(text, x);
     put_deadline(text, x.deadline, x.timing.worst as u128);
     text.put("\n");
 }
 
-/// Whether each frame passes.
+/// Returns `passes` if each frame passes, otherwise `refusable`.
 fn passing_word(passes: bool) -> &'static str
     ensures { result.now ≡ printing.passing_word passes }
 {
     if passes { "passes" } else { "refusable" }
 }
 
-/// Puts the line of a row that leads nowhere.
-fn put_nowhere<A: Allocator>(text: &mut Text<A>, row: u32, filter: u32)
+/// Writes the line of a row without reachable queue: it ends with `nowhere`.
+fn put_nowhere<A: Allocator>(text: &mut TextBuilder<A>, row: u32, filter: u32)
     ensures { HasGrown text.old (printing.nowhere_line row filter) text.new }
 {
     text.put("traffic ");
@@ -322,26 +326,26 @@ fn put_nowhere<A: Allocator>(text: &mut Text<A>, row: u32, filter: u32)
     text.put(" nowhere\n");
 }
 
-/// Puts the line of a row in a queue, or of one that leads nowhere.
-fn put_row_line<A: Allocator>(text: &mut Text<A>, figures: &TrafficFigures)
+/// Writes the line of a row in a queue, or of a row without queue.
+fn put_row_line<A: Allocator>(text: &mut TextBuilder<A>, figures: &TrafficFigures)
     ensures { HasGrown text.old (printing.figures_line figures.now) text.new }
 {
     match figures {
-        TrafficFigures::Queue(x) => put_line(text, x),
+        TrafficFigures::Queue(x) => put_timing_line(text, x),
         TrafficFigures::Nowhere { row, filter } => put_nowhere(text, *row, *filter),
     }
 }
 
-/// The lines of some rows: one for each queue, or the only one of a row that leads nowhere.
+/// Returns the lines of these rows: one for each queue, or a single line for a row without queue.
 pub fn timings_text<A: Allocator + Copy>(
     alloc: A,
     timings: &[TrafficFigures],
 ) -> Result<String<A>, NoMemory>
     ensures { IfOk result (λ text. string_bytes text ≡ printing.timings_text timings.now) }
 {
-    let mut text = Text::new(alloc);
+    let mut text = TextBuilder::new(alloc);
     for timing in timings {
         put_row_line(&mut text, timing);
     }
-    text.done()
+    text.finish()
 }

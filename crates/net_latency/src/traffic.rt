@@ -1,21 +1,21 @@
-//! What is wrong with traffic by the plan for which it is.
+//! Faults of traffic compared with its plan.
 ghost use Rattle.std.specs.Prelude.{◌≡◌, ◌||◌, ◌+◌, ◌<◌, ◌≤◌, length, nat_eq, option_map};
 ghost use Rattle.std.specs.Map.{lookup};
-ghost use Rattle.bridge_check.specs.Reach.{any_below, reaches};
-ghost use Rattle.bridge_check.specs.Reached.{reach_of};
+ghost use Rattle.bridge_check.specs.Reach.{some_number_passes, reaches_queue};
+ghost use Rattle.bridge_check.specs.ReachTables.{filter_reach};
 ghost use Rattle.net_latency.specs.Traffic as spec;
 
 use crate::bounds::is_reached;
 use bridge_bounds::find_filter;
-use bridge_check::{Reach, find_gate, reach_of};
+use bridge_check::{Reach, filter_reach, find_gate};
 use bridge_config::{Plan, PortPlan};
 use bridge_cycle::{Egress, Timeline};
 use bridge_filter::FilterPlan;
 use bridge_gate::Schedule;
-use net_file::{NetFault, NetField, NetPlace, NetSection, TrafficFault, TrafficRow};
+use net_file::{NetFault, NetField, NetKeyLocation, NetSection, TrafficFault, TrafficRow};
 use std::alloc::Allocator;
 
-/// Whether a period is a multiple of the cycles of a gate.
+/// Whether a period is a multiple of the cycle times of a stream gate's schedule. Returns true for a fixed gate, which has no cycle.
 fn suits_schedule<A: Allocator + Copy>(period: u64, schedule: &Schedule<A>) -> bool
     ensures { result ≡ spec.suits_schedule period schedule.now }
 {
@@ -29,7 +29,7 @@ fn suits_schedule<A: Allocator + Copy>(period: u64, schedule: &Schedule<A>) -> b
     }
 }
 
-/// Whether it is one of the cycles of a port.
+/// Whether a period is a multiple of the cycle times of a port's gate control lists. Returns true without a list.
 fn suits_lists<A: Allocator + Copy>(period: u64, lists: &Option<Egress<A>>) -> bool
     ensures { result ≡ spec.suits_lists period lists.now }
 {
@@ -43,7 +43,7 @@ fn suits_lists<A: Allocator + Copy>(period: u64, lists: &Option<Egress<A>>) -> b
     }
 }
 
-/// Whether it is one of the cycles of the gate of a filter.
+/// Whether a period is a multiple of the cycle times of the stream gate with this number. Returns true if the gate is missing.
 fn suits_gate<A: Allocator + Copy>(plan: &Plan<A>, gate: u32, period: u64) -> bool
     ensures { result ≡ spec.suits_gate period (lookup (nat_eq gate) plan.now.gates) }
 {
@@ -53,24 +53,24 @@ fn suits_gate<A: Allocator + Copy>(plan: &Plan<A>, gate: u32, period: u64) -> bo
     }
 }
 
-/// Whether one of two holds.
+/// Whether at least one of two values is true. `can_wait_at_port` and `has_misfit` fold the results of their loops by it.
 fn either(a: bool, b: bool) -> bool
     ensures { result ≡ (a || b) }
 {
     a || b
 }
 
-/// Whether frames with this reach may be queued at a port.
-pub(crate) fn comes_to<A: Allocator + Copy>(
+/// Whether the filter has a reachable queue at a port, in any class. `reach` is the filter's reach.
+pub(crate) fn can_wait_at_port<A: Allocator + Copy>(
     plan: &Plan<A>,
     filter: &FilterPlan,
     reach: &Reach,
     port: u8,
 ) -> bool
-    requires reach { reach.now ≡ reach_of plan.now filter.now }
+    requires reach { reach.now ≡ filter_reach plan.now filter.now }
     requires from { 1 ≤ port }
     requires to { port ≤ 16 }
-    ensures { result ≡ any_below 8 (λ c. reaches plan.now filter.now port c) }
+    ensures { result ≡ some_number_passes 8 (λ c. reaches_queue plan.now filter.now port c) }
 {
     let mut found = false;
     for class in 0..8u8 {
@@ -80,7 +80,7 @@ pub(crate) fn comes_to<A: Allocator + Copy>(
     found
 }
 
-/// Whether a period is a multiple of the cycles of a port, where the plan has it.
+/// Whether a period is a multiple of the cycle times of a port. Returns true if the port is missing.
 fn suits_port<A: Allocator + Copy>(period: u64, port: Option<&PortPlan<A>>) -> bool
     ensures { result ≡ spec.suits_port period (option_map (λ p. p.now) port.entry) }
 {
@@ -90,54 +90,54 @@ fn suits_port<A: Allocator + Copy>(period: u64, port: Option<&PortPlan<A>>) -> b
     }
 }
 
-/// Whether frames with this reach may be queued at a port whose cycles a period doesn't suit.
-fn misfits_at<A: Allocator + Copy>(
+/// Whether the filter has a reachable queue at a port whose cycle times don't divide the period.
+fn has_misfit_at_port<A: Allocator + Copy>(
     plan: &Plan<A>,
     filter: &FilterPlan,
     reach: &Reach,
     period: u64,
     port: u8,
 ) -> bool
-    requires reach { reach.now ≡ reach_of plan.now filter.now }
+    requires reach { reach.now ≡ filter_reach plan.now filter.now }
     requires from { 1 ≤ port }
     requires to { port ≤ 16 }
-    ensures { result ≡ spec.misfits_at plan.now filter.now period port }
+    ensures { result ≡ spec.has_misfit_at_port plan.now filter.now period port }
 {
-    let comes = comes_to(plan, filter, reach, port);
+    let comes = can_wait_at_port(plan, filter, reach, port);
     let suits = suits_port(period, plan.port(port));
     comes && !suits
 }
 
-/// Whether they may be queued at some such port.
-fn misfits<A: Allocator + Copy>(
+/// Whether the filter has a reachable queue at any port whose cycle times don't divide the period.
+fn has_misfit<A: Allocator + Copy>(
     plan: &Plan<A>,
     filter: &FilterPlan,
     reach: &Reach,
     period: u64,
 ) -> bool
-    requires reach { reach.now ≡ reach_of plan.now filter.now }
-    ensures { result ≡ any_below 16 (λ i. spec.misfits_at plan.now filter.now period (i + 1)) }
+    requires reach { reach.now ≡ filter_reach plan.now filter.now }
+    ensures { result ≡ some_number_passes 16 (λ i. spec.has_misfit_at_port plan.now filter.now period (i + 1)) }
 {
     let mut found = false;
     for place in 0..16u8 {
-        let here = misfits_at(plan, filter, reach, period, place + 1);
+        let here = has_misfit_at_port(plan, filter, reach, period, place + 1);
         found = either(found, here);
     }
     found
 }
 
-/// Whether a period is a multiple of each cycle on the way of a filter's frames.
+/// Whether a period is a multiple of each cycle time on the route of a filter's frames.
 pub(crate) fn suits<A: Allocator + Copy>(plan: &Plan<A>, filter: &FilterPlan, period: u64) -> bool
     ensures { result ≡ spec.suits plan.now filter.now period }
 {
     if !suits_gate(plan, filter.gate, period) {
         return false;
     }
-    let reach = reach_of(plan, filter);
-    !misfits(plan, filter, &reach, period)
+    let reach = filter_reach(plan, filter);
+    !has_misfit(plan, filter, &reach, period)
 }
 
-/// What is wrong with the row at an index by the plan.
+/// Returns the fault of row `index` compared with the plan, or `None`: the filter is missing or unprotected, or the period doesn't suit.
 pub(crate) fn row_fault<A: Allocator + Copy>(
     plan: &Plan<A>,
     index: u32,
@@ -146,7 +146,7 @@ pub(crate) fn row_fault<A: Allocator + Copy>(
     ensures { result ≡ spec.row_fault plan.now index row.now }
 {
     let Some(filter) = find_filter(plan.filters(), row.filter) else {
-        return Some(TrafficFault::Text(NetFault::Unresolved(NetPlace {
+        return Some(TrafficFault::Text(NetFault::Unresolved(NetKeyLocation {
             section: NetSection::Traffic,
             index,
             field: NetField::Filter,
@@ -156,7 +156,7 @@ pub(crate) fn row_fault<A: Allocator + Copy>(
         return Some(TrafficFault::NotProtected(index));
     }
     if !suits(plan, &filter, row.traffic.period) {
-        return Some(TrafficFault::Text(NetFault::OutOfRange(NetPlace {
+        return Some(TrafficFault::Text(NetFault::OutOfRange(NetKeyLocation {
             section: NetSection::Traffic,
             index,
             field: NetField::Period,
@@ -165,15 +165,14 @@ pub(crate) fn row_fault<A: Allocator + Copy>(
     None
 }
 
-/// The first fault of traffic by the plan for which it is: row by row a filter that the plan doesn't have (`Unresolved`), one
-/// that isn't protected, and a period that isn't a multiple of each cycle on the way of the filter's frames (`OutOfRange`):
-/// of the lists of its gate, and of those of each port at which the frames may be queued.
+/// Returns the first fault of traffic compared with its plan, row by row, or `None`. The filter may be missing or unprotected, or a cycle
+/// on its route may not divide the period.
 pub fn traffic_fault<A: Allocator + Copy>(
     plan: &Plan<A>,
     rows: &[TrafficRow],
 ) -> Option<TrafficFault>
     requires { length rows.now ≤ 1024 }
-    ensures { result ≡ spec.first_fault_from plan.now 1 rows.now }
+    ensures { result ≡ spec.first_row_fault plan.now 1 rows.now }
 {
     let mut index: u32 = 1;
     for row in rows {

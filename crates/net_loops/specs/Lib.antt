@@ -1,6 +1,6 @@
 pub mod Walks
-pub mod Peeling
+pub mod Pruning
 pub mod Searching
 pub mod Groups
 pub mod Steps
-pub mod Circulations
+pub mod ForwardingLoops

@@ -1,76 +1,75 @@
--- From which port to which frames go in a network, over one link each time.
+-- Steps of frames in a network. A step crosses one link, from a port of arrival to the next one.
 use Rattle.std.specs.Prelude.{◌≡◌, ℕ, zero, suc, ◌+◌, List, [], ◌∷◌, ◌++◌, Option, None, Some, if◌then◌else◌}
-use Rattle.bridge_limits.specs.Members.{In}
-use Rattle.bridge_forward.specs.Ports.{has}
-use Rattle.bridge_forward.specs.Database.{Database, entry_at, members_at}
-use Rattle.bridge_forward.specs.Forward.{forward, goes_to}
+use Rattle.bridge_limits.specs.Members.{IsMember}
+use Rattle.bridge_forward.specs.Ports.{has_port}
+use Rattle.bridge_forward.specs.Database.{Database, static_ports, vlan_members}
+use Rattle.bridge_forward.specs.Forward.{forward, output_ports}
 use Rattle.bridge_config.specs.declared.ports.PortPlan.{PortPlan}
 use Rattle.bridge_config.specs.Model.{Plan}
-use Rattle.bridge_config.specs.Rules.{port_at}
+use Rattle.bridge_config.specs.Rules.{find_port}
 use Rattle.net_model.specs.declared.links.Link.{Link}
 use Rattle.net_model.specs.Networks.{End}
-use Rattle.net_model.specs.Wiring.{peer}
-use Rattle.net_loops.specs.declared.places.Place.{Place}
-use Rattle.net_loops.specs.declared.places.Step.{Step}
+use Rattle.net_model.specs.NetworkParts.{peer_port}
+use Rattle.net_model.specs.declared.links.BridgePort.{BridgePort}
+use Rattle.net_loops.specs.declared.ports.Step.{Step}
 use Rattle.net_loops.specs.Walks.{step}
-use Rattle.net_loops.specs.declared.groups.Group.{Group}
+use Rattle.net_loops.specs.declared.groups.FrameGroup.{FrameGroup}
 use Rattle.net_loops.specs.Groups as groups
 
--- the frames of a VLAN or none to a destination, or to any other
-abbrev pub group_by : Option ℕ → Option (List ℕ) → Group
+-- The frames with this optional VLAN and this optional destination.
+abbrev pub group_by : Option ℕ → Option (List ℕ) → FrameGroup
 group_by vlan destination = groups.group_by vlan destination
 
--- the VLAN in which a port classifies frames of a group: the one that their tag names, else the port's own
-abbrev pub vlan_in : {A : Type 0} → Option ℕ → PortPlan A → ℕ
-vlan_in None on = on.vid
-vlan_in (Some vid) on = vid
+-- The VLAN in which port `on` classifies frames: the VLAN of their tag, otherwise the port's own.
+abbrev pub vlan_or_default : {A : Type 0} → Option ℕ → PortPlan A → ℕ
+vlan_or_default None on = on.vid
+vlan_or_default (Some vid) on = vid
 
--- the VLAN in which the frames of a group go at a port
-abbrev pub vlan_on : {A : Type 0} → Group → PortPlan A → ℕ
-vlan_on g on = vlan_in g.vlan on
+-- The VLAN in which port `on` classifies the group's frames.
+abbrev pub classified_vlan : {A : Type 0} → FrameGroup → PortPlan A → ℕ
+classified_vlan g on = vlan_or_default g.vlan on
 
--- the ports to which frames go that come on a port and are classified in a VLAN; where no static entry names their destination all other
--- members
-abbrev pub outs_of : Database → Option (List ℕ) → ℕ → ℕ → ℕ
-outs_of db (Some address) vid q = forward db q vid address
-outs_of db None vid q = goes_to (members_at db.vlans vid) None q
+-- Egress ports of frames that arrive on port `q` and are classified in VLAN `vid`. Without a static entry these are the VLAN's other members.
+abbrev pub egress_ports : Database → Option (List ℕ) → ℕ → ℕ → ℕ
+egress_ports db (Some address) vid q = forward db q vid address
+egress_ports db None vid q = output_ports (vlan_members db.vlans vid) None q
 
--- what is told of the numbers below some bound, in order
-abbrev pub all_below : {X : Type 0} → ℕ → (ℕ → List X) → List X
-all_below zero tell = []
-all_below (suc n) tell = all_below n tell ++ tell n
+-- The items of `tell` for the numbers below a bound, from 0 on, in one list.
+abbrev pub collect_below : {X : Type 0} → ℕ → (ℕ → List X) → List X
+collect_below zero tell = []
+collect_below (suc n) tell = collect_below n tell ++ tell n
 
--- a port of a bridge
-abbrev pub place_of : ℕ → ℕ → Place
-place_of b q = record { bridge = b; port = q }
+-- Port `q` of bridge `b` in the form of `net_model`.
+abbrev pub bridge_port : ℕ → ℕ → BridgePort
+bridge_port b q = record { bridge = b; port = q }
 
--- the step to the port at the other end of a link, where there is one
-abbrev pub step_over : Place → Option End → List Step
-step_over from None = []
-step_over from (Some e) = step from (place_of e.bridge e.port) ∷ []
+-- The step to the port at the other end of a link; no step without a link.
+abbrev pub step_to_peer : BridgePort → Option End → List Step
+step_to_peer from None = []
+step_to_peer from (Some e) = step from (bridge_port e.bridge e.port) ∷ []
 
--- the step over the link of a port, where it is one of these
-abbrev pub steps_to : List Link → Place → ℕ → ℕ → List Step
-steps_to links from outs r = if has outs r then step_over from (peer links from.bridge r) else []
+-- The step over the link of port `r`; no step if `outs` lacks the port or the port has no link.
+abbrev pub steps_over_link : List Link → BridgePort → ℕ → ℕ → List Step
+steps_over_link links from outs r = if has_port outs r then step_to_peer from (peer_port links from.bridge r) else []
 
--- the steps over the links of these ports
-abbrev pub steps_on : List Link → Place → ℕ → List Step
-steps_on links from outs = all_below 16 (λ i. steps_to links from outs (i + 1))
+-- The steps over the links of the ports in `outs`.
+abbrev pub steps_over_links : List Link → BridgePort → ℕ → List Step
+steps_over_links links from outs = collect_below 16 (λ i. steps_over_link links from outs (i + 1))
 
--- the steps of frames that come on a port of a bridge, where it is there
-abbrev pub steps_if : {A : Type 0} → List Link → Group → ℕ → Plan A → ℕ → Option (PortPlan A) → List Step
-steps_if links g b p q None = []
-steps_if links g b p q (Some on) = steps_on links (place_of b q) (outs_of p.database g.destination (vlan_on g on) q)
+-- The steps of frames that arrive on port `q` of bridge `b`; no step if the port is missing.
+abbrev pub steps_of_port : {A : Type 0} → List Link → FrameGroup → ℕ → Plan A → ℕ → Option (PortPlan A) → List Step
+steps_of_port links g b p q None = []
+steps_of_port links g b p q (Some on) = steps_over_links links (bridge_port b q) (egress_ports p.database g.destination (classified_vlan g on) q)
 
--- the steps of frames that come to a bridge
-abbrev pub steps_at : {A : Type 0} → List Link → Group → ℕ → Plan A → List Step
-steps_at links g b p = all_below 16 (λ i. steps_if links g b p (i + 1) (port_at p.ports (i + 1)))
+-- The steps of frames that arrive at bridge `b`.
+abbrev pub steps_of_bridge : {A : Type 0} → List Link → FrameGroup → ℕ → Plan A → List Step
+steps_of_bridge links g b p = collect_below 16 (λ i. steps_of_port links g b p (i + 1) (find_port p.ports (i + 1)))
 
--- the steps of frames of a group in a network of these plans, the first of which is that of bridge b
-abbrev pub steps_from : {A : Type 0} → List Link → Group → ℕ → List (Plan A) → List Step
-steps_from links g b [] = []
-steps_from links g b (p ∷ ps) = steps_at links g b p ++ steps_from links g (suc b) ps
+-- The steps of the group's frames in a network of these plans. The first plan has bridge index `b`.
+abbrev pub group_steps : {A : Type 0} → List Link → FrameGroup → ℕ → List (Plan A) → List Step
+group_steps links g b [] = []
+group_steps links g b (p ∷ ps) = steps_of_bridge links g b p ++ group_steps links g (suc b) ps
 
--- no static entry of any plan names an address
-abbrev pub NamesNone : {A : Type 0} → List ℕ → List (Plan A) → Type 0
-NamesNone {A} address plans = (p : Plan A) → In p plans → (vid : ℕ) → entry_at p.database.statics vid address ≡ None
+-- Holds if no plan has a static entry for the address.
+abbrev pub HasNoStaticEntry : {A : Type 0} → List ℕ → List (Plan A) → Type 0
+HasNoStaticEntry {A} address plans = (p : Plan A) → IsMember p plans → (vid : ℕ) → static_ports p.database.statics vid address ≡ None

@@ -1,22 +1,22 @@
--- Walks along steps from port to port, and those that come round.
+-- Walks along steps from port to port, and walks that return to their start.
 use Rattle.std.specs.Prelude.{List, [], ◌∷◌}
-use Rattle.bridge_limits.specs.Members.{In}
-use Rattle.net_loops.specs.declared.places.Place.{Place}
-use Rattle.net_loops.specs.declared.places.Step.{Step}
+use Rattle.bridge_limits.specs.Members.{IsMember}
+use Rattle.net_model.specs.declared.links.BridgePort.{BridgePort}
+use Rattle.net_loops.specs.declared.ports.Step.{Step}
 
--- the step from a port to another one
-abbrev pub step : Place → Place → Step
+-- The step from port `x` to port `y`.
+abbrev pub step : BridgePort → BridgePort → Step
 step x y = record { from = x; to = y }
 
--- steps lead from a port to another one, by these ports between them
-abbrev pub Leads : List Step → Place → Place → List Place → Type 0
-Leads steps x y [] = In (step x y) steps
-Leads steps x y (z ∷ zs) = In (step x z) steps × Leads steps z y zs
+-- Holds if steps lead from `x` to `y` by the ports in between.
+abbrev pub IsWalk : List Step → BridgePort → BridgePort → List BridgePort → Type 0
+IsWalk steps x y [] = IsMember (step x y) steps
+IsWalk steps x y (z ∷ zs) = IsMember (step x z) steps × IsWalk steps z y zs
 
--- steps lead from a port to another one
-abbrev pub Walks : List Step → Place → Place → Type 0
-Walks steps x y = (between : List Place) × Leads steps x y between
+-- Holds if steps lead from `x` to `y`.
+abbrev pub HasWalk : List Step → BridgePort → BridgePort → Type 0
+HasWalk steps x y = (between : List BridgePort) × IsWalk steps x y between
 
--- steps lead from a port to itself again
-abbrev pub GoesRound : List Step → Place → Type 0
-GoesRound steps x = Walks steps x x
+-- Holds if steps lead from `x` back to `x`.
+abbrev pub IsOnLoop : List Step → BridgePort → Type 0
+IsOnLoop steps x = HasWalk steps x x

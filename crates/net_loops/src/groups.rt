@@ -1,7 +1,7 @@
-//! Which frames go one way through a network.
+//! Groups of frames that take one route through a network.
 ghost use Rattle.std.specs.Prelude.{◌≡◌, IfOk, OnOk, fold};
 ghost use Rattle.net_loops.specs.Groups as spec;
-ghost use Rattle.net_loops.specs.Groups.{all_groups, with_group, with_known, with_plan, with_vlan};
+ghost use Rattle.net_loops.specs.Groups.{all_groups, with_group, with_static_entry, with_plan, with_vlan};
 
 use bridge_check::Accepted;
 use bridge_config::Plan;
@@ -9,18 +9,18 @@ use bridge_forward::{StaticEntry, Vlan};
 use bridge_limits::NoMemory;
 use std::alloc::Allocator;
 
-/// Frames that go one way: a bridge changes neither the VLAN that their tag names nor where they are to go.
+/// Frames with one route: a bridge changes neither their tag's VLAN nor their destination.
 #[derive(Clone, Copy)]
-pub struct Group {
-    /// The VLAN that their tag names. Frames without one are classified by the port on which they come.
+pub struct FrameGroup {
+    /// VLAN of the frames' tag. `None` if no tag names a VLAN; the port of arrival then classifies the frame.
     pub vlan: Option<u16>,
-    /// Their destination; without one any that no static entry names.
+    /// Destination of the frames. `None` for every destination without a static entry.
     pub destination: Option<[u8; 6]>,
 }
 
-/// Whether two VLANs that a tag may name are one.
-fn is_one_vlan(a: Option<u16>, b: Option<u16>) -> bool
-    ensures { result ≡ spec.is_one_vlan a b }
+/// Whether two optional VLANs are equal; `None` equals only `None`.
+fn is_same_vlan(a: Option<u16>, b: Option<u16>) -> bool
+    ensures { result ≡ spec.is_same_vlan a b }
 {
     match (a, b) {
         (None, None) => true,
@@ -29,9 +29,9 @@ fn is_one_vlan(a: Option<u16>, b: Option<u16>) -> bool
     }
 }
 
-/// Whether two destinations are one.
-fn is_one_destination(a: Option<[u8; 6]>, b: Option<[u8; 6]>) -> bool
-    ensures { result ≡ spec.is_one_destination a b }
+/// Whether two optional destinations are equal; `None` equals only `None`.
+fn is_same_destination(a: Option<[u8; 6]>, b: Option<[u8; 6]>) -> bool
+    ensures { result ≡ spec.is_same_destination a b }
 {
     match (a, b) {
         (None, None) => true,
@@ -40,22 +40,25 @@ fn is_one_destination(a: Option<[u8; 6]>, b: Option<[u8; 6]>) -> bool
     }
 }
 
-/// Whether two groups are one.
-fn is_one_group(a: &Group, b: &Group) -> bool
-    ensures { result ≡ spec.is_one_group a.now b.now }
+/// Whether two groups have equal VLANs and destinations.
+fn is_same_group(a: &FrameGroup, b: &FrameGroup) -> bool
+    ensures { result ≡ spec.is_same_group a.now b.now }
 {
-    is_one_vlan(a.vlan, b.vlan) && is_one_destination(a.destination, b.destination)
+    is_same_vlan(a.vlan, b.vlan) && is_same_destination(a.destination, b.destination)
 }
 
-/// Whether a group is one of some groups.
-fn has_group(groups: &[Group], group: &Group) -> bool
+/// Whether `groups` contains `group`.
+fn has_group(groups: &[FrameGroup], group: &FrameGroup) -> bool
     ensures { result ≡ spec.has_group groups.now group.now }
 {
-    groups.iter().any(|known| is_one_group(known, group))
+    groups.iter().any(|known| is_same_group(known, group))
 }
 
-/// Adds a group, where it isn't there yet.
-fn add_group<A: Allocator + Copy>(groups: &mut Vec<Group, A>, group: Group) -> Result<(), NoMemory>
+/// Appends `group` to `groups` unless it is there. Each group is searched once, so each warning appears once.
+fn add_group<A: Allocator + Copy>(
+    groups: &mut Vec<FrameGroup, A>,
+    group: FrameGroup,
+) -> Result<(), NoMemory>
     ensures { OnOk result (groups.new.items ≡ with_group groups.old.items group) }
 {
     if has_group(groups.as_slice(), &group) {
@@ -65,45 +68,45 @@ fn add_group<A: Allocator + Copy>(groups: &mut Vec<Group, A>, group: Group) -> R
     Ok(())
 }
 
-/// Adds the groups of the destinations that static entries name: in the VLAN of the entry, and without one.
-fn add_known<A: Allocator + Copy>(
-    groups: &mut Vec<Group, A>,
+/// Adds to `groups` the groups of the static entries' destinations: in the entry's VLAN, and without VLAN.
+fn add_static_groups<A: Allocator + Copy>(
+    groups: &mut Vec<FrameGroup, A>,
     statics: &[StaticEntry],
 ) -> Result<(), NoMemory>
-    ensures { OnOk result (groups.new.items ≡ fold with_known groups.old.items statics.now) }
+    ensures { OnOk result (groups.new.items ≡ fold with_static_entry groups.old.items statics.now) }
 {
     for entry in statics {
-        add_entry(groups, entry)?;
+        add_entry_groups(groups, entry)?;
     }
     Ok(())
 }
 
-/// Adds the two groups of a static entry.
-fn add_entry<A: Allocator + Copy>(
-    groups: &mut Vec<Group, A>,
+/// Adds to `groups` the two groups of a static entry: its destination in its VLAN, and its destination without VLAN.
+fn add_entry_groups<A: Allocator + Copy>(
+    groups: &mut Vec<FrameGroup, A>,
     entry: &StaticEntry,
 ) -> Result<(), NoMemory>
-    ensures { OnOk result (groups.new.items ≡ with_known groups.old.items entry.now) }
+    ensures { OnOk result (groups.new.items ≡ with_static_entry groups.old.items entry.now) }
 {
     add_group(
         groups,
-        Group {
+        FrameGroup {
             vlan: Some(entry.vid),
             destination: Some(entry.address),
         },
     )?;
     add_group(
         groups,
-        Group {
+        FrameGroup {
             vlan: None,
             destination: Some(entry.address),
         },
     )
 }
 
-/// Adds the groups of all other destinations in VLANs.
-fn add_vlans<A: Allocator + Copy>(
-    groups: &mut Vec<Group, A>,
+/// Adds to `groups` the groups of all other destinations in these VLANs.
+fn add_vlan_groups<A: Allocator + Copy>(
+    groups: &mut Vec<FrameGroup, A>,
     vlans: &[Vlan],
 ) -> Result<(), NoMemory>
     ensures { OnOk result (groups.new.items ≡ fold with_vlan groups.old.items vlans.now) }
@@ -111,7 +114,7 @@ fn add_vlans<A: Allocator + Copy>(
     for vlan in vlans {
         add_group(
             groups,
-            Group {
+            FrameGroup {
                 vlan: Some(vlan.vid),
                 destination: None,
             },
@@ -120,29 +123,31 @@ fn add_vlans<A: Allocator + Copy>(
     Ok(())
 }
 
-/// Adds the groups that a plan names.
-fn add_plan<A: Allocator + Copy>(groups: &mut Vec<Group, A>, plan: &Plan<A>) -> Result<(), NoMemory>
+/// Adds to `groups` the groups that a plan names by its static entries and its VLANs.
+fn add_plan_groups<A: Allocator + Copy>(
+    groups: &mut Vec<FrameGroup, A>,
+    plan: &Plan<A>,
+) -> Result<(), NoMemory>
     ensures { OnOk result (groups.new.items ≡ with_plan groups.old.items plan.now) }
 {
-    add_known(groups, plan.statics())?;
-    add_vlans(groups, plan.vlans())
+    add_static_groups(groups, plan.statics())?;
+    add_vlan_groups(groups, plan.vlans())
 }
 
-/// The groups that plans name, and that of all frames whose tag names no VLAN and whose destination no static entry names,
-/// each once.
-pub(crate) fn groups_of<A: Allocator + Copy>(
+/// Returns the groups that the plans name, and the group without VLAN and destination. Each group stands once.
+pub(crate) fn all_groups<A: Allocator + Copy>(
     alloc: A,
     plans: &[Accepted<A>],
-) -> Result<Vec<Group, A>, NoMemory>
+) -> Result<Vec<FrameGroup, A>, NoMemory>
     ensures { IfOk result (λ groups. groups.items ≡ all_groups plans.now) }
 {
     let mut groups = Vec::new(alloc);
     for accepted in plans {
-        add_plan(&mut groups, accepted.plan())?;
+        add_plan_groups(&mut groups, accepted.plan())?;
     }
     add_group(
         &mut groups,
-        Group {
+        FrameGroup {
             vlan: None,
             destination: None,
         },

@@ -1,17 +1,14 @@
 #![tactic(auto)]
-//! Forwarding loops of a network: for each VLAN and destination that its plans name, and for all others, a walk from port to port
-//! that comes back to where it began.
+//! Forwarding loops of a network. A loop is a walk from port to port that returns to its start. Each group of frames is searched: VLAN and
+//! destination, or all others.
 
-mod circulations;
+mod forwarding_loop;
 mod groups;
 pub mod laws;
-mod laying;
-mod places;
-mod rounds;
-mod searching;
+mod loop_port;
+mod ports;
+mod pruning;
+mod search;
 mod steps;
 
-pub use circulations::{Circulation, circulations_in};
-pub use groups::Group;
-pub use places::{Place, Step};
-pub use rounds::round_in;
+pub use forwarding_loop::{ForwardingLoop, find_forwarding_loops};

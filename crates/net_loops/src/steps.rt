@@ -1,23 +1,23 @@
-//! The steps that frames of a group take in a network.
+//! Steps of a group's frames in a network.
 ghost use Rattle.std.specs.Prelude.{◌≡◌, ◌≤◌, ◌++◌, IfOk, OnOk, length};
-ghost use Rattle.bridge_forward.specs.Forward.{goes_to};
+ghost use Rattle.bridge_forward.specs.Forward.{output_ports};
 ghost use Rattle.bridge_forward.specs.Ports as ports;
-ghost use Rattle.bridge_config.specs.Rules.{port_at};
+ghost use Rattle.bridge_config.specs.Rules.{find_port};
 ghost use Rattle.net_loops.specs.Steps as spec;
-ghost use Rattle.net_loops.specs.Steps.{steps_at, steps_from, steps_if, steps_on, steps_to};
+ghost use Rattle.net_loops.specs.Steps.{steps_of_bridge, group_steps, steps_of_port, steps_over_links, steps_over_link};
 
-use crate::groups::Group;
-use crate::places::{Place, Step};
+use crate::groups::FrameGroup;
+use crate::ports::Step;
 use bridge_check::Accepted;
 use bridge_config::{Plan, PortPlan};
 use bridge_forward::{PortSet, find_members};
 use bridge_limits::NoMemory;
-use net_model::{Link, peer_of};
+use net_model::{BridgePort, Link, peer_port};
 use std::alloc::Allocator;
 
-/// The VLAN in which a port classifies frames of a group.
-fn vlan_on<A: Allocator + Copy>(group: &Group, on: &PortPlan<A>) -> u16
-    ensures { result ≡ spec.vlan_on group.now on.now }
+/// Returns the VLAN in which port `on` classifies frames of a group.
+fn classified_vlan<A: Allocator + Copy>(group: &FrameGroup, on: &PortPlan<A>) -> u16
+    ensures { result ≡ spec.classified_vlan group.now on.now }
 {
     match group.vlan {
         Some(vid) => vid,
@@ -25,107 +25,103 @@ fn vlan_on<A: Allocator + Copy>(group: &Group, on: &PortPlan<A>) -> u16
     }
 }
 
-/// A set with a port, 1 to 16, taken away.
-fn without(set: PortSet, port: u8) -> PortSet
+/// Returns the set without the port, 1 to 16: a bridge sends no frame back by its ingress port.
+fn without_port(set: PortSet, port: u8) -> PortSet
     requires from { 1 ≤ port }
     requires to { port ≤ 16 }
-    ensures { result ≡ ports.without set port }
+    ensures { result ≡ ports.without_port set port }
 {
-    PortSet::of_bits(set.bits() & !(1 << (port - 1)))
+    PortSet::from_bits(set.bits() & !(1 << (port - 1)))
 }
 
-/// The ports to which frames go that no static entry names: the other members, where the port is one.
-fn flooded(members: Option<PortSet>, port: u8) -> PortSet
+/// Returns the egress ports of frames without static entry: the VLAN's other members. Returns no port if `port` isn't a member or the VLAN
+/// is missing (`None`).
+fn flood_ports(members: Option<PortSet>, port: u8) -> PortSet
     requires from { 1 ≤ port }
     requires to { port ≤ 16 }
-    ensures { result ≡ goes_to members None port }
+    ensures { result ≡ output_ports members None port }
 {
     match members {
-        Some(members) if members.has(port) => without(members, port),
-        _ => PortSet::of_bits(0),
+        Some(members) if members.has(port) => without_port(members, port),
+        _ => PortSet::from_bits(0),
     }
 }
 
-/// The ports to which frames of a group go that come on a port of a number.
-fn outs_of<A: Allocator + Copy>(
+/// Returns the egress ports of a group's frames that arrive on `port`. `on` is this port's plan.
+fn egress_ports<A: Allocator + Copy>(
     plan: &Plan<A>,
-    group: &Group,
+    group: &FrameGroup,
     on: &PortPlan<A>,
     port: u8,
 ) -> PortSet
     requires from { 1 ≤ port }
     requires to { port ≤ 16 }
-    ensures { result ≡ spec.outs_of plan.now.database group.now.destination (spec.vlan_on group.now on.now) port }
+    ensures { result ≡ spec.egress_ports plan.now.database group.now.destination (spec.classified_vlan group.now on.now)
+        port }
 {
-    let vid = vlan_on(group, on);
+    let vid = classified_vlan(group, on);
     match group.destination {
         Some(address) => plan.forward(port, vid, &address),
-        None => flooded(find_members(plan.vlans(), vid), port),
+        None => flood_ports(find_members(plan.vlans(), vid), port),
     }
 }
 
-/// Adds the step over the link of a port, where frames go to it and it has one.
-fn push_to<A: Allocator + Copy>(
+/// Appends to `steps` the step over the port's link, if `outs` contains the port and it has a link.
+fn push_step_over_link<A: Allocator + Copy>(
     steps: &mut Vec<Step, A>,
     links: &[Link],
-    from: Place,
+    from: BridgePort,
     outs: PortSet,
     port: u8,
 ) -> Result<(), NoMemory>
     requires from { 1 ≤ port }
     requires to { port ≤ 16 }
-    ensures { OnOk result (steps.new.items ≡ steps.old.items ++ steps_to links.now from outs port) }
+    ensures { OnOk result (steps.new.items ≡ steps.old.items ++ steps_over_link links.now from outs port) }
 {
     if !outs.has(port) {
         return Ok(());
     }
-    if let Some(end) = peer_of(links, from.bridge, port) {
-        steps.push(Step {
-            from,
-            to: Place {
-                bridge: end.bridge,
-                port: end.port,
-            },
-        })?;
+    if let Some(end) = peer_port(links, from.bridge, port) {
+        steps.push(Step { from, to: end })?;
     }
     Ok(())
 }
 
-/// Adds the steps over the links of these ports.
-fn push_all<A: Allocator + Copy>(
+/// Appends to `steps` the steps over the links of the ports in `outs`. `from` is the port of arrival.
+fn push_steps_over_links<A: Allocator + Copy>(
     steps: &mut Vec<Step, A>,
     links: &[Link],
-    from: Place,
+    from: BridgePort,
     outs: PortSet,
 ) -> Result<(), NoMemory>
-    ensures { OnOk result (steps.new.items ≡ steps.old.items ++ steps_on links.now from outs) }
+    ensures { OnOk result (steps.new.items ≡ steps.old.items ++ steps_over_links links.now from outs) }
 {
     for i in 0..16u8 {
-        push_to(steps, links, from, outs, i + 1)?;
+        push_step_over_link(steps, links, from, outs, i + 1)?;
     }
     Ok(())
 }
 
-/// Adds the steps over the links of these ports, if there are some.
-fn push_on<A: Allocator + Copy>(
+/// Appends to `steps` the steps over the links of the ports in `outs`. Skips the search if the set is empty.
+fn push_steps_if_any<A: Allocator + Copy>(
     steps: &mut Vec<Step, A>,
     links: &[Link],
-    from: Place,
+    from: BridgePort,
     outs: PortSet,
 ) -> Result<(), NoMemory>
-    ensures { OnOk result (steps.new.items ≡ steps.old.items ++ steps_on links.now from outs) }
+    ensures { OnOk result (steps.new.items ≡ steps.old.items ++ steps_over_links links.now from outs) }
 {
     if outs.bits() == 0 {
         return Ok(());
     }
-    push_all(steps, links, from, outs)
+    push_steps_over_links(steps, links, from, outs)
 }
 
-/// Adds the steps of frames that come on the port of a number.
-fn push_if<A: Allocator + Copy>(
+/// Appends to `steps` the steps of frames that arrive on the port with number `port`; none if the port is missing.
+fn push_port_steps<A: Allocator + Copy>(
     steps: &mut Vec<Step, A>,
     links: &[Link],
-    group: &Group,
+    group: &FrameGroup,
     bridge: u16,
     plan: &Plan<A>,
     port: u8,
@@ -133,47 +129,46 @@ fn push_if<A: Allocator + Copy>(
     requires from { 1 ≤ port }
     requires to { port ≤ 16 }
     ensures { OnOk result (steps.new.items ≡ steps.old.items
-        ++ steps_if links.now group.now bridge plan.now port (port_at plan.now.ports port)) }
+        ++ steps_of_port links.now group.now bridge plan.now port (find_port plan.now.ports port)) }
 {
     match plan.port(port) {
         Some(on) => {
-            let outs = outs_of(plan, group, on, port);
-            push_on(steps, links, Place { bridge, port }, outs)
+            let outs = egress_ports(plan, group, on, port);
+            push_steps_if_any(steps, links, BridgePort { bridge, port }, outs)
         }
         None => Ok(()),
     }
 }
 
-/// Adds the steps of frames that come to a bridge.
-fn push_at<A: Allocator + Copy>(
+/// Appends to `steps` the steps of frames that arrive at a bridge, on any port.
+fn push_bridge_steps<A: Allocator + Copy>(
     steps: &mut Vec<Step, A>,
     links: &[Link],
-    group: &Group,
+    group: &FrameGroup,
     bridge: u16,
     plan: &Plan<A>,
 ) -> Result<(), NoMemory>
-    ensures { OnOk result (steps.new.items ≡ steps.old.items ++ steps_at links.now group.now bridge plan.now) }
+    ensures { OnOk result (steps.new.items ≡ steps.old.items ++ steps_of_bridge links.now group.now bridge plan.now) }
 {
     for i in 0..16u8 {
-        push_if(steps, links, group, bridge, plan, i + 1)?;
+        push_port_steps(steps, links, group, bridge, plan, i + 1)?;
     }
     Ok(())
 }
 
-/// The steps that frames of a group take: from each port of each bridge on which they may come to the ports on which they
-/// come next.
-pub(crate) fn steps_of<A: Allocator + Copy>(
+/// Returns the steps of a group's frames: from each port of arrival to the next ports of arrival.
+pub(crate) fn group_steps<A: Allocator + Copy>(
     alloc: A,
     plans: &[Accepted<A>],
     links: &[Link],
-    group: &Group,
+    group: &FrameGroup,
 ) -> Result<Vec<Step, A>, NoMemory>
     requires few { length plans.now ≤ 65535 }
-    ensures { IfOk result (λ steps. steps.items ≡ steps_from links.now group.now 0 plans.now) }
+    ensures { IfOk result (λ steps. steps.items ≡ group_steps links.now group.now 0 plans.now) }
 {
     let mut steps = Vec::new(alloc);
     for place in 0..plans.len() {
-        push_at(&mut steps, links, group, place as u16, plans[place].plan())?;
+        push_bridge_steps(&mut steps, links, group, place as u16, plans[place].plan())?;
     }
     Ok(steps)
 }

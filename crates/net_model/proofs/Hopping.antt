@@ -1,49 +1,49 @@
--- From the starts of one hop in periods to what comes to the next hop, and to what that offers.
+-- From the starts at one hop in periods to the arrivals and the offers at the next hop.
 use Rattle.std.proofs.Common.{◌≡◌, ◌<◌, ◌≤◌, ◌+◌, ℕ, Bool, true, false, List, [], ◌∷◌, ◌++◌, arith, refl, ap, sym, ◌∙◌, subst, ◌⊎◌, inl, inr}
 use Rattle.std.specs.Prelude.{nat_eq, if◌then◌else◌}
-use Rattle.bridge_limits.specs.Members.{In, Rising}
+use Rattle.bridge_limits.specs.Members.{IsMember, IsOrdered}
 use Rattle.bridge_limits.proofs.Cases.{by_bool}
-use Rattle.bridge_frame.specs.Link.{occupied}
+use Rattle.bridge_frame.specs.Link.{transmission_time}
 use Rattle.bridge_filter.specs.declared.Verdict.{Verdict}
 use Rattle.bridge_filter.specs.declared.Verdict.TheVariants as verdict
 use Rattle.bridge_filter.specs.Verdicts as verdicts
-use Rattle.bridge_forward.specs.Ports.{has}
+use Rattle.bridge_forward.specs.Ports.{has_port}
 use Rattle.bridge_port.specs.Schedule.{Copy, Started}
 use Rattle.bridge_port.proofs.Members.{same_start}
 use Rattle.bridge_config.specs.declared.ports.PortPlan.{PortPlan}
 use Rattle.bridge_config.specs.Model.{Plan}
-use Rattle.bridge_semantics.specs.declared.way.Way.{Way}
-use Rattle.bridge_semantics.specs.declared.way.Way.TheVariants as way
-use Rattle.bridge_semantics.specs.Events.{Arrival, Event, Arrived, Cleared, way_of}
-use Rattle.bridge_semantics.specs.Offers.{Carried, Offer, offer_by, offer_of_step, step_of, offer_on, offer_of, offers, in_class}
-use Rattle.bridge_semantics.specs.Merge.{Input, events}
+use Rattle.bridge_semantics.specs.declared.destination.Destination.{Destination}
+use Rattle.bridge_semantics.specs.declared.destination.Destination.TheVariants as way
+use Rattle.bridge_semantics.specs.Events.{Arrival, Event, Arrived, Cleared, frame_destination}
+use Rattle.bridge_semantics.specs.Offers.{CarriedFrame, Offer, verdict_offer, step_offer, frame_step, destination_offer, arrival_offer, port_offers, class_offers}
+use Rattle.bridge_semantics.specs.Merge.{Input, input_events}
 use Rattle.bridge_semantics.proofs.Offering.{in_class_join}
 use Rattle.bridge_semantics.proofs.Views.{after_all}
 use Rattle.net_model.specs.Networks.{IsTimed, AreTimed}
 use Rattle.net_model.specs.Alone.{IsLater}
-use Rattle.net_model.specs.Latency.{IsMultiple, ComesInPeriods, StartsInPeriod, StartInPeriods, InputsInPeriods, ComesOf}
+use Rattle.net_model.specs.Latency.{IsMultiple, OffersInPeriods, StartsInPeriod, StartInPeriods, InputsInPeriods, IsDelayedCopy}
 
 -- COPIES AND THEIR PERIODS
 
-pub record HasPeriod (base : ℕ) (opens : ℕ → Bool) (occ : Carried → ℕ) (period first last next : ℕ) (y : Copy Carried) : Type 0 where
+pub record HasPeriod (base : ℕ) (opens : ℕ → Bool) (occ : CarriedFrame → ℕ) (period first last next : ℕ) (y : Copy CarriedFrame) : Type 0 where
   pub p : ℕ
   pub multiple : IsMultiple base p
   pub before : p + period ≤ next
   pub start : StartsInPeriod opens (occ y.item) y.at first last p y.fate
 
-pub period_of : (base : ℕ) (opens : ℕ → Bool) (occ : Carried → ℕ) (period first last next : ℕ) (y : Copy Carried) (ys : List (Copy Carried)) → StartInPeriods base opens occ period first last next ys → In y ys → HasPeriod base opens occ period first last next y
+pub period_of : (base : ℕ) (opens : ℕ → Bool) (occ : CarriedFrame → ℕ) (period first last next : ℕ) (y : Copy CarriedFrame) (ys : List (Copy CarriedFrame)) → StartInPeriods base opens occ period first last next ys → IsMember y ys → HasPeriod base opens occ period first last next y
 period_of base opens occ period first last next y [] h i = absurd i
 period_of base opens occ period first last next y (z ∷ zs) h (inl e) =
     let (p, multiple, before, start, rest) = h in
-    record { p = p; multiple = multiple; before = before; start = subst (λ (w : Copy Carried). StartsInPeriod opens (occ w.item) w.at first last p w.fate) (sym e) start }
+    record { p = p; multiple = multiple; before = before; start = subst (λ (w : Copy CarriedFrame). StartsInPeriod opens (occ w.item) w.at first last p w.fate) (sym e) start }
 period_of base opens occ period first last next y (z ∷ zs) h (inr i) =
     let (p, multiple, before, start, rest) = h in
     let m = period_of base opens occ period first last p y zs rest i in
     let sooner = m.before in
     record { p = m.p; multiple = m.multiple; before = omega (arith, sooner, before); start = m.start }
 
--- two copies are one, or their periods are apart
-periods_apart : (base : ℕ) (opens : ℕ → Bool) (occ : Carried → ℕ) (period first last next : ℕ) (y z : Copy Carried) (ys : List (Copy Carried)) (h : StartInPeriods base opens occ period first last next ys) (i : In y ys) (j : In z ys)
+-- Two copies are equal, or their periods are apart.
+periods_apart : (base : ℕ) (opens : ℕ → Bool) (occ : CarriedFrame → ℕ) (period first last next : ℕ) (y z : Copy CarriedFrame) (ys : List (Copy CarriedFrame)) (h : StartInPeriods base opens occ period first last next ys) (i : IsMember y ys) (j : IsMember z ys)
     → (y ≡ z) ⊎ (((period_of base opens occ period first last next y ys h i).p + period ≤ (period_of base opens occ period first last next z ys h j).p) ⊎ ((period_of base opens occ period first last next z ys h j).p + period ≤ (period_of base opens occ period first last next y ys h i).p))
 unfolding period_of
 periods_apart base opens occ period first last next y z [] h i j = absurd i
@@ -60,7 +60,7 @@ record Comes (base period from upto : ℕ) (x : Input) : Type 0 where
   low : from + p ≤ x.at
   high : x.at ≤ upto + p
 
-in_turn : (base period from upto next : ℕ) (xs : List Input) → Rising IsLater xs → (f : (x : Input) → In x xs → Comes base period from upto x) → ((x z : Input) (i : In x xs) (j : In z xs) → z.at < x.at → (f z j).p + period ≤ (f x i).p) → ((x : Input) (i : In x xs) → (f x i).p + period ≤ next) → InputsInPeriods base period from upto next xs
+in_turn : (base period from upto next : ℕ) (xs : List Input) → IsOrdered IsLater xs → (f : (x : Input) → IsMember x xs → Comes base period from upto x) → ((x z : Input) (i : IsMember x xs) (j : IsMember z xs) → z.at < x.at → (f z j).p + period ≤ (f x i).p) → ((x : Input) (i : IsMember x xs) → (f x i).p + period ≤ next) → InputsInPeriods base period from upto next xs
 in_turn base period from upto next [] r f pair top = tt
 in_turn base period from upto next (x ∷ xs) r f pair top =
     let m = f x (inl refl) in (
@@ -72,11 +72,11 @@ in_turn base period from upto next (x ∷ xs) r f pair top =
       in_turn base period from upto m.p xs r.1 (λ z i. f z (inr i)) (λ y z i j l. pair y z (inr i) (inr j) l) (λ z i. pair x z (inl refl) (inr i) (let l : z.at < x.at = after_all IsLater x z xs r.0 i in l)),
     )
 
-module _ (base : ℕ) (opens : ℕ → Bool) (occ : Carried → ℕ) (period first last least most delay next : ℕ) (ys : List (Copy Carried)) (h : StartInPeriods base opens occ period first last next ys) (short : (y : Copy Carried) → In y ys → least ≤ occ y.item) (long : (y : Copy Carried) → In y ys → occ y.item ≤ most) (gap : last + most ≤ first + period) (some : 0 < least) where
-  its_period : (x : Input) → (c : ComesOf occ delay ys x) → HasPeriod base opens occ period first last next c.copy
+module _ (base : ℕ) (opens : ℕ → Bool) (occ : CarriedFrame → ℕ) (period first last least most delay next : ℕ) (ys : List (Copy CarriedFrame)) (h : StartInPeriods base opens occ period first last next ys) (short : (y : Copy CarriedFrame) → IsMember y ys → least ≤ occ y.item) (long : (y : Copy CarriedFrame) → IsMember y ys → occ y.item ≤ most) (gap : last + most ≤ first + period) (some : 0 < least) where
+  its_period : (x : Input) → (c : IsDelayedCopy occ delay ys x) → HasPeriod base opens occ period first last next c.copy
   its_period x c = period_of base opens occ period first last next c.copy ys h c.listed
 
-  comes_of : (x : Input) → ComesOf occ delay ys x → Comes base period (first + least + delay) (last + most + delay) x
+  comes_of : (x : Input) → IsDelayedCopy occ delay ys x → Comes base period (first + least + delay) (last + most + delay) x
   comes_of x c =
       let m = its_period x c in
       let (s, is, fit, low, high) = m.start in
@@ -86,13 +86,13 @@ module _ (base : ℕ) (opens : ℕ → Bool) (occ : Carried → ℕ) (period fir
       let b = long c.copy c.listed in
       record { p = m.p; multiple = m.multiple; low = omega (arith, same, at, a, low); high = omega (arith, same, at, b, high) }
 
-  comes_apart : (x z : Input) (c : ComesOf occ delay ys x) (d : ComesOf occ delay ys z) → z.at < x.at → (comes_of z d).p + period ≤ (comes_of x c).p
+  comes_apart : (x z : Input) (c : IsDelayedCopy occ delay ys x) (d : IsDelayedCopy occ delay ys z) → z.at < x.at → (comes_of z d).p + period ≤ (comes_of x c).p
   unfolding comes_of period_of its_period
   comes_apart x z c d l = elim (periods_apart base opens occ period first last next c.copy d.copy ys h c.listed d.listed) [
     | inl e ↦
-        let fate : Started c.start ≡ Started d.start = sym c.started ∙ (ap (λ (w : Copy Carried). w.fate) e ∙ d.started) in
+        let fate : Started c.start ≡ Started d.start = sym c.started ∙ (ap (λ (w : Copy CarriedFrame). w.fate) e ∙ d.started) in
         let same = same_start c.start d.start fate in
-        let size : occ c.copy.item ≡ occ d.copy.item = ap (λ (w : Copy Carried). occ w.item) e in
+        let size : occ c.copy.item ≡ occ d.copy.item = ap (λ (w : Copy CarriedFrame). occ w.item) e in
         let a = c.at in
         let b = d.at in
         absurd (omega (arith, same, size, a, b, l))
@@ -106,19 +106,19 @@ module _ (base : ℕ) (opens : ℕ → Bool) (occ : Carried → ℕ) (period fir
     ]
   ]
 
-  -- what comes over a link from copies that start once a period comes once a period
-  pub inputs_in_periods : (xs : List Input) → Rising IsLater xs → ((x : Input) → In x xs → ComesOf occ delay ys x) → InputsInPeriods base period (first + least + delay) (last + most + delay) next xs
+  -- If the copies start once a period, they arrive over the link once a period.
+  pub inputs_in_periods : (xs : List Input) → IsOrdered IsLater xs → ((x : Input) → IsMember x xs → IsDelayedCopy occ delay ys x) → InputsInPeriods base period (first + least + delay) (last + most + delay) next xs
   unfolding comes_of its_period
   inputs_in_periods xs rises of_copy = in_turn base period (first + least + delay) (last + most + delay) next xs rises (λ x i. comes_of x (of_copy x i)) (λ x z i j l. comes_apart x z (of_copy x i) (of_copy z j) l) (λ x i. (its_period x (of_copy x i)).before)
 
--- WHAT THEY OFFER
+-- OFFERS OF THE INPUTS
 
--- nothing, or one copy
+-- The list is empty, or has one offer of time `t` and length `len`.
 data IsOne (t : ℕ) (len : ℕ) : List Offer → Type 0 where
   nothing : IsOne t len []
   one : (o : Offer) → o.at ≡ t → o.item.len ≡ len → IsOne t len (o ∷ [])
 
-one_by : {A : Type 0} (out : PortPlan A) (a : Arrival) (priority n number : ℕ) (v : Verdict) → IsOne a.at a.len (offer_by out a priority n number v)
+one_by : {A : Type 0} (out : PortPlan A) (a : Arrival) (priority n number : ℕ) (v : Verdict) → IsOne a.at a.len (verdict_offer out a priority n number v)
 one_by out a priority n number (verdict.Pass ipv e) = one _ refl refl
 one_by out a priority n number verdict.Blocked = nothing
 one_by out a priority n number verdict.Oversize = nothing
@@ -129,7 +129,7 @@ one_by out a priority n number verdict.OctetsExceeded = nothing
 one_by out a priority n number verdict.Red = nothing
 one_by out a priority n number verdict.YellowDropped = nothing
 
-one_step : {A : Type 0} (p : Plan A) (out : PortPlan A) (a : Arrival) (es : List Event) (priority : ℕ) (s : verdicts.Step) → IsOne a.at a.len (offer_of_step p out a es priority s)
+one_step : {A : Type 0} (p : Plan A) (out : PortPlan A) (a : Arrival) (es : List Event) (priority : ℕ) (s : verdicts.FilterStep) → IsOne a.at a.len (step_offer p out a es priority s)
 one_step p out a es priority (verdicts.Unfiltered c) = one _ refl refl
 one_step p out a es priority (verdicts.Judged c n f v) = one_by out a priority n _ v
 one_step p out a es priority (verdicts.Commanded v m) = nothing
@@ -138,40 +138,40 @@ one_if : (b : Bool) (t len : ℕ) (os : List Offer) → IsOne t len os → IsOne
 one_if true t len os i = i
 one_if false t len os i = nothing
 
-one_on : {A : Type 0} (p : Plan A) (out : PortPlan A) (a : Arrival) (es : List Event) (w : Way) → IsOne a.at a.len (offer_on p out a es w)
+one_on : {A : Type 0} (p : Plan A) (out : PortPlan A) (a : Arrival) (es : List Event) (w : Destination) → IsOne a.at a.len (destination_offer p out a es w)
 one_on p out a es way.Malformed = nothing
 one_on p out a es way.Nowhere = nothing
-one_on p out a es (way.Goes set c) = one_if (has set out.number) a.at a.len _ (one_step p out a es c.priority (step_of p es c))
+one_on p out a es (way.Forwarded set c) = one_if (has_port set out.number) a.at a.len _ (one_step p out a es c.priority (frame_step p es c))
 
-one_class : (c t len : ℕ) (os : List Offer) → IsOne t len os → IsOne t len (in_class c os)
+one_class : (c t len : ℕ) (os : List Offer) → IsOne t len os → IsOne t len (class_offers c os)
 one_class c t len os nothing = nothing
 one_class c t len os (one o e f) = by_bool (nat_eq o.class c) (λ k. rw k (one o e f)) (λ k. rw k nothing)
 
-weaker : (base : ℕ) (occ : Offer → ℕ) (period from upto least most p next : ℕ) (os : List Offer) → p ≤ next → ComesInPeriods base occ period from upto least most p os → ComesInPeriods base occ period from upto least most next os
+weaker : (base : ℕ) (occ : Offer → ℕ) (period from upto least most p next : ℕ) (os : List Offer) → p ≤ next → OffersInPeriods base occ period from upto least most p os → OffersInPeriods base occ period from upto least most next os
 weaker base occ period from upto least most p next [] l h = tt
 weaker base occ period from upto least most p next (o ∷ os) l h =
     let (q, multiple, before, low, high, short, long, rest) = h in
     (q, multiple, omega (arith, before, l), low, high, short, long, rest)
 
-one_more : (base : ℕ) (speed_occ : ℕ → ℕ) (period from upto least most p next t len : ℕ) (os rest : List Offer) → IsOne t len os → IsMultiple base p → p + period ≤ next → from + p ≤ t → t ≤ upto + p → least ≤ speed_occ len → speed_occ len ≤ most → ComesInPeriods base (λ (o : Offer). speed_occ o.item.len) period from upto least most p rest → ComesInPeriods base (λ (o : Offer). speed_occ o.item.len) period from upto least most next (os ++ rest)
+one_more : (base : ℕ) (speed_occ : ℕ → ℕ) (period from upto least most p next t len : ℕ) (os rest : List Offer) → IsOne t len os → IsMultiple base p → p + period ≤ next → from + p ≤ t → t ≤ upto + p → least ≤ speed_occ len → speed_occ len ≤ most → OffersInPeriods base (λ (o : Offer). speed_occ o.item.len) period from upto least most p rest → OffersInPeriods base (λ (o : Offer). speed_occ o.item.len) period from upto least most next (os ++ rest)
 one_more base speed_occ period from upto least most p next t len os rest nothing multiple before low high short long more = weaker base (λ (o : Offer). speed_occ o.item.len) period from upto least most p next rest (omega (arith, before)) more
 one_more base speed_occ period from upto least most p next t len os rest (one o e f) multiple before low high short long more =
     let size : speed_occ o.item.len ≡ speed_occ len = ap speed_occ f in
     (p, multiple, before, omega (arith, e, low), omega (arith, e, high), omega (arith, size, short), omega (arith, size, long), more)
 
-pub offers_of : {A : Type 0} (p : Plan A) (out : PortPlan A) (base c period from upto least most m next t : ℕ) (e : Event) (es : List Event) → IsTimed t e → ((a : Arrival) → e ≡ Arrived a → (least ≤ occupied a.len out.speed) × (occupied a.len out.speed ≤ most)) → IsMultiple base m → m + period ≤ next → from + m ≤ t → t ≤ upto + m → ComesInPeriods base (λ (o : Offer). occupied o.item.len out.speed) period from upto least most m (in_class c (offers p out es)) → ComesInPeriods base (λ (o : Offer). occupied o.item.len out.speed) period from upto least most next (in_class c (offers p out (e ∷ es)))
-offers_of p out base c period from upto least most m next t (Cleared v k) es timed size multiple before low high more = weaker base (λ (o : Offer). occupied o.item.len out.speed) period from upto least most m next (in_class c (offers p out es)) (omega (arith, before)) more
+pub offers_of : {A : Type 0} (p : Plan A) (out : PortPlan A) (base c period from upto least most m next t : ℕ) (e : Event) (es : List Event) → IsTimed t e → ((a : Arrival) → e ≡ Arrived a → (least ≤ transmission_time a.len out.speed) × (transmission_time a.len out.speed ≤ most)) → IsMultiple base m → m + period ≤ next → from + m ≤ t → t ≤ upto + m → OffersInPeriods base (λ (o : Offer). transmission_time o.item.len out.speed) period from upto least most m (class_offers c (port_offers p out es)) → OffersInPeriods base (λ (o : Offer). transmission_time o.item.len out.speed) period from upto least most next (class_offers c (port_offers p out (e ∷ es)))
+offers_of p out base c period from upto least most m next t (Cleared v k) es timed size multiple before low high more = weaker base (λ (o : Offer). transmission_time o.item.len out.speed) period from upto least most m next (class_offers c (port_offers p out es)) (omega (arith, before)) more
 offers_of p out base c period from upto least most m next t (Arrived a) es timed size multiple before low high more =
     let at : a.at ≡ t = timed in
     let (short, long) = size a refl in
-    let single = one_class c a.at a.len (offer_of p out a es) (one_on p out a es (way_of p a)) in
-    let both = one_more base (λ (len : ℕ). occupied len out.speed) period from upto least most m next a.at a.len (in_class c (offer_of p out a es)) (in_class c (offers p out es)) single multiple before (omega (arith, at, low)) (omega (arith, at, high)) short long more in
-    subst (ComesInPeriods base (λ (o : Offer). occupied o.item.len out.speed) period from upto least most next) (sym (in_class_join c (offer_of p out a es) (offers p out es))) both
+    let single = one_class c a.at a.len (arrival_offer p out a es) (one_on p out a es (frame_destination p a)) in
+    let both = one_more base (λ (len : ℕ). transmission_time len out.speed) period from upto least most m next a.at a.len (class_offers c (arrival_offer p out a es)) (class_offers c (port_offers p out es)) single multiple before (omega (arith, at, low)) (omega (arith, at, high)) short long more in
+    subst (OffersInPeriods base (λ (o : Offer). transmission_time o.item.len out.speed) period from upto least most next) (sym (in_class_join c (arrival_offer p out a es) (port_offers p out es))) both
 
--- what inputs that come once a period offer comes once a period
-pub offers_in_periods : {A : Type 0} (p : Plan A) (out : PortPlan A) (base c period from upto least most next : ℕ) (xs : List Input) → AreTimed xs → ((x : Input) (a : Arrival) → In x xs → x.event ≡ Arrived a → (least ≤ occupied a.len out.speed) × (occupied a.len out.speed ≤ most)) → InputsInPeriods base period from upto next xs → ComesInPeriods base (λ (o : Offer). occupied o.item.len out.speed) period from upto least most next (in_class c (offers p out (events xs)))
+-- If inputs arrive once a period, their offers arrive once a period.
+pub offers_in_periods : {A : Type 0} (p : Plan A) (out : PortPlan A) (base c period from upto least most next : ℕ) (xs : List Input) → AreTimed xs → ((x : Input) (a : Arrival) → IsMember x xs → x.event ≡ Arrived a → (least ≤ transmission_time a.len out.speed) × (transmission_time a.len out.speed ≤ most)) → InputsInPeriods base period from upto next xs → OffersInPeriods base (λ (o : Offer). transmission_time o.item.len out.speed) period from upto least most next (class_offers c (port_offers p out (input_events xs)))
 offers_in_periods p out base c period from upto least most next [] timed size h = tt
 offers_in_periods p out base c period from upto least most next (x ∷ xs) timed size h =
     let (m, multiple, before, low, high, rest) = h in
-    offers_of p out base c period from upto least most m next x.at x.event (events xs) (timed x (inl refl)) (λ a e. size x a (inl refl) e) multiple before low high
+    offers_of p out base c period from upto least most m next x.at x.event (input_events xs) (timed x (inl refl)) (λ a e. size x a (inl refl) e) multiple before low high
     (offers_in_periods p out base c period from upto least most m xs (λ y i. timed y (inr i)) (λ y a i e. size y a (inr i) e) rest)

@@ -1,44 +1,44 @@
-//! Why a network is refused.
+//! Reasons for refusing a network.
 ghost use Rattle.std.specs.Prelude.{◌≡◌};
-ghost use Rattle.net_model.specs.Numbers.{number_of};
+ghost use Rattle.net_model.specs.FaultCodes.{fault_code};
 
-use crate::links::End;
+use crate::links::BridgePort;
 use thiserror::Error;
 
-/// Reason why `net check` refuses a network; the variants follow the order of the tests. Links, streams and the hops of
-/// a stream are counted from 1.
+/// Reason why `net check` refuses a network. The variants follow the order of the tests. Links, streams and a stream's hops are counted
+/// from 1.
 #[derive(Clone, Copy, Debug, PartialEq, Eq, Error)]
 pub enum NetworkFault {
-    /// The link names a bridge or a port that isn't there.
+    /// The link names a missing bridge or port.
     #[error("a link to an unknown bridge or port")]
     Unresolved {
         link: usize,
     },
-    /// A port of the link has an earlier link, or is at both its ends.
+    /// The port `end` of the link has an earlier link, or the link joins this port to itself.
     #[error("a port with two links")]
     LinkTwice {
         link: usize,
-        end: End,
+        end: BridgePort,
     },
-    /// The ports at its ends have two speeds.
+    /// The ports at the link's ends have different speeds.
     #[error("a link of ports with two speeds")]
     SpeedsDiffer {
         link: usize,
     },
-    /// The hop names a bridge or a filter that isn't there, or a filter that isn't protected.
+    /// The hop names a missing bridge or filter, or an unprotected filter.
     #[error("a hop that isn't a protected filter")]
     NotProtected {
         stream: usize,
         hop: usize,
     },
-    /// The hop stands in an earlier stream, or earlier in its own.
+    /// The hop stands in an earlier stream, or earlier in its own stream.
     #[error("a repeated hop")]
     HopTwice {
         stream: usize,
         hop: usize,
     },
-    /// At a port of the hop's bridge with a link, the hop takes frames that are of no hop of its stream: those of this
-    /// filter of the sender, or of none, that came to the sender on this port.
+    /// Over the link of port `port`, the hop accepts stray frames. At the sender they arrive on port `from` and belong to `filter`; `None`
+    /// stands for no filter.
     #[error("a hop that accepts stray frames over a link")]
     NotClosed {
         stream: usize,
@@ -48,7 +48,7 @@ pub enum NetworkFault {
         filter: Option<u32>,
         from: u8,
     },
-    /// To the first hop of the stream no frame of it comes from outside, or to a later one none of a hop of the stream.
+    /// No frame of the stream can reach the hop: from outside if the hop is the first one, otherwise over a link.
     #[error("a hop that no frame of its stream can reach")]
     NotFed {
         stream: usize,
@@ -57,9 +57,9 @@ pub enum NetworkFault {
 }
 
 impl NetworkFault {
-    /// Its number among the faults of a network's file: 9 where a name isn't there, then 13 to 18.
+    /// Returns the fault's number among the faults of a network file: 9 if a bridge or port is missing, otherwise 13 to 18.
     pub fn number(self) -> u8
-        ensures { result ≡ number_of self }
+        ensures { result ≡ fault_code self }
     {
         match self {
             NetworkFault::Unresolved { .. } => 9,

@@ -1,25 +1,29 @@
-//! Whether the filter of a hop gets each frame that the hop before it sends.
+//! The test whether a hop's filter gets each frame that the previous hop sends. `net_latency` needs it: only then do delay bounds of
+//! consecutive hops add up.
 ghost use Rattle.std.specs.Prelude.{◌≡◌, ◌≤◌, Some};
 ghost use Rattle.std.specs.List.{list_all};
-ghost use Rattle.bridge_filter.specs.Own.{is_number};
-ghost use Rattle.bridge_config.specs.Rules.{port_at};
-ghost use Rattle.bridge_check.specs.Sending as classified;
-ghost use Rattle.net_model.specs.Feeding as feeding;
-ghost use Rattle.net_model.specs.Feeding.{sort_by, tags_of, tags_with};
+ghost use Rattle.bridge_filter.specs.OwnEvents.{is_filter_number};
+ghost use Rattle.bridge_config.specs.Rules.{find_port};
+ghost use Rattle.bridge_check.specs.FrameInput as classified;
+ghost use Rattle.net_model.specs.LinkFrames as feeding;
+ghost use Rattle.net_model.specs.LinkFrames.{frame_pattern, possible_tags, tags_by_priority};
 ghost use Rattle.net_model.specs.Handing as spec;
 ghost use Rattle.net_model.specs.Handed.{IsHanding, hands_entry, hands_tag};
-ghost use Rattle.net_model.specs.Wiring.{end_of};
+ghost use Rattle.net_model.specs.NetworkParts.{end_value};
 
-use crate::links::{End, StreamHop};
-use crate::rules::find_plan;
-use crate::sending::{flow_for, gives_to, is_kind, may_go, may_match, priority_of, vid_of};
+use crate::links::{BridgePort, StreamHop};
+use crate::network_tests::find_plan;
+use crate::sending_port::{
+    can_match, classified_vid, frame_priority, is_same_kind, maps_tag_to_filter, matching_filter,
+    may_go,
+};
 use bridge_check::Accepted;
 use bridge_config::{Plan, PortPlan};
 use bridge_frame::Tag;
 use bridge_ident::{Kind, StreamEntry};
 use std::alloc::Allocator;
 
-/// A port of the next bridge, and the filter there that must get each frame.
+/// A port of the next bridge, and the filter that must get there each frame that the previous hop sends.
 #[derive(Drop)]
 struct Taker<'a, A: Allocator + Copy> {
     plan: &'a Plan<A>,
@@ -28,11 +32,12 @@ struct Taker<'a, A: Allocator + Copy> {
 }
 
 impl<'a, A: Allocator + Copy> Taker<'a, A> {
-    /// Whether the bridge forwards frames with this tag and the address of this entry.
-    fn goes_on(&self, named: &StreamEntry, tag: Option<Tag>) -> bool
+    /// Whether the next bridge forwards frames with this tag and the address of `named`. Returns true for a source address, because the
+    /// destination is then unknown.
+    fn is_forwarded(&self, named: &StreamEntry, tag: Option<Tag>) -> bool
         requires from { 1 ≤ self.now.on.now.number }
         requires to { self.now.on.now.number ≤ 16 }
-        ensures { result ≡ spec.goes_on self.now.plan.now self.now.on.now (sort_by named.now tag) }
+        ensures { result ≡ spec.goes_on self.now.plan.now self.now.on.now (frame_pattern named.now tag) }
     {
         match named.kind {
             Kind::Source => true,
@@ -40,34 +45,35 @@ impl<'a, A: Allocator + Copy> Taker<'a, A> {
                 let on = self.on;
                 let set = self
                     .plan
-                    .forward(on.number, vid_of(on, tag), &named.address);
+                    .forward(on.number, classified_vid(on, tag), &named.address);
                 set.bits() != 0
             }
         }
     }
 
-    /// Whether frames with this tag and this handle, or with none, belong to the filter.
+    /// Whether frames with this tag and this stream handle belong to the filter. `None` stands for a frame without handle.
     fn is_given(&self, tag: Option<Tag>, handle: Option<u32>) -> bool
-        ensures { result ≡ is_number self.now.filter (feeding.flow_for self.now.plan.now handle
-            (classified.priority_of self.now.on.now tag)) }
+        ensures { result ≡ is_filter_number self.now.filter (feeding.matching_filter self.now.plan.now handle
+            (classified.frame_priority self.now.on.now tag)) }
     {
-        match flow_for(self.plan.filters(), handle, priority_of(self.on, tag)) {
+        match matching_filter(self.plan.filters(), handle, frame_priority(self.on, tag)) {
             Some((number, _)) => number == self.filter,
             None => false,
         }
     }
 
-    /// Whether each frame with this tag and the address of this entry belongs to the filter, whichever entry of the port
-    /// matches it.
+    /// Whether each frame with this tag and the address of `named` belongs to the filter, whichever entry matches it. False if no entry
+    /// surely matches and frames without handle belong to another filter.
     fn gives_all(&self, named: &StreamEntry, tag: Option<Tag>) -> bool
-        ensures { result ≡ spec.gives_all self.now.plan.now self.now.on.now self.now.filter (sort_by named.now tag) }
+        ensures { result ≡ spec.gives_all self.now.plan.now self.now.on.now self.now.filter
+            (frame_pattern named.now tag) }
     {
         let port = self.on.number;
-        let vid = vid_of(self.on, tag);
+        let vid = classified_vid(self.on, tag);
         for entry in self.plan.streams() {
-            if may_match(entry, port, vid, named, tag) {
+            if can_match(entry, port, vid, named, tag) {
                 let given = self.is_given(tag, Some(entry.handle));
-                if !given || is_kind(entry.kind, named.kind) {
+                if !given || is_same_kind(entry.kind, named.kind) {
                     return given;
                 }
             }
@@ -75,19 +81,20 @@ impl<'a, A: Allocator + Copy> Taker<'a, A> {
         self.is_given(tag, None)
     }
 
-    /// Whether the bridge forwards each such frame, and by the filter.
+    /// Whether the bridge forwards each frame with this tag and the address of `named`, and judges the frame by the filter.
     fn takes_all(&self, named: &StreamEntry, tag: Option<Tag>) -> bool
         requires from { 1 ≤ self.now.on.now.number }
         requires to { self.now.on.now.number ≤ 16 }
-        ensures { result ≡ spec.takes_all self.now.plan.now self.now.on.now self.now.filter (sort_by named.now tag) }
+        ensures { result ≡ spec.takes_all self.now.plan.now self.now.on.now self.now.filter
+            (frame_pattern named.now tag) }
     {
-        let goes = self.goes_on(named, tag);
+        let goes = self.is_forwarded(named, tag);
         let gives = self.gives_all(named, tag);
         goes & gives
     }
 }
 
-/// A filter, and the port from which its frames are sent.
+/// One link under test: the sender's filter, the port by which its frames leave, and the filter that must get them at the next bridge.
 #[derive(Drop)]
 struct Handing<'a, A: Allocator + Copy> {
     plan: &'a Plan<A>,
@@ -97,14 +104,15 @@ struct Handing<'a, A: Allocator + Copy> {
 }
 
 impl<'a, A: Allocator + Copy> Handing<'a, A> {
-    /// Whether the next filter gets each frame with this tag that an entry identifies at a port of the sender.
+    /// Whether the next filter gets each frame with this tag that `entry` identifies at the sender's port `from`. True if such frames
+    /// belong to another filter or can't leave by the link's port.
     fn hands_tag(&self, entry: &StreamEntry, from: &PortPlan<A>, tag: Option<Tag>) -> bool
         requires handing { IsHanding self.now }
         requires from { 1 ≤ from.now.number }
         requires to { from.now.number ≤ 16 }
         ensures { result ≡ hands_tag self.now entry.now from.now tag }
     {
-        if !gives_to(self.plan, from, self.filter, entry, tag) {
+        if !maps_tag_to_filter(self.plan, from, self.filter, entry, tag) {
             return true;
         }
         if !may_go(self.plan, from, entry, tag, self.port) {
@@ -113,23 +121,23 @@ impl<'a, A: Allocator + Copy> Handing<'a, A> {
         self.taker.takes_all(entry, tag)
     }
 
-    /// Whether it gets each with a tag of this VLAN identifier and priority.
+    /// Whether the next filter gets each frame of `entry` with this VLAN identifier and priority.
     fn hands_priority(&self, entry: &StreamEntry, from: &PortPlan<A>, vid: u16, pcp: u8) -> bool
         requires handing { IsHanding self.now }
         requires from { 1 ≤ from.now.number }
         requires to { from.now.number ≤ 16 }
-        ensures { result ≡ hands_tag self.now entry.now from.now (Some (feeding.tag_of pcp vid)) }
+        ensures { result ≡ hands_tag self.now entry.now from.now (Some (feeding.tag_by_priority pcp vid)) }
     {
         let dei = false;
         self.hands_tag(entry, from, Some(Tag { pcp, dei, vid }))
     }
 
-    /// Whether it gets each with a tag of this VLAN identifier, of whatever priority.
+    /// Whether the next filter gets each frame of `entry` with this VLAN identifier, for all eight priorities.
     fn hands_tagged(&self, entry: &StreamEntry, from: &PortPlan<A>, vid: u16) -> bool
         requires handing { IsHanding self.now }
         requires from { 1 ≤ from.now.number }
         requires to { from.now.number ≤ 16 }
-        ensures { result ≡ list_all (hands_tag self.now entry.now from.now) (tags_with vid) }
+        ensures { result ≡ list_all (hands_tag self.now entry.now from.now) (tags_by_priority vid) }
     {
         let none = true;
         let seven = self.hands_priority(entry, from, vid, 7) & none;
@@ -142,12 +150,12 @@ impl<'a, A: Allocator + Copy> Handing<'a, A> {
         self.hands_priority(entry, from, vid, 0) & one
     }
 
-    /// Whether it gets each that the entry identifies at a port of the sender.
-    fn hands_from(&self, entry: &StreamEntry, from: &PortPlan<A>) -> bool
+    /// Whether the next filter gets each frame that `entry` identifies at the sender's port `from`, for all 17 possible tags.
+    fn is_fed_by_entry(&self, entry: &StreamEntry, from: &PortPlan<A>) -> bool
         requires handing { IsHanding self.now }
         requires from { 1 ≤ from.now.number }
         requires to { from.now.number ≤ 16 }
-        ensures { result ≡ list_all (hands_tag self.now entry.now from.now) (tags_of entry.now.vid) }
+        ensures { result ≡ list_all (hands_tag self.now entry.now from.now) (possible_tags entry.now.vid) }
     {
         let untagged = self.hands_tag(entry, from, None);
         let priority = self.hands_tagged(entry, from, 0);
@@ -155,18 +163,18 @@ impl<'a, A: Allocator + Copy> Handing<'a, A> {
         untagged & (priority & tagged)
     }
 
-    /// Whether it gets each that the entry identifies.
+    /// Whether the next filter gets each frame that `entry` identifies. True if the sender lacks the entry's port: no frame arrives there.
     fn hands_entry(&self, entry: &StreamEntry) -> bool
         requires handing { IsHanding self.now }
         ensures { result ≡ hands_entry self.now entry.now }
     {
         match self.plan.port(entry.port) {
-            Some(from) => self.hands_from(entry, from),
+            Some(from) => self.is_fed_by_entry(entry, from),
             None => true,
         }
     }
 
-    /// Whether it gets each frame of the filter that leaves by the port.
+    /// Whether the next filter gets each frame of the sender's filter that leaves by the port.
     fn hands_all(&self) -> bool
         requires handing { IsHanding self.now }
         ensures { result ≡ spec.hands_all self.now.plan.now self.now.filter self.now.port self.now.taker.plan.now
@@ -177,8 +185,8 @@ impl<'a, A: Allocator + Copy> Handing<'a, A> {
     }
 }
 
-/// Whether the filter of a hop at a port gets each frame that another filter sends there.
-fn hands_to<A: Allocator + Copy>(
+/// Whether filter `taker` at port `at` of bridge `next` gets each frame that `filter` sends from `port`.
+fn receives_every_frame<A: Allocator + Copy>(
     plan: &Plan<A>,
     filter: u32,
     port: u8,
@@ -188,7 +196,7 @@ fn hands_to<A: Allocator + Copy>(
 ) -> bool
     requires from { 1 ≤ port }
     requires to { port ≤ 16 }
-    ensures { result ≡ spec.hands_to_port plan.now filter port next.now (port_at next.now.ports at) taker }
+    ensures { result ≡ spec.hands_to_port plan.now filter port next.now (find_port next.now.ports at) taker }
 {
     match next.port(at) {
         None => false,
@@ -209,21 +217,23 @@ fn hands_to<A: Allocator + Copy>(
     }
 }
 
-/// Whether each frame of a hop that its bridge sends from a port belongs to the filter of the next hop when it arrives at the
-/// other end of the link, `end`. The bridge of the next hop also forwards each such frame, if its address is a destination.
-pub fn hands_over<A: Allocator + Copy>(
+/// Whether each frame of `hop` that leaves by `port` belongs to filter `taker` at the link's other end. Returns false if a bridge or port
+/// is missing.
+pub fn is_received_by_next_hop<A: Allocator + Copy>(
     plans: &[Accepted<A>],
     hop: StreamHop,
     port: u8,
-    end: End,
+    end: BridgePort,
     taker: u32,
 ) -> bool
     requires from { 1 ≤ port }
     requires to { port ≤ 16 }
-    ensures { result ≡ spec.hands_over plans.now hop.bridge hop.filter port (end_of end) taker }
+    ensures { result ≡ spec.hands_over plans.now hop.bridge hop.filter port (end_value end) taker }
 {
     match (find_plan(plans, hop.bridge), find_plan(plans, end.bridge)) {
-        (Some(plan), Some(next)) => hands_to(plan, hop.filter, port, next, end.port, taker),
+        (Some(plan), Some(next)) => receives_every_frame(
+            plan, hop.filter, port, next, end.port, taker,
+        ),
         _ => false,
     }
 }

@@ -1,87 +1,89 @@
-//! Laws of how long the frames of a protected filter wait, at one bridge and from bridge to bridge.
+//! Laws of waiting times of a protected filter's frames, at one bridge and from bridge to bridge. Nobody calls these functions: proofs of
+//! this crate and of `net_periods` cite them.
 ghost use Rattle.std.specs.Prelude.{◌≡◌, ◌<◌, ◌≤◌, ◌+◌, ℕ, List, Option, Some, true};
-ghost use Rattle.bridge_limits.specs.Members.{In};
-ghost use Rattle.bridge_capture.specs.Grammar.{Captured};
-ghost use Rattle.bridge_cycle.specs.Moments.{IsFirst, Repeats};
-ghost use Rattle.bridge_frame.specs.Link.{occupied};
+ghost use Rattle.bridge_limits.specs.Members.{IsMember};
+ghost use Rattle.bridge_capture.specs.Grammar.{CapturedFrame};
+ghost use Rattle.bridge_cycle.specs.Fits.{IsFirstFit, IsPeriodic};
+ghost use Rattle.bridge_frame.specs.Link.{transmission_time};
 ghost use Rattle.bridge_filter.specs.declared.FilterPlan.{FilterPlan};
-ghost use Rattle.bridge_port.specs.Opening.{ever_of, opens_of};
+ghost use Rattle.bridge_port.specs.GateSchedule.{lists_can_fit, lists_open};
 ghost use Rattle.bridge_port.specs.Schedule.{Copy};
 ghost use Rattle.bridge_config.specs.Model.{Plan};
-ghost use Rattle.bridge_config.specs.Rules.{port_at};
+ghost use Rattle.bridge_config.specs.Rules.{find_port};
 ghost use Rattle.bridge_config.specs.declared.ports.PortPlan.{PortPlan};
 ghost use Rattle.bridge_semantics.specs.declared.outcome.View.{View};
 ghost use Rattle.bridge_semantics.specs.Events.{Arrival, Arrived, Event};
-ghost use Rattle.bridge_semantics.specs.Offers.{Carried, egress, in_class, Offer, offers};
-ghost use Rattle.bridge_semantics.specs.Merge.{Input, events, of_rank};
+ghost use Rattle.bridge_semantics.specs.Offers.{CarriedFrame, egress_rules, class_offers, Offer, port_offers};
+ghost use Rattle.bridge_semantics.specs.Merge.{Input, input_events, inputs_by_rank};
 ghost use Rattle.bridge_semantics.specs.Runs.{IsSoloView};
 ghost use Rattle.net_model.specs.Networks.{AreTimed, Hop, IsHop, Network, Sender, sender};
-ghost use Rattle.net_model.specs.Alone.{IsAlone, Reaches};
-ghost use Rattle.net_model.specs.Latency.{ComesInPeriods, ComesOf, Conforms, FitsWithin, InputsInPeriods};
-ghost use Rattle.net_model.specs.Latency.{StartInPeriods, StartsWithin, offer_time, time_on};
+ghost use Rattle.net_model.specs.Alone.{IsAlone, ArrivesOverLink};
+ghost use Rattle.net_model.specs.Latency.{OffersInPeriods, IsDelayedCopy, Conforms, FitsWithinWait, InputsInPeriods};
+ghost use Rattle.net_model.specs.Latency.{StartInPeriods, StartsWithinWait, offer_time, link_time};
 
 use std::alloc::Allocator;
 
-/// Frames that keep their gap never wait for one another. Where the frames that a protected filter offers in a class of
-/// a port come at least the longest wait and one frame apart, each of them is queued, starts at the first moment at
-/// which it fits, and at most that wait after it came.
+/// If a protected filter's frames keep a gap of the longest wait plus one frame, no frame waits for another. Each frame starts at its first
+/// fit, at most the longest wait after its arrival.
 pub fn starts_in_time<A: Allocator + Copy>()
     ensures { (p : Plan A) (n : ℕ) (f : FilterPlan) (es : List Event) (v : View A) (q c occ wait : ℕ) (out : PortPlan A)
-        (x : Copy Carried)
+        (x : Copy CarriedFrame)
         → (alone : IsSoloView p n f es v)
-        → port_at p.ports q ≡ Some out
-        → FitsWithin (opens_of out.list c) occ wait
-        → 1 ≤ (egress out).room c
+        → find_port p.ports q ≡ Some out
+        → FitsWithinWait (lists_open out.list c) occ wait
+        → 1 ≤ (egress_rules out).room c
         → Conforms p out c es occ (wait + occ)
-        → In x (alone.lists q c)
-        → StartsWithin (opens_of out.list c) (time_on out x.item) wait x.at x.fate }
+        → IsMember x (alone.lists q c)
+        → StartsWithinWait (lists_open out.list c) (link_time out x.item) wait x.at x.fate }
 {}
 
-/// A stream that comes once a period leaves once a period. Where the frames that a protected filter offers in a class
-/// of a port come once a period of the lists, each between two phases of it, they start once a period, between the
-/// first fit of the shortest from the first phase on and that of the longest from the last one on.
+/// If a class's offers arrive once a period, between two phases, the frames start once a period. The first fits of the shortest and the
+/// longest frame limit the start.
 pub fn keeps_phase<A: Allocator + Copy>()
     ensures { (p : Plan A) (n : ℕ) (f : FilterPlan) (es : List Event) (v : View A) (q base c period : ℕ)
         (from upto least most first last next : ℕ) (out : PortPlan A)
         → (alone : IsSoloView p n f es v)
-        → port_at p.ports q ≡ Some out
-        → Repeats (opens_of out.list c) base
-        → IsFirst (opens_of out.list c) least from first
-        → IsFirst (opens_of out.list c) most upto last
+        → find_port p.ports q ≡ Some out
+        → IsPeriodic (lists_open out.list c) base
+        → IsFirstFit (lists_open out.list c) least from first
+        → IsFirstFit (lists_open out.list c) most upto last
         → last + most ≤ from + period
-        → 1 ≤ (egress out).room c
-        → ((o : Offer) → In o (in_class c (offers p out es)) → ever_of out.list c (offer_time out o) ≡ true)
-        → ComesInPeriods base (offer_time out) period from upto least most next (in_class c (offers p out es))
-        → StartInPeriods base (opens_of out.list c) (time_on out) period first last next (alone.lists q c) }
+        → 1 ≤ (egress_rules out).room c
+        → ((o : Offer) → IsMember o (class_offers c (port_offers p out es))
+        → lists_can_fit out.list c (offer_time out o) ≡ true)
+        → OffersInPeriods base (offer_time out) period from upto least most next (class_offers c (port_offers p out es))
+        → StartInPeriods base (lists_open out.list c) (link_time out) period first last next (alone.lists q c) }
 {}
 
-/// From hop to hop the period stays. Where the copies of a queue of a hop start once a period, and they alone come over
-/// a link to a port of the next hop, what comes there comes once a period, between the phases at which the copies are
-/// done, so much later.
+/// If the copies of a hop's queue start once a period, their arrivals at the next hop keep the period. A chain of these laws bounds a
+/// route's total delay.
 pub fn next_hop_in_periods<A: Allocator + Copy>()
-    ensures { (n : Network A) (stream : List (ℕ × ℕ)) (commands : ℕ → List Input) (captures : ℕ → ℕ → List Captured)
+    ensures { (n : Network A) (stream : List (ℕ × ℕ)) (commands : ℕ → List Input) (captures : ℕ → ℕ
+        → List CapturedFrame)
         (views : Hop A → Option (View A)) (g h : Hop A) (q base c period first last least most next : ℕ) (s : Sender)
         (out : PortPlan A)
         → (alone : IsAlone n commands captures stream views)
         → IsHop n stream h
         → sender n.links h.bridge q ≡ Some s
-        → StartInPeriods base (opens_of out.list c) (time_on out) period first last next (alone.lists g s.from.port c)
-        → ((y : Copy Carried) → In y (alone.lists g s.from.port c) → least ≤ time_on out y.item)
-        → ((y : Copy Carried) → In y (alone.lists g s.from.port c) → time_on out y.item ≤ most)
+        → StartInPeriods base (lists_open out.list c) (link_time out) period first last next
+        (alone.lists g s.from.port c)
+        → ((y : Copy CarriedFrame) → IsMember y (alone.lists g s.from.port c) → least ≤ link_time out y.item)
+        → ((y : Copy CarriedFrame) → IsMember y (alone.lists g s.from.port c) → link_time out y.item ≤ most)
         → last + most ≤ first + period
         → 0 < least
-        → ((x : Input) → Reaches n stream alone.lists h q s x
-        → ComesOf (time_on out) s.delay (alone.lists g s.from.port c) x)
-        → InputsInPeriods base period (first + least + s.delay) (last + most + s.delay) next (of_rank q (alone.own h)) }
+        → ((x : Input) → ArrivesOverLink n stream alone.lists h q s x
+        → IsDelayedCopy (link_time out) s.delay (alone.lists g s.from.port c) x)
+        → InputsInPeriods base period (first + least + s.delay) (last + most
+        + s.delay) next (inputs_by_rank q (alone.own h)) }
 {}
 
-/// What inputs that come once a period offer in a class of a port comes once a period, between the same phases.
+/// If inputs arrive once a period, their offers in a class of a port arrive once a period, between the same phases.
 pub fn offers_in_periods<A: Allocator + Copy>()
     ensures { (p : Plan A) (out : PortPlan A) (base c period from upto least most next : ℕ) (xs : List Input)
         → AreTimed xs
-        → ((x : Input) (a : Arrival) → In x xs → x.event ≡ Arrived a
-        → (least ≤ occupied a.len out.speed) × (occupied a.len out.speed ≤ most))
+        → ((x : Input) (a : Arrival) → IsMember x xs → x.event ≡ Arrived a
+        → (least ≤ transmission_time a.len out.speed) × (transmission_time a.len out.speed ≤ most))
         → InputsInPeriods base period from upto next xs
-        → ComesInPeriods base (offer_time out) period from upto least most next
-        (in_class c (offers p out (events xs))) }
+        → OffersInPeriods base (offer_time out) period from upto least most next
+        (class_offers c (port_offers p out (input_events xs))) }
 {}

@@ -1,24 +1,26 @@
-//! The links of a network, and the hops of its streams.
+//! Links of a network, and hops of its streams.
 ghost use Rattle.std.specs.Prelude.{◌≡◌, option_map};
 ghost use Rattle.net_model.specs.Networks as networks;
-ghost use Rattle.net_model.specs.Accepting as accepting;
-ghost use Rattle.net_model.specs.Wiring.{end_of, peer, stream_of};
+ghost use Rattle.net_model.specs.ClosedTest as accepting;
+ghost use Rattle.net_model.specs.NetworkParts.{end_value, peer_port, stream_value};
 
-/// Bridge port: a port of one bridge of a network. A bridge is named by its place among the bridges of a network, from
-/// 0.
+/// Bridge port: a port of one bridge of a network. The bridge is given by its index, from 0.
 #[derive(Clone, Copy, Debug, PartialEq, Eq)]
-pub struct End {
+pub struct BridgePort {
+    /// Index of the bridge, from 0.
     pub bridge: u16,
-    /// The number of the port, 1 to 16.
+    /// Port number, 1 to 16.
     pub port: u8,
 }
 
 /// Full-duplex link between two bridge ports, with its delay in ns.
 #[derive(Clone, Copy)]
 pub struct Link {
-    pub one: End,
-    pub other: End,
-    /// For how long a frame is under way, in either direction, in ns.
+    /// Port at one end.
+    pub one: BridgePort,
+    /// Port at the other end.
+    pub other: BridgePort,
+    /// Delay of a frame in either direction, in ns.
     pub delay: u64,
 }
 
@@ -29,16 +31,16 @@ pub struct StreamHop {
     pub filter: u32,
 }
 
-/// Whether an end is this port of this bridge.
-pub fn is_bridge_port(end: End, bridge: u16, port: u8) -> bool
-    ensures { result ≡ networks.is_at (end_of end) bridge port }
+/// Whether `end` is port `port` of the bridge with index `bridge`. Searches for a port's link compare both ends by it.
+pub fn is_bridge_port(end: BridgePort, bridge: u16, port: u8) -> bool
+    ensures { result ≡ networks.is_bridge_port (end_value end) bridge port }
 {
     end.bridge == bridge && end.port == port
 }
 
-/// The port at the other end of the first link that a port of a bridge has, if it has one: without a link it is open.
-pub fn peer_of(links: &[Link], bridge: u16, port: u8) -> Option<End>
-    ensures { option_map end_of result ≡ peer links.now bridge port }
+/// Returns the port at the other end of the port's first link. Returns `None` for an open port, which receives the frames of a capture.
+pub fn peer_port(links: &[Link], bridge: u16, port: u8) -> Option<BridgePort>
+    ensures { option_map end_value result ≡ peer_port links.now bridge port }
 {
     for link in links {
         if is_bridge_port(link.one, bridge, port) {
@@ -51,9 +53,9 @@ pub fn peer_of(links: &[Link], bridge: u16, port: u8) -> Option<End>
     None
 }
 
-/// Whether a stream lists a filter of a bridge.
-pub(crate) fn is_listed(stream: &[StreamHop], bridge: u16, filter: u32) -> bool
-    ensures { result ≡ accepting.is_listed (stream_of stream.now) bridge filter }
+/// Whether the stream contains filter `filter` of bridge `bridge`.
+pub(crate) fn has_hop(stream: &[StreamHop], bridge: u16, filter: u32) -> bool
+    ensures { result ≡ accepting.has_hop (stream_value stream.now) bridge filter }
 {
     for hop in stream {
         if hop.bridge == bridge && hop.filter == filter {

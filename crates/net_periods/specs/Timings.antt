@@ -1,55 +1,53 @@
 -- Times at which the frames of a traffic row have left a queue, and their delays.
 use Rattle.std.specs.Prelude.{◌≡◌, ℕ, Bool, true, ◌+◌, ◌-◌, ◌<◌, ◌≤◌, min, Option, None, Some, MatchOption}
-use Rattle.bridge_cycle.specs.Moments.{IsFirst}
-use Rattle.bridge_frame.specs.Link.{occupied}
-use Rattle.bridge_port.specs.Opening.{Opening, opening_of, opens}
-use Rattle.bridge_port.specs.Schedule.{Copy, Rules, Started}
+use Rattle.bridge_cycle.specs.Fits.{IsFirstFit}
+use Rattle.bridge_frame.specs.Link.{transmission_time}
+use Rattle.bridge_port.specs.GateSchedule.{GateSchedule, gate_schedule, opens}
+use Rattle.bridge_port.specs.Schedule.{Copy, PortRules, Started}
 use Rattle.bridge_port.specs.Solo.{IsSolo}
 use Rattle.std.specs.Prelude.{List, [], ◌∷◌}
 use Rattle.bridge_config.specs.Model.{Plan}
 use Rattle.bridge_config.specs.declared.ports.PortPlan.{PortPlan}
 use Rattle.bridge_check.specs.Windows.{longest_frame}
-use Rattle.bridge_semantics.specs.Offers.{Carried}
-use Rattle.bridge_bounds.specs.Bounds.{IsBound}
-use Rattle.net_model.specs.Latency.{IsMultiple, time_on}
+use Rattle.bridge_semantics.specs.Offers.{CarriedFrame}
+use Rattle.bridge_bounds.specs.Bounds.{IsQueueBound}
+use Rattle.net_model.specs.Latency.{IsMultiple, link_time}
 use Rattle.net_periods.specs.declared.traffic.Traffic.{Traffic}
 use Rattle.net_periods.specs.declared.timing.Phases.{Phases}
 use Rattle.net_periods.specs.declared.timing.Timing.{Timing}
-use Rattle.net_periods.specs.Waits.{IsLongestWait, IsShortestWait, repeats_with}
+use Rattle.net_periods.specs.Waits.{IsLongestWait, IsShortestWait, has_period}
 
 -- Transmission time in ns, at port `out`, of the shortest frame of traffic `t`, limited to the longest frame with `m`
 -- SDU octets.
-abbrev pub short_on : {A : Type 0} → PortPlan A → ℕ → Traffic → ℕ
-short_on out m t = occupied (min t.least (longest_frame m)) out.speed
+abbrev pub shortest_link_time : {A : Type 0} → PortPlan A → ℕ → Traffic → ℕ
+shortest_link_time out m t = transmission_time (min t.least (longest_frame m)) out.speed
 
 -- Transmission time in ns, at port `out`, of the longest frame of traffic `t`, limited to the longest frame with `m`
 -- SDU octets.
-abbrev pub long_on : {A : Type 0} → PortPlan A → ℕ → Traffic → ℕ
-long_on out m t = occupied (min t.longest (longest_frame m)) out.speed
+abbrev pub longest_link_time : {A : Type 0} → PortPlan A → ℕ → Traffic → ℕ
+longest_link_time out m t = transmission_time (min t.longest (longest_frame m)) out.speed
 
--- Holds if `done` has the earliest and the latest end of transmission, in ns from the start of the frame's period. A
--- shortest frame that arrives at `t.from` has the earliest end. A longest frame that arrives at `t.to` has the latest
--- end. The schedule repeats with the period, and the latest end is at most the next period's `t.from`.
-pub record ArePhases (o : Opening) (c short long : ℕ) (t : Traffic) (done : Phases) : Type 0 where
+-- Holds if `done` has the earliest and the latest end of transmission, in ns from the period's start. They belong to a shortest frame at phase `t.from` and a
+-- longest frame at `t.to`.
+pub record ArePhases (o : GateSchedule) (c short long : ℕ) (t : Traffic) (done : Phases) : Type 0 where
   pub first : ℕ
   pub last : ℕ
-  pub repeats : repeats_with t.period o ≡ true
-  pub is_first : IsFirst (opens o c) short t.from first
-  pub is_last : IsFirst (opens o c) long t.to last
+  pub repeats : has_period t.period o ≡ true
+  pub is_first : IsFirstFit (opens o c) short t.from first
+  pub is_last : IsFirstFit (opens o c) long t.to last
   pub from : done.from ≡ first + short
   pub to : done.to ≡ last + long
   pub through : last + long ≤ t.from + t.period
 
 -- Holds if the schedule doesn't repeat with the period, or a longest frame arriving at phase `t.to` ends after the next
 -- period's phase `t.from`.
-abbrev pub HaveNoPhases : Opening → ℕ → ℕ → Traffic → Type 0
+abbrev pub HaveNoPhases : GateSchedule → ℕ → ℕ → Traffic → Type 0
 HaveNoPhases o c long t =
-    repeats_with t.period o ≡ true → (last : ℕ) → IsFirst (opens o c) long t.to last → t.from + t.period < last + long
+    has_period t.period o ≡ true → (last : ℕ) → IsFirstFit (opens o c) long t.to last → t.from + t.period < last + long
 
--- Holds if the ends of transmission have phases `done`, and the delays of `x` (in ns) follow from these phases, waits
--- and `bound`. The worst delay is the least of three: `bound`, `done.to` - `t.from`, and the longest wait
--- plus a longest frame.
-pub record IsTimed (o : Opening) (c short long bound : ℕ) (t : Traffic) (x : Timing) (done : Phases) : Type 0 where
+-- Holds if the delays of `x` follow from the phases `done`, the waits and `bound`. The worst delay is the least of `bound`, `done.to` - `t.from`, and the
+-- longest wait plus a longest frame.
+pub record IsTimingWithPhases (o : GateSchedule) (c short long bound : ℕ) (t : Traffic) (x : Timing) (done : Phases) : Type 0 where
   pub phases : ArePhases o c short long t done
   pub longest : ℕ
   pub shortest : ℕ
@@ -59,47 +57,46 @@ pub record IsTimed (o : Opening) (c short long bound : ℕ) (t : Traffic) (x : T
   pub best : x.best ≡ shortest + short
 
 -- Holds if the ends of transmission have no phases, and `x` has worst delay `bound` and best delay `short`, in ns.
-pub record IsUntimed (o : Opening) (c short long bound : ℕ) (t : Traffic) (x : Timing) : Type 0 where
+pub record IsTimingWithoutPhases (o : GateSchedule) (c short long bound : ℕ) (t : Traffic) (x : Timing) : Type 0 where
   pub phases : HaveNoPhases o c long t
   pub worst : x.worst ≡ bound
   pub best : x.best ≡ short
 
--- Holds if `x` has the worst and the best delay in ns of traffic `t` in class `c` at port `out`. IsTimed defines the
--- figures if `x.phases` exists, otherwise IsUntimed.
-abbrev pub IsTimingAt : {A : Type 0} → PortPlan A → ℕ → ℕ → ℕ → Traffic → Timing → Type 0
-IsTimingAt out c m bound t x =
-    MatchOption x.phases (IsUntimed (opening_of out.list) c (short_on out m t) (long_on out m t) bound t x)
-    (IsTimed (opening_of out.list) c (short_on out m t) (long_on out m t) bound t x)
+-- Holds if `x` has the worst and the best delay in ns of traffic `t` in class `c` at port `out`. Its phases decide which definition of the delays applies.
+abbrev pub IsPortTiming : {A : Type 0} → PortPlan A → ℕ → ℕ → ℕ → Traffic → Timing → Type 0
+IsPortTiming out c m bound t x =
+    MatchOption x.phases (IsTimingWithoutPhases (gate_schedule out.list) c (shortest_link_time out m t) (longest_link_time out m t) bound t x)
+    (IsTimingWithPhases (gate_schedule out.list) c (shortest_link_time out m t) (longest_link_time out m t) bound t x)
 
 -- Holds if `x` has the worst and the best delay in ns of traffic `t` of filter `n` in class `c` at port `q`.
 -- Delays count from arrival to the end of transmission, gap included.
 pub record IsTiming {A : Type 0} (p : Plan A) (n q c : ℕ) (t : Traffic) (x : Timing) : Type 0 where
   pub bound : ℕ
-  pub is_bound : IsBound p n q c bound
-  pub is : IsTimingAt is_bound.out c is_bound.max_sdu bound t x
+  pub is_bound : IsQueueBound p n q c bound
+  pub is : IsPortTiming is_bound.out c is_bound.max_sdu bound t x
 
 -- RUNS
 
 -- Holds if copy `y`, started at `start`, has a delay from arrival to end of transmission of at least `x.best` and at
 -- most `x.worst` ns.
-pub record TakesBetween {A : Type 0} (out : PortPlan A) (x : Timing) (y : Copy Carried) (start : ℕ) : Type 0 where
-  pub best : y.at + x.best ≤ start + time_on out y.item
-  pub worst : start + time_on out y.item ≤ y.at + x.worst
+pub record IsDelayInBounds {A : Type 0} (out : PortPlan A) (x : Timing) (y : Copy CarriedFrame) (start : ℕ) : Type 0 where
+  pub best : y.at + x.best ≤ start + link_time out y.item
+  pub worst : start + link_time out y.item ≤ y.at + x.worst
 
 -- Holds if copy `y` arrived between the phases of `t` in some period, and ended its transmission between the phases
 -- `done` of that period.
-pub record IsDoneBetween {A : Type 0} (out : PortPlan A) (t : Traffic) (done : Phases) (y : Copy Carried) : Type 0 where
+pub record IsDoneInPhases {A : Type 0} (out : PortPlan A) (t : Traffic) (done : Phases) (y : Copy CarriedFrame) : Type 0 where
   pub start : ℕ
   pub period_start : ℕ
   pub started : y.fate ≡ Started start
   pub multiple : IsMultiple t.period period_start
   pub first : t.from + period_start ≤ y.at
   pub last : y.at ≤ t.to + period_start
-  pub from : done.from + period_start ≤ start + time_on out y.item
-  pub to : start + time_on out y.item ≤ done.to + period_start
+  pub from : done.from + period_start ≤ start + link_time out y.item
+  pub to : start + link_time out y.item ≤ done.to + period_start
 
--- a copy that comes alone to an empty queue at a moment is done at another one
-pub record IsDoneAlone {X : Type 0} (r : Rules X) (c : ℕ) (item : X) (at done : ℕ) : Type 0 where
+-- Holds if a copy that arrives alone at an empty queue at time `at` has left at time `done`.
+pub record IsDoneIfAlone {X : Type 0} (r : PortRules X) (c : ℕ) (item : X) (at done : ℕ) : Type 0 where
   pub copy : Copy X
   pub start : ℕ
   pub class : copy.class ≡ c

@@ -5,8 +5,8 @@ use Rattle.bridge_semantics.specs.Events.{Arrived, Cleared, Event}
 use Rattle.net_model.specs.Latency.{IsMultiple}
 use Rattle.net_periods.specs.declared.traffic.Traffic.{Traffic}
 
--- Holds if traffic `t` is valid: ordered phases within a period of at most END_OF_TIME, and ordered lengths from 1 to
--- 9,216 octets. A phase is a time in ns from the start of a period.
+-- Holds if traffic `t` is valid: ordered phases within a period of at most END_OF_TIME, and ordered lengths from 1 to 9,216 octets. Phases are in ns from the
+-- period's start.
 pub record IsTraffic (t : Traffic) : Type 0 where
   pub phases : t.from ≤ t.to
   pub within : t.to < t.period
@@ -15,8 +15,7 @@ pub record IsTraffic (t : Traffic) : Type 0 where
   pub lengths : t.least ≤ t.longest
   pub longest : t.longest ≤ LONGEST_FRAME
 
--- Holds if the frames among the events follow traffic `t`, each in a different period, and the newest frame's period
--- ends by time `next`. Each frame's period ends at or before the start of the next frame's period.
+-- Holds if the frames among the events keep traffic `t`, each in a period of its own. The newest frame's period ends by time `next`.
 abbrev pub ComeInPeriods : Traffic → ℕ → List Event → Type 0
 ComeInPeriods t next [] = Unit {0}
 ComeInPeriods t next (Arrived a ∷ es) =

@@ -1,13 +1,12 @@
 #![tactic(auto)]
-//! Talkers that keep a period: when their frames are done in each queue, how long they take, and whether each frame passes
-//! the filter.
+//! Periodic talkers: the phases of their frames in each queue, their delays, and whether each frame passes the filter.
 
 pub mod laws;
 mod passing;
 mod timing;
 mod traffic;
-mod wait;
+mod waits;
 
-pub use passing::{most_octets, passes};
-pub use timing::{Phases, Timing, timing_of};
+pub use passing::{longest_sdu, passes};
+pub use timing::{Phases, Timing, queue_timing};
 pub use traffic::Traffic;

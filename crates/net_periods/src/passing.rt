@@ -1,10 +1,10 @@
-//! Whether each frame of traffic passes its filter.
+//! The test whether a filter passes each frame of a periodic talker. If yes, the lines of `bounds --traffic` say `passes`.
 ghost use Rattle.std.specs.Prelude.{◌≡◌, ◌↔◌, ◌≤◌, true};
 ghost use Rattle.bridge_limits.specs.declared.TheConstants.{END_OF_TIME};
-ghost use Rattle.bridge_cycle.specs.Cyclic.{IsLawful, turn_at};
-ghost use Rattle.bridge_filter.specs.Verdicts.{is_above};
+ghost use Rattle.bridge_cycle.specs.Cyclic.{IsLawful, turn_by_time};
+ghost use Rattle.bridge_filter.specs.Verdicts.{is_above_max};
 ghost use Rattle.net_periods.specs.Passing as spec;
-ghost use Rattle.net_periods.specs.Passing.{AreLet, LetsEach, LetsInTurn, Passes};
+ghost use Rattle.net_periods.specs.Passing.{CanPassTurns, CanPassSchedule, CanPassList, Passes};
 ghost use Rattle.net_periods.specs.Traffic.{IsTraffic};
 
 use crate::traffic::Traffic;
@@ -16,9 +16,9 @@ use bridge_gate::{GateEntry, Schedule};
 use bridge_ident::{StreamEntry, TagKind};
 use std::alloc::Allocator;
 
-/// Whether an entry takes tagged frames alone.
-fn takes_tagged(tag: TagKind) -> bool
-    ensures { result ≡ spec.takes_tagged tag }
+/// Whether an entry of this tag kind accepts only VLAN-tagged frames. A tag makes the SDU of a frame 4 octets shorter.
+fn takes_only_tagged(tag: TagKind) -> bool
+    ensures { result ≡ spec.takes_only_tagged tag }
 {
     match tag {
         TagKind::Tagged => true,
@@ -27,28 +27,28 @@ fn takes_tagged(tag: TagKind) -> bool
     }
 }
 
-/// Whether all identifications that give a handle take tagged frames alone.
-fn are_tagged(handle: u32, streams: &[StreamEntry]) -> bool
-    ensures { result ≡ spec.are_tagged handle streams.now }
+/// Whether all entries with this stream handle accept only VLAN-tagged frames. Returns true if no entry has the handle.
+fn are_all_tagged(handle: u32, streams: &[StreamEntry]) -> bool
+    ensures { result ≡ spec.are_all_tagged handle streams.now }
 {
     streams
         .iter()
-        .all(|e| e.handle != handle || takes_tagged(e.tag))
+        .all(|e| e.handle != handle || takes_only_tagged(e.tag))
 }
 
-/// The most octets that the service data unit of a frame of a handle and a length may have.
-pub fn most_octets<A: Allocator + Copy>(plan: &Plan<A>, handle: Option<u32>, len: u32) -> u32
-    ensures { result ≡ spec.most_octets plan.now handle len }
+/// Returns the largest possible SDU in octets of a frame with this handle and captured length. Without a handle, frames may be untagged.
+pub fn longest_sdu<A: Allocator + Copy>(plan: &Plan<A>, handle: Option<u32>, len: u32) -> u32
+    ensures { result ≡ spec.longest_sdu plan.now handle len }
 {
     match handle {
-        Some(handle) if are_tagged(handle, plan.streams()) => len.saturating_sub(16),
+        Some(handle) if are_all_tagged(handle, plan.streams()) => len.saturating_sub(16),
         _ => len.saturating_sub(12),
     }
 }
 
-/// Whether octets are above a maximum, where there is one.
+/// Whether an SDU of `octets` is above the filter's maximum `most`. Returns false without a maximum.
 fn is_above(most: Option<u32>, octets: u32) -> bool
-    ensures { result ≡ is_above most octets }
+    ensures { result ≡ is_above_max most octets }
 {
     match most {
         None => false,
@@ -56,9 +56,9 @@ fn is_above(most: Option<u32>, octets: u32) -> bool
     }
 }
 
-/// Whether an entry lets a frame of so many octets through that is the first one of its turn.
-fn lets_one(entry: &GateEntry, sdu: u32) -> bool
-    ensures { result ≡ spec.lets_one entry.now sdu }
+/// Whether an interval of this stream gate entry passes a first frame of `sdu` octets: the gate is open and the octet limit suffices.
+fn can_pass_entry(entry: &GateEntry, sdu: u32) -> bool
+    ensures { result ≡ spec.can_pass_entry entry.now sdu }
 {
     if !entry.lets {
         return false;
@@ -69,9 +69,9 @@ fn lets_one(entry: &GateEntry, sdu: u32) -> bool
     }
 }
 
-/// Whether a turn whose octets are limited ends by a moment.
-fn ends_by(octets: Option<u32>, end: u64, until: u64) -> bool
-    ensures { result ≡ spec.ends_by octets end until }
+/// Whether an interval with an octet limit ends by time `until`, when the next frame may arrive. Returns true without a limit.
+fn is_limit_reset_in_time(octets: Option<u32>, end: u64, until: u64) -> bool
+    ensures { result ≡ spec.is_limit_reset_in_time octets end until }
 {
     match octets {
         None => true,
@@ -79,9 +79,8 @@ fn ends_by(octets: Option<u32>, end: u64, until: u64) -> bool
     }
 }
 
-/// Whether each turn that has a moment between two lets one frame of so many octets through. No more than one cycle of the
-/// list is looked at.
-fn are_let<A: Allocator + Copy>(
+/// Whether each interval from `from` to `to` passes one frame of `sdu` octets. Looks at no more than one cycle of the list.
+fn can_pass_turns<A: Allocator + Copy>(
     list: &CyclicList<GateEntry, A>,
     from: u64,
     to: u64,
@@ -90,13 +89,13 @@ fn are_let<A: Allocator + Copy>(
     requires phases { from ≤ to }
     requires to { to ≤ END_OF_TIME }
     requires lawful { IsLawful list.now }
-    ensures { (result ≡ true) ↔ AreLet (turn_at list.now) from to sdu }
+    ensures { (result ≡ true) ↔ CanPassTurns (turn_by_time list.now) from to sdu }
 {
     let end = to.min(from + list.cycle());
     let mut seen = from;
     while seen <= end {
         let turn = list.turn(seen);
-        if !lets_one(&turn.state, sdu) {
+        if !can_pass_entry(&turn.state, sdu) {
             return false;
         }
         seen = turn.end;
@@ -104,56 +103,61 @@ fn are_let<A: Allocator + Copy>(
     true
 }
 
-/// Whether a list lets each frame of the traffic through.
-fn lets_in_turn<A: Allocator + Copy>(
+/// Whether a stream gate's list passes each frame of the traffic. The period must be a multiple of the cycle time. No frame may share an
+/// interval's octets with another.
+fn can_pass_list<A: Allocator + Copy>(
     list: &CyclicList<GateEntry, A>,
     traffic: &Traffic,
     sdu: u32,
 ) -> bool
     requires traffic { IsTraffic traffic.now }
     requires lawful { IsLawful list.now }
-    ensures { (result ≡ true) ↔ LetsInTurn list.now traffic.now sdu }
+    ensures { (result ≡ true) ↔ CanPassList list.now traffic.now sdu }
 {
     if traffic.period % list.cycle() != 0 {
         return false;
     }
-    if !are_let(list, traffic.from, traffic.to, sdu) {
+    if !can_pass_turns(list, traffic.from, traffic.to, sdu) {
         return false;
     }
     let last = list.turn(traffic.to);
-    ends_by(last.state.octets, last.end, traffic.from + traffic.period)
+    is_limit_reset_in_time(last.state.octets, last.end, traffic.from + traffic.period)
 }
 
-/// Whether a schedule does, under each list where they are exchanged.
-fn lets_each<A: Allocator + Copy>(schedule: &Schedule<A>, traffic: &Traffic, sdu: u32) -> bool
+/// Whether a stream gate's schedule passes each frame of the traffic. If the schedule changes, both lists must pass them.
+fn can_pass_schedule<A: Allocator + Copy>(
+    schedule: &Schedule<A>,
+    traffic: &Traffic,
+    sdu: u32,
+) -> bool
     requires { IsTraffic traffic.now }
-    ensures { (result ≡ true) ↔ LetsEach schedule.now traffic.now sdu }
+    ensures { (result ≡ true) ↔ CanPassSchedule schedule.now traffic.now sdu }
 {
     match schedule {
         Schedule::Fixed { lets, ipv: _ } => *lets,
         Schedule::Cyclic(list) => {
             let _ = list.cycle();
-            lets_in_turn(list, traffic, sdu)
+            can_pass_list(list, traffic, sdu)
         }
         Schedule::Joined(joined) => {
             let (old, new) = joined.lists();
-            lets_in_turn(old, traffic, sdu) && lets_in_turn(new, traffic, sdu)
+            can_pass_list(old, traffic, sdu) && can_pass_list(new, traffic, sdu)
         }
     }
 }
 
-/// Whether each frame of the traffic passes the filter, where the filter's own frames are such: none has more octets than
-/// the filter allows, there is no meter, and the gate is open at all phases, with octets for one frame in each turn.
+/// Whether each own frame of `filter` passes if they keep `traffic`. Sizes must be allowed, the filter has no meter, and the stream gate
+/// passes one frame in each interval.
 pub fn passes<A: Allocator + Copy>(plan: &Plan<A>, filter: &FilterPlan, traffic: &Traffic) -> bool
     requires traffic { IsTraffic traffic.now }
     ensures { (result ≡ true) ↔ Passes plan.now filter.now traffic.now }
 {
-    let octets = most_octets(plan, filter.handle, traffic.longest);
+    let octets = longest_sdu(plan, filter.handle, traffic.longest);
     if is_above(filter.max_sdu, octets) || filter.meter.is_some() {
         return false;
     }
     match find_gate(plan.gates(), filter.gate) {
         None => false,
-        Some(gate) => lets_each(&gate.schedule, traffic, octets),
+        Some(gate) => can_pass_schedule(&gate.schedule, traffic, octets),
     }
 }

@@ -1,17 +1,17 @@
-//! Frames that come once in each period.
+//! Periodic traffic of a filter: the input of all computations of this crate.
 
-/// Periodic traffic: in each period at most one frame, between two phases, with a length between two limits. Periods
-/// begin at the multiples of the period.
+/// Periodic traffic: at most one frame in each period, between two phases and between two lengths. Periods begin at multiples of the
+/// period.
 #[derive(Clone, Copy, Debug, PartialEq, Eq)]
 pub struct Traffic {
-    /// The period, in ns.
+    /// Period in ns.
     pub period: u64,
-    /// The first phase at which a frame may come, in ns from the start of its period.
+    /// First phase at which a frame may arrive, in ns from the start of its period.
     pub from: u64,
-    /// The last one.
+    /// Last phase at which a frame may arrive, in ns from the start of its period.
     pub to: u64,
-    /// The octets of the shortest frame, as it is captured.
+    /// Captured length of the shortest frame in octets.
     pub least: u32,
-    /// The octets of the longest one.
+    /// Captured length of the longest frame in octets.
     pub longest: u32,
 }

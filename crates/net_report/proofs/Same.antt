@@ -1,43 +1,43 @@
--- What tables print of the hops of a stream depends only on their bridges, on what is told of each, and on what is known of their frames.
+-- The table rows of a stream depend only on its hops' bridges, records and source frames.
 use Rattle.std.proofs.Common.{◌≡◌, ℕ, suc, ◌+◌, Bool, true, false, List, [], ◌∷◌, ◌++◌, Option, Some, None, length, refl, sym, ap, subst, ◌∙◌, arith}
 use Rattle.std.specs.Prelude.{◌||◌, count_by, map, nat_eq, slice_get, Vec}
 use Rattle.bridge_limits.proofs.Lists.{heads, tails}
 use Rattle.bridge_filter.specs.declared.Verdict.{Verdict}
 use Rattle.net_model.specs.Networks.{Sender, sender}
-use Rattle.net_model.specs.Wiring.{link_of}
+use Rattle.net_model.specs.NetworkParts.{link_value}
 use Rattle.net_model.specs.declared.links.Link.{Link}
 use Rattle.bridge_semantics.specs.declared.outcome.Departure.{Departure}
 use Rattle.bridge_semantics.specs.declared.outcome.Dropped.{Dropped}
 use Rattle.bridge_semantics.specs.declared.outcome.Origin.{Origin}
 use Rattle.bridge_semantics.specs.declared.outcome.View.{View}
-use Rattle.bridge_semantics.specs.Runs.{TellTheSame}
+use Rattle.bridge_semantics.specs.Runs.{AreSameViews}
 use Rattle.net_report.specs.Passes.{Trace, contents, traces}
-use Rattle.net_report.specs.declared.hop_run.HopRun.{HopRun}
-use Rattle.net_report.specs.declared.tally.Tally.{Tally}
-use Rattle.net_report.specs.declared.tracing.Root.{Root}
-use Rattle.net_report.specs.declared.tallies.HopCounts.{HopCounts}
-use Rattle.net_report.specs.Counting.{AreCounted, AreTallies, frames_of, no_tallies, with_departures, with_drops, with_hop, with_taken, with_verdicts}
-use Rattle.net_report.specs.Figures.{figures_of}
-use Rattle.net_report.specs.Frames.{departure_lines, drop_lines, verdict_lines, view_lines}
-use Rattle.net_report.specs.Hops.{AreWays, is_at, leads_on, leads_to}
-use Rattle.net_report.specs.Streams.{hop_line, stream_line}
+use Rattle.net_report.specs.declared.copy_counting.HopRun.{HopRun}
+use Rattle.net_report.specs.declared.copy_counting.CopyCounts.{CopyCounts}
+use Rattle.net_report.specs.declared.sources.SourceFrame.{SourceFrame}
+use Rattle.net_report.specs.declared.hop_counting.HopCounts.{HopCounts}
+use Rattle.net_report.specs.Counting.{AreCounted, AreCopyCounts, frame_count, zero_counts, with_departures, with_drops, with_hop, with_arrivals, with_verdicts}
+use Rattle.net_report.specs.Statistics.{delay_statistics}
+use Rattle.net_report.specs.FrameTable.{departure_lines, drop_lines, verdict_lines, view_lines}
+use Rattle.net_report.specs.Hops.{AreOnwardPorts, has_hop_at_bridge, has_next_hop, is_bridge_with_hop}
+use Rattle.net_report.specs.StreamTable.{hop_line, stream_line}
 use Rattle.net_report.specs.Tables.{AreDelays, AreRowsOfHop, AreRowsOfHops, AreRowsOfStream, Heading}
-use Rattle.net_report.specs.Tallies.{counts_of, delays_of, is_blocked, is_full, is_gate_closed, is_octets_exceeded, is_out, is_oversize, is_red, is_shut_octets, is_shut_rx, is_yellow_dropped, never_fits}
+use Rattle.net_report.specs.HopCounts.{counts_by_ports, departure_delays, is_blocked, is_full, is_gate_closed, is_octets_exceeded, is_delivery, is_oversize, is_red, is_shut_octets, is_shut_rx, is_yellow_dropped, never_fits}
 
--- two hops at one bridge, of which the same is told
+-- Two hops at one bridge with equal records.
 pub record IsSameHop {A : Type 0} (h g : HopRun A) : Type 0 where
   pub bridge : h.bridge ≡ g.bridge
-  pub view : TellTheSame h.view.now g.view.now
+  pub view : AreSameViews h.view.now g.view.now
 
--- so of two lists, hop by hop
+-- Two lists with equal hops.
 abbrev pub AreSameHops : {A : Type 0} → List (HopRun A) → List (HopRun A) → Type 0
 AreSameHops [] [] = Unit {0}
 AreSameHops [] (g ∷ gs) = ⊥
 AreSameHops (h ∷ hs) [] = ⊥
 AreSameHops (h ∷ hs) (g ∷ gs) = IsSameHop h g × AreSameHops hs gs
 
--- what is made of the lists of a record is made of those of one that tells the same
-from_view : {A R : Type 0} (f : List Origin → List Verdict → List Dropped → List Departure → R) (v w : View A) → TellTheSame v w
+-- Equal records give equal results for every function of their lists.
+from_view : {A R : Type 0} (f : List Origin → List Verdict → List Dropped → List Departure → R) (v w : View A) → AreSameViews v w
     → f v.origins.items v.verdicts.items v.drops.items v.departures.items ≡ f w.origins.items w.verdicts.items w.drops.items w.departures.items
 from_view f v w same =
     ap (λ (x : List Origin). f x v.verdicts.items v.drops.items v.departures.items) same.origins
@@ -45,9 +45,9 @@ from_view f v w same =
     ∙ (ap (λ (x : List Dropped). f w.origins.items w.verdicts.items x v.departures.items) same.drops
     ∙ ap (λ (x : List Departure). f w.origins.items w.verdicts.items w.drops.items x) same.departures))
 
--- WAYS
+-- PORTS
 
--- lists with the same items at the same places
+-- Lists with equal items at each index are equal.
 same_lists : {X : Type 0} (xs ys : List X) → length xs ≡ length ys → ((i : ℕ) (x y : X) → slice_get xs i ≡ Some x → slice_get ys i ≡ Some y → x ≡ y) → xs ≡ ys
 same_lists [] [] many each = refl
 same_lists [] (y ∷ ys) many each = absurd (omega (arith, many))
@@ -55,42 +55,42 @@ same_lists (x ∷ xs) [] many each = absurd (omega (arith, many))
 same_lists (x ∷ xs) (y ∷ ys) many each =
     ap (λ z. z ∷ xs) (each 0 x y refl refl) ∙ ap (λ l. y ∷ l) (same_lists xs ys (omega (arith, many)) (λ i. each (suc i)))
 
-at_same : {A : Type 0} (hops gops : List (HopRun A)) → AreSameHops hops gops → (b : ℕ) → is_at hops b ≡ is_at gops b
+at_same : {A : Type 0} (hops gops : List (HopRun A)) → AreSameHops hops gops → (b : ℕ) → has_hop_at_bridge hops b ≡ has_hop_at_bridge gops b
 at_same [] [] same b = refl
 at_same [] (g ∷ gs) same b = absurd same
 at_same (h ∷ hs) [] same b = absurd same
 at_same (h ∷ hs) (g ∷ gs) same b =
-    ap (λ (n : ℕ). nat_eq n b || is_at hs b) same.0.bridge ∙ ap (λ (x : Bool). nat_eq g.bridge b || x) (at_same hs gs same.1 b)
+    ap (λ (n : ℕ). nat_eq n b || has_hop_at_bridge hs b) same.0.bridge ∙ ap (λ (x : Bool). nat_eq g.bridge b || x) (at_same hs gs same.1 b)
 
-to_same : {A : Type 0} (hops gops : List (HopRun A)) → AreSameHops hops gops → (s : Option Sender) → leads_to hops s ≡ leads_to gops s
+to_same : {A : Type 0} (hops gops : List (HopRun A)) → AreSameHops hops gops → (s : Option Sender) → is_bridge_with_hop hops s ≡ is_bridge_with_hop gops s
 to_same hops gops same None = refl
 to_same hops gops same (Some s) = at_same hops gops same s.from.bridge
 
--- ports lead on to the same hops
+-- The ports lead to equal hops.
 pub ways_once : {A : Type 0} (links : List Link) (hops gops : List (HopRun A)) → AreSameHops hops gops → (b c : ℕ) → b ≡ c → (ways others : List Bool)
-    → AreWays links hops b ways → AreWays links gops c others → ways ≡ others
+    → AreOnwardPorts links hops b ways → AreOnwardPorts links gops c others → ways ≡ others
 ways_once {A} links hops gops same b c e ways others one other = same_lists ways others (one.many ∙ sym other.many)
     (λ i x y is_x is_y.
     one.each i x is_x
-    ∙ (to_same hops gops same (sender (map link_of links) b (i + 1))
-    ∙ (ap (λ (n : ℕ). leads_on links gops n (i + 1)) e
+    ∙ (to_same hops gops same (sender (map link_value links) b (i + 1))
+    ∙ (ap (λ (n : ℕ). has_next_hop links gops n (i + 1)) e
     ∙ sym (other.each i y is_y))))
 
--- TALLIES
+-- COUNTS
 
-hop_same : {A : Type 0} (first : Bool) (ways others : List Bool) (roots more : List (Option Root)) (ts : List Tally) (v w : View A)
-    → ways ≡ others → roots ≡ more → TellTheSame v w → with_hop first ways roots ts v ≡ with_hop first others more ts w
+hop_same : {A : Type 0} (first : Bool) (ways others : List Bool) (roots more : List (Option SourceFrame)) (ts : List CopyCounts) (v w : View A)
+    → ways ≡ others → roots ≡ more → AreSameViews v w → with_hop first ways roots ts v ≡ with_hop first others more ts w
 hop_same true ways others roots more ts v w same_ways same_roots same =
     ap (λ (x : List Bool). with_hop true x roots ts v) same_ways
-    ∙ (ap (λ (x : List (Option Root)). with_hop true others x ts v) same_roots
-    ∙ from_view {R = List Tally} (λ os vs ds ls. with_verdicts more 1 (with_drops more (with_departures others more ts ls) ds) vs) v w same)
+    ∙ (ap (λ (x : List (Option SourceFrame)). with_hop true others x ts v) same_roots
+    ∙ from_view {R = List CopyCounts} (λ os vs ds ls. with_verdicts more 1 (with_drops more (with_departures others more ts ls) ds) vs) v w same)
 hop_same false ways others roots more ts v w same_ways same_roots same =
     ap (λ (x : List Bool). with_hop false x roots ts v) same_ways
-    ∙ (ap (λ (x : List (Option Root)). with_hop false others x ts v) same_roots
-    ∙ from_view {R = List Tally} (λ os vs ds ls. with_taken (with_verdicts more 1 (with_drops more (with_departures others more ts ls) ds) vs) more) v w same)
+    ∙ (ap (λ (x : List (Option SourceFrame)). with_hop false others x ts v) same_roots
+    ∙ from_view {R = List CopyCounts} (λ os vs ds ls. with_arrivals (with_verdicts more 1 (with_drops more (with_departures others more ts ls) ds) vs) more) v w same)
 
 counted_once : {A : Type 0} (links : List Link) (hops gops : List (HopRun A)) → AreSameHops hops gops
-    → (first : Bool) (hs gs : List (HopRun A)) (ks ls : List (Vec (Option Root) A)) (ts us vs : List Tally) → AreSameHops hs gs → contents ks ≡ contents ls
+    → (first : Bool) (hs gs : List (HopRun A)) (ks ls : List (Vec (Option SourceFrame) A)) (ts us vs : List CopyCounts) → AreSameHops hs gs → contents ks ≡ contents ls
     → AreCounted links hops first hs ks ts us → AreCounted links gops first gs ls ts vs → us ≡ vs
 counted_once links hops gops all first [] [] ks ls ts us vs same known one other = one ∙ sym other
 counted_once links hops gops all first [] (g ∷ gs) ks ls ts us vs same known one other = absurd same
@@ -105,25 +105,25 @@ counted_once links hops gops all first (h ∷ hs) (g ∷ gs) (k ∷ ks) (l ∷ l
     let same_roots = heads k.items l.items (contents ks) (contents ls) known in
     let step = hop_same first ways others k.items l.items ts h.view.now g.view.now same_ways same_roots same.0.view in
     counted_once links hops gops all false hs gs ks ls (with_hop first ways k.items ts h.view.now) us vs same.1 (tails k.items l.items (contents ks) (contents ls) known) rest
-    (subst (λ (t : List Tally). AreCounted links gops false gs ls t vs) (sym step) more)
+    (subst (λ (t : List CopyCounts). AreCounted links gops false gs ls t vs) (sym step) more)
 
-frames_same : {A : Type 0} (hops gops : List (HopRun A)) → AreSameHops hops gops → frames_of hops ≡ frames_of gops
+frames_same : {A : Type 0} (hops gops : List (HopRun A)) → AreSameHops hops gops → frame_count hops ≡ frame_count gops
 frames_same [] [] same = refl
 frames_same [] (g ∷ gs) same = absurd same
 frames_same (h ∷ hs) [] same = absurd same
 frames_same (h ∷ hs) (g ∷ gs) same = ap (λ (l : List Origin). length l) same.0.view.origins
 
--- the tallies are the same
-pub tallies_once : {A : Type 0} (links : List Link) (hops gops : List (HopRun A)) (known more : List (Vec (Option Root) A)) (us vs : List Tally)
-    → AreSameHops hops gops → contents known ≡ contents more → AreTallies links hops known us → AreTallies links gops more vs → us ≡ vs
+-- The counts are equal.
+pub tallies_once : {A : Type 0} (links : List Link) (hops gops : List (HopRun A)) (known more : List (Vec (Option SourceFrame) A)) (us vs : List CopyCounts)
+    → AreSameHops hops gops → contents known ≡ contents more → AreCopyCounts links hops known us → AreCopyCounts links gops more vs → us ≡ vs
 tallies_once links hops gops known more us vs same roots one other =
-    counted_once links hops gops same true hops gops known more (no_tallies (frames_of hops)) us vs same roots one
-    (subst (λ (n : ℕ). AreCounted links gops true gops more (no_tallies n) vs) (sym (frames_same hops gops same)) other)
+    counted_once links hops gops same true hops gops known more (zero_counts (frame_count hops)) us vs same roots one
+    (subst (λ (n : ℕ). AreCounted links gops true gops more (zero_counts n) vs) (sym (frames_same hops gops same)) other)
 
 -- DELAYS
 
 pub delays_once : {A : Type 0} (links : List Link) (hops gops : List (HopRun A)) → AreSameHops hops gops
-    → (hs gs : List (HopRun A)) (ks ls : List (Vec (Option Root) A)) (us vs : List ℕ) → AreSameHops hs gs → contents ks ≡ contents ls
+    → (hs gs : List (HopRun A)) (ks ls : List (Vec (Option SourceFrame) A)) (us vs : List ℕ) → AreSameHops hs gs → contents ks ≡ contents ls
     → AreDelays links hops hs ks us → AreDelays links gops gs ls vs → us ≡ vs
 delays_once links hops gops all [] [] ks ls us vs same known one other = one ∙ sym other
 delays_once links hops gops all [] (g ∷ gs) ks ls us vs same known one other = absurd same
@@ -138,19 +138,19 @@ delays_once links hops gops all (h ∷ hs) (g ∷ gs) (k ∷ ks) (l ∷ ls) us v
     let same_roots = heads k.items l.items (contents ks) (contents ls) known in
     let same_rest = delays_once links hops gops all hs gs ks ls rest more same.1 (tails k.items l.items (contents ks) (contents ls) known) are_rest are_more in
     is
-    ∙ (ap (λ (x : List Bool). delays_of x k.items h.view.now.departures.items ++ rest) same_ways
-    ∙ (ap (λ (x : List (Option Root)). delays_of others x h.view.now.departures.items ++ rest) same_roots
-    ∙ (ap (λ (x : List Departure). delays_of others l.items x ++ rest) same.0.view.departures
-    ∙ (ap (λ (x : List ℕ). delays_of others l.items g.view.now.departures.items ++ x) same_rest
+    ∙ (ap (λ (x : List Bool). departure_delays x k.items h.view.now.departures.items ++ rest) same_ways
+    ∙ (ap (λ (x : List (Option SourceFrame)). departure_delays others x h.view.now.departures.items ++ rest) same_roots
+    ∙ (ap (λ (x : List Departure). departure_delays others l.items x ++ rest) same.0.view.departures
+    ∙ (ap (λ (x : List ℕ). departure_delays others l.items g.view.now.departures.items ++ x) same_rest
     ∙ sym is_other))))
 
 -- ROWS
 
-counts_same : {A : Type 0} (ways : List Bool) (v w : View A) → TellTheSame v w → counts_of ways v ≡ counts_of ways w
+counts_same : {A : Type 0} (ways : List Bool) (v w : View A) → AreSameViews v w → counts_by_ports ways v ≡ counts_by_ports ways w
 counts_same ways v w same =
     let f : List Origin → List Verdict → List Dropped → List Departure → HopCounts = λ os vs ds ls. record {
       frames = length os;
-      delivered = count_by (is_out ways) ls;
+      delivered = count_by (is_delivery ways) ls;
       blocked = count_by is_blocked vs;
       oversize = count_by is_oversize vs;
       gate_closed = count_by is_gate_closed vs;
@@ -164,13 +164,13 @@ counts_same ways v w same =
     } in
     from_view f v w same
 
-lines_same : {A : Type 0} (stream name : List ℕ) (roots : List (Option Root)) (ways : List Bool) (v w : View A) → TellTheSame v w
+lines_same : {A : Type 0} (stream name : List ℕ) (roots : List (Option SourceFrame)) (ways : List Bool) (v w : View A) → AreSameViews v w
     → view_lines stream name roots ways v ≡ view_lines stream name roots ways w
 lines_same stream name roots ways v w same =
     from_view {R = List ℕ} (λ os vs ds ls. verdict_lines stream name roots os 1 vs ++ (drop_lines stream name roots os ds ++ departure_lines stream name roots os ways ls)) v w same
 
 hop_once : {A : Type 0} (links : List Link) (hops gops : List (HopRun A)) → AreSameHops hops gops
-    → (stream name : List ℕ) (h g : HopRun A) (roots more : List (Option Root)) (row other_row lines other_lines : List ℕ) → IsSameHop h g → roots ≡ more
+    → (stream name : List ℕ) (h g : HopRun A) (roots more : List (Option SourceFrame)) (row other_row lines other_lines : List ℕ) → IsSameHop h g → roots ≡ more
     → AreRowsOfHop links hops stream name h roots row lines → AreRowsOfHop links gops stream name g more other_row other_lines
     → (row ≡ other_row) × (lines ≡ other_lines)
 hop_once links hops gops all stream name h g roots more row other_row lines other_lines same same_roots one other =
@@ -178,21 +178,21 @@ hop_once links hops gops all stream name h g roots more row other_row lines othe
     let w = g.view.now in
     let same_ways = ways_once links hops gops all h.bridge g.bridge same.bridge one.ways other.ways one.are_ways other.are_ways in (
       one.row_is
-          ∙ (ap (λ (x : List Bool). hop_line stream name (counts_of x v) (figures_of (delays_of x roots v.departures.items))) same_ways
-          ∙ (ap (λ (x : HopCounts). hop_line stream name x (figures_of (delays_of other.ways roots v.departures.items))) (counts_same other.ways v w same.view)
-          ∙ (ap (λ (x : List (Option Root)). hop_line stream name (counts_of other.ways w) (figures_of (delays_of other.ways x v.departures.items))) same_roots
-          ∙ (ap (λ (x : List Departure). hop_line stream name (counts_of other.ways w) (figures_of (delays_of other.ways more x))) same.view.departures
+          ∙ (ap (λ (x : List Bool). hop_line stream name (counts_by_ports x v) (delay_statistics (departure_delays x roots v.departures.items))) same_ways
+          ∙ (ap (λ (x : HopCounts). hop_line stream name x (delay_statistics (departure_delays other.ways roots v.departures.items))) (counts_same other.ways v w same.view)
+          ∙ (ap (λ (x : List (Option SourceFrame)). hop_line stream name (counts_by_ports other.ways w) (delay_statistics (departure_delays other.ways x v.departures.items))) same_roots
+          ∙ (ap (λ (x : List Departure). hop_line stream name (counts_by_ports other.ways w) (delay_statistics (departure_delays other.ways more x))) same.view.departures
           ∙ sym other.row_is)))),
       one.lines_are
           ∙ (ap (λ (x : List Bool). view_lines stream name roots x v) same_ways
-          ∙ (ap (λ (x : List (Option Root)). view_lines stream name x other.ways v) same_roots
+          ∙ (ap (λ (x : List (Option SourceFrame)). view_lines stream name x other.ways v) same_roots
           ∙ (lines_same stream name more other.ways v w same.view
           ∙ sym other.lines_are))),
     )
 
--- the rows of the hops are the same
+-- The rows of the hops are equal.
 pub hops_once : {A : Type 0} (links : List Link) (hops gops : List (HopRun A)) → AreSameHops hops gops
-    → (stream : List ℕ) (ns : List (List ℕ)) (hs gs : List (HopRun A)) (ks ls : List (Vec (Option Root) A)) (rows other_rows lines other_lines : List ℕ) → AreSameHops hs gs → contents ks ≡ contents ls
+    → (stream : List ℕ) (ns : List (List ℕ)) (hs gs : List (HopRun A)) (ks ls : List (Vec (Option SourceFrame) A)) (rows other_rows lines other_lines : List ℕ) → AreSameHops hs gs → contents ks ≡ contents ls
     → AreRowsOfHops links hops stream ns hs ks rows lines → AreRowsOfHops links gops stream ns gs ls other_rows other_lines
     → (rows ≡ other_rows) × (lines ≡ other_lines)
 hops_once links hops gops all stream [] hs gs ks ls rows other_rows lines other_lines same known one other = (one.0 ∙ sym other.0, one.1 ∙ sym other.1)
@@ -212,22 +212,22 @@ hops_once links hops gops all stream (n ∷ ns) (h ∷ hs) (g ∷ gs) (k ∷ ks)
       lines_are ∙ (ap (λ (x : List ℕ). x ++ rest) first.1 ∙ (ap (λ (x : List ℕ). other_line ++ x) others.1 ∙ sym other_lines_are)),
     )
 
--- so are those of a stream
-pub stream_once : {A : Type 0} (links : List Link) (hops gops : List (HopRun A)) (known more : List (Vec (Option Root) A)) (tallies others : List Tally) (s : Heading) (rows other_rows lines other_lines : List ℕ)
+-- The rows of the stream are equal.
+pub stream_once : {A : Type 0} (links : List Link) (hops gops : List (HopRun A)) (known more : List (Vec (Option SourceFrame) A)) (tallies others : List CopyCounts) (s : Heading) (rows other_rows lines other_lines : List ℕ)
     → AreSameHops hops gops → contents known ≡ contents more → tallies ≡ others
     → AreRowsOfStream links hops known tallies s rows lines → AreRowsOfStream links gops more others s other_rows other_lines → (rows ≡ other_rows) × (lines ≡ other_lines)
 stream_once links hops gops known more tallies others s rows other_rows lines other_lines same roots same_tallies one other =
     let same_delays = delays_once links hops gops same hops gops known more one.delays other.delays same roots one.are_delays other.are_delays in
     let same_hops = hops_once links hops gops same s.name s.hops hops gops known more one.hop_rows other.hop_rows lines other_lines same roots one.are_hops other.are_hops in (
       one.rows_are
-          ∙ (ap (λ (x : List Tally). stream_line s.name x (figures_of one.delays) s.bound s.deadline ++ one.hop_rows) same_tallies
-          ∙ (ap (λ (x : List ℕ). stream_line s.name others (figures_of x) s.bound s.deadline ++ one.hop_rows) same_delays
-          ∙ (ap (λ (x : List ℕ). stream_line s.name others (figures_of other.delays) s.bound s.deadline ++ x) same_hops.0
+          ∙ (ap (λ (x : List CopyCounts). stream_line s.name x (delay_statistics one.delays) s.bound s.deadline ++ one.hop_rows) same_tallies
+          ∙ (ap (λ (x : List ℕ). stream_line s.name others (delay_statistics x) s.bound s.deadline ++ one.hop_rows) same_delays
+          ∙ (ap (λ (x : List ℕ). stream_line s.name others (delay_statistics other.delays) s.bound s.deadline ++ x) same_hops.0
           ∙ sym other.rows_are))),
       same_hops.1,
     )
 
--- hops of which the same is told leave the same traces
+-- Equal hops leave equal traces.
 pub traces_same : {A : Type 0} (hops gops : List (HopRun A)) → AreSameHops hops gops → traces hops ≡ traces gops
 traces_same [] [] same = refl
 traces_same [] (g ∷ gs) same = absurd same

@@ -1,19 +1,19 @@
--- Where the ports of a bridge lead, one port more.
+-- The ports that lead to a hop, one port more.
 use Rattle.std.proofs.Common.{◌≡◌, inl, inr, ℕ, ◌+◌, Bool, List, [], ◌∷◌, ◌++◌, length, sym, ap, ◌∙◌, arith}
 use Rattle.std.specs.Prelude.{IfOk, Result, Ok, Err}
 use Rattle.bridge_limits.proofs.Lists.{pushed}
 use Rattle.net_model.specs.declared.links.Link.{Link}
-use Rattle.net_report.specs.declared.hop_run.HopRun.{HopRun}
-use Rattle.net_report.specs.Hops.{AreAnswers, leads_on}
+use Rattle.net_report.specs.declared.copy_counting.HopRun.{HopRun}
+use Rattle.net_report.specs.Hops.{AreOnwardAnswers, has_next_hop}
 
-pub answers_more : {A : Type 0} (links : List Link) (hops : List (HopRun A)) (b : ℕ) (ways : List Bool) (on : Bool) (q : ℕ) → length ways + 1 ≡ q → on ≡ leads_on links hops b q → AreAnswers links hops b ways
-    → AreAnswers links hops b (ways ++ on ∷ [])
+pub answers_more : {A : Type 0} (links : List Link) (hops : List (HopRun A)) (b : ℕ) (ways : List Bool) (on : Bool) (q : ℕ) → length ways + 1 ≡ q → on ≡ has_next_hop links hops b q → AreOnwardAnswers links hops b ways
+    → AreOnwardAnswers links hops b (ways ++ on ∷ [])
 answers_more links hops b ways on q at is are i x there = elim (pushed ways on x i there) [
   | inl before ↦ are i x before
-  | inr here ↦ sym here.1 ∙ (is ∙ ap (leads_on links hops b) (let last = here.0 in omega (arith, at, last)))
+  | inr here ↦ sym here.1 ∙ (is ∙ ap (has_next_hop links hops b) (let last = here.0 in omega (arith, at, last)))
 ]
 
--- lines by where the ports lead
+-- The rows by the ports that lead to a hop.
 pub lines_if : {T E : Type 0} (octets_of : T → List ℕ) (r : Result T E) (Are : List Bool → Type 0) (lines_of : List Bool → List ℕ) (ways : List Bool)
     → Are ways → IfOk r (λ t. octets_of t ≡ lines_of ways) → IfOk r (λ t. (w : List Bool) × Are w × (octets_of t ≡ lines_of w))
 lines_if octets_of (Ok t) Are lines_of ways are is = (ways, are, is)

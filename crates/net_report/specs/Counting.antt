@@ -1,102 +1,102 @@
--- What became of each frame of the first hop, counted over all hops.
+-- Counts of each first-hop frame's copies, over all hops.
 use Rattle.std.specs.Prelude.{◌≡◌, ℕ, ◌+◌, ◌-◌, ◌^◌, Bool, true, false, nat_eq, nat_lt, Option, Some, None, List, [], ◌∷◌, fold, length, replicate, slice_get, slice_set, Vec, if◌then◌else◌}
 use Rattle.bridge_filter.specs.declared.Verdict.{Verdict}
 use Rattle.net_model.specs.declared.links.Link.{Link}
 use Rattle.bridge_semantics.specs.declared.outcome.Departure.{Departure}
 use Rattle.bridge_semantics.specs.declared.outcome.Dropped.{Dropped}
 use Rattle.bridge_semantics.specs.declared.outcome.View.{View}
-use Rattle.net_report.specs.declared.counting.Fate.{Fate}
-use Rattle.net_report.specs.declared.counting.Fate.TheVariants as fate
-use Rattle.net_report.specs.declared.hop_run.HopRun.{HopRun}
-use Rattle.net_report.specs.declared.tally.Tally.{Tally}
-use Rattle.net_report.specs.declared.tracing.Root.{Root}
-use Rattle.net_report.specs.Hops.{AreWays, is_on}
-use Rattle.net_report.specs.Tallies.{passes}
-use Rattle.net_report.specs.Tracing.{root_at}
+use Rattle.net_report.specs.declared.copy_counting.CopyFate.{CopyFate}
+use Rattle.net_report.specs.declared.copy_counting.CopyFate.TheVariants as fate
+use Rattle.net_report.specs.declared.copy_counting.HopRun.{HopRun}
+use Rattle.net_report.specs.declared.copy_counting.CopyCounts.{CopyCounts}
+use Rattle.net_report.specs.declared.sources.SourceFrame.{SourceFrame}
+use Rattle.net_report.specs.Hops.{AreOnwardPorts, is_onward}
+use Rattle.net_report.specs.HopCounts.{is_pass}
+use Rattle.net_report.specs.SourceFrames.{source_frame}
 
--- one more, as far as a count goes
-abbrev pub more : ℕ → ℕ
-more n = if nat_lt n (2 ^ 64 - 1) then n + 1 else n
+-- The number plus one, or the number itself if it is the largest.
+abbrev pub saturating_increment : ℕ → ℕ
+saturating_increment n = if nat_lt n (2 ^ 64 - 1) then n + 1 else n
 
--- a tally with one more of a fate
-abbrev pub with_fate : Tally → Fate → Tally
-with_fate t fate.Delivered = record t { delivered = more t.delivered }
-with_fate t fate.Refused = record t { refused = more t.refused }
-with_fate t fate.SentOn = record t { sent_on = more t.sent_on }
-with_fate t fate.Taken = record t { taken = more t.taken }
+-- The counts of a first-hop frame, with one more copy of this fate.
+abbrev pub add_fate : CopyCounts → CopyFate → CopyCounts
+add_fate t fate.Delivered = record t { delivered = saturating_increment t.delivered }
+add_fate t fate.Refused = record t { refused = saturating_increment t.refused }
+add_fate t fate.Forwarded = record t { sent_on = saturating_increment t.sent_on }
+add_fate t fate.Arrived = record t { taken = saturating_increment t.taken }
 
--- tallies with one more at a place, where there is one
-abbrev pub set_if : List Tally → ℕ → Fate → Option Tally → List Tally
-set_if ts k f None = ts
-set_if ts k f (Some t) = slice_set ts k (with_fate t f)
+-- The list of counts with one more at index `k`, if this index exists.
+abbrev pub set_counts_if_any : List CopyCounts → ℕ → CopyFate → Option CopyCounts → List CopyCounts
+set_counts_if_any ts k f None = ts
+set_counts_if_any ts k f (Some t) = slice_set ts k (add_fate t f)
 
--- tallies with one more of a fate at a place
-abbrev pub with_one_at : List Tally → ℕ → Fate → List Tally
-with_one_at ts k f = set_if ts k f (slice_get ts k)
+-- The list of counts with one more of a fate at index `k`.
+abbrev pub count_at_index : List CopyCounts → ℕ → CopyFate → List CopyCounts
+count_at_index ts k f = set_counts_if_any ts k f (slice_get ts k)
 
--- and with one more of a frame of the first hop, where it is known
-abbrev pub with_one : Fate → List Tally → Option Root → List Tally
-with_one f ts None = ts
-with_one f ts (Some r) = if nat_eq r.number 0 then ts else with_one_at ts (r.number - 1) f
+-- The list of counts with one more for a first-hop frame, if the frame is known.
+abbrev pub count_frame : CopyFate → List CopyCounts → Option SourceFrame → List CopyCounts
+count_frame f ts None = ts
+count_frame f ts (Some r) = if nat_eq r.number 0 then ts else count_at_index ts (r.number - 1) f
 
--- what becomes of a copy that left
-abbrev pub fate_of : List Bool → Departure → Fate
-fate_of ways d = if is_on ways d.port then fate.SentOn else fate.Delivered
+-- The fate of a copy that left: forwarded to a hop, or delivered.
+abbrev pub departure_fate : List Bool → Departure → CopyFate
+departure_fate ways d = if is_onward ways d.port then fate.Forwarded else fate.Delivered
 
--- tallies with a copy that left, and with some
-abbrev pub with_departure : List Bool → List (Option Root) → List Tally → Departure → List Tally
-with_departure ways roots ts d = with_one (fate_of ways d) ts (root_at roots d.own)
+-- The counts after a copy left: one more for its first-hop frame.
+abbrev pub with_departure : List Bool → List (Option SourceFrame) → List CopyCounts → Departure → List CopyCounts
+with_departure ways roots ts d = count_frame (departure_fate ways d) ts (source_frame roots d.own)
 
--- with copies that left, one after the other
-abbrev pub with_departures : List Bool → List (Option Root) → List Tally → List Departure → List Tally
+-- The counts with copies that left, one after another.
+abbrev pub with_departures : List Bool → List (Option SourceFrame) → List CopyCounts → List Departure → List CopyCounts
 with_departures ways roots ts ds = fold (with_departure ways roots) ts ds
 
--- with copies that were dropped
-abbrev pub with_drop : List (Option Root) → List Tally → Dropped → List Tally
-with_drop roots ts d = with_one fate.Refused ts (root_at roots d.own)
+-- The counts after a port dropped a copy: one more for its first-hop frame.
+abbrev pub with_drop : List (Option SourceFrame) → List CopyCounts → Dropped → List CopyCounts
+with_drop roots ts d = count_frame fate.Refused ts (source_frame roots d.own)
 
--- with copies that were dropped, one after the other
-abbrev pub with_drops : List (Option Root) → List Tally → List Dropped → List Tally
+-- The counts after ports dropped these copies, one after another.
+abbrev pub with_drops : List (Option SourceFrame) → List CopyCounts → List Dropped → List CopyCounts
 with_drops roots ts ds = fold (with_drop roots) ts ds
 
--- with a frame that passed or was refused, and with some, by their numbers from one on
-abbrev pub with_verdict : List Tally → Option Root → Verdict → List Tally
-with_verdict ts root v = if passes v then ts else with_one fate.Refused ts root
+-- The counts with a frame that passed or was refused.
+abbrev pub with_verdict : List CopyCounts → Option SourceFrame → Verdict → List CopyCounts
+with_verdict ts root v = if is_pass v then ts else count_frame fate.Refused ts root
 
--- with frames that passed or were refused, by their numbers from one on
-abbrev pub with_verdicts : List (Option Root) → ℕ → List Tally → List Verdict → List Tally
+-- The counts with frames that passed or were refused; frames have numbers from `n` on.
+abbrev pub with_verdicts : List (Option SourceFrame) → ℕ → List CopyCounts → List Verdict → List CopyCounts
 with_verdicts roots n ts [] = ts
-with_verdicts roots n ts (v ∷ vs) = with_verdicts roots (n + 1) (with_verdict ts (root_at roots n) v) vs
+with_verdicts roots n ts (v ∷ vs) = with_verdicts roots (n + 1) (with_verdict ts (source_frame roots n) v) vs
 
--- with frames that came to a hop behind the first
-abbrev pub with_taken : List Tally → List (Option Root) → List Tally
-with_taken ts roots = fold (with_one fate.Taken) ts roots
+-- The counts with frames that arrived at a later hop than the first.
+abbrev pub with_arrivals : List CopyCounts → List (Option SourceFrame) → List CopyCounts
+with_arrivals ts roots = fold (count_frame fate.Arrived) ts roots
 
--- with what is told of a hop
-abbrev pub with_view : {A : Type 0} → List Bool → List (Option Root) → List Tally → View A → List Tally
+-- The counts with everything that a hop's record reports: copies that left, dropped copies and refused frames.
+abbrev pub with_view : {A : Type 0} → List Bool → List (Option SourceFrame) → List CopyCounts → View A → List CopyCounts
 with_view ways roots ts v = with_verdicts roots 1 (with_drops roots (with_departures ways roots ts v.departures.items) v.drops.items) v.verdicts.items
 
--- with a hop, of whose frames this is known; those that come to the first are its own
-abbrev pub with_hop : {A : Type 0} → Bool → List Bool → List (Option Root) → List Tally → View A → List Tally
+-- The counts with a hop. Arrivals at the first hop don't count as arrivals from a hop.
+abbrev pub with_hop : {A : Type 0} → Bool → List Bool → List (Option SourceFrame) → List CopyCounts → View A → List CopyCounts
 with_hop true ways roots ts v = with_view ways roots ts v
-with_hop false ways roots ts v = with_taken (with_view ways roots ts v) roots
+with_hop false ways roots ts v = with_arrivals (with_view ways roots ts v) roots
 
--- tallies and what they are behind some hops, of whose frames this is known, by whether the first of these is the stream's first hop
-abbrev pub AreCounted : {A : Type 0} → List Link → List (HopRun A) → Bool → List (HopRun A) → List (Vec (Option Root) A) → List Tally → List Tally → Type 0
+-- Holds if `us` has the counts of `ts` after the hops in the list. `first` is true if the list begins with the stream's first hop.
+abbrev pub AreCounted : {A : Type 0} → List Link → List (HopRun A) → Bool → List (HopRun A) → List (Vec (Option SourceFrame) A) → List CopyCounts → List CopyCounts → Type 0
 AreCounted links hops first [] known ts us = us ≡ ts
 AreCounted links hops first (h ∷ hs) [] ts us = us ≡ ts
 AreCounted links hops first (h ∷ hs) (k ∷ ks) ts us =
-    (ways : List Bool) × AreWays links hops h.bridge ways × AreCounted links hops false hs ks (with_hop first ways k.items ts h.view.now) us
+    (ways : List Bool) × AreOnwardPorts links hops h.bridge ways × AreCounted links hops false hs ks (with_hop first ways k.items ts h.view.now) us
 
--- how many frames came to the first hop
-abbrev pub frames_of : {A : Type 0} → List (HopRun A) → ℕ
-frames_of [] = 0
-frames_of (h ∷ hs) = length h.view.now.origins.items
+-- Number of frames that arrived at the first hop.
+abbrev pub frame_count : {A : Type 0} → List (HopRun A) → ℕ
+frame_count [] = 0
+frame_count (h ∷ hs) = length h.view.now.origins.items
 
--- tallies of so many frames, of which nothing is counted
-abbrev pub no_tallies : ℕ → List Tally
-no_tallies n = replicate n (record { delivered = 0; refused = 0; sent_on = 0; taken = 0 })
+-- Counts of zero, one item for each of `n` first-hop frames.
+abbrev pub zero_counts : ℕ → List CopyCounts
+zero_counts n = replicate n (record { delivered = 0; refused = 0; sent_on = 0; taken = 0 })
 
--- the tallies of all frames of the first hop, by what is known of the frames of all hops
-abbrev pub AreTallies : {A : Type 0} → List Link → List (HopRun A) → List (Vec (Option Root) A) → List Tally → Type 0
-AreTallies links hops all tallies = AreCounted links hops true hops all (no_tallies (frames_of hops)) tallies
+-- Holds if `tallies` has the counts of all first-hop frames. `all` has the source of each frame of each hop.
+abbrev pub AreCopyCounts : {A : Type 0} → List Link → List (HopRun A) → List (Vec (Option SourceFrame) A) → List CopyCounts → Type 0
+AreCopyCounts links hops all tallies = AreCounted links hops true hops all (zero_counts (frame_count hops)) tallies

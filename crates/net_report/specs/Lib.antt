@@ -1,11 +1,11 @@
-pub mod Tracing
+pub mod SourceFrames
 pub mod Passes
-pub mod Delivered
+pub mod CopyCounts
 pub mod Hops
-pub mod Tallies
+pub mod HopCounts
 pub mod Counting
-pub mod Figures
-pub mod Frames
-pub mod Streams
+pub mod Statistics
+pub mod FrameTable
+pub mod StreamTable
 pub mod Losing
 pub mod Tables

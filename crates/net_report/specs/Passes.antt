@@ -1,16 +1,16 @@
--- What is known of the frames of all hops, as passes over the hops find it. It depends only on the links and on what each hop tells of its frames and copies.
+-- The search for source frames in passes over the hops. Its result depends only on the links and on each hop's frames and copies.
 use Rattle.std.specs.Prelude.{◌≡◌, ℕ, zero, suc, ◌+◌, nat_eq, Option, Some, None, List, [], ◌∷◌, length, map, slice_get, slice_set, Vec, if◌then◌else◌}
 use Rattle.std.specs.Fn.{iterate}
 use Rattle.net_model.specs.Networks.{Sender, sender}
-use Rattle.net_model.specs.Wiring.{link_of}
+use Rattle.net_model.specs.NetworkParts.{link_value}
 use Rattle.net_model.specs.declared.links.Link.{Link}
 use Rattle.bridge_semantics.specs.declared.outcome.Departure.{Departure}
 use Rattle.bridge_semantics.specs.declared.outcome.Origin.{Origin}
-use Rattle.net_report.specs.declared.hop_run.HopRun.{HopRun}
-use Rattle.net_report.specs.declared.tracing.Root.{Root}
-use Rattle.net_report.specs.Tracing.{traced_at}
+use Rattle.net_report.specs.declared.copy_counting.HopRun.{HopRun}
+use Rattle.net_report.specs.declared.sources.SourceFrame.{SourceFrame}
+use Rattle.net_report.specs.SourceFrames.{source_after_tracing}
 
--- what of a hop counts here: its bridge, the frames that came, and the copies that left
+-- The part of a hop that the search uses: its bridge, the frames that arrived, and the copies that left.
 pub record Trace : Type 0 where
   pub bridge : ℕ
   pub origins : List Origin
@@ -22,77 +22,77 @@ trace_of h = record { bridge = h.bridge; origins = h.view.now.origins.items; dep
 abbrev pub traces : {A : Type 0} → List (HopRun A) → List Trace
 traces hops = map trace_of hops
 
--- what the vectors hold
-abbrev pub contents : {A : Type 0} → List (Vec (Option Root) A) → List (List (Option Root))
-contents {A} all = map (λ (v : Vec (Option Root) A). v.items) all
+-- The items of the vectors, one list for each hop.
+abbrev pub contents : {A : Type 0} → List (Vec (Option SourceFrame) A) → List (List (Option SourceFrame))
+contents {A} all = map (λ (v : Vec (Option SourceFrame) A). v.items) all
 
--- a step for each of the first numbers, from 0, in turn
+-- Applies `f` for each number below a bound, from 0 on.
 abbrev pub upto : {X : Type 0} → (ℕ → X → X) → ℕ → X → X
 upto f zero a = a
 upto f (suc n) a = f n (upto f n a)
 
--- what is known of the frames of a hop, once what came to a port over a link from some copies is known of
-abbrev pub traced_list : Sender → List Departure → List (Option Root) → ℕ → List Origin → List (Option Root) → List (Option Root)
+-- The sources of a hop's frames after tracing arrivals on port `q` from the copies `sent`.
+abbrev pub traced_list : Sender → List Departure → List (Option SourceFrame) → ℕ → List Origin → List (Option SourceFrame) → List (Option SourceFrame)
 traced_list s sent sent_roots q [] xs = []
 traced_list s sent sent_roots q (o ∷ os) [] = []
-traced_list s sent sent_roots q (o ∷ os) (x ∷ xs) = traced_at s sent sent_roots q o x ∷ traced_list s sent sent_roots q os xs
+traced_list s sent sent_roots q (o ∷ os) (x ∷ xs) = source_after_tracing s sent sent_roots q o x ∷ traced_list s sent sent_roots q os xs
 
--- what is known once what came from one hop to a port of another is known of, if the one is at the bridge that sends there
-abbrev pub paired : Sender → ℕ → ℕ → List (List (Option Root)) → Option Trace → Option Trace → Option (List (Option Root)) → Option (List (Option Root)) → List (List (Option Root))
+-- The sources after tracing from one hop to another hop's port, if the first hop is at the sending bridge.
+abbrev pub paired : Sender → ℕ → ℕ → List (List (Option SourceFrame)) → Option Trace → Option Trace → Option (List (Option SourceFrame)) → Option (List (Option SourceFrame)) → List (List (Option SourceFrame))
 paired s i q all (Some h) (Some g) (Some mine) (Some others) = if nat_eq g.bridge s.from.bridge then slice_set all i (traced_list s g.departures others q h.origins mine) else all
 paired s i q all _ _ _ _ = all
 
--- so of the hops at places i and j
-unfoldable pub pair_step : List Trace → Sender → ℕ → ℕ → ℕ → List (List (Option Root)) → List (List (Option Root))
+-- The sources after tracing from hop `j` to port `q` of hop `i`.
+unfoldable pub pair_step : List Trace → Sender → ℕ → ℕ → ℕ → List (List (Option SourceFrame)) → List (List (Option SourceFrame))
 pair_step ts s i q j all = paired s i q all (slice_get ts i) (slice_get ts j) (slice_get all i) (slice_get all j)
 
--- from each hop in turn
-abbrev pub sender_step : List Trace → Sender → ℕ → ℕ → List (List (Option Root)) → List (List (Option Root))
+-- The sources after tracing from each hop to port `q` of hop `i`.
+abbrev pub sender_step : List Trace → Sender → ℕ → ℕ → List (List (Option SourceFrame)) → List (List (Option SourceFrame))
 sender_step ts s i q all = upto (pair_step ts s i q) (length ts) all
 
--- what sends to a port of a hop
+-- The sender of port `q` of an optional hop; `None` without a hop or a link.
 abbrev pub sender_at : List Link → ℕ → Option Trace → Option Sender
 sender_at links q None = None
-sender_at links q (Some t) = sender (map link_of links) t.bridge q
+sender_at links q (Some t) = sender (map link_value links) t.bridge q
 
--- nothing more is known where nothing sends
-abbrev pub sent_step : List Trace → ℕ → ℕ → List (List (Option Root)) → Option Sender → List (List (Option Root))
+-- The sources after tracing from an optional sender. Without a sender they stay the same.
+abbrev pub sent_step : List Trace → ℕ → ℕ → List (List (Option SourceFrame)) → Option Sender → List (List (Option SourceFrame))
 sent_step ts i q all None = all
 sent_step ts i q all (Some s) = sender_step ts s i q all
 
--- what is known once what came to a port of the hop at a place is known of
-unfoldable pub port_step : List Link → List Trace → ℕ → ℕ → List (List (Option Root)) → List (List (Option Root))
+-- The sources after tracing the arrivals on port `q` of hop `i`.
+unfoldable pub port_step : List Link → List Trace → ℕ → ℕ → List (List (Option SourceFrame)) → List (List (Option SourceFrame))
 port_step links ts i q all = sent_step ts i q all (sender_at links q (slice_get ts i))
 
--- at its ports 1 to 16 in turn
-unfoldable pub hop_step : List Link → List Trace → ℕ → List (List (Option Root)) → List (List (Option Root))
+-- The sources after tracing the arrivals on ports 1 to 16 of hop `i`.
+unfoldable pub hop_step : List Link → List Trace → ℕ → List (List (Option SourceFrame)) → List (List (Option SourceFrame))
 hop_step links ts i all = upto (λ k. port_step links ts i (k + 1)) 16 all
 
--- at each hop in turn
-abbrev pub pass : List Link → List Trace → List (List (Option Root)) → List (List (Option Root))
+-- The sources after tracing the arrivals at each hop.
+abbrev pub pass : List Link → List Trace → List (List (Option SourceFrame)) → List (List (Option SourceFrame))
 pass links ts all = upto (hop_step links ts) (length ts) all
 
--- the frame of the first hop with a number
-abbrev pub own_root : ℕ → Origin → Root
+-- A first-hop frame with this number as its own source.
+abbrev pub own_root : ℕ → Origin → SourceFrame
 own_root n o = record { number = n; came = o.at }
 
--- frames that are of themselves, numbered from a number on
-abbrev pub own_from : ℕ → List Origin → List (Option Root)
+-- First-hop frames as their own sources, with numbers from `n` on.
+abbrev pub own_from : ℕ → List Origin → List (Option SourceFrame)
 own_from n [] = []
 own_from n (o ∷ os) = Some (own_root n o) ∷ own_from (n + 1) os
 
--- frames of which nothing is known
-abbrev pub unknown : List Origin → List (Option Root)
+-- One unknown source for each of these frames.
+abbrev pub unknown : List Origin → List (Option SourceFrame)
 unknown [] = []
 unknown (o ∷ os) = None ∷ unknown os
 
--- what is known at first: the frames of the first hop
-abbrev pub begun_of : List Trace → List (List (Option Root))
+-- The initial sources: first-hop frames are known, all others unknown.
+abbrev pub begun_of : List Trace → List (List (Option SourceFrame))
 begun_of [] = []
 begun_of (t ∷ ts) = own_from 1 t.origins ∷ map (λ (u : Trace). unknown u.origins) ts
 
--- what is known after so many passes, of which one more finds nothing more
-pub record IsTraced (links : List Link) (ts : List Trace) (all : List (List (Option Root))) : Type 0 where
+-- Holds if `all` has the sources after some number of passes, and one more pass finds nothing.
+pub record IsTraced (links : List Link) (ts : List Trace) (all : List (List (Option SourceFrame))) : Type 0 where
   pub passes : ℕ
   pub reached : all ≡ iterate (pass links ts) passes (begun_of ts)
   pub still : pass links ts all ≡ all

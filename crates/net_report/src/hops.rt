@@ -1,54 +1,53 @@
-//! Hops of a stream in a run of a network, and where their frames go on.
+//! Hops of a stream in a network run, and the ports that lead to a next hop.
 ghost use Rattle.std.specs.Prelude.{◌≡◌, IfOk, Some, ◌+◌, ◌<◌};
 ghost use Rattle.net_report.specs.Hops as spec;
 
-use crate::hop_run::HopRun;
+use crate::copy_counting::HopRun;
 use bridge_limits::NoMemory;
-use net_model::{Link, sender_of};
+use net_model::{Link, find_sender};
 use std::alloc::Allocator;
 
-/// Whether one of some hops is at a bridge.
-fn is_at<A: Allocator>(hops: &[HopRun<'_, A>], bridge: usize) -> bool
-    ensures { result ≡ spec.is_at hops.now bridge }
+/// Whether one of these hops is at the bridge.
+fn has_hop_at_bridge<A: Allocator>(hops: &[HopRun<'_, A>], bridge: usize) -> bool
+    ensures { result ≡ spec.has_hop_at_bridge hops.now bridge }
 {
     hops.iter().any(|hop| hop.bridge == bridge)
 }
 
-/// Whether a port of a bridge is linked to a bridge that has a hop: what leaves by it goes on, and by any other it is
-/// delivered.
-pub fn leads_on<A: Allocator>(
+/// Whether a port is linked to a bridge that has a hop. If not, copies that leave by the port count as delivered.
+pub fn has_next_hop<A: Allocator>(
     links: &[Link],
     hops: &[HopRun<'_, A>],
     bridge: usize,
     port: u8,
 ) -> bool
-    ensures { result ≡ spec.leads_on links.now hops.now bridge port }
+    ensures { result ≡ spec.has_next_hop links.now hops.now bridge port }
 {
-    match sender_of(links, bridge, port) {
-        Some(sender) => is_at(hops, sender.from.bridge as usize),
+    match find_sender(links, bridge, port) {
+        Some(sender) => has_hop_at_bridge(hops, sender.from.bridge as usize),
         None => false,
     }
 }
 
-/// For each port of a bridge, from 1 to 16, whether what leaves by it goes on to a hop.
-pub fn ways_of<A: Allocator + Copy>(
+/// Returns for each port of a bridge, from 1 to 16, whether it leads to a hop.
+pub fn onward_ports<A: Allocator + Copy>(
     alloc: A,
     links: &[Link],
     hops: &[HopRun<'_, A>],
     bridge: usize,
 ) -> Result<Vec<bool, A>, NoMemory>
-    ensures { IfOk result (λ ways. spec.AreWays links.now hops.now bridge ways.items) }
+    ensures { IfOk result (λ ways. spec.AreOnwardPorts links.now hops.now bridge ways.items) }
 {
     let mut ways = Vec::with_capacity(alloc, 16)?;
     for port in 1..17u8 {
-        ways.push(leads_on(links, hops, bridge, port))?;
+        ways.push(has_next_hop(links, hops, bridge, port))?;
     }
     Ok(ways)
 }
 
-/// Whether what leaves by a port goes on to a hop, by what is known of the ports from 1 on.
-pub(crate) fn is_on(ways: &[bool], port: u8) -> bool
-    ensures { result ≡ spec.is_on ways.now port }
+/// Whether a port leads to a hop. `ways` has the answers for ports from 1 on; other port numbers lead to no hop.
+pub(crate) fn is_onward(ways: &[bool], port: u8) -> bool
+    ensures { result ≡ spec.is_onward ways.now port }
 {
     if port == 0 {
         return false;

@@ -1,41 +1,42 @@
 //! Windows of queues in the picture of a run.
 ghost use Rattle.std.specs.Prelude.{◌<◌};
 
-use crate::drawing::{RunPicture, bar_of, put_titled};
-use crate::windows::{change_after, opens_at, windows_in};
+use crate::run_picture::{RunPicture, bar_x_and_width, put_titled};
+use crate::windows::{count_windows, is_class_open, next_gate_change};
 use bridge_cycle::{END_OF_TURNS, Egress};
 use std::alloc::Allocator;
 
-/// The windows that are drawn of a queue at most.
-const MOST_WINDOWS: u64 = 500;
+/// Largest number of windows drawn for a queue.
+const MAX_WINDOWS: u64 = 500;
 
-/// The words of a window, and of windows that aren't drawn.
+/// Title of a window.
 const WINDOW_WORDS: &str = "port {0} opens class {1}";
 
+/// Title of the hatched part of a row, in which windows aren't drawn.
 const HATCH_WORDS: &str =
     "port {0}, class {1}: windows drawn: {2} of {3}, none of those after {4} ns";
 
-/// Adds a window of a queue, behind what else stands in a row.
+/// Draws a window of a queue, in the background of its row. Counts it in `drawn` unless the picture is full.
 pub(crate) fn put_window(picture: &mut RunPicture, y: u64, queue: (u8, u8), from: u64, to: u64) {
     let (port, class) = (u64::from(queue.0), u64::from(queue.1));
-    let bar = bar_of(picture, from, to, y.saturating_sub(10), 20);
-    let left_out = picture.shapes.left_out();
+    let bar = bar_x_and_width(picture, from, to, y.saturating_sub(10), 20);
+    let left_out = picture.shapes.omitted_shapes();
     put_titled(picture, "open", bar, WINDOW_WORDS, &[port, class], "");
-    if picture.shapes.left_out() == left_out {
+    if picture.shapes.omitted_shapes() == left_out {
         picture.drawn = picture.drawn.saturating_add(1);
     }
 }
 
-/// Hatches the part of a row in which windows of a queue aren't drawn, of so many.
+/// Hatches the part of a row from `from` on, in which windows aren't drawn. `all` is the number of windows for the title.
 fn put_hatch(picture: &mut RunPicture, y: u64, queue: (u8, u8), from: u64, all: u64) {
     let (port, class) = (u64::from(queue.0), u64::from(queue.1));
     let to = picture.span.to;
-    let bar = bar_of(picture, from, to, y.saturating_sub(10), 20);
-    let numbers = [port, class, MOST_WINDOWS, all, from];
+    let bar = bar_x_and_width(picture, from, to, y.saturating_sub(10), 20);
+    let numbers = [port, class, MAX_WINDOWS, all, from];
     put_titled(picture, "hatch", bar, HATCH_WORDS, &numbers, "");
 }
 
-/// Adds the first windows in which lists open a class, over the moments of a picture, and hatches where there are more.
+/// Draws the first windows of a class over the time of a picture, and hatches the rest if there are too many.
 pub(crate) fn put_windows<A: Allocator + Copy>(
     picture: &mut RunPicture,
     y: u64,
@@ -45,18 +46,18 @@ pub(crate) fn put_windows<A: Allocator + Copy>(
     requires { queue.1 < 8 }
 {
     let end = picture.span.to.min(END_OF_TURNS);
-    let all = windows_in(list, queue.1, picture.span);
+    let all = count_windows(list, queue.1, picture.span);
     picture.windows = picture.windows.saturating_add(all);
     let mut at = picture.span.from;
-    for _ in 0..all.min(MOST_WINDOWS) {
-        if at < end && !opens_at(list, queue.1, at) {
-            at = change_after(list, queue.1, at, end);
+    for _ in 0..all.min(MAX_WINDOWS) {
+        if at < end && !is_class_open(list, queue.1, at) {
+            at = next_gate_change(list, queue.1, at, end);
         }
-        let to = change_after(list, queue.1, at, end);
+        let to = next_gate_change(list, queue.1, at, end);
         put_window(picture, y, queue, at, to);
         at = to;
     }
-    if all > MOST_WINDOWS {
+    if all > MAX_WINDOWS {
         put_hatch(picture, y, queue, at, all);
     }
 }

@@ -1,26 +1,26 @@
-//! Lines about streams that lost frames or missed their deadlines.
+//! Lines about streams that lost frames or missed their deadlines, for `net --strict`.
 ghost use Rattle.std.specs.Prelude.{◌≡◌, count_by, flat_map};
 ghost use Rattle.net_report.specs.Losing as spec;
 ghost use Rattle.bridge_text.specs.Growth.{HasGrown};
 
-use crate::lines::{astray_of, delivered_of};
-use crate::tallies::HopCounts;
-use crate::tally::Tally;
+use crate::copy_counting::CopyCounts;
+use crate::hop_counting::HopCounts;
+use crate::stream_table::{delivered_frames, total_astray};
 use bridge_report::{Losses, greatest_delay, put_losses, put_reason};
-use bridge_text::Text;
+use bridge_text::TextBuilder;
 use std::alloc::Allocator;
 
-/// A hop of a stream with its losses.
+/// A hop of a stream with its losses, for the line of a stream that lost frames.
 #[derive(Drop)]
 pub struct HopLosses<A: Allocator> {
-    /// The name of the hop with a space at its end.
+    /// Name of the hop, with a space at its end.
     pub place: String<A>,
-    /// The hop's counts.
+    /// Counts of the hop.
     pub counts: HopCounts,
 }
 
-/// Returns the refused frames and the dropped copies that a hop counts.
-fn losses_at(counts: &HopCounts) -> Losses
+/// Returns the numbers of refused frames and dropped copies of a hop, in the form in which `bridge_report` writes losses.
+fn hop_losses(counts: &HopCounts) -> Losses
     ensures { result ≡ spec.losses_at counts.now }
 {
     Losses {
@@ -37,15 +37,15 @@ fn losses_at(counts: &HopCounts) -> Losses
     }
 }
 
-/// Puts the reasons at a hop.
-fn put_hop<A: Allocator>(text: &mut Text<A>, hop: &HopLosses<A>)
+/// Writes the words for the causes of losses at a hop, with the hop's name.
+fn put_hop<A: Allocator>(text: &mut TextBuilder<A>, hop: &HopLosses<A>)
     ensures { HasGrown text.old (spec.hop_words hop.now) text.new }
 {
-    put_losses(text, hop.place.as_str(), &losses_at(&hop.counts));
+    put_losses(text, hop.place.as_str(), &hop_losses(&hop.counts));
 }
 
-/// Puts the reasons at all hops.
-fn put_hops<A: Allocator>(text: &mut Text<A>, hops: &[HopLosses<A>])
+/// Writes the words for the causes of losses at all hops.
+fn put_hops<A: Allocator>(text: &mut TextBuilder<A>, hops: &[HopLosses<A>])
     ensures { HasGrown text.old (flat_map spec.hop_words hops.now) text.new }
 {
     for hop in hops {
@@ -53,40 +53,40 @@ fn put_hops<A: Allocator>(text: &mut Text<A>, hops: &[HopLosses<A>])
     }
 }
 
-/// Returns whether no copy of a frame was delivered, refused, dropped or astray.
-fn is_nowhere(tally: &Tally) -> bool
+/// Whether no copy of a frame was delivered, refused, dropped or astray: the last hop of the frame forwarded it to no port.
+fn is_nowhere(tally: &CopyCounts) -> bool
     ensures { result ≡ spec.is_nowhere tally.now }
 {
     tally.delivered == 0 && tally.refused == 0 && tally.sent_on <= tally.taken
 }
 
-/// Counts the frames that were forwarded to no port.
-fn nowhere_in(tallies: &[Tally]) -> usize
+/// Returns the number of frames that were forwarded to no port.
+fn count_not_forwarded(tallies: &[CopyCounts]) -> usize
     ensures { result ≡ count_by spec.is_nowhere tallies.now }
 {
     tallies.iter().filter(|tally| is_nowhere(*tally)).count()
 }
 
-/// Puts why a stream lost frames: the reasons at its hops, the copies that went astray, and the frames forwarded to no port.
-fn put_why<A: Allocator>(text: &mut Text<A>, tallies: &[Tally], hops: &[HopLosses<A>])
+/// Writes why a stream lost frames: causes at its hops, astray copies, and frames forwarded to no port.
+fn put_why<A: Allocator>(text: &mut TextBuilder<A>, tallies: &[CopyCounts], hops: &[HopLosses<A>])
     ensures { HasGrown text.old (spec.why_words tallies.now hops.now) text.new }
 {
     put_hops(text, hops);
-    put_reason(text, "", "astray", astray_of(tallies));
-    put_reason(text, "", "nowhere", nowhere_in(tallies) as u128);
+    put_reason(text, "", "astray", total_astray(tallies));
+    put_reason(text, "", "nowhere", count_not_forwarded(tallies) as u128);
 }
 
-/// Puts the line of a stream that lost frames.
+/// Writes the line of a stream that lost frames.
 fn put_lost<A: Allocator>(
-    text: &mut Text<A>,
+    text: &mut TextBuilder<A>,
     stream: &str,
-    tallies: &[Tally],
+    tallies: &[CopyCounts],
     hops: &[HopLosses<A>],
 )
     ensures { HasGrown text.old (spec.lost_words stream.now tallies.now hops.now) text.new }
 {
     let frames = tallies.len();
-    let delivered = delivered_of(tallies);
+    let delivered = delivered_frames(tallies);
     text.put("lost: stream ");
     text.put(stream);
     text.put(", ");
@@ -98,35 +98,35 @@ fn put_lost<A: Allocator>(
     text.put("\n");
 }
 
-/// Puts the line of a stream, if the stream lost a frame.
+/// Writes the line of a stream if the stream lost a frame.
 fn put_lost_if<A: Allocator>(
-    text: &mut Text<A>,
+    text: &mut TextBuilder<A>,
     stream: &str,
-    tallies: &[Tally],
+    tallies: &[CopyCounts],
     hops: &[HopLosses<A>],
 )
     ensures { HasGrown text.old (spec.lost_line stream.now tallies.now hops.now) text.new }
 {
-    if delivered_of(tallies) != tallies.len() {
+    if delivered_frames(tallies) != tallies.len() {
         put_lost(text, stream, tallies, hops);
     }
 }
 
-/// Counts the delays that are greater than a deadline.
-fn late_in(deadline: u64, delays: &[u64]) -> usize
+/// Returns the number of delays above a deadline: delivered copies that missed it.
+fn count_late(deadline: u64, delays: &[u64]) -> usize
     ensures { result ≡ spec.late_in deadline delays.now }
 {
     delays.iter().filter(|delay| deadline < **delay).count()
 }
 
-/// Puts the line of a stream whose deadline a copy missed.
-fn put_late<A: Allocator>(text: &mut Text<A>, stream: &str, delays: &[u64], deadline: u64)
+/// Writes the line of a stream whose deadline a copy missed.
+fn put_late<A: Allocator>(text: &mut TextBuilder<A>, stream: &str, delays: &[u64], deadline: u64)
     ensures { HasGrown text.old (spec.late_words stream.now delays.now deadline) text.new }
 {
     text.put("late: stream ");
     text.put(stream);
     text.put(", ");
-    text.put_number(late_in(deadline, delays) as u64);
+    text.put_number(count_late(deadline, delays) as u64);
     text.put(" of ");
     text.put_number(delays.len() as u64);
     text.put(" delivered copies, worst delay ");
@@ -136,9 +136,9 @@ fn put_late<A: Allocator>(text: &mut Text<A>, stream: &str, delays: &[u64], dead
     text.put(" ns\n");
 }
 
-/// Puts the line of a stream, if the stream has a deadline and a copy missed it.
+/// Writes the line of a stream if it has a deadline and a copy missed it.
 fn put_late_if<A: Allocator>(
-    text: &mut Text<A>,
+    text: &mut TextBuilder<A>,
     stream: &str,
     delays: &[u64],
     deadline: Option<u64>,
@@ -146,18 +146,17 @@ fn put_late_if<A: Allocator>(
     ensures { HasGrown text.old (spec.late_line stream.now delays.now deadline) text.new }
 {
     if let Some(deadline) = deadline {
-        if late_in(deadline, delays) != 0 {
+        if count_late(deadline, delays) != 0 {
             put_late(text, stream, delays, deadline);
         }
     }
 }
 
-/// Puts one line about a stream that lost frames, and one line about a stream whose deadline a copy missed. Puts nothing about a
-/// stream without these faults.
+/// Writes a line if the stream lost frames, and a line if a copy missed the deadline. Writes nothing for other streams.
 pub fn put_faults<A: Allocator>(
-    text: &mut Text<A>,
+    text: &mut TextBuilder<A>,
     stream: &str,
-    tallies: &[Tally],
+    tallies: &[CopyCounts],
     hops: &[HopLosses<A>],
     delays: &[u64],
     deadline: Option<u64>,

@@ -3,112 +3,118 @@ ghost use Rattle.std.specs.Prelude.{◌≤◌, IfOk, length, string_bytes};
 
 use bridge_limits::NoMemory;
 use net_file::{BridgeRow, LinkRow, StreamRow};
-use show_svg::{Bar, Element, Point, Shapes, Size, form_of, head_of, note_of};
+use show_svg::{Bar, Element, Point, Shapes, Size, fill_form, picture_head, text_line};
 use std::alloc::{Allocator, Global};
 
-/// Where the column of the first bridge begins, in pixels from the left.
-const LEFT: u64 = 170;
+/// Left edge of the first bridge's column, in pixels.
+const LEFT_MARGIN: u64 = 170;
 
-/// The pixels from one column to the next one.
-const STEP: u64 = 110;
+/// Width of a column in pixels.
+const COLUMN_WIDTH: u64 = 110;
 
-/// The pixels from one stream to the next one.
-const ROW: u64 = 26;
+/// Height of a stream's row in pixels.
+const ROW_HEIGHT: u64 = 26;
 
-/// The height of the box of a bridge.
-const BOX: u64 = 30;
+/// Height of a bridge's box in pixels.
+const BOX_HEIGHT: u64 = 30;
 
-/// The styles of all shapes.
+/// Styles of all shapes.
 const STYLES: &str = ":root{color-scheme:light dark}\
 text{font:13px system-ui,sans-serif;fill:#222}.m{text-anchor:middle;font-weight:700}.s{font-size:11px;fill:#666}\
 .page{fill:#fff}.box{fill:#e3e8ef;stroke:#8a94a3}.link{fill:none;stroke:#8a94a3;stroke-width:2}.way{fill:none;stroke:#2a7de1;stroke-width:3}.hop{fill:#2a7de1}\
 @media(prefers-color-scheme:dark){text{fill:#e6e6e6}.s{fill:#a0a0a0}.page{fill:#16181c}.box{fill:#22262c}}";
 
-/// What stands at the end of a picture where not all shapes have room.
+/// Note at the end of a picture with omitted shapes.
 const LEFT_OUT: &str = "not drawn: {0} shapes (no space)";
 
-/// The words of a link, with its ports and its delay; of a hop; and how long a stream takes.
+/// Title of a link: its ports and its delay.
 const LINK: &str = "{a}.{0} to {b}.{1}, {2} ns";
 
+/// Title of a hop.
 const HOP: &str = "{a}.{0}";
 
-const TAKES: &str = "bound {a} ns";
+/// Text with a stream's delay bound.
+const STREAM_BOUND: &str = "bound {a} ns";
 
-/// Adds a text at a point, of a style or of none.
+/// Draws a text at a point. An empty style stands for none.
 fn put_text(shapes: &mut Shapes, style: &str, at: Point, form: &str, word: &str) {
     shapes.begin_text(style, at);
-    shapes.add(form, &[], &[word]);
+    shapes.add_piece(form, &[], &[word]);
     shapes.end_text();
 }
 
-/// The middle of the column of a bridge.
-fn middle_of(place: u16) -> u64 {
-    LEFT + STEP * u64::from(place) + STEP / 2
+/// Returns the middle of a bridge's column, in pixels.
+fn column_middle(place: u16) -> u64 {
+    LEFT_MARGIN + COLUMN_WIDTH * u64::from(place) + COLUMN_WIDTH / 2
 }
 
-/// By how many columns two bridges lie apart, at most 10.
-fn apart(one: u16, other: u16) -> u64 {
+/// Returns the distance of two bridges in columns, at most 10. The bound limits the height of arcs.
+fn column_distance(one: u16, other: u16) -> u64 {
     let most = u64::from(one.max(other));
     let least = u64::from(one.min(other));
     most.saturating_sub(least).min(10)
 }
 
-/// How high above the boxes the arc of a link goes.
-fn height_of(link: &LinkRow) -> u64 {
+/// Returns the height of a link's arc above the boxes, in pixels. It depends on the distance of the bridges and on the port modulo 4, so
+/// that arcs rarely coincide.
+fn arc_height(link: &LinkRow) -> u64 {
     let lane = u64::from(link.one.1 % 4);
-    let columns = apart(link.one.0, link.other.0);
+    let columns = column_distance(link.one.0, link.other.0);
     columns.saturating_mul(16).saturating_add(26 + 7 * lane)
 }
 
-/// The greatest height of an arc.
-fn highest(links: &[LinkRow]) -> u64 {
+/// Returns the greatest height of an arc, in pixels: the space above the boxes.
+fn tallest_arc(links: &[LinkRow]) -> u64 {
     let mut most = 26u64;
     for link in links {
-        most = most.max(height_of(link));
+        most = most.max(arc_height(link));
     }
     most
 }
 
-/// The name of the bridge at a place.
-fn name_of<'a, A: Allocator + Copy>(bridges: &'a [BridgeRow<A>], place: u16) -> &'a str {
+/// Returns the name of the bridge with index `place`, or an empty text if it is missing.
+fn bridge_name<'a, A: Allocator + Copy>(bridges: &'a [BridgeRow<A>], place: u16) -> &'a str {
     match bridges.get(place as usize) {
         Some(bridge) => bridge.name(),
         None => "",
     }
 }
 
-/// Adds the arc of a link, which tells its ports and its delay where it is pointed at.
+/// Draws the arc of a link, with a title that shows its ports and its delay. `top` is the upper edge of the boxes.
 fn put_link<A: Allocator + Copy>(
     shapes: &mut Shapes,
     bridges: &[BridgeRow<A>],
     link: &LinkRow,
     top: u64,
 ) {
-    let (from, to) = (middle_of(link.one.0), middle_of(link.other.0));
+    let (from, to) = (column_middle(link.one.0), column_middle(link.other.0));
     let between = from.saturating_add(to) / 2;
-    let above = top.saturating_sub(height_of(link).saturating_mul(2));
+    let above = top.saturating_sub(arc_height(link).saturating_mul(2));
     let (one, other) = (u64::from(link.one.1), u64::from(link.other.1));
     let arc = Element::Arc((from, top), (between, above), to);
-    let names = [name_of(bridges, link.one.0), name_of(bridges, link.other.0)];
+    let names = [
+        bridge_name(bridges, link.one.0),
+        bridge_name(bridges, link.other.0),
+    ];
     shapes.begin_titled("link", arc);
-    shapes.add(LINK, &[one, other, link.delay], &names);
+    shapes.add_piece(LINK, &[one, other, link.delay], &names);
     shapes.end_titled(arc);
-    shapes.end();
+    shapes.end_shape();
 }
 
-/// Adds the box of a bridge, with its name.
+/// Draws the box of a bridge, with its name. `top` is its upper edge.
 fn put_bridge<A: Allocator + Copy>(
     shapes: &mut Shapes,
     bridge: &BridgeRow<A>,
     place: u16,
     top: u64,
 ) {
-    let x = middle_of(place);
+    let x = column_middle(place);
     let bar = Bar {
         x: x.saturating_sub(46),
         y: top,
         width: 92,
-        height: BOX,
+        height: BOX_HEIGHT,
     };
     shapes.draw("box", Element::Box(bar));
     put_text(
@@ -118,10 +124,11 @@ fn put_bridge<A: Allocator + Copy>(
         "{a}",
         bridge.name(),
     );
-    shapes.end();
+    shapes.end_shape();
 }
 
-/// Adds a hop of a stream, which tells its filter where it is pointed at, and the line to it from the hop before it.
+/// Draws a hop of a stream with its filter as title, and the line from the hop before, whose x is `before`. `None` stands for the first
+/// hop.
 fn put_hop<A: Allocator + Copy>(
     shapes: &mut Shapes,
     bridges: &[BridgeRow<A>],
@@ -129,18 +136,18 @@ fn put_hop<A: Allocator + Copy>(
     hop: (u16, u32),
     y: u64,
 ) {
-    let x = middle_of(hop.0);
+    let x = column_middle(hop.0);
     if let Some(from) = before {
         shapes.draw("way", Element::Level((from, y), x));
     }
     let dot = Element::Circle((x, y), 6);
     shapes.begin_titled("hop", dot);
-    shapes.add(HOP, &[u64::from(hop.1)], &[name_of(bridges, hop.0)]);
+    shapes.add_piece(HOP, &[u64::from(hop.1)], &[bridge_name(bridges, hop.0)]);
     shapes.end_titled(dot);
-    shapes.end();
+    shapes.end_shape();
 }
 
-/// Adds the row of a stream: its name, its hops, and how long it takes.
+/// Draws the row of a stream: its name, its hops and its delay bound.
 fn put_stream<A: Allocator + Copy>(
     alloc: Global,
     shapes: &mut Shapes,
@@ -154,30 +161,30 @@ fn put_stream<A: Allocator + Copy>(
     let mut before = None;
     for hop in stream.hops() {
         put_hop(shapes, bridges, before, *hop, y);
-        before = Some(middle_of(hop.0));
+        before = Some(column_middle(hop.0));
     }
     if let Some(bound) = bound {
-        let x = width_of(bridges.len()).saturating_sub(150);
+        let x = picture_width(bridges.len()).saturating_sub(150);
         let bound = format!(in alloc; "{bound}")?;
-        put_text(shapes, "s", (x, line), TAKES, bound.as_str());
-        shapes.end();
+        put_text(shapes, "s", (x, line), STREAM_BOUND, bound.as_str());
+        shapes.end_shape();
     }
     Ok(())
 }
 
-/// The width of the picture of a network of so many bridges.
-fn width_of(bridges: usize) -> u64 {
+/// Returns the width in pixels of the picture of a network with `bridges` bridges.
+fn picture_width(bridges: usize) -> u64 {
     let columns = (bridges as u64).min(65_536);
-    LEFT + STEP * columns + 170
+    LEFT_MARGIN + COLUMN_WIDTH * columns + 170
 }
 
-/// Where the row of a stream with a place stands, below the boxes of the bridges.
-fn row_of(top: u64, place: usize) -> u64 {
-    top.saturating_add(BOX + 30)
-        .saturating_add(ROW.saturating_mul(place as u64))
+/// Returns the height in pixels of the row of the stream with index `place`, below the bridges' boxes.
+fn stream_y(top: u64, place: usize) -> u64 {
+    top.saturating_add(BOX_HEIGHT + 30)
+        .saturating_add(ROW_HEIGHT.saturating_mul(place as u64))
 }
 
-/// Adds all links, bridges and streams.
+/// Draws all links, bridges and streams. `top` is the upper edge of the boxes.
 fn put_all<A: Allocator + Copy>(
     alloc: Global,
     shapes: &mut Shapes,
@@ -197,14 +204,13 @@ fn put_all<A: Allocator + Copy>(
     }
     for i in 0..streams.len() {
         let bound = bounds.get(i).copied();
-        put_stream(alloc, shapes, bridges, &streams[i], bound, row_of(top, i))?;
+        put_stream(alloc, shapes, bridges, &streams[i], bound, stream_y(top, i))?;
     }
     Ok(())
 }
 
-/// The picture of a network as an SVG text of at most 2,000,000 octets: a box for each bridge, an arc for each link, and below
-/// them a row for each stream, with a dot for each of its hops and how long in ns it takes at most, by the bounds of the
-/// streams in their order. What has no room is left out, and the picture says so.
+/// Returns the picture of a network as SVG of at most 2,000,000 octets: boxes for bridges, arcs for links, and a row for each stream. A
+/// note counts the shapes that don't fit.
 pub fn draw_network<A: Allocator + Copy>(
     alloc: Global,
     bridges: &[BridgeRow<A>],
@@ -214,23 +220,23 @@ pub fn draw_network<A: Allocator + Copy>(
 ) -> Result<String, NoMemory>
     ensures { IfOk result (λ text. length (string_bytes text) ≤ 2000000) }
 {
-    let top = highest(links).saturating_add(20);
+    let top = tallest_arc(links).saturating_add(20);
     let mut shapes = Shapes::new(alloc);
     put_all(alloc, &mut shapes, bridges, links, streams, bounds, top)?;
-    let height = row_of(top, streams.len()).saturating_add(30);
-    let width = width_of(bridges.len());
-    let head = head_of(
+    let height = stream_y(top, streams.len()).saturating_add(30);
+    let width = picture_width(bridges.len());
+    let head = picture_head(
         alloc,
         Size::Fixed(width, height, width, height),
         STYLES,
         None,
     )?;
-    let foot = match shapes.left_out() {
+    let foot = match shapes.omitted_shapes() {
         0 => String::new(alloc),
         count => {
-            let words = form_of(alloc, LEFT_OUT, &[count], &[])?;
-            note_of(alloc, (10, height.saturating_sub(12)), words.as_str())?
+            let words = fill_form(alloc, LEFT_OUT, &[count], &[])?;
+            text_line(alloc, (10, height.saturating_sub(12)), words.as_str())?
         }
     };
-    shapes.done(alloc, head.as_str(), foot.as_str())
+    shapes.finish(alloc, head.as_str(), foot.as_str())
 }

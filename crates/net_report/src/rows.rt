@@ -1,26 +1,29 @@
-//! Rows of the picture of a run: the copies that left a hop, those that it dropped, and the frames that it refused.
-
-use crate::drawing::{LEFT, RunPicture, WIDTH, bar_of, height_of, place_of, put_titled};
-use crate::hop_run::HopRun;
-use crate::tallies::passes;
+//! Rows of the picture of a run: copies that left a hop, copies that it dropped, and frames that it refused.
+use crate::copy_counting::HopRun;
+use crate::hop_counting::is_pass;
+use crate::run_picture::{
+    LEFT_MARGIN, RunPicture, TIME_WIDTH, bar_x_and_width, put_titled, row_y, time_x,
+};
 use bridge_report::{refusal_word, verdict_word};
 use bridge_semantics::{Departure, Origin, View};
-use net_model::{Link, sender_of};
+use net_model::{Link, find_sender};
 use show_svg::{Element, Mark, Point};
 use std::alloc::Allocator;
 
-/// Half of the width of a mark, and half of its height.
+/// Half of a mark's width and height, in pixels.
 const HALF: u64 = 6;
 
-/// The words of a copy that left, of a frame that a filter refused, and of a copy that a queue dropped.
+/// Title of a copy that left.
 const LEFT_WORDS: &str = "frame {0} arrived {1}, started {2}, ended {3} ns, port {4}";
 
+/// Title of a refused frame.
 const REFUSED_WORDS: &str = "frame {0}, arrived at {1} ns: refused ({a})";
 
+/// Title of a dropped copy.
 const DROPPED_WORDS: &str = "frame {0}, arrived at {1} ns: dropped at port {2} ({a})";
 
-/// The moment at which a frame of a hop came, by its number there, from 1.
-fn came_at(origins: &[Origin], own: u64, other: u64) -> u64 {
+/// Returns the arrival time of a hop's frame with number `own`, from 1, or `other` if it is missing.
+fn arrival_time_or(origins: &[Origin], own: u64, other: u64) -> u64 {
     if own == 0 {
         return other;
     }
@@ -30,13 +33,13 @@ fn came_at(origins: &[Origin], own: u64, other: u64) -> u64 {
     }
 }
 
-/// Adds a line.
+/// Draws a line over a link: the way of a copy to its next hop.
 fn put_line(picture: &mut RunPicture, from: Point, to: Point) {
     picture.shapes.draw("link", Element::Line(from, to));
-    picture.shapes.end();
+    picture.shapes.end_shape();
 }
 
-/// Whether a frame came to a hop at a port and a moment. Its frames are in the order in which they came.
+/// Whether a frame arrived at a hop on this port at this time. Uses a binary search, because a hop's frames are in order of arrival.
 fn has_come<A: Allocator>(view: &View<A>, port: u8, at: u64) -> bool {
     let first = view.origins.partition_point(|origin| origin.at < at);
     for origin in view.origins.get(first..).unwrap_or(&[]) {
@@ -50,7 +53,7 @@ fn has_come<A: Allocator>(view: &View<A>, port: u8, at: u64) -> bool {
     false
 }
 
-/// The place of the hop at a bridge to which a frame came at a port and a moment.
+/// Returns the index of the hop at a bridge at which a frame arrived on this port at this time. Returns `None` if no hop has such a frame.
 fn hop_reached<A: Allocator>(
     hops: &[HopRun<'_, A>],
     bridge: usize,
@@ -65,8 +68,7 @@ fn hop_reached<A: Allocator>(
     None
 }
 
-/// Adds the way of a copy over a link to the row of the hop to which it came. A link that leads to no hop of the stream, or on which
-/// none of its hops takes the copy, isn't drawn.
+/// Draws the line of a copy over a link to the row of the hop that accepted it. Draws nothing if no hop of the stream accepted it.
 fn put_link<A: Allocator>(
     picture: &mut RunPicture,
     links: &[Link],
@@ -75,20 +77,20 @@ fn put_link<A: Allocator>(
     y: u64,
     departure: &Departure,
 ) {
-    let Some(other) = sender_of(links, bridge, departure.port) else {
+    let Some(other) = find_sender(links, bridge, departure.port) else {
         return;
     };
     let at = departure.done.saturating_add(other.delay);
     let Some(place) = hop_reached(hops, other.from.bridge as usize, other.from.port, at) else {
         return;
     };
-    let from = (place_of(picture, departure.done), y);
-    let below = height_of(picture.rows.saturating_add(place as u64));
-    let to = (place_of(picture, at), below);
+    let from = (time_x(picture, departure.done), y);
+    let below = row_y(picture.rows.saturating_add(place as u64));
+    let to = (time_x(picture, at), below);
     put_line(picture, from, to);
 }
 
-/// Adds a copy that left a hop: how long it waited, and how long it was on the link.
+/// Draws a copy that left a hop: a bar for its waiting time and a bar for its transmission time.
 fn put_departure(picture: &mut RunPicture, origins: &[Origin], y: u64, departure: &Departure) {
     let Departure {
         own,
@@ -96,18 +98,18 @@ fn put_departure(picture: &mut RunPicture, origins: &[Origin], y: u64, departure
         start,
         done,
     } = *departure;
-    let at = came_at(origins, own, start);
+    let at = arrival_time_or(origins, own, start);
     let top = y.saturating_sub(6);
     let numbers = [own, at, start, done, u64::from(port)];
-    let waits = bar_of(picture, at, start, top, 12);
+    let waits = bar_x_and_width(picture, at, start, top, 12);
     put_titled(picture, "wait", waits, LEFT_WORDS, &numbers, "");
-    let sends = bar_of(picture, start, done, top, 12);
+    let sends = bar_x_and_width(picture, start, done, top, 12);
     put_titled(picture, "out", sends, LEFT_WORDS, &numbers, "");
 }
 
-/// A triangle at a moment in a row: with its tip above where a filter refused a frame, else below.
-fn mark_of(picture: &RunPicture, at: u64, y: u64, is_refused: bool) -> Element {
-    let x = place_of(picture, at);
+/// Returns a triangle at a time in a row. The tip is up for a refused frame and down for a dropped copy.
+fn time_mark(picture: &RunPicture, at: u64, y: u64, is_refused: bool) -> Element {
+    let x = time_x(picture, at);
     let (above, below) = (y.saturating_sub(HALF), y.saturating_add(HALF));
     let (base, tip) = if is_refused {
         (below, above)
@@ -123,32 +125,32 @@ fn mark_of(picture: &RunPicture, at: u64, y: u64, is_refused: bool) -> Element {
     })
 }
 
-/// Adds a mark for each frame that the filter of a hop refused, at the moment at which it came.
+/// Draws a mark at the arrival time of each frame that the filter of a hop refused.
 fn put_refused<A: Allocator>(picture: &mut RunPicture, view: &View<A>, y: u64) {
     let mut own = 0u64;
     for verdict in &view.verdicts {
         own = own.saturating_add(1);
-        if !passes(*verdict) {
-            let at = came_at(&view.origins, own, 0);
-            let mark = mark_of(picture, at, y, true);
+        if !is_pass(*verdict) {
+            let at = arrival_time_or(&view.origins, own, 0);
+            let mark = time_mark(picture, at, y, true);
             let word = verdict_word(*verdict);
             put_titled(picture, "lost", mark, REFUSED_WORDS, &[own, at], word);
         }
     }
 }
 
-/// Adds a mark for each copy that a queue of a hop dropped, at the moment at which its frame came.
+/// Draws a mark at the frame's arrival time for each copy that a port of a hop dropped.
 fn put_dropped<A: Allocator>(picture: &mut RunPicture, view: &View<A>, y: u64) {
     for dropped in &view.drops {
-        let at = came_at(&view.origins, dropped.own, 0);
-        let mark = mark_of(picture, at, y, false);
+        let at = arrival_time_or(&view.origins, dropped.own, 0);
+        let mark = time_mark(picture, at, y, false);
         let numbers = [dropped.own, at, u64::from(dropped.port)];
         let word = refusal_word(dropped.refusal);
         put_titled(picture, "lost", mark, DROPPED_WORDS, &numbers, word);
     }
 }
 
-/// Adds the row of a hop.
+/// Draws the row of a hop: its name, departures with lines to the next hops, drops and refused frames.
 pub(crate) fn put_hop<A: Allocator>(
     picture: &mut RunPicture,
     links: &[Link],
@@ -158,11 +160,11 @@ pub(crate) fn put_hop<A: Allocator>(
     name: &str,
 ) {
     picture.shapes.begin_text("", (12, y.saturating_add(4)));
-    picture.shapes.add("{a}", &[], &[name]);
+    picture.shapes.add_piece("{a}", &[], &[name]);
     picture.shapes.end_text();
-    let row = Element::Level((LEFT, y), LEFT + WIDTH);
+    let row = Element::Level((LEFT_MARGIN, y), LEFT_MARGIN + TIME_WIDTH);
     picture.shapes.draw("row", row);
-    picture.shapes.end();
+    picture.shapes.end_shape();
     for departure in &hop.view.departures {
         put_departure(picture, &hop.view.origins, y, departure);
         put_link(picture, links, hops, hop.bridge, y, departure);

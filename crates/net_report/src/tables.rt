@@ -1,23 +1,22 @@
-//! The rows of a stream in both tables, of streams and of frames.
+//! The rows of a stream in the tables of streams and of frames.
 ghost use Rattle.std.specs.Prelude.{◌≡◌, ◌++◌, IfOk, OnOk, Ok, length, map, string_bytes};
 ghost use Rattle.std.specs.Io.KnownBytes.{Appends};
 ghost use Rattle.net_report.specs.Tables.{AddDelays, AreDelays, AreRowsOfHop, WriteHops, WriteStream, WritesHop, heading_of};
 
-use crate::figures::figures_of;
-use crate::frames::put_view;
-use crate::hop_run::HopRun;
-use crate::hops::ways_of;
-use crate::lines::{hop_line, stream_line};
-use crate::tallies::{counted_of, delays_in};
-use crate::tally::Tally;
-use crate::tracing::Root;
+use crate::copy_counting::{CopyCounts, HopRun};
+use crate::frame_table::put_hop_lines;
+use crate::hop_counting::{counts_by_ports, departure_delays};
+use crate::hops::onward_ports;
+use crate::sources::SourceFrame;
+use crate::statistics::delay_statistics;
+use crate::stream_table::{hop_line, stream_line};
 use bridge_limits::NoMemory;
-use bridge_text::Text;
+use bridge_text::TextBuilder;
 use net_model::Link;
 use std::alloc::Allocator;
 use std::io::Write;
 
-/// One of the two tables.
+/// One of the two tables. Faults name the table that wasn't written.
 #[derive(Clone, Copy, Debug, PartialEq, Eq)]
 pub enum Table {
     /// The table of streams.
@@ -26,12 +25,12 @@ pub enum Table {
     Frames,
 }
 
-/// Why the rows of a stream aren't written.
+/// Fault when the rows of a stream are written.
 #[derive(Clone, Copy, Debug, PartialEq, Eq)]
 pub enum TableFault {
     /// The writer of a table failed.
     Broken(Table),
-    /// A growth was refused.
+    /// Memory ran out.
     NoMemory,
 }
 
@@ -41,29 +40,29 @@ impl From<NoMemory> for TableFault {
     }
 }
 
-/// What the tables call a stream, and what they say of it beside its frames.
+/// Names of a stream and its hops in the tables, with its bound and its deadline.
 #[derive(Clone, Copy)]
 pub struct Heading<'a, A: Allocator> {
-    /// The name of the stream.
+    /// Name of the stream.
     pub name: &'a str,
-    /// The name of each hop, in order.
+    /// Names of the hops, in order.
     pub hops: &'a [String<A>],
-    /// The bound of `net check`, in ns.
+    /// Bound of `net check`, in ns.
     pub bound: u128,
-    /// The deadline, in ns, if the stream has one.
+    /// Deadline in ns, if the stream has one.
     pub deadline: Option<u64>,
 }
 
-/// The rows of a hop in both tables.
+/// Rows of a hop in both tables, made before either table is written.
 #[derive(Drop)]
 struct HopRows<A: Allocator> {
-    /// The row in the table of streams.
+    /// Row in the table of streams.
     row: String<A>,
-    /// The rows in the table of frames.
+    /// Rows in the table of frames.
     lines: String<A>,
 }
 
-/// Hands a text to the writer of a table.
+/// Writes a text to the writer of a table. A failed write is the fault `Broken` with this table.
 pub fn put_table<W: Write>(writer: &mut W, text: &str, table: Table) -> Result<(), TableFault>
     ensures { OnOk result (Appends (W.contents writer.old) (W.contents writer.new) text.now) }
 {
@@ -73,7 +72,7 @@ pub fn put_table<W: Write>(writer: &mut W, text: &str, table: Table) -> Result<(
     }
 }
 
-/// Returns the rows of a hop.
+/// Returns the rows of a hop in both tables. `roots` has the source of each of its frames.
 fn rows_of_hop<A: Allocator + Copy>(
     alloc: A,
     links: &[Link],
@@ -81,22 +80,22 @@ fn rows_of_hop<A: Allocator + Copy>(
     stream: &str,
     name: &str,
     hop: &HopRun<'_, A>,
-    roots: &[Option<Root>],
+    roots: &[Option<SourceFrame>],
 ) -> Result<HopRows<A>, NoMemory>
     ensures { IfOk result (λ r. AreRowsOfHop links.now hops.now stream.now name.now hop.now roots.now
         (string_bytes r.row) (string_bytes r.lines)) }
 {
-    let ways = ways_of(alloc, links, hops, hop.bridge)?;
-    let counts = counted_of(&ways, hop.view);
-    let delays = delays_in(alloc, &ways, roots, &hop.view.departures)?;
-    let row = hop_line(alloc, stream, name, &counts, figures_of(&delays))?;
-    let mut text = Text::new(alloc);
-    put_view(&mut text, stream, name, roots, &ways, hop.view);
-    let lines = text.done()?;
+    let ways = onward_ports(alloc, links, hops, hop.bridge)?;
+    let counts = counts_by_ports(&ways, hop.view);
+    let delays = departure_delays(alloc, &ways, roots, &hop.view.departures)?;
+    let row = hop_line(alloc, stream, name, &counts, delay_statistics(&delays))?;
+    let mut text = TextBuilder::new(alloc);
+    put_hop_lines(&mut text, stream, name, roots, &ways, hop.view);
+    let lines = text.finish()?;
     Ok(HopRows { row, lines })
 }
 
-/// Writes the rows of a hop.
+/// Writes the rows of a hop to both tables.
 fn write_hop<A: Allocator + Copy, V: Write, W: Write>(
     alloc: A,
     links: &[Link],
@@ -104,7 +103,7 @@ fn write_hop<A: Allocator + Copy, V: Write, W: Write>(
     stream: &str,
     name: &str,
     hop: &HopRun<'_, A>,
-    roots: &[Option<Root>],
+    roots: &[Option<SourceFrame>],
     streams: &mut V,
     frames: &mut W,
 ) -> Result<(), TableFault>
@@ -116,12 +115,12 @@ fn write_hop<A: Allocator + Copy, V: Write, W: Write>(
     put_table(frames, lines.as_str(), Table::Frames)
 }
 
-/// Writes the rows of the hops of a stream, in their order.
+/// Writes the rows of a stream's hops to both tables, hop by hop.
 fn write_hops<A: Allocator + Copy, V: Write, W: Write>(
     alloc: A,
     links: &[Link],
     hops: &[HopRun<'_, A>],
-    known: &[Vec<Option<Root>, A>],
+    known: &[Vec<Option<SourceFrame>, A>],
     stream: &str,
     names: &[String<A>],
     streams: &mut V,
@@ -148,30 +147,29 @@ fn write_hops<A: Allocator + Copy, V: Write, W: Write>(
     Ok(())
 }
 
-/// Adds how long each copy took that a hop delivered.
+/// Appends to `delays` the delays of the copies that a hop delivered.
 fn push_delays<A: Allocator + Copy>(
     alloc: A,
     links: &[Link],
     hops: &[HopRun<'_, A>],
     hop: &HopRun<'_, A>,
-    roots: &[Option<Root>],
+    roots: &[Option<SourceFrame>],
     delays: &mut Vec<u64, A>,
 ) -> Result<(), NoMemory>
     ensures { OnOk result (AddDelays links.now hops.now hop.now roots.now delays.old.items delays.new.items) }
 {
-    let ways = ways_of(alloc, links, hops, hop.bridge)?;
-    let more = delays_in(alloc, &ways, roots, &hop.view.departures)?;
+    let ways = onward_ports(alloc, links, hops, hop.bridge)?;
+    let more = departure_delays(alloc, &ways, roots, &hop.view.departures)?;
     delays.extend_from_slice(&more)?;
     Ok(())
 }
 
-/// Returns how long each copy took that a stream delivered, from when its frame came to the first hop, in ns: hop by hop, of each in
-/// the order in which they left.
-pub fn delays_of_all<A: Allocator + Copy>(
+/// Returns the delays in ns of the copies that a stream delivered, from arrival at the first hop. The order is by hop, then by leaving.
+pub fn stream_delays<A: Allocator + Copy>(
     alloc: A,
     links: &[Link],
     hops: &[HopRun<'_, A>],
-    known: &[Vec<Option<Root>, A>],
+    known: &[Vec<Option<SourceFrame>, A>],
 ) -> Result<Vec<u64, A>, NoMemory>
     requires { length known.now ≡ length hops.now }
     ensures { IfOk result (λ delays. AreDelays links.now hops.now hops.now known.now delays.items) }
@@ -183,14 +181,13 @@ pub fn delays_of_all<A: Allocator + Copy>(
     Ok(delays)
 }
 
-/// Writes the rows of a stream: of the whole stream and of each hop into the table of streams, and of each frame at each hop into the
-/// table of frames.
+/// Writes the rows of a stream. The table of streams gets the stream and each hop, the table of frames each frame at each hop.
 pub fn write_stream<A: Allocator + Copy, V: Write, W: Write>(
     alloc: A,
     links: &[Link],
     hops: &[HopRun<'_, A>],
-    known: &[Vec<Option<Root>, A>],
-    tallies: &[Tally],
+    known: &[Vec<Option<SourceFrame>, A>],
+    tallies: &[CopyCounts],
     heading: Heading<'_, A>,
     streams: &mut V,
     frames: &mut W,
@@ -200,12 +197,12 @@ pub fn write_stream<A: Allocator + Copy, V: Write, W: Write>(
     ensures { OnOk result (WriteStream links.now hops.now known.now tallies.now (heading_of {A = A} heading.entry)
         (V.contents streams.old) (V.contents streams.new) (W.contents frames.old) (W.contents frames.new)) }
 {
-    let delays = delays_of_all(alloc, links, hops, known)?;
+    let delays = stream_delays(alloc, links, hops, known)?;
     let line = stream_line(
         alloc,
         heading.name,
         tallies,
-        figures_of(&delays),
+        delay_statistics(&delays),
         heading.bound,
         heading.deadline,
     )?;

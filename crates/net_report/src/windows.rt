@@ -1,24 +1,23 @@
-//! Windows of a queue: the stretches of time in which lists open its class.
+//! Windows of a queue: the times during which lists open its class.
 ghost use Rattle.std.specs.Prelude.{◌≡◌, ◌≤◌, ◌<◌};
 
-use bridge_cycle::{END_OF_TURNS, Egress, MOST_ENTRIES, Timeline, is_open};
+use bridge_cycle::{END_OF_TURNS, Egress, MAX_ENTRIES, Timeline, is_open};
 use show_svg::Span;
 use std::alloc::Allocator;
 
-/// The turns in which a class opens or closes that ever does: those of a cycle and of the parts of two others, of an old list and
-/// of a new one.
-const MOST_TURNS: usize = 8 * MOST_ENTRIES;
+/// Largest number of intervals to search until a class opens or closes: they cover parts of an old and a new list.
+const MAX_TURNS: usize = 8 * MAX_ENTRIES;
 
-/// Whether lists open a class at a moment.
-pub(crate) fn opens_at<A: Allocator + Copy>(list: &Egress<A>, class: u8, at: u64) -> bool
+/// Whether the gate control lists open a class at time `at`.
+pub(crate) fn is_class_open<A: Allocator + Copy>(list: &Egress<A>, class: u8, at: u64) -> bool
     requires class { class < 8 }
     requires soon { at < END_OF_TURNS }
 {
     is_open(list.turn(at).state, class)
 }
 
-/// The cycle of the list that holds at a moment, in ns, and until when it holds.
-fn list_at<A: Allocator + Copy>(list: &Egress<A>, at: u64) -> (u64, u64)
+/// Returns the cycle time in ns of the list at time `at`, and the end of this list's time.
+fn active_list<A: Allocator + Copy>(list: &Egress<A>, at: u64) -> (u64, u64)
     ensures cycle { 1 ≤ result.0 }
     ensures until { result.1 ≤ END_OF_TURNS }
 {
@@ -26,8 +25,8 @@ fn list_at<A: Allocator + Copy>(list: &Egress<A>, at: u64) -> (u64, u64)
         Egress::Cyclic(list) => (list.cycle().max(1), END_OF_TURNS),
         Egress::Joined(joined) => {
             let (old, new) = joined.lists();
-            if at < joined.at() {
-                (old.cycle().max(1), joined.at().min(END_OF_TURNS))
+            if at < joined.change_time() {
+                (old.cycle().max(1), joined.change_time().min(END_OF_TURNS))
             } else {
                 (new.cycle().max(1), END_OF_TURNS)
             }
@@ -35,8 +34,8 @@ fn list_at<A: Allocator + Copy>(list: &Egress<A>, at: u64) -> (u64, u64)
     }
 }
 
-/// How often a class opens after a moment, up to another one: within a cycle of the list that holds there.
-fn openings_in<A: Allocator + Copy>(list: &Egress<A>, class: u8, after: u64, to: u64) -> u64
+/// Returns how often a class opens after time `after` and up to time `to`, within one cycle of a list.
+fn count_openings<A: Allocator + Copy>(list: &Egress<A>, class: u8, after: u64, to: u64) -> u64
     requires class { class < 8 }
     requires soon { to < END_OF_TURNS }
 {
@@ -46,7 +45,7 @@ fn openings_in<A: Allocator + Copy>(list: &Egress<A>, class: u8, after: u64, to:
     let first = list.turn(after);
     let (mut was, mut at) = (is_open(first.state, class), first.end);
     let mut count = 0u64;
-    for _ in 0..MOST_TURNS {
+    for _ in 0..MAX_TURNS {
         if at > to {
             break;
         }
@@ -61,8 +60,8 @@ fn openings_in<A: Allocator + Copy>(list: &Egress<A>, class: u8, after: u64, to:
     count
 }
 
-/// How often a class opens after a moment, up to another one, under one list: in each whole cycle as often as in the first.
-fn openings_under<A: Allocator + Copy>(
+/// Returns how often a class opens after time `after` and up to time `to`, under one list. Each whole cycle counts like the first.
+fn count_list_openings<A: Allocator + Copy>(
     list: &Egress<A>,
     class: u8,
     cycle: u64,
@@ -77,15 +76,15 @@ fn openings_under<A: Allocator + Copy>(
     let rest = after.saturating_add(whole.saturating_mul(cycle));
     let each = match whole {
         0 => 0,
-        _ => openings_in(list, class, after, after.saturating_add(cycle).min(to)),
+        _ => count_openings(list, class, after, after.saturating_add(cycle).min(to)),
     };
     whole
         .saturating_mul(each)
-        .saturating_add(openings_in(list, class, rest, to))
+        .saturating_add(count_openings(list, class, rest, to))
 }
 
-/// How many windows a class has in a stretch of time. It takes no longer for a longer one.
-pub(crate) fn windows_in<A: Allocator + Copy>(list: &Egress<A>, class: u8, span: Span) -> u64
+/// Returns the number of windows of a class in a span of time. The cost doesn't grow with the span.
+pub(crate) fn count_windows<A: Allocator + Copy>(list: &Egress<A>, class: u8, span: Span) -> u64
     requires { class < 8 }
 {
     let end = span.to.min(END_OF_TURNS);
@@ -93,23 +92,23 @@ pub(crate) fn windows_in<A: Allocator + Copy>(list: &Egress<A>, class: u8, span:
     if at >= end {
         return 0;
     }
-    let mut count = u64::from(opens_at(list, class, at));
+    let mut count = u64::from(is_class_open(list, class, at));
     for _ in 0..2 {
-        let (cycle, until) = list_at(list, at);
+        let (cycle, until) = active_list(list, at);
         let last = until.min(end).saturating_sub(1);
-        count = count.saturating_add(openings_under(list, class, cycle, at, last));
+        count = count.saturating_add(count_list_openings(list, class, cycle, at, last));
         if until >= end {
             break;
         }
-        count = count.saturating_add(openings_in(list, class, last, until));
+        count = count.saturating_add(count_openings(list, class, last, until));
         at = until;
     }
     count
 }
 
-/// The first moment after one at which a class opens or closes, or the end of a stretch of time. A class that is open or closed
-/// for longer than a cycle is so until another list holds.
-pub(crate) fn change_after<A: Allocator + Copy>(
+/// Returns the first time after `from` at which a class opens or closes, but at most `end`. If nothing changes for a cycle, the search
+/// skips to the next list.
+pub(crate) fn next_gate_change<A: Allocator + Copy>(
     list: &Egress<A>,
     class: u8,
     from: u64,
@@ -122,9 +121,9 @@ pub(crate) fn change_after<A: Allocator + Copy>(
     if from >= end {
         return end;
     }
-    let was = opens_at(list, class, from);
+    let was = is_class_open(list, class, from);
     let (mut at, mut since) = (from, from);
-    for _ in 0..MOST_TURNS {
+    for _ in 0..MAX_TURNS {
         if at >= end {
             return end;
         }
@@ -132,7 +131,7 @@ pub(crate) fn change_after<A: Allocator + Copy>(
         if is_open(turn.state, class) != was {
             return at;
         }
-        let (cycle, until) = list_at(list, at);
+        let (cycle, until) = active_list(list, at);
         at = if at.saturating_sub(since) > cycle {
             until
         } else {

@@ -1,4 +1,4 @@
-pub mod Delaying
-pub mod Stations
+pub mod DelayedCapture
+pub mod BridgeRuns
 pub mod Rounds
-pub mod Feeding
+pub mod Delivery

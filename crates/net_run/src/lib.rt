@@ -1,10 +1,10 @@
 #![tactic(auto)]
-//! Whole runs of networks, bridge by bridge, until what comes over each link is what was sent.
+//! Complete runs of networks in rounds. The run ends when each link delivers exactly the frames that its sender sent.
 
-mod delaying;
-mod settling;
-mod station;
+mod bridge_run;
+mod delayed_capture;
+mod rounds;
 
-pub use delaying::later_text;
-pub use settling::{Nobody, RoundsFault, Settled, SettledNetwork, Watch, settle};
-pub use station::{Incoming, is_linked};
+pub use bridge_run::{BridgeInput, is_linked};
+pub use delayed_capture::delay_capture;
+pub use rounds::{BridgeResult, NoObserver, RoundObserver, RoundsFault, run_network};

@@ -1,17 +1,17 @@
-//! Why a file is no capture that is read.
+//! Explains why a capture is refused.
 ghost use Rattle.std.specs.Prelude.{IfOk, string_bytes};
-ghost use Rattle.bridge_text.specs.Named.{BeginsWith};
+ghost use Rattle.bridge_text.specs.PathPrefix.{StartsWithName};
 
-use crate::text::fill_two;
+use crate::explanation::fill_with_two_words;
 use bridge_capture::CaptureFault;
 use bridge_limits::NoMemory;
-use bridge_text::{Text, behind};
+use bridge_text::{TextBuilder, finish_with_path};
 use std::alloc::Global;
 
-/// The octets of the header of a capture.
-const HEADER: u64 = 24;
+/// Length of a capture's header in octets.
+const HEADER_LENGTH: u64 = 24;
 
-/// Whether each octet is one of a text.
+/// Whether all octets are printable text: the user may have given a text file as capture.
 fn is_text(octets: &[u8]) -> bool {
     for octet in octets {
         if !matches!(*octet, b' '..=b'~' | b'\n' | b'\r' | b'\t') {
@@ -21,8 +21,8 @@ fn is_text(octets: &[u8]) -> bool {
     true
 }
 
-/// What a file looks like by its first octets, where another program makes a capture of it.
-fn looks_of(octets: &[u8]) -> Option<&'static str> {
+/// Returns the kind of a file by its first octets, if another program can convert it. Returns `None` for other files.
+fn file_kind(octets: &[u8]) -> Option<&'static str> {
     match octets {
         [0x0A, 0x0D, 0x0D, 0x0A, ..] => Some("a pcapng file"),
         [0xA1, 0xB2, 0xCD, 0x34, ..] | [0x34, 0xCD, 0xB2, 0xA1, ..] => Some("a modified capture"),
@@ -32,35 +32,38 @@ fn looks_of(octets: &[u8]) -> Option<&'static str> {
     }
 }
 
-/// Why the capture of a file is refused, by its first octets and the fault: what the file looks like, and the command that
-/// makes a capture of it that is read. It begins with the path of the file.
+/// Explains why a capture is refused, by its first octets and the fault: the kind of the file, and a command that converts it. The
+/// explanation begins with `path`.
 pub fn explain_capture(
     alloc: Global,
     path: &str,
     octets: &[u8],
     fault: &CaptureFault,
 ) -> Result<String, NoMemory>
-    ensures { IfOk result (λ said. BeginsWith path.now (string_bytes said)) }
+    ensures { IfOk result (λ said. StartsWithName path.now (string_bytes said)) }
 {
-    let mut said = Text::new(alloc);
+    let mut said = TextBuilder::new(alloc);
     let numbers = [
         octets.len() as u64,
-        HEADER,
-        record_of(fault),
-        pair_at(octets, 4),
-        pair_at(octets, 6),
-        link_at(octets).0,
+        HEADER_LENGTH,
+        fault_record(fault),
+        read_u16(octets, 4),
+        read_u16(octets, 6),
+        link_type(octets).0,
     ];
-    let (sentence, looks) = (sentence_of(octets, fault), looks_of(octets).unwrap_or(""));
-    fill_two(&mut said, sentence, &numbers, path, looks);
-    behind(alloc, path, said)
+    let (sentence, looks) = (
+        capture_sentence(octets, fault),
+        file_kind(octets).unwrap_or(""),
+    );
+    fill_with_two_words(&mut said, sentence, &numbers, path, looks);
+    finish_with_path(alloc, path, said)
 }
 
-/// The sentence on a fault of a capture: at the path `{a}`, which looks like `{b}`; the file has `{0}` octets, a header `{1}`; the
-/// record is `{2}`, the version `{3}.{4}`, the link type `{5}`.
-fn sentence_of(octets: &[u8], fault: &CaptureFault) -> &'static str {
+/// Returns the sentence for a capture's fault, with path `{a}`, kind `{b}`, lengths `{0}` of the file and `{1}` of a header, record `{2}`,
+/// version `{3}.{4}` and link type `{5}`.
+fn capture_sentence(octets: &[u8], fault: &CaptureFault) -> &'static str {
     match fault {
-        CaptureFault::BadMagic if looks_of(octets).is_some() =>
+        CaptureFault::BadMagic if file_kind(octets).is_some() =>
             ": it looks like {b}, and must be a classic capture (pcap). Convert it: editcap -F nsecpcap {a} NEW.pcap\n",
         CaptureFault::BadMagic if octets.is_empty() =>
             ": it is empty, and must be a classic capture (pcap).\n",
@@ -70,14 +73,14 @@ fn sentence_of(octets: &[u8], fault: &CaptureFault) -> &'static str {
             ": not a capture file. The command needs a classic capture (pcap).\n",
         CaptureFault::BadVersion =>
             ": its version is {3}.{4}, and must be 2.4. Convert it: editcap -F nsecpcap {a} NEW.pcap\n",
-        CaptureFault::BadLinkType if link_at(octets).0 != 1 =>
+        CaptureFault::BadLinkType if link_type(octets).0 != 1 =>
             ": its link type is {5}, and must be 1 (Ethernet). Capture at an Ethernet interface.\n",
-        CaptureFault::BadLinkType if link_at(octets).1 & 0x0400 != 0 =>
+        CaptureFault::BadLinkType if link_type(octets).1 & 0x0400 != 0 =>
             ": its header says that frames end with a frame check sequence. Remove the sequence: editcap -F nsecpcap -L -C -4 {a} NEW.pcap\n",
         CaptureFault::BadLinkType =>
             ": its link type is 1 (Ethernet), but the upper half of that word isn't 0. Convert the file: editcap -F nsecpcap {a} NEW.pcap\n",
         CaptureFault::HeaderCut
-            if looks_of(octets).is_none() && !octets.is_empty() && is_text(octets) =>
+            if file_kind(octets).is_none() && !octets.is_empty() && is_text(octets) =>
             ": it has {0} octets and looks like text. A capture begins with a header of {1} octets.\n",
         CaptureFault::HeaderCut =>
             ": it has {0} octets, but a capture begins with a header of {1} octets. Check that the file is complete.\n",
@@ -99,8 +102,8 @@ fn sentence_of(octets: &[u8], fault: &CaptureFault) -> &'static str {
     }
 }
 
-/// The record of a fault; 0 where it has none.
-fn record_of(fault: &CaptureFault) -> u64 {
+/// Returns the record number of a fault; 0 if it has none.
+fn fault_record(fault: &CaptureFault) -> u64 {
     match fault {
         CaptureFault::RecordCut(n)
         | CaptureFault::LengthsCross(n)
@@ -111,26 +114,26 @@ fn record_of(fault: &CaptureFault) -> u64 {
     }
 }
 
-/// The link type of a capture, and what stands in the upper half of its word.
-fn link_at(octets: &[u8]) -> (u64, u64) {
-    let (one, other) = (pair_at(octets, 20), pair_at(octets, 22));
-    if is_little(octets) {
+/// Returns the link type of a capture, and the upper half of its word, which must be 0.
+fn link_type(octets: &[u8]) -> (u64, u64) {
+    let (one, other) = (read_u16(octets, 20), read_u16(octets, 22));
+    if is_little_endian(octets) {
         (one, other)
     } else {
         (other, one)
     }
 }
 
-/// Whether the first octet of a file tells that the lowest octet of a number comes first.
-fn is_little(octets: &[u8]) -> bool {
+/// Whether numbers in the capture begin with their lowest octet, by the first octet of the file.
+fn is_little_endian(octets: &[u8]) -> bool {
     octets.first() == Some(&0xD4) || octets.first() == Some(&0x4D)
 }
 
-/// The number of two octets, in either order of octets by the first octet of the file.
-fn pair_at(octets: &[u8], place: usize) -> u64 {
+/// Returns the number in two octets at offset `place`, in the byte order of the capture. Missing octets count as 0.
+fn read_u16(octets: &[u8], place: usize) -> u64 {
     let one = octets.get(place).copied().unwrap_or(0);
     let other = octets.get(place.saturating_add(1)).copied().unwrap_or(0);
-    if is_little(octets) {
+    if is_little_endian(octets) {
         u64::from(other) * 256 + u64::from(one)
     } else {
         u64::from(one) * 256 + u64::from(other)

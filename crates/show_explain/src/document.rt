@@ -1,24 +1,24 @@
-//! A text of a plan or of commands, and the instances of its sections.
+//! The text of a plan or of commands, and the instances of its sections.
 
-use bridge_schema::{Field, Section, own_key};
+use bridge_schema::{Field, Section, identifying_key};
 use bridge_text::{Document, Instance, Said};
 use toml::{Table, Value};
 
-/// A text with its document.
+/// Text of a plan or of commands, with its document and the document of the plan.
 #[derive(Clone, Copy)]
-pub(crate) struct Source<'a> {
-    /// The text.
+pub(crate) struct SourceText<'a> {
+    /// Text of the file.
     pub text: &'a str,
-    /// Its document.
+    /// Document of the text.
     pub document: &'a Table,
-    /// The document of the plan: this one, or that to which it gives commands.
+    /// Document of the plan: this document, or the plan of these commands.
     pub plan: &'a Table,
-    /// Whether it is one of commands.
+    /// Whether the text has commands.
     pub is_commands: bool,
 }
 
-impl<'a> Source<'a> {
-    /// Returns the text with its document.
+impl<'a> SourceText<'a> {
+    /// Returns the text with its document, as `bridge_text` needs them for positions.
     pub(crate) fn document(self) -> Document<'a> {
         Document {
             text: self.text,
@@ -26,7 +26,7 @@ impl<'a> Source<'a> {
         }
     }
 
-    /// Returns an instance of a section, by its place from 1.
+    /// Returns instance `index`, counted from 1, of a section, as `bridge_text` names it to find positions.
     pub(crate) fn instance(self, section: Section, index: u32) -> Instance<'a> {
         Instance {
             document: self.document(),
@@ -36,31 +36,35 @@ impl<'a> Source<'a> {
     }
 }
 
-/// The instances of a section of a document.
-pub(crate) fn items_of<'a>(document: &'a Table, section: Section) -> &'a [Value] {
-    bridge_text::items_of(document, section.name())
+/// Returns the instances of a section of a document; an empty list if the section is missing.
+pub(crate) fn section_items<'a>(document: &'a Table, section: Section) -> &'a [Value] {
+    bridge_text::section_instances(document, section.name())
 }
 
-/// The table of an instance, by its place from 1.
-pub(crate) fn table_of<'a>(document: &'a Table, section: Section, index: u32) -> Option<&'a Table> {
-    bridge_text::table_of(document, section.name(), index)
+/// Returns the table of instance `index`, counted from 1, or `None` if it is missing or no table.
+pub(crate) fn instance_table<'a>(
+    document: &'a Table,
+    section: Section,
+    index: u32,
+) -> Option<&'a Table> {
+    bridge_text::instance_table(document, section.name(), index)
 }
 
-/// The value at a key of an instance.
-pub(crate) fn value_of<'a>(table: Option<&'a Table>, key: Field) -> Option<&'a Value> {
-    bridge_text::value_of(table, key.key())
+/// Returns the value of a key of an instance, or `None` if the key or the table is missing.
+pub(crate) fn key_value<'a>(table: Option<&'a Table>, key: Field) -> Option<&'a Value> {
+    bridge_text::table_value(table, key.key())
 }
 
-/// Adds where a key of an instance stands, or the instance, and which instance it is.
-pub(crate) fn put_place(
+/// Writes the position of an instance, or of its key `key`, and which instance it is.
+pub(crate) fn put_instance_position(
     said: &mut Said,
-    source: Source<'_>,
+    source: SourceText<'_>,
     section: Section,
     index: u32,
     key: Option<&str>,
 ) {
     let instance = source.instance(section, index);
-    let own = own_key(section).key();
+    let own = identifying_key(section).key();
     match section {
         Section::Static => instance.put_place(said, &[own, Field::Address.key()], key),
         _ => instance.put_place(said, &[own], key),

@@ -1,18 +1,20 @@
-//! The lists of ports and gates, entry by entry.
+//! Explains faults in the lists of ports and stream gates, entry by entry.
 
-use crate::document::{Source, put_place, table_of, value_of};
-use crate::faults::put_allowed;
-use bridge_cycle::{CyclicList, LONGEST_CYCLE, ListFault, MOST_ENTRIES};
+use crate::document::{SourceText, instance_table, key_value, put_instance_position};
+use crate::plan_fault::put_allowed;
+use bridge_cycle::{CyclicList, LONGEST_CYCLE, ListFault, MAX_ENTRIES};
 use bridge_schema::{
-    Allowed, Between, Field, Key, Kind, LENGTH, ListKeys, Presence, Section, Switch, entry_keys,
-    lists_of,
+    AllowedValue, Field, KeyRule, LENGTH, ListKeys, NumberRange, Presence, Section, Switch,
+    ValueKind, entry_keys, section_lists,
 };
-use bridge_text::{Said, fill_one, first_of, items_in, number_in, put_is};
+use bridge_text::{
+    Said, fill_with_word, first_items, put_value_sentence, unsigned_number, value_items,
+};
 use std::alloc::Global;
 use toml::{Table, Value};
 
-/// Whether each item is a number of a range.
-fn are_between(items: &[Value], range: &Between) -> bool {
+/// Whether all items are numbers in a range.
+fn are_in_range(items: &[Value], range: &NumberRange) -> bool {
     for item in items {
         if range.read(item).is_err() {
             return false;
@@ -21,24 +23,24 @@ fn are_between(items: &[Value], range: &Between) -> bool {
     true
 }
 
-/// Whether a value may stand at a key of an entry.
-fn is_allowed(allowed: Allowed, value: &Value) -> bool {
+/// Whether a value is allowed for a key of a list's entry.
+fn is_allowed(allowed: AllowedValue, value: &Value) -> bool {
     match (allowed, value) {
-        (Allowed::Between(range), _) => range.read(value).is_ok(),
-        (Allowed::Length, _) => LENGTH.read(value).is_ok(),
-        (Allowed::Set(range), Value::Array(items)) => are_between(items, &range),
-        (Allowed::Switch, _) => Switch.read(value).is_ok(),
+        (AllowedValue::Between(range), _) => range.read(value).is_ok(),
+        (AllowedValue::Length, _) => LENGTH.read(value).is_ok(),
+        (AllowedValue::Set(range), Value::Array(items)) => are_in_range(items, &range),
+        (AllowedValue::Switch, _) => Switch.read(value).is_ok(),
         _ => false,
     }
 }
 
-/// The first key of an entry that has not what may stand there.
-fn flaw_of(keys: &'static [Key], entry: &Table) -> Option<&'static Key> {
+/// Returns the first key of an entry that is missing or whose value isn't allowed. Returns `None` if the entry is sound.
+fn first_flawed_key(keys: &'static [KeyRule], entry: &Table) -> Option<&'static KeyRule> {
     for key in keys {
-        let Key(field, allowed, presence) = *key;
+        let KeyRule(field, allowed, presence) = *key;
         let is_sound = match entry.get(field.key()) {
             Some(value) => is_allowed(allowed, value),
-            None => !matches!(presence, Presence::Must),
+            None => !matches!(presence, Presence::Required),
         };
         if !is_sound {
             return Some(key);
@@ -47,56 +49,61 @@ fn flaw_of(keys: &'static [Key], entry: &Table) -> Option<&'static Key> {
     None
 }
 
-/// Adds what is wrong with the entries of a list: the first that is no table, else the first that has a flaw.
-pub(crate) fn put_items(said: &mut Said, keys: &'static [Key], list: &str, items: &[Value]) {
+/// Writes which item of a list isn't a table; otherwise the first entry with a wrong key, its value and the allowed values.
+pub(crate) fn put_entry_flaws(
+    said: &mut Said,
+    keys: &'static [KeyRule],
+    list: &str,
+    items: &[Value],
+) {
     let mut number = 0u64;
     let mut flawed = None;
     for item in items {
         number = number.saturating_add(1);
         let Value::Table(entry) = item else {
-            put_is(said, "Item {0} of `{a}` is ", number, list, Some(item), "");
+            put_value_sentence(said, "Item {0} of `{a}` is ", number, list, Some(item), "");
             return said.put("It must be a table.\n");
         };
         if flawed.is_none() {
-            if let Some(key) = flaw_of(keys, entry) {
+            if let Some(key) = first_flawed_key(keys, entry) {
                 flawed = Some((number, key, entry));
             }
         }
     }
     match flawed {
         Some((number, key, entry)) => put_flaw(said, number, list, *key, entry),
-        None => fill_one(said, "All entries of `{a}` are valid.\n", 0, list),
+        None => fill_with_word(said, "All entries of `{a}` are valid.\n", 0, list),
     }
 }
 
-/// Adds what stands at a key of an entry, and what may stand there.
-fn put_flaw(said: &mut Said, number: u64, list: &str, key: Key, entry: &Table) {
-    let Key(field, allowed, _) = key;
+/// Writes the value of an entry's key and the allowed values. `number` is the entry's, from 1; `list` is the key of its list.
+fn put_flaw(said: &mut Said, number: u64, list: &str, key: KeyRule, entry: &Table) {
+    let KeyRule(field, allowed, _) = key;
     let value = entry.get(field.key());
-    fill_one(said, "In entry {0} of `{a}`, ", number, list);
-    put_is(said, "`{a}` is ", 0, field.key(), value, "missing");
+    fill_with_word(said, "In entry {0} of `{a}`, ", number, list);
+    put_value_sentence(said, "`{a}` is ", 0, field.key(), value, "missing");
     put_allowed(said, allowed);
 }
 
-/// The interval of an entry; 0 where it has none.
-fn interval_of(entry: &Value) -> u64 {
-    number_in(value_of(entry.as_table(), Field::Ns)).unwrap_or(0)
+/// Returns the interval of an entry in ns; 0 if it has none.
+fn entry_interval(entry: &Value) -> u64 {
+    unsigned_number(key_value(entry.as_table(), Field::Ns)).unwrap_or(0)
 }
 
-/// Whether a list of an instance is refused for a fault.
-fn is_refused(
+/// Whether the list of an instance with keys `keys` is refused for `fault`. An instance can have several lists; the fault doesn't name one.
+fn is_list_refused(
     alloc: Global,
     said: &mut Said,
     table: Option<&Table>,
     keys: ListKeys,
     fault: ListFault,
 ) -> bool {
-    let cycle = number_in(value_of(table, keys.cycle)).unwrap_or(0);
+    let cycle = unsigned_number(key_value(table, keys.cycle)).unwrap_or(0);
     let mut entries = Vec::new(alloc);
-    let items = items_in(value_of(table, keys.entries));
-    for item in first_of(items, MOST_ENTRIES + 1) {
-        let Ok(()) = entries.push(((), interval_of(item))) else {
-            said.give_up();
+    let items = value_items(key_value(table, keys.entries));
+    for item in first_items(items, MAX_ENTRIES + 1) {
+        let Ok(()) = entries.push(((), entry_interval(item))) else {
+            said.discard();
             return true;
         };
     }
@@ -106,39 +113,39 @@ fn is_refused(
     }
 }
 
-/// Adds why a list of an instance is refused.
-pub(crate) fn put_list(
+/// Writes why a list of an instance is refused: finds the list at fault, then its position and its values.
+pub(crate) fn put_refused_list(
     alloc: Global,
     said: &mut Said,
-    source: Source<'_>,
+    source: SourceText<'_>,
     section: Section,
     index: u32,
     fault: ListFault,
 ) {
-    let table = table_of(source.document, section, index);
-    let mut found = lists_of(section).first();
-    for keys in lists_of(section) {
-        if is_refused(alloc, said, table, *keys, fault) {
+    let table = instance_table(source.document, section, index);
+    let mut found = section_lists(section).first();
+    for keys in section_lists(section) {
+        if is_list_refused(alloc, said, table, *keys, fault) {
             found = Some(keys);
             break;
         }
     }
     let Some(keys) = found else {
-        return put_place(said, source, section, index, None);
+        return put_instance_position(said, source, section, index, None);
     };
     let key = match fault {
         ListFault::CycleOutOfRange => keys.cycle,
         _ => keys.entries,
     };
-    put_place(said, source, section, index, Some(key.key()));
-    let cycle = number_in(value_of(table, keys.cycle)).unwrap_or(0);
-    let items = items_in(value_of(table, keys.entries));
-    put_refused(said, *keys, cycle, items, fault);
+    put_instance_position(said, source, section, index, Some(key.key()));
+    let cycle = unsigned_number(key_value(table, keys.cycle)).unwrap_or(0);
+    let items = value_items(key_value(table, keys.entries));
+    put_list_refusal(said, *keys, cycle, items, fault);
 }
 
-/// The sentence on a list that is refused: its keys are `{a}` and that of its cycle `{b}`; it has so many entries `{0}` of at
-/// most `{1}`, a cycle `{2}` of at most `{3}`, a first entry of no length `{4}`, and lasts `{5}` ns in all.
-fn refusal_of(fault: ListFault) -> &'static str {
+/// Returns the sentence for a refused list, with keys `{a}` and `{b}`, entries `{0}` of at most `{1}`, cycle `{2}` of at most `{3}`, first
+/// empty entry `{4}` and total `{5}` in ns.
+fn refusal_sentence(fault: ListFault) -> &'static str {
     match fault {
         ListFault::Empty => "`{a}` has no entry.\nIt must have 1 to {1}.\n",
         ListFault::TooManyEntries => "`{a}` has {0} entries.\nIt must have 1 to {1}.\n",
@@ -151,22 +158,28 @@ fn refusal_of(fault: ListFault) -> &'static str {
     }
 }
 
-/// Adds why a list of a cycle and entries is refused.
-fn put_refused(said: &mut Said, keys: ListKeys, cycle: u64, items: &[Value], fault: ListFault) {
+/// Writes why a list with this cycle and these entries is refused: fills the sentence with their values.
+fn put_list_refusal(
+    said: &mut Said,
+    keys: ListKeys,
+    cycle: u64,
+    items: &[Value],
+    fault: ListFault,
+) {
     let mut sum = 0u64;
     let mut place = 0u64;
     let mut zero = 0u64;
     for item in items {
-        let interval = interval_of(item);
+        let interval = entry_interval(item);
         sum = sum.saturating_add(interval);
         place = place.saturating_add(1);
         if interval == 0 && zero == 0 {
             zero = place;
         }
     }
-    let numbers = [place, MOST_ENTRIES as u64, cycle, LONGEST_CYCLE, zero, sum];
-    said.fill(
-        refusal_of(fault),
+    let numbers = [place, MAX_ENTRIES as u64, cycle, LONGEST_CYCLE, zero, sum];
+    said.put_template(
+        refusal_sentence(fault),
         &numbers,
         &[keys.entries.key(), keys.cycle.key()],
     );

@@ -1,31 +1,31 @@
-//! Why a file can't be opened, made, read or written.
+//! Explains why a file can't be opened, created, read or written.
 ghost use Rattle.std.specs.Prelude.{IfOk, string_bytes};
-ghost use Rattle.bridge_text.specs.Named.{BeginsWith};
+ghost use Rattle.bridge_text.specs.PathPrefix.{StartsWithName};
 
 use app_files::Cause;
 use bridge_limits::NoMemory;
-use bridge_text::{Text, behind};
+use bridge_text::{TextBuilder, finish_with_path};
 use std::alloc::{Allocator, Global};
 
-/// What is said of a file or a folder whose path is empty.
+/// Explanation for a file or folder with an empty path.
 const EMPTY_PATH: &str =
     "A path is empty. Name the file or the folder, for example . for the current folder.\n";
 
-/// Why a file can't be opened, made, read or written, by what was found of it. It begins with the path of the file.
+/// Explains why a file can't be opened, created, read or written. The explanation begins with `path`.
 pub fn explain_file(alloc: Global, path: &str, cause: Cause) -> Result<String, NoMemory>
-    ensures { IfOk result (λ said. BeginsWith path.now (string_bytes said)) }
+    ensures { IfOk result (λ said. StartsWithName path.now (string_bytes said)) }
 {
-    let mut said = Text::new(alloc);
+    let mut said = TextBuilder::new(alloc);
     if path.is_empty() {
         said.put(EMPTY_PATH);
     } else {
-        said.fill(sentence_of(cause), &[], &[path]);
+        said.put_template(cause_sentence(cause), &[], &[path]);
     }
-    behind(alloc, path, said)
+    finish_with_path(alloc, path, said)
 }
 
-/// What is said of a cause at the path `{a}`.
-fn sentence_of(cause: Cause) -> &'static str {
+/// Returns the sentence for a cause, about the file at the path `{a}`.
+fn cause_sentence(cause: Cause) -> &'static str {
     match cause {
         Cause::NotFound => ": no such file. Check the spelling and the current folder.\n",
         Cause::NoCapture =>
@@ -49,9 +49,9 @@ fn sentence_of(cause: Cause) -> &'static str {
     }
 }
 
-/// Adds a warning that a capture isn't read, since the plan has no port of its number.
-pub fn put_unread<A: Allocator>(said: &mut Text<A>, path: &str, port: u8) {
-    said.fill(
+/// Writes a warning that a capture isn't read because the plan lacks its port.
+pub fn warn_unread_capture<A: Allocator>(said: &mut TextBuilder<A>, path: &str, port: u8) {
+    said.put_template(
         "Warning: {a} is not read: the plan has no port {0}.\n",
         &[u64::from(port)],
         &[path],

@@ -1,14 +1,17 @@
-//! What stands at a key of a network or of traffic, and what may stand there.
+//! Explains values of keys in networks and traffic, and the allowed values.
 
-use bridge_schema::Between;
-use bridge_text::{Document, Instance, Said, fill_one, items_of, number_in, put_is, value_of};
+use bridge_schema::NumberRange;
+use bridge_text::{
+    Document, Instance, Said, fill_with_word, put_value_sentence, section_instances, table_value,
+    unsigned_number,
+};
 use net_file::{
-    FIRST_PORT, LAST_PORT, LONGEST_NAME, MOST_HOPS, NetAllowed, NetField, NetSection, TALKER_KEYS,
-    allowed_at,
+    FIRST_PORT, LAST_PORT, LONGEST_NAME, MAX_HOPS, NetAllowed, NetField, NetSection, TALKER_KEYS,
+    allowed_value,
 };
 use toml::Value;
 
-/// Returns an instance of a section, by its place from 1.
+/// Returns instance `index`, counted from 1, of a section of a network or traffic file.
 pub(crate) fn net_instance<'a>(
     document: Document<'a>,
     section: NetSection,
@@ -21,7 +24,7 @@ pub(crate) fn net_instance<'a>(
     }
 }
 
-/// Adds where a key of an instance stands, or the instance, and which instance it is.
+/// Writes the position of an instance, or of its key `key`, and which instance it is.
 pub(crate) fn put_net_place(
     said: &mut Said,
     document: Document<'_>,
@@ -39,35 +42,35 @@ pub(crate) fn put_net_place(
     }
 }
 
-/// Returns the name of the first bridge of a network, for examples.
+/// Returns the name of a network's first bridge, or another name, for examples in explanations.
 pub(crate) fn example_bridge<'a>(document: Document<'a>) -> &'a str {
-    let bridges = items_of(document.table, NetSection::Bridge.name());
+    let bridges = section_instances(document.table, NetSection::Bridge.name());
     let first = match bridges.first() {
         Some(first) => first.as_table(),
         None => None,
     };
-    match value_of(first, NetField::Name.key()) {
+    match table_value(first, NetField::Name.key()) {
         Some(Value::String(name)) => name.as_str(),
         _ => "NAME",
     }
 }
 
-/// Adds what stands at a key of an instance of a section, and what may stand there.
-pub(crate) fn put_value_at(
+/// Writes the value of an instance's key, and the allowed values.
+pub(crate) fn put_key_value(
     said: &mut Said,
     instance: Instance<'_>,
     section: NetSection,
     field: NetField,
 ) {
     let value = instance.value(field.key());
-    put_is(said, "`{a}` is ", 0, field.key(), value, "missing");
+    put_value_sentence(said, "`{a}` is ", 0, field.key(), value, "missing");
     put_allowed(said, instance, field);
     if value.is_none() && matches!(section, NetSection::Stream) && is_of_talker(field) {
         put_talker_keys(said);
     }
 }
 
-/// Whether a key is one of those of a talker.
+/// Whether a key is a key of a stream's talker.
 fn is_of_talker(field: NetField) -> bool {
     for key in &TALKER_KEYS {
         if *key == field {
@@ -77,22 +80,22 @@ fn is_of_talker(field: NetField) -> bool {
     false
 }
 
-/// Adds that a stream has all keys of a talker or none.
+/// Writes that a stream has all keys of a talker or none.
 fn put_talker_keys(said: &mut Said) {
     let mut template = "A stream has all of `{a}`";
     for key in &TALKER_KEYS {
-        fill_one(said, template, 0, key.key());
+        fill_with_word(said, template, 0, key.key());
         template = ", `{a}`";
     }
     said.put(", or none of these keys.\n");
 }
 
-/// Adds what may stand at a key of an instance.
+/// Writes the allowed values for a key of an instance.
 fn put_allowed(said: &mut Said, instance: Instance<'_>, field: NetField) {
     let example = example_bridge(instance.document);
-    match allowed_at(field) {
+    match allowed_value(field) {
         NetAllowed::Tables => {}
-        NetAllowed::Name => fill_one(
+        NetAllowed::Name => fill_with_word(
             said,
             "It must be 1 to {0} letters, digits, `-` and `_`, in quotation marks.\n",
             LONGEST_NAME as u64,
@@ -101,18 +104,18 @@ fn put_allowed(said: &mut Said, instance: Instance<'_>, field: NetField) {
         NetAllowed::Path => said.put(
             "It must be the path of the bridge's plan, in quotation marks, for example \"plan.toml\".\n",
         ),
-        NetAllowed::Port => said.fill(
+        NetAllowed::Port => said.put_template(
             "It must be a bridge's name, a dot and a port's number from {0} to {1}, for example \"{a}.{0}\".\n",
             &[u64::from(FIRST_PORT), u64::from(LAST_PORT)],
             &[example],
         ),
-        NetAllowed::Hops => fill_one(
+        NetAllowed::Hops => fill_with_word(
             said,
             "It must be an array of 1 to {0} hops, each a bridge's name, a dot and a filter's number, for example [\"{a}.10\"].\n",
-            MOST_HOPS as u64,
+            MAX_HOPS as u64,
             example,
         ),
-        NetAllowed::Number(range) => said.fill(
+        NetAllowed::Number(range) => said.put_template(
             "It must be the number of a protected filter of the plan, from {0} to {1}.\n",
             &[range.low, range.high],
             &[],
@@ -122,11 +125,11 @@ fn put_allowed(said: &mut Said, instance: Instance<'_>, field: NetField) {
     }
 }
 
-/// Returns the number at a key of an instance, if it may stand there.
+/// Returns the number of an instance's key, or `None` if it is missing or not allowed: it can't limit another key then.
 fn allowed_number(instance: Instance<'_>, field: NetField) -> Option<u64> {
-    let number = number_in(instance.value(field.key()))?;
+    let number = unsigned_number(instance.value(field.key()))?;
     let (NetAllowed::Number(range) | NetAllowed::Time(range) | NetAllowed::Octets(range)) =
-        allowed_at(field) else {
+        allowed_value(field) else {
         return None;
     };
     if range.low <= number && number <= range.high {
@@ -136,8 +139,7 @@ fn allowed_number(instance: Instance<'_>, field: NetField) -> Option<u64> {
     }
 }
 
-/// Returns the key that limits the values of a key from below, and the least value then: the period is above the first phase, the last
-/// phase isn't before the first, and the longest frame isn't shorter than the shortest.
+/// Returns the key that limits a key from below, its value, and the least value allowed. Returns `None` if no key does.
 fn lower_limit(instance: Instance<'_>, field: NetField) -> Option<(NetField, u64, u64)> {
     let (key, more) = match field {
         NetField::Period => (NetField::From, 1),
@@ -149,7 +151,8 @@ fn lower_limit(instance: Instance<'_>, field: NetField) -> Option<(NetField, u64
     Some((key, value, value.saturating_add(more)))
 }
 
-/// Returns the key that limits the values of a key from above, and the greatest value then: phases are below the period.
+/// Returns the key that limits a key from above, its value, and the greatest value allowed: phases are less than the period. Returns `None`
+/// if no key does.
 fn upper_limit(instance: Instance<'_>, field: NetField) -> Option<(NetField, u64, u64)> {
     let (NetField::From | NetField::To) = field else {
         return None;
@@ -158,8 +161,14 @@ fn upper_limit(instance: Instance<'_>, field: NetField) -> Option<(NetField, u64
     Some((NetField::Period, value, value.saturating_sub(1)))
 }
 
-/// Adds the range of the numbers that may stand at a key, in its unit, and the values of other keys that limit it.
-fn put_range(said: &mut Said, instance: Instance<'_>, field: NetField, range: Between, unit: &str) {
+/// Writes the range of a key's allowed numbers, in its unit, and the other keys that limit it.
+fn put_range(
+    said: &mut Said,
+    instance: Instance<'_>,
+    field: NetField,
+    range: NumberRange,
+    unit: &str,
+) {
     let lower = lower_limit(instance, field);
     let upper = upper_limit(instance, field);
     let low = match lower {
@@ -170,18 +179,18 @@ fn put_range(said: &mut Said, instance: Instance<'_>, field: NetField, range: Be
         Some((_, _, high)) => high,
         None => range.high,
     };
-    said.fill(
+    said.put_template(
         "It must be a whole number from {0} to {1} ({a})",
         &[low, high],
         &[unit],
     );
     let mut template = ", because `{a}` is {0}";
     if let Some((key, value, _)) = lower {
-        fill_one(said, template, value, key.key());
+        fill_with_word(said, template, value, key.key());
         template = " and `{a}` is {0}";
     }
     if let Some((key, value, _)) = upper {
-        fill_one(said, template, value, key.key());
+        fill_with_word(said, template, value, key.key());
     }
     said.put(".\n");
 }

@@ -1,60 +1,69 @@
-//! Why a text is no network, or no traffic.
+//! Explains why a text isn't a network or traffic.
 ghost use Rattle.std.specs.Prelude.{IfOk, string_bytes};
-ghost use Rattle.bridge_text.specs.Named.{BeginsWith};
+ghost use Rattle.bridge_text.specs.PathPrefix.{StartsWithName};
 
-use crate::faults::put_twin;
-use crate::net_keys::{net_instance, put_net_place, put_value_at};
+use crate::net_keys::{net_instance, put_key_value, put_net_place};
 use crate::net_names::{put_hops, put_unknown_bridge};
+use crate::plan_fault::put_twin;
 use crate::reading::read_document;
 use bridge_limits::NoMemory;
 use bridge_text::{
-    Document, FileKind, KEYS, Said, Text, behind, fill_one, items_of, put_key, put_nearest,
-    put_no_list, put_other_kind, put_stray_section, put_too_many, twin_of,
+    Document, FileKind, KEYS, Said, TextBuilder, fill_with_word, find_duplicate, finish_with_path,
+    put_key, put_nearest, put_no_list, put_other_kind, put_stray_section, put_too_many,
+    section_instances,
 };
-use net_file::{MOST_OCTETS, NetFault, NetField, NetPlace, NetSection, fields_of, limit_of};
+use net_file::{
+    MOST_OCTETS, NetFault, NetField, NetKeyLocation, NetSection, max_instances, section_fields,
+};
 use std::alloc::Global;
 use toml::Value;
 
-/// Why the text of a file is no network, by the fault of the text: where it is, what was found there, what may stand there and what to
-/// change. It begins with the path of the file.
+/// Explains why a file isn't a network: the position of the fault, the value there, the allowed values, and what to change. The explanation
+/// begins with `path`.
 pub fn explain_network_text(
     alloc: Global,
     path: &str,
     text: &[u8],
     fault: &NetFault,
 ) -> Result<String, NoMemory>
-    ensures { IfOk result (λ said. BeginsWith path.now (string_bytes said)) }
+    ensures { IfOk result (λ said. StartsWithName path.now (string_bytes said)) }
 {
-    behind(
+    finish_with_path(
         alloc,
         path,
-        body_of(alloc, path, text, FileKind::Network, fault),
+        file_explanation(alloc, path, text, FileKind::Network, fault),
     )
 }
 
-/// Why the text of a file is no traffic, by the fault of the text: where it is, what was found there, what may stand there and what to
-/// change. It begins with the path of the file.
+/// Explains why a file isn't traffic: the position of the fault, the value there, the allowed values, and what to change. The explanation
+/// begins with `path`.
 pub fn explain_traffic_text(
     alloc: Global,
     path: &str,
     text: &[u8],
     fault: &NetFault,
 ) -> Result<String, NoMemory>
-    ensures { IfOk result (λ said. BeginsWith path.now (string_bytes said)) }
+    ensures { IfOk result (λ said. StartsWithName path.now (string_bytes said)) }
 {
-    behind(
+    finish_with_path(
         alloc,
         path,
-        body_of(alloc, path, text, FileKind::Traffic, fault),
+        file_explanation(alloc, path, text, FileKind::Traffic, fault),
     )
 }
 
-/// Returns what is said of octets behind the path of their file.
-fn body_of(alloc: Global, path: &str, octets: &[u8], kind: FileKind, fault: &NetFault) -> Said {
-    let mut said = Text::new(alloc);
+/// Returns the explanation of a file's fault, without the path that precedes it.
+fn file_explanation(
+    alloc: Global,
+    path: &str,
+    octets: &[u8],
+    kind: FileKind,
+    fault: &NetFault,
+) -> Said {
+    let mut said = TextBuilder::new(alloc);
     put_other_kind(&mut said, path, octets, kind);
     match fault {
-        NetFault::TooLong => fill_one(
+        NetFault::TooLong => fill_with_word(
             &mut said,
             ": the file has more than {0} octets. Remove comments or tables.\n",
             MOST_OCTETS as u64,
@@ -74,7 +83,7 @@ fn body_of(alloc: Global, path: &str, octets: &[u8], kind: FileKind, fault: &Net
     said
 }
 
-/// Adds the sentences on a fault of a text.
+/// Writes the explanation of a fault by the function for its kind, after the path.
 fn put_fault(
     alloc: Global,
     said: &mut Said,
@@ -89,13 +98,13 @@ fn put_fault(
         }
         NetFault::NotAList(section) => put_no_list(said, document, section.name()),
         NetFault::Missing(
-            NetPlace {
+            NetKeyLocation {
                 section: NetSection::Top,
                 ..
             },
         ) => said.put(": the file has no bridge. Add a `[[bridge]]` with its `name` and `plan`.\n"),
         NetFault::Missing(place) | NetFault::WrongKind(place) | NetFault::OutOfRange(place) => {
-            put_at(said, document, place)
+            put_key_explanation(said, document, place)
         }
         NetFault::Duplicate(section, index) => put_duplicate(said, document, section, index),
         NetFault::Unresolved(place) => {
@@ -109,7 +118,7 @@ fn put_fault(
             put_unknown_bridge(alloc, said, document, place);
         }
         NetFault::TooMany(section) => {
-            put_too_many(said, document, section.name(), limit_of(section));
+            put_too_many(said, document, section.name(), max_instances(section));
             said.put("Split the file into several files.\n");
         }
         NetFault::Syntax | NetFault::TooLong | NetFault::NoMemory => said.put(
@@ -118,7 +127,7 @@ fn put_fault(
     }
 }
 
-/// Adds which key of the top is none, and the nearest section that a file of a kind may have.
+/// Writes which key at the top level is unknown, and the nearest section of this kind of file.
 fn put_top_key(alloc: Global, said: &mut Said, document: Document<'_>, kind: FileKind) {
     let (bridge, link, stream) = (
         NetSection::Bridge.name(),
@@ -136,7 +145,7 @@ fn put_top_key(alloc: Global, said: &mut Said, document: Document<'_>, kind: Fil
     }
 }
 
-/// Whether a word is the spelling of one of some keys.
+/// Whether a word is the spelling of one of these keys.
 fn is_known(keys: &[NetField], word: &str) -> bool {
     for key in keys {
         if key.key() == word {
@@ -146,7 +155,7 @@ fn is_known(keys: &[NetField], word: &str) -> bool {
     false
 }
 
-/// Adds which key of an instance is none, and the nearest.
+/// Writes which key of an instance is unknown, and the nearest key.
 fn put_stray_key(
     alloc: Global,
     said: &mut Said,
@@ -154,7 +163,7 @@ fn put_stray_key(
     section: NetSection,
     index: u32,
 ) {
-    let keys = fields_of(section);
+    let keys = section_fields(section);
     let Some(table) = net_instance(document, section, index).table() else {
         return put_net_place(said, document, section, index, None);
     };
@@ -163,37 +172,37 @@ fn put_stray_key(
         if !is_known(keys, key) {
             put_net_place(said, document, section, index, Some(key));
             put_key(said, key);
-            fill_one(said, " isn't a key of `{a}`.\n", 0, section.name());
+            fill_with_word(said, " isn't a key of `{a}`.\n", 0, section.name());
             return put_nearest_key(alloc, said, key, keys);
         }
     }
     put_net_place(said, document, section, index, None);
 }
 
-/// Adds the nearest of some keys to a word, or all where none is near.
+/// Writes the key in `keys` that is nearest to `word`, or all keys if none is near.
 fn put_nearest_key(alloc: Global, said: &mut Said, word: &str, keys: &[NetField]) {
     let (mut names, mut is_refused) = (Vec::new(alloc), false);
     for key in keys {
         is_refused |= names.push(key.key()).is_err();
     }
     if is_refused {
-        said.give_up();
+        said.discard();
     }
     put_nearest(alloc, said, word, &names, KEYS);
 }
 
-/// Adds what stands at a key of an instance, and what may stand there.
-fn put_at(said: &mut Said, document: Document<'_>, place: NetPlace) {
+/// Writes the value of an instance's key, and the allowed values or the wrong hop.
+fn put_key_explanation(said: &mut Said, document: Document<'_>, place: NetKeyLocation) {
     let key = place.field.key();
     put_net_place(said, document, place.section, place.index, Some(key));
     let instance = net_instance(document, place.section, place.index);
     match (place.field, instance.value(key)) {
         (NetField::Hops, Some(Value::Array(items))) => put_hops(said, document, items),
-        _ => put_value_at(said, instance, place.section, place.field),
+        _ => put_key_value(said, instance, place.section, place.field),
     }
 }
 
-/// Adds which earlier instance of a section an instance repeats.
+/// Writes which earlier instance of a section an instance repeats.
 fn put_duplicate(said: &mut Said, document: Document<'_>, section: NetSection, index: u32) {
     let key = match section {
         NetSection::Traffic => NetField::Filter.key(),
@@ -201,14 +210,14 @@ fn put_duplicate(said: &mut Said, document: Document<'_>, section: NetSection, i
     };
     put_net_place(said, document, section, index, Some(key));
     let table = net_instance(document, section, index).table();
-    let twin = twin_of(
-        items_of(document.table, section.name()),
+    let twin = find_duplicate(
+        section_instances(document.table, section.name()),
         table,
         &[key],
         true,
     );
     match section {
-        NetSection::Traffic => fill_one(
+        NetSection::Traffic => fill_with_word(
             said,
             "`{a}` {0} of the file has the same filter. A filter has one talker: remove one of the two.\n",
             twin,

@@ -1,30 +1,32 @@
-//! Why a text is no plan.
+//! Explains why a text isn't a plan.
 ghost use Rattle.std.specs.Prelude.{IfOk, string_bytes};
-ghost use Rattle.bridge_text.specs.Named.{BeginsWith};
+ghost use Rattle.bridge_text.specs.PathPrefix.{StartsWithName};
 
-use crate::document::Source;
-use crate::faults::put_fault;
+use crate::document::SourceText;
+use crate::plan_fault::put_fault;
 use crate::reading::read_document;
 use bridge_limits::NoMemory;
 use bridge_schema::PlanFault;
-use bridge_text::{FileKind, Said, Text, behind, put_other_kind};
+use bridge_text::{FileKind, Said, TextBuilder, finish_with_path, put_other_kind};
 use std::alloc::Global;
 
-/// Why the text of a file is no plan, by the fault of the plan: where it is, what was found there and what may stand
-/// there. It begins with the path of the file. Of a text that has another fault it says less, or what isn't so.
+/// Explains why a file isn't a plan: the position of the fault, the value there and the allowed values. The explanation begins with `path`.
 pub fn explain_plan(
     alloc: Global,
     path: &str,
     text: &[u8],
     fault: &PlanFault,
 ) -> Result<String, NoMemory>
-    ensures { IfOk result (λ said. BeginsWith path.now (string_bytes said)) }
+    ensures { IfOk result (λ said. StartsWithName path.now (string_bytes said)) }
 {
-    behind(alloc, path, body_of(alloc, path, text, None, fault))
+    finish_with_path(
+        alloc,
+        path,
+        explanation_body(alloc, path, text, None, fault),
+    )
 }
 
-/// Why the text of a file has no commands to the bridge of a plan, by the fault of the commands and the text of the plan.
-/// It begins with the path of the file of the commands.
+/// Explains why a file has no commands for the bridge of a plan, by the fault and the plan's text. The explanation begins with `path`.
 pub fn explain_commands(
     alloc: Global,
     path: &str,
@@ -32,20 +34,24 @@ pub fn explain_commands(
     plan: &[u8],
     fault: &PlanFault,
 ) -> Result<String, NoMemory>
-    ensures { IfOk result (λ said. BeginsWith path.now (string_bytes said)) }
+    ensures { IfOk result (λ said. StartsWithName path.now (string_bytes said)) }
 {
-    behind(alloc, path, body_of(alloc, path, text, Some(plan), fault))
+    finish_with_path(
+        alloc,
+        path,
+        explanation_body(alloc, path, text, Some(plan), fault),
+    )
 }
 
-/// What is said of octets behind the name of their file, with the text of the plan where they are one of commands.
-fn body_of(
+/// Returns the explanation of a file's fault, without the path that precedes it. `plan` is the plan's text, if the file has commands.
+fn explanation_body(
     alloc: Global,
     path: &str,
     octets: &[u8],
     plan: Option<&[u8]>,
     fault: &PlanFault,
 ) -> Said {
-    let mut said = Text::new(alloc);
+    let mut said = TextBuilder::new(alloc);
     let wanted = match plan {
         Some(_) => FileKind::Commands,
         None => FileKind::Plan,
@@ -56,13 +62,19 @@ fn body_of(
             ": the file has more than 1048576 octets. Remove entries that the bridge doesn't need.\n",
         ),
         PlanFault::NoMemory => said.put(": there is not enough memory to read it.\n"),
-        _ => put_text(alloc, &mut said, octets, plan, fault),
+        _ => put_document_fault(alloc, &mut said, octets, plan, fault),
     }
     said
 }
 
-/// Adds what is said of a text.
-fn put_text(alloc: Global, said: &mut Said, octets: &[u8], plan: Option<&[u8]>, fault: &PlanFault) {
+/// Writes the explanation of a fault. Reads the document again, because faults have locations but no values.
+fn put_document_fault(
+    alloc: Global,
+    said: &mut Said,
+    octets: &[u8],
+    plan: Option<&[u8]>,
+    fault: &PlanFault,
+) {
     let Some((text, document)) = read_document(alloc, said, octets) else {
         return;
     };
@@ -70,7 +82,7 @@ fn put_text(alloc: Global, said: &mut Said, octets: &[u8], plan: Option<&[u8]>, 
         Some(plan) => toml::table_from_slice(alloc, plan).ok(),
         None => None,
     };
-    let source = Source {
+    let source = SourceText {
         text,
         document: &document,
         plan: bridge.as_ref().unwrap_or(&document),

@@ -1,11 +1,11 @@
-//! The document of the octets of a file, or why there is none.
+//! Reads the document of a file, or explains why there is none.
 
-use bridge_text::{Said, fill_one, position_behind, put_position};
+use bridge_text::{Said, fill_with_word, position_at_offset, put_position};
 use std::alloc::Global;
 use toml::Table;
 use toml::de::Error;
 
-/// Returns the text of octets with its document. None if they are no text in UTF-8 or no TOML document: then where and why is added.
+/// Returns the text and document of octets. If they aren't UTF-8 or TOML, writes where and why, and returns `None`.
 pub(crate) fn read_document<'a>(
     alloc: Global,
     said: &mut Said,
@@ -14,7 +14,7 @@ pub(crate) fn read_document<'a>(
     let text = match str::from_utf8(octets) {
         Ok(text) => text,
         Err(error) => {
-            put_position(said, Some(position_behind(octets, error.valid_up_to())));
+            put_position(said, Some(position_at_offset(octets, error.valid_up_to())));
             said.put("from here on the file isn't UTF-8 text.\n");
             return None;
         }
@@ -22,34 +22,33 @@ pub(crate) fn read_document<'a>(
     match toml::table_from_str(alloc, text) {
         Ok(document) => Some((text, document)),
         Err(error) => {
-            put_error(said, text, &error);
+            put_syntax_error(said, text, &error);
             None
         }
     }
 }
 
-/// Adds what is said of a text that is no TOML document.
-fn put_error(said: &mut Said, text: &str, error: &Error) {
+/// Writes where and why a text isn't a TOML document, with a hint for a word in place of a value.
+fn put_syntax_error(said: &mut Said, text: &str, error: &Error) {
     let message = error.message();
     let Some(span) = error.span() else {
-        return fill_one(said, ": invalid TOML: {a}.\n", 0, message);
+        return fill_with_word(said, ": invalid TOML: {a}.\n", 0, message);
     };
-    put_position(said, Some(position_behind(text.as_bytes(), span.start)));
-    fill_one(said, "invalid TOML: {a}.\n", 0, message);
-    let (before, word) = word_at(text, span.start);
+    put_position(said, Some(position_at_offset(text.as_bytes(), span.start)));
+    fill_with_word(said, "invalid TOML: {a}.\n", 0, message);
+    let (before, word) = word_with_context(text, span.start);
     let template = if message == "duplicate key" && !word.is_empty() {
         "The key `{a}` is repeated in its table. Remove one of the two.\n"
     } else if matches!(before, Some(b'=' | b'[' | b',')) {
-        advice_on(word)
+        quoting_hint(word)
     } else {
         ""
     };
-    fill_one(said, template, 0, word);
+    fill_with_word(said, template, 0, word);
 }
 
-/// What stands before the word at a place of a text and the blanks before it, and the word: letters, digits and what joins them
-/// in keys and addresses.
-fn word_at(text: &str, place: usize) -> (Option<u8>, &str) {
+/// Returns the word at offset `place`, and the last octet before it that is no blank. That octet is `None` at the start of the text.
+fn word_with_context(text: &str, place: usize) -> (Option<u8>, &str) {
     let mut start = 0usize;
     let mut end = 0usize;
     for octet in text.as_bytes() {
@@ -66,9 +65,8 @@ fn word_at(text: &str, place: usize) -> (Option<u8>, &str) {
     (before, text.get(start..end).unwrap_or(""))
 }
 
-/// What to write in place of a word that stands where a value should: in quotes what begins with a letter, or with a
-/// digit as an address does.
-fn advice_on(word: &str) -> &'static str {
+/// Returns a hint for a word in place of a value: the quoted word, if it begins as a name or an address.
+fn quoting_hint(word: &str) -> &'static str {
     let first = word.as_bytes().first().copied().unwrap_or(b'-');
     if word.eq_ignore_ascii_case("true") || word.eq_ignore_ascii_case("yes") {
         "`{a}` isn't a value. Write true, in lower case and without quotes.\n"

@@ -1,33 +1,37 @@
-//! Why a run stopped, or a text was not run.
+//! Explains why a run stopped, or a text wasn't run.
 ghost use Rattle.std.specs.Prelude.{IfOk, codes, string_bytes};
-ghost use Rattle.bridge_text.specs.Named.{BeginsWith};
+ghost use Rattle.bridge_text.specs.PathPrefix.{StartsWithName};
 
 use crate::capture::explain_capture;
 use app_failure::TextFault;
 use bridge_capture::{CaptureFault, RunFault};
 use bridge_limits::NoMemory;
-use bridge_text::of_file;
+use bridge_text::text_with_path;
 use std::alloc::Global;
 
-/// Why a run stopped, by the path of the capture and its first octets. It begins with the path.
+/// Explains why a run stopped, by a capture's path and first octets. The explanation begins with `path`.
 pub fn explain_run(
     alloc: Global,
     path: &str,
     octets: &[u8],
     fault: &RunFault,
 ) -> Result<String, NoMemory>
-    ensures { IfOk result (λ said. BeginsWith path.now (string_bytes said)) }
+    ensures { IfOk result (λ said. StartsWithName path.now (string_bytes said)) }
 {
     match fault {
         RunFault::Capture { fault, .. } => explain_capture(alloc, path, octets, fault),
         RunFault::Write { .. } => explain_capture(alloc, path, octets, &CaptureFault::Write),
-        RunFault::NoMemory => of_file(alloc, path, ": there is not enough memory for the run.\n"),
+        RunFault::NoMemory => text_with_path(
+            alloc,
+            path,
+            ": there is not enough memory for the run.\n",
+        ),
     }
 }
 
-/// Why a text of standard input was not run. It begins with `-`, which stands for standard input.
+/// Explains why the text of standard input wasn't run. The explanation begins with `-`, which stands for standard input.
 pub fn explain_text(alloc: Global, fault: &TextFault) -> Result<String, NoMemory>
-    ensures { IfOk result (λ said. BeginsWith (codes "-") (string_bytes said)) }
+    ensures { IfOk result (λ said. StartsWithName (codes "-") (string_bytes said)) }
 {
     let body = match fault {
         TextFault::NotHex =>
@@ -36,5 +40,5 @@ pub fn explain_text(alloc: Global, fault: &TextFault) -> Result<String, NoMemory
             ": standard input can have at most 4194304 characters and 1048576 pairs of digits. Use a capture file: tsnbridge wire MBPS ROOM IN OUT\n",
         TextFault::Run(fault) => return explain_run(alloc, "-", &[], fault),
     };
-    of_file(alloc, "-", body)
+    text_with_path(alloc, "-", body)
 }

@@ -1,2 +1,2 @@
-pub mod Others
+pub mod Filters
 pub mod Streams

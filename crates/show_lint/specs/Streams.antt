@@ -1,4 +1,4 @@
--- Streams that get no frame, and such whose frames leave nowhere.
+-- Streams that match no frame, and streams that aren't forwarded.
 use Rattle.std.specs.Prelude.{◌≡◌, ◌&&◌, ◌||◌, ℕ, Bool, true, false, not, List, [], ◌∷◌, Option, Some, None, nat_eq, if◌then◌else◌}
 use Rattle.std.specs.Str.{bytes_eq}
 use Rattle.bridge_frame.specs.declared.Head.{Head}
@@ -12,65 +12,65 @@ use Rattle.bridge_ident.specs.declared.StreamEntry.{StreamEntry}
 use Rattle.bridge_ident.specs.Identification.{is_match}
 use Rattle.bridge_config.specs.Model.{Plan}
 
--- whether a tag kind takes each frame that another one takes
-abbrev pub takes_tags : TagKind → TagKind → Bool
-takes_tags tag.All other = true
-takes_tags tag.Tagged tag.Tagged = true
-takes_tags tag.Priority tag.Priority = true
-takes_tags one other = false
+-- True if tag kind `one` accepts every frame that tag kind `other` accepts.
+abbrev pub covers_tag : TagKind → TagKind → Bool
+covers_tag tag.All other = true
+covers_tag tag.Tagged tag.Tagged = true
+covers_tag tag.Priority tag.Priority = true
+covers_tag one other = false
 
--- whether two kinds compare one address
-abbrev pub is_kind : Kind → Kind → Bool
-is_kind kind.Null kind.Null = true
-is_kind kind.Source kind.Source = true
-is_kind one other = false
+-- True if both kinds compare the same address of a frame.
+abbrev pub is_same_kind : Kind → Kind → Bool
+is_same_kind kind.Null kind.Null = true
+is_same_kind kind.Source kind.Source = true
+is_same_kind one other = false
 
--- whether an entry takes each frame that another one takes, by what both ask for
+-- True if entry `one` matches every frame that entry `other` matches, by the keys of both.
 abbrev pub hides : StreamEntry → StreamEntry → Bool
-hides one other = nat_eq one.port other.port && nat_eq one.vid other.vid && bytes_eq one.address other.address && is_kind one.kind other.kind && takes_tags one.tag other.tag
+hides one other = nat_eq one.port other.port && nat_eq one.vid other.vid && bytes_eq one.address other.address && is_same_kind one.kind other.kind && covers_tag one.tag other.tag
 
--- whether two entries compare one address of frames of one port and VLAN with the same octets
+-- True if both entries have equal port, VLAN and address, and compare the same address of a frame.
 abbrev pub is_place : StreamEntry → StreamEntry → Bool
-is_place one other = nat_eq one.port other.port && nat_eq one.vid other.vid && bytes_eq one.address other.address && is_kind one.kind other.kind
+is_place one other = nat_eq one.port other.port && nat_eq one.vid other.vid && bytes_eq one.address other.address && is_same_kind one.kind other.kind
 
--- whether a tag kind takes frames whose tag names a VLAN, or those whose tag names none
+-- True if the tag kind accepts frames whose tag names a VLAN (`named` true), or other frames (`named` false).
 abbrev pub takes_named : TagKind → Bool → Bool
 takes_named tag.All named = true
 takes_named tag.Tagged named = named
 takes_named tag.Priority named = not named
 
--- whether some entry takes each frame whose tag names a VLAN, or names none, that another one takes
+-- True if an entry in the list matches every frame of `other` that names a VLAN (`named` true), or every other frame (`named` false).
 abbrev pub covers : List StreamEntry → StreamEntry → Bool → Bool
 covers [] other named = false
 covers (e ∷ es) other named = is_place e other && takes_named e.tag named || covers es other named
 
--- whether some entries together take each frame that another one takes
+-- True if the entries together match every frame of `other`.
 abbrev pub cover : List StreamEntry → StreamEntry → Bool
 cover earlier other = covers earlier other true && covers earlier other false
 
--- whether some entry matches a frame
+-- True if some entry in the list matches the frame.
 abbrev pub matches_any : List StreamEntry → ℕ → Head → ℕ → Bool
 matches_any [] port head vid = false
 matches_any (e ∷ es) port head vid = is_match e port head vid || matches_any es port head vid
 
--- each frame that an entry matches some of the others match too
+-- Holds if every frame that entry `other` matches also matches an entry in the list.
 abbrev pub HideTogether : List StreamEntry → StreamEntry → Type 0
 HideTogether earlier other = (port : ℕ) (head : Head) (vid : ℕ) → is_match other port head vid ≡ true → matches_any earlier port head vid ≡ true
 
--- the tags of the frames that name a VLAN, among those that a tag kind takes
+-- The part of a tag kind that accepts frames which name a VLAN, or `None`.
 abbrev pub named_alone : TagKind → Option TagKind
 named_alone tag.All = Some tag.Tagged
 named_alone tag.Tagged = Some tag.Tagged
 named_alone tag.Priority = None
 
--- the tags of the frames that an entry can get, on a port that puts frames without a VLAN into the VLAN `own`
+-- The tags of frames that entry `e` can match on a port whose untagged frames get VLAN `own`.
 abbrev pub tag_on : ℕ → StreamEntry → Option TagKind
 tag_on own e = if nat_eq own e.vid then Some e.tag else named_alone e.tag
 
--- each frame that an entry matches the other one matches too
+-- Holds if every frame that entry `other` matches also matches entry `one`.
 abbrev pub Hides : StreamEntry → StreamEntry → Type 0
 Hides one other = (port : ℕ) (head : Head) (vid : ℕ) → is_match other port head vid ≡ true → is_match one port head vid ≡ true
 
--- frames to the address of an entry that come on its port and in its VLAN go to no port
-abbrev pub LeadsNowhere : {A : Type 0} → Plan A → StreamEntry → Type 0
-LeadsNowhere plan e = IsEmpty (forward plan.database e.port e.vid e.address)
+-- Holds if frames to the entry's address, from its port and VLAN, have no egress port.
+abbrev pub IsNotForwarded : {A : Type 0} → Plan A → StreamEntry → Type 0
+IsNotForwarded plan e = IsEmpty (forward plan.database e.port e.vid e.address)

@@ -1,16 +1,17 @@
-//! A change of schedules that changes nothing.
+//! Finds schedule changes that change nothing.
 
 use crate::hypercycle::Hypercycle;
 use bridge_config::Plan;
-use bridge_text::top_position;
+use bridge_text::top_level_position;
 use std::alloc::Allocator;
 
-/// The line, from 1, at which the plan of a text has a change of schedules, if no list of the plan is exchanged at it.
+/// Returns the line, from 1, of the plan's schedule change, if no port or stream gate has a new list. Returns `None` if a list changes, or
+/// no change stands in the file.
 pub fn idle_change<A: Allocator + Copy>(text: &[u8], plan: &Plan<A>) -> Option<usize> {
-    if Hypercycle::of(plan).change.is_some() {
+    if Hypercycle::from_plan(plan).change.is_some() {
         return None;
     }
     let text = str::from_utf8(text).ok()?;
-    let position = top_position(text, "change")?;
+    let position = top_level_position(text, "change")?;
     Some(position.line)
 }

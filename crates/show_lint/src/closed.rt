@@ -1,30 +1,31 @@
-//! Classes that are never open, where frames of unprotected filters may wait.
+//! Finds classes that never open although frames of unprotected filters can enter them.
 ghost use Rattle.std.specs.Prelude.{◌<◌, ◌≤◌};
 
-use crate::advice::{Advice, NeverOpen};
-use crate::finding::add;
-use crate::turns::{is_changed_at, port_list, stages_of};
-use bridge_check::may_wait;
+use crate::gate_openings::{change_stages, has_port_change, port_list};
+use crate::lint::push_warning;
+use crate::warning::{NeverOpen, Warning};
+use bridge_check::can_wait;
 use bridge_config::{Plan, PortPlan};
 use bridge_cycle::{Run, longest_run};
 use std::alloc::{AllocError, Allocator};
 
-/// The number of the first unprotected filter whose frames may wait in a class of a port.
-fn waiting_at<A: Allocator + Copy>(plan: &Plan<A>, port: u8, class: u8) -> Option<u32>
+/// Returns the number of the first unprotected filter that can reach class `class` at port `port`, or `None`.
+fn first_waiting_filter<A: Allocator + Copy>(plan: &Plan<A>, port: u8, class: u8) -> Option<u32>
     requires from { 1 ≤ port }
     requires to { port ≤ 16 }
 {
     for (number, filter) in plan.filters() {
-        if !filter.protected && may_wait(plan, filter, port, class) {
+        if !filter.protected && can_wait(plan, filter, port, class) {
             return Some(*number);
         }
     }
     None
 }
 
-/// Adds a class of a port under each of its lists that never opens it, if frames of an unprotected filter may wait there.
+/// Adds a warning for each list of the port that never opens class `class`, if an unprotected filter can reach the class. `number` is the
+/// port's.
 fn find_class<A: Allocator + Copy>(
-    found: &mut Vec<Advice>,
+    found: &mut Vec<Warning>,
     plan: &Plan<A>,
     number: u8,
     port: &PortPlan<A>,
@@ -34,28 +35,29 @@ fn find_class<A: Allocator + Copy>(
     requires to { number ≤ 16 }
     requires class { class < 8 }
 {
-    for stage in stages_of(is_changed_at(port)) {
+    for stage in change_stages(has_port_change(port)) {
         let Some(list) = port_list(port, *stage) else {
             return Ok(());
         };
         if matches!(longest_run(list, class), Run::Never) {
-            if let Some(filter) = waiting_at(plan, number, class) {
+            if let Some(filter) = first_waiting_filter(plan, number, class) {
                 let never = NeverOpen {
                     stage: *stage,
                     filter,
                     port: number,
                     class,
                 };
-                add(found, Advice::NeverOpen(never))?;
+                push_warning(found, Warning::NeverOpen(never))?;
             }
         }
     }
     Ok(())
 }
 
-/// Adds each class of a port that is never open, if frames of an unprotected filter may wait there.
+/// Adds a warning for each class that never opens, if an unprotected filter can reach it. For protected filters, `check` refuses such a
+/// plan.
 pub(crate) fn find_closed_classes<A: Allocator + Copy>(
-    found: &mut Vec<Advice>,
+    found: &mut Vec<Warning>,
     plan: &Plan<A>,
 ) -> Result<(), AllocError> {
     for number in 1..17u8 {

@@ -1,12 +1,12 @@
-//! After how long cycles begin together again.
+//! Computes the time after which cycles begin together again.
 
 use bridge_config::Plan;
 use bridge_cycle::{Egress, Joined, Timeline};
 use bridge_gate::Schedule;
 use std::alloc::Allocator;
 
-/// The greatest common divisor of two numbers of ns, one of which is a cycle, at most 10^9: 64 steps are more than it takes.
-fn divisor_of(one: u64, other: u64) -> u64 {
+/// Returns the greatest common divisor of two times in ns. One of them is a cycle of at most 10^9 ns, so 64 steps suffice.
+fn greatest_common_divisor(one: u64, other: u64) -> u64 {
     let mut larger = one;
     let mut smaller = other;
     for _step in 0..64u8 {
@@ -20,22 +20,22 @@ fn divisor_of(one: u64, other: u64) -> u64 {
     larger
 }
 
-/// After how many of the second cycle both begin together again.
-pub(crate) fn turns_of(round: u64, cycle: u64) -> u64 {
-    let divisor = divisor_of(round, cycle);
+/// Returns the number of cycles of `cycle` ns after which cycles of `round` and `cycle` ns begin together again; 0 if both are 0.
+pub(crate) fn cycles_until_aligned(round: u64, cycle: u64) -> u64 {
+    let divisor = greatest_common_divisor(round, cycle);
     if divisor == 0 { 0 } else { round / divisor }
 }
 
-/// After how many ns two cycles begin together again, where neither is a multiple of the other.
-pub(crate) fn hypercycle_of(cycle: u64, round: u64) -> Option<u64> {
+/// Returns the time in ns after which both cycles begin together again; `None` if one cycle is a multiple of the other.
+pub(crate) fn aligned_period(cycle: u64, round: u64) -> Option<u64> {
     if cycle == 0 || round == 0 || cycle % round == 0 || round % cycle == 0 {
         return None;
     }
-    Some(turns_of(round, cycle).saturating_mul(cycle))
+    Some(cycles_until_aligned(round, cycle).saturating_mul(cycle))
 }
 
-/// After how many ns the lists of a plan are together where they were, which is the greatest number of 64 bits where it is
-/// more, and 0 without a list; and when lists are exchanged, in ns, where some are.
+/// Time in ns after which all lists of a plan begin together again: 0 without lists, at most the greatest number of 64 bits. `change` is
+/// the time of the schedule change, if any.
 #[derive(Clone, Copy)]
 pub struct Hypercycle {
     pub length: u64,
@@ -43,8 +43,8 @@ pub struct Hypercycle {
 }
 
 impl Hypercycle {
-    /// That of the lists of a plan.
-    pub fn of<A: Allocator + Copy>(plan: &Plan<A>) -> Hypercycle {
+    /// Computes the hypercycle of a plan's lists: pictures of plans show this time by default.
+    pub fn from_plan<A: Allocator + Copy>(plan: &Plan<A>) -> Hypercycle {
         let mut times = Hypercycle {
             length: 0,
             change: None,
@@ -52,33 +52,33 @@ impl Hypercycle {
         for port in plan.ports() {
             match &port.list {
                 None => {}
-                Some(Egress::Cyclic(list)) => times.take(list.cycle()),
-                Some(Egress::Joined(lists)) => times.take_both(lists),
+                Some(Egress::Cyclic(list)) => times.include_cycle(list.cycle()),
+                Some(Egress::Joined(lists)) => times.include_changing(lists),
             }
         }
         for gate in plan.gates() {
             match &gate.1.schedule {
                 Schedule::Fixed { .. } => {}
-                Schedule::Cyclic(list) => times.take(list.cycle()),
-                Schedule::Joined(lists) => times.take_both(lists),
+                Schedule::Cyclic(list) => times.include_cycle(list.cycle()),
+                Schedule::Joined(lists) => times.include_changing(lists),
             }
         }
         times
     }
 
-    /// Takes a list of a cycle: the least number that two cycles divide, or the greatest of 64 bits where that is smaller.
-    fn take(&mut self, cycle: u64) {
+    /// Includes a list with cycle `cycle`: the length becomes the least common multiple.
+    fn include_cycle(&mut self, cycle: u64) {
         self.length = match self.length {
             0 | u64::MAX => self.length.max(cycle),
-            one => (one / divisor_of(one, cycle).max(1)).saturating_mul(cycle),
+            one => (one / greatest_common_divisor(one, cycle).max(1)).saturating_mul(cycle),
         };
     }
 
-    /// Takes two lists that are exchanged.
-    fn take_both<S: Copy, A: Allocator + Copy>(&mut self, lists: &Joined<S, A>) {
+    /// Includes the old and the new list of a schedule change.
+    fn include_changing<S: Copy, A: Allocator + Copy>(&mut self, lists: &Joined<S, A>) {
         let (old, new) = lists.lists();
-        self.take(old.cycle());
-        self.take(new.cycle());
-        self.change = self.change.or(Some(lists.at()));
+        self.include_cycle(old.cycle());
+        self.include_cycle(new.cycle());
+        self.change = self.change.or(Some(lists.change_time()));
     }
 }

@@ -1,10 +1,11 @@
-//! Meters that can't let through what a protected filter gets.
-use crate::advice::{Advice, Burst, Rate, Stage};
-use crate::finding::add;
-use crate::turns::{
-    Feed, count_in, feed_of, gate_list, is_changed, longest_of, openings_of, stages_of,
+//! Finds meters that refuse frames of a protected filter.
+use crate::gate_openings::{
+    OfferedLoad, change_stages, gate_list, gate_openings, has_gate_change, longest_length,
+    offered_load, total_count,
 };
-use crate::useless::SHORTEST;
+use crate::lint::push_warning;
+use crate::unused_parts::SHORTEST;
+use crate::warning::{LowRate, ScheduleStage, SmallBurst, Warning};
 use bridge_check::find_gate;
 use bridge_config::Plan;
 use bridge_cycle::{CyclicList, Timeline};
@@ -13,13 +14,13 @@ use bridge_gate::GateEntry;
 use bridge_meter::MeterPlan;
 use std::alloc::{AllocError, Allocator, Global};
 
-/// The octets that a frame of a length has to a meter: padded to 60, with 4 of the frame check sequence.
-fn metered(length: u32) -> u32 {
+/// Returns the octets that a meter counts for a frame of `length` octets: padded to at least 60, plus 4 for the frame check sequence.
+fn metered_octets(length: u32) -> u32 {
     length.max(60).saturating_add(4)
 }
 
-/// The meter of a number.
-fn meter_at(meters: &[(u32, MeterPlan)], number: u32) -> Option<MeterPlan> {
+/// Returns the meter with number `number`, or `None`.
+fn find_meter(meters: &[(u32, MeterPlan)], number: u32) -> Option<MeterPlan> {
     for meter in meters {
         if meter.0 == number {
             return Some(meter.1);
@@ -28,10 +29,10 @@ fn meter_at(meters: &[(u32, MeterPlan)], number: u32) -> Option<MeterPlan> {
     None
 }
 
-/// Adds what is found of the meter of a protected filter, if it has one.
-pub(crate) fn find_meters<A: Allocator + Copy>(
+/// Adds warnings about the meter of a protected filter: buckets too small, or a rate too low. Does nothing without a meter.
+pub(crate) fn find_meter_warnings<A: Allocator + Copy>(
     alloc: Global,
-    found: &mut Vec<Advice>,
+    found: &mut Vec<Warning>,
     plan: &Plan<A>,
     number: u32,
     filter: &FilterPlan,
@@ -39,23 +40,29 @@ pub(crate) fn find_meters<A: Allocator + Copy>(
     let (Some(meter), Some(sdu)) = (filter.meter, filter.max_sdu) else {
         return Ok(());
     };
-    let Some(limits) = meter_at(plan.meters(), meter) else {
+    let Some(limits) = find_meter(plan.meters(), meter) else {
         return Ok(());
     };
-    find_burst(found, number, meter, &limits, metered(longest_of(sdu)))?;
+    find_burst(
+        found,
+        number,
+        meter,
+        &limits,
+        metered_octets(longest_length(sdu)),
+    )?;
     find_rates(alloc, found, plan, number, filter, &limits)
 }
 
-/// Whether the buckets of a meter are below so many octets, where those that a frame may use count.
-fn are_below(limits: &MeterPlan, octets: u32) -> bool {
+/// Whether all buckets that a frame may use are smaller than `octets`. Then each frame of this length is refused.
+fn has_small_buckets(limits: &MeterPlan, octets: u32) -> bool {
     let octets = u64::from(octets);
     limits.cbs < octets && (limits.drop_yellow || limits.ebs < octets)
 }
 
-/// Adds a meter whose buckets are below the longest frame, unless they are below the shortest one too, which is told of
-/// the meter alone.
+/// Adds a warning if a meter's buckets are smaller than the filter's longest frame. If they are smaller than the shortest frame, another
+/// warning covers the meter.
 fn find_burst(
-    found: &mut Vec<Advice>,
+    found: &mut Vec<Warning>,
     filter: u32,
     meter: u32,
     limits: &MeterPlan,
@@ -64,10 +71,10 @@ fn find_burst(
     if limits.cbs < SHORTEST && limits.ebs < SHORTEST {
         return Ok(());
     }
-    if !are_below(limits, octets) {
+    if !has_small_buckets(limits, octets) {
         return Ok(());
     }
-    let burst = Burst {
+    let burst = SmallBurst {
         filter,
         meter,
         cbs: limits.cbs,
@@ -75,21 +82,21 @@ fn find_burst(
         drops_yellow: limits.drop_yellow,
         octets,
     };
-    add(found, Advice::Burst(burst))
+    push_warning(found, Warning::SmallBurst(burst))
 }
 
-/// The octets for which a meter gets tokens in so many ns.
-fn tokens_in(limits: &MeterPlan, cycle: u64) -> u64 {
+/// Returns the octets for which a meter gets tokens in `cycle` ns.
+fn tokens_per_cycle(limits: &MeterPlan, cycle: u64) -> u64 {
     let excess = if limits.drop_yellow { 0 } else { limits.eir };
     let rate = u128::from(limits.cir.saturating_add(excess));
     let octets = rate.saturating_mul(u128::from(cycle)) / 8_000_000_000;
     octets.min(u128::from(u64::MAX)) as u64
 }
 
-/// Adds a meter that gets fewer tokens in a cycle of the gate of a filter than this lets through, at each stage.
+/// Adds a warning for each stage at which the meter gets fewer tokens in a cycle of the stream gate than this gate passes.
 fn find_rates<A: Allocator + Copy>(
     alloc: Global,
-    found: &mut Vec<Advice>,
+    found: &mut Vec<Warning>,
     plan: &Plan<A>,
     number: u32,
     filter: &FilterPlan,
@@ -101,39 +108,39 @@ fn find_rates<A: Allocator + Copy>(
     let Some(gate) = find_gate(plan.gates(), filter.gate) else {
         return Ok(());
     };
-    let feed = feed_of(plan, handle, sdu);
-    for stage in stages_of(is_changed(&gate.schedule)) {
+    let feed = offered_load(plan, handle, sdu);
+    for stage in change_stages(has_gate_change(&gate.schedule)) {
         if let Some(list) = gate_list(&gate.schedule, *stage) {
-            if let Some(rate) = rate_at(alloc, *stage, number, filter, limits, &feed, list)? {
-                add(found, Advice::Rate(rate))?;
+            if let Some(rate) = low_rate(alloc, *stage, number, filter, limits, &feed, list)? {
+                push_warning(found, Warning::LowRate(rate))?;
             }
         }
     }
     Ok(())
 }
 
-/// What is found of a meter by a list of the gate of its filter.
-fn rate_at<A: Allocator + Copy>(
+/// Returns a warning if the meter gets fewer tokens in a cycle of `list` than the stream gate passes, otherwise `None`.
+fn low_rate<A: Allocator + Copy>(
     alloc: Global,
-    stage: Stage,
+    stage: ScheduleStage,
     number: u32,
     filter: &FilterPlan,
     limits: &MeterPlan,
-    feed: &Feed,
+    feed: &OfferedLoad,
     list: &CyclicList<GateEntry, A>,
-) -> Result<Option<Rate>, AllocError> {
+) -> Result<Option<LowRate>, AllocError> {
     let Some(meter) = filter.meter else {
         return Ok(None);
     };
-    let openings = openings_of(alloc, list, feed)?;
-    let count = count_in(&openings);
-    let octets = count.saturating_mul(u64::from(metered(feed.length)));
+    let openings = gate_openings(alloc, list, feed)?;
+    let count = total_count(&openings);
+    let octets = count.saturating_mul(u64::from(metered_octets(feed.length)));
     let cycle = list.cycle();
-    let tokens = tokens_in(limits, cycle);
+    let tokens = tokens_per_cycle(limits, cycle);
     if octets <= tokens {
         return Ok(None);
     }
-    Ok(Some(Rate {
+    Ok(Some(LowRate {
         stage,
         filter: number,
         meter,

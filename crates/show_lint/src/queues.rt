@@ -1,14 +1,15 @@
-//! The queues of protected filters.
+//! Finds warnings about the queues of protected filters.
 ghost use Rattle.std.specs.Prelude.{◌<◌, ◌≤◌};
 
-use crate::advice::{Advice, Cycles, Spot, Stage};
-use crate::finding::add;
-use crate::hypercycle::hypercycle_of;
-use crate::lost::{Queue, find_flood, find_pause, find_rooms};
-use crate::turns::{
-    Feed, Opening, feed_of, gate_list, is_changed, is_changed_at, openings_of, port_list, stages_of,
+use crate::gate_openings::{
+    GateOpening, OfferedLoad, change_stages, gate_list, gate_openings, has_gate_change,
+    has_port_change, offered_load, port_list,
 };
-use bridge_check::{find_gate, may_wait, reach_of};
+use crate::hypercycle::aligned_period;
+use crate::lint::push_warning;
+use crate::queue_warnings::{ScheduledQueue, find_long_wait, find_overload, find_small_queue};
+use crate::warning::{CycleMismatch, QueueId, ScheduleStage, Warning};
+use bridge_check::{can_wait, filter_reach, find_gate};
 use bridge_config::{Plan, PortPlan};
 use bridge_cycle::Timeline;
 use bridge_filter::FilterPlan;
@@ -16,20 +17,20 @@ use bridge_frame::occupation;
 use bridge_gate::GatePlan;
 use std::alloc::{AllocError, Allocator, Global};
 
-/// A protected filter with its gate, and what comes at most of its longest frames.
+/// Protected filter with its stream gate and its greatest load: the input of all searches for queue warnings.
 #[derive(Drop)]
-struct Case<'a, A: Allocator + Copy> {
+struct ProtectedFilter<'a, A: Allocator + Copy> {
     plan: &'a Plan<A>,
     number: u32,
     filter: &'a FilterPlan,
     gate: &'a GatePlan<A>,
-    feed: Feed,
+    feed: OfferedLoad,
 }
 
-/// Adds what is found of each queue of a protected filter.
+/// Adds warnings about each queue of a protected filter. Does nothing if the filter names no handle or has no largest SDU.
 pub(crate) fn find_queues<A: Allocator + Copy>(
     alloc: Global,
-    found: &mut Vec<Advice>,
+    found: &mut Vec<Warning>,
     plan: &Plan<A>,
     number: u32,
     filter: &FilterPlan,
@@ -40,27 +41,27 @@ pub(crate) fn find_queues<A: Allocator + Copy>(
     let Some(gate) = find_gate(plan.gates(), filter.gate) else {
         return Ok(());
     };
-    let case = Case {
+    let case = ProtectedFilter {
         plan,
         number,
         filter,
         gate,
-        feed: feed_of(plan, handle, sdu),
+        feed: offered_load(plan, handle, sdu),
     };
-    let reach = reach_of(plan, filter);
+    let reach = filter_reach(plan, filter);
     for port in 1..17u8 {
         if reach.ports[port as usize - 1] {
-            find_at(alloc, found, &case, port)?;
+            find_port_warnings(alloc, found, &case, port)?;
         }
     }
     Ok(())
 }
 
-/// Adds what is found of each queue of a protected filter at a port, if the plan has it.
-fn find_at<A: Allocator + Copy>(
+/// Adds warnings about each queue of a protected filter at port `number`; none if the port is missing.
+fn find_port_warnings<A: Allocator + Copy>(
     alloc: Global,
-    found: &mut Vec<Advice>,
-    case: &Case<'_, A>,
+    found: &mut Vec<Warning>,
+    case: &ProtectedFilter<'_, A>,
     number: u8,
 ) -> Result<(), AllocError>
     requires from { 1 ≤ number }
@@ -69,30 +70,31 @@ fn find_at<A: Allocator + Copy>(
     let Some(port) = case.plan.port(number) else {
         return Ok(());
     };
-    let is_changing = is_changed(&case.gate.schedule) || is_changed_at(port);
+    let is_changing = has_gate_change(&case.gate.schedule) || has_port_change(port);
     let mut waits = false;
     for class in 0..8u8 {
-        if may_wait(case.plan, case.filter, number, class) {
+        if can_wait(case.plan, case.filter, number, class) {
             waits = true;
-            for stage in stages_of(is_changing) {
-                find_queue(alloc, found, case, port, class, *stage)?;
+            for stage in change_stages(is_changing) {
+                find_queue_stage_warnings(alloc, found, case, port, class, *stage)?;
             }
         }
     }
     if waits {
-        for stage in stages_of(is_changing) {
+        for stage in change_stages(is_changing) {
             find_cycles(found, case, port, *stage)?;
         }
     }
     Ok(())
 }
 
-/// Adds the cycles of the gate and of a port at a stage, where neither is a multiple of the other.
+/// Adds a warning if neither the stream gate's cycle nor the port's cycle is a multiple of the other at `stage`. Then waits differ from
+/// cycle to cycle.
 fn find_cycles<A: Allocator + Copy>(
-    found: &mut Vec<Advice>,
-    case: &Case<'_, A>,
+    found: &mut Vec<Warning>,
+    case: &ProtectedFilter<'_, A>,
     port: &PortPlan<A>,
-    stage: Stage,
+    stage: ScheduleStage,
 ) -> Result<(), AllocError> {
     let (Some(gate), Some(list)) = (
         gate_list(&case.gate.schedule, stage),
@@ -102,29 +104,29 @@ fn find_cycles<A: Allocator + Copy>(
     };
     let cycle = gate.cycle();
     let round = list.cycle();
-    let Some(hypercycle) = hypercycle_of(cycle, round) else {
+    let Some(hypercycle) = aligned_period(cycle, round) else {
         return Ok(());
     };
-    let cycles = Cycles {
+    let cycles = CycleMismatch {
         stage,
         filter: case.number,
         gate: case.filter.gate,
         port: port.number,
         cycle,
-        round,
+        port_cycle: round,
         hypercycle,
     };
-    add(found, Advice::Cycles(cycles))
+    push_warning(found, Warning::CycleMismatch(cycles))
 }
 
-/// Adds what is found of a queue of a protected filter at a stage.
-fn find_queue<A: Allocator + Copy>(
+/// Adds warnings about a queue of a protected filter at `stage`. Does nothing if the stream gate or the port has no list.
+fn find_queue_stage_warnings<A: Allocator + Copy>(
     alloc: Global,
-    found: &mut Vec<Advice>,
-    case: &Case<'_, A>,
+    found: &mut Vec<Warning>,
+    case: &ProtectedFilter<'_, A>,
     port: &PortPlan<A>,
     class: u8,
-    stage: Stage,
+    stage: ScheduleStage,
 ) -> Result<(), AllocError>
     requires { class < 8 }
 {
@@ -134,14 +136,14 @@ fn find_queue<A: Allocator + Copy>(
     ) else {
         return Ok(());
     };
-    let spot = Spot {
+    let spot = QueueId {
         stage,
         filter: case.number,
         gate: case.filter.gate,
         port: port.number,
         class,
     };
-    let queue = Queue {
+    let queue = ScheduledQueue {
         spot,
         base: gate.base(),
         cycle: gate.cycle(),
@@ -149,27 +151,31 @@ fn find_queue<A: Allocator + Copy>(
         occupied: occupation(case.feed.length, port.speed),
         room: port.rooms[class as usize],
     };
-    let all = openings_of(alloc, gate, &case.feed)?;
-    let openings = openings_to(alloc, &all, case.filter.priority, &port.classes, class)?;
-    find_in(found, &queue, &openings)
+    let all = gate_openings(alloc, gate, &case.feed)?;
+    let openings = class_openings(alloc, &all, case.filter.priority, &port.classes, class)?;
+    find_opening_warnings(found, &queue, &openings)
 }
 
-/// Adds what is found of a queue by the turns of its gate that let its frames through.
-fn find_in<A: Allocator + Copy>(
-    found: &mut Vec<Advice>,
-    queue: &Queue<'_, A>,
-    openings: &[Opening],
+/// Adds warnings about a queue by the stream gate's entries that pass its frames: overload, small capacity, long waits.
+fn find_opening_warnings<A: Allocator + Copy>(
+    found: &mut Vec<Warning>,
+    queue: &ScheduledQueue<'_, A>,
+    openings: &[GateOpening],
 ) -> Result<(), AllocError>
     requires { queue.now.spot.class < 8 }
 {
-    find_flood(found, queue, openings)?;
-    find_rooms(found, queue, openings)?;
-    find_pause(found, queue, openings)
+    find_overload(found, queue, openings)?;
+    find_small_queue(found, queue, openings)?;
+    find_long_wait(found, queue, openings)
 }
 
-/// Whether the frames that a turn lets through all come to a class, by the internal priority value that they get there
-/// or by the priority that their filter asks for.
-fn comes_to(opening: &Opening, priority: Option<u8>, classes: &[u8; 8], class: u8) -> bool {
+/// Whether all frames that an entry passes enter class `class`, by the entry's internal priority value or the filter's priority.
+fn is_opening_for_class(
+    opening: &GateOpening,
+    priority: Option<u8>,
+    classes: &[u8; 8],
+    class: u8,
+) -> bool {
     match opening.ipv.or(priority) {
         Some(value) => match classes.get(usize::from(value)) {
             Some(own) => *own == class,
@@ -179,17 +185,19 @@ fn comes_to(opening: &Opening, priority: Option<u8>, classes: &[u8; 8], class: u
     }
 }
 
-/// Those of some turns whose frames all come to a class.
-fn openings_to(
+/// Returns the openings whose frames all enter class `class`: only they load this queue for certain.
+fn class_openings(
     alloc: Global,
-    openings: &[Opening],
+    openings: &[GateOpening],
     priority: Option<u8>,
     classes: &[u8; 8],
     class: u8,
-) -> Result<Vec<Opening>, AllocError> {
+) -> Result<Vec<GateOpening>, AllocError> {
     let mut coming = Vec::new(alloc);
     for opening in openings {
-        if comes_to(opening, priority, classes, class) && coming.push(*opening).is_err() {
+        if is_opening_for_class(opening, priority, classes, class)
+            && coming.push(*opening).is_err()
+        {
             return Err(AllocError);
         }
     }

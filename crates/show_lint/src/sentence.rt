@@ -1,14 +1,15 @@
-//! The sentence of a finding.
-use crate::advice::{
-    Advice, ClosedFrom, Hidden, HiddenTogether, LimitBelow, Nowhere, OtherVlan, Outside, OwnPort,
-    Stuck, TakenTogether,
+//! Writes the sentences of warnings.
+use crate::queue_sentences::{
+    put_cycle_mismatch, put_long_wait, put_low_rate, put_never_open, put_overload, put_small_burst,
+    put_small_queue,
 };
-use crate::telling::{
-    put_burst, put_cycles, put_flood, put_never_open, put_pause, put_rate, put_rooms,
+use crate::unused_parts::SHORTEST;
+use crate::warning::{
+    ClosedFrom, Flooded, HiddenStream, HiddenTogether, LowOctetLimit, NonMemberPort, NotForwarded,
+    NotForwardedCause, OtherVlan, StaticToIngress, TakenTogether, Warning,
 };
-use crate::useless::SHORTEST;
-use bridge_text::Text;
-use std::alloc::Allocator;
+use bridge_text::TextBuilder;
+use std::alloc::{Allocator, Global};
 
 const IDLE: &str =
     "Warning: the `[[change]]` in line {0} changes nothing, because no `port` has `next_gates` and no `gate` has `next_entries`. Add one of these lists, or remove the `[[change]]`.\n";
@@ -31,13 +32,13 @@ const CLOSED_FROM: &str =
 const NO_TOKEN: &str =
     "Warning: meter {0} marks every frame red, because `cbs` and `ebs` are below {1} octets, the shortest frame. Raise one of them.\n";
 
-const NONE_AGAIN: &str =
+const NO_TOKEN_REFILL: &str =
     "Warning: meter {0} never refills its buckets, because `cir` and `eir` are 0. When they are empty, every frame is red. Raise one of the rates.\n";
 
 const NO_STREAM: &str =
     "Warning: filter {0} is unused, because its handle {1} is missing from all `stream` tables. Add a `stream` with this handle.\n";
 
-const TAKEN: &str =
+const HIDDEN_FILTER: &str =
     "Warning: filter {0} matches no frame, because filter {1} has a lower number and matches all its frames. Remove it, or give it a lower number.\n";
 
 const TAKEN_TOGETHER: &str =
@@ -49,73 +50,79 @@ const NO_LENGTH: &str =
 const LIMIT: &str =
     "Warning: an entry of gate {0} refuses the longest frames of filter {3}, because its `octets` {1} are less than `max_sdu` {2}. Raise `octets`, or lower `max_sdu`.\n";
 
-const HIDDEN: &str =
+const HIDDEN_STREAM: &str =
     "Warning: `stream` {0} (handle {1}) matches no frame, because `stream` {2} (handle {3}) stands earlier in the file and matches every frame that `stream` {0} asks for. Remove one of the two, or change what it asks for.\n";
 
 const HIDDEN_TOGETHER: &str =
     "Warning: `stream` {0} (handle {1}) matches no frame, because two earlier entries together match every frame that it asks for: `stream` {2} the frames with a VLAN, and `stream` {3} the others. Remove `stream` {0}, or move it before one of them.\n";
 
-const STUCK: &str = "Warning: filter {0} (protected) can't forward `stream` {1}: ";
+const NOT_FORWARDED: &str = "Warning: filter {0} (protected) can't forward `stream` {1}: ";
 
-const OUTSIDE: &str =
+const NON_MEMBER_PORT: &str =
     "Warning: filter {0} (protected) can't send `stream` {2} out of port {1}. The `static` entry names the port, but VLAN {3} doesn't. Add port {1} to `members`.\n";
 
 const FLOODED: &str =
     "Warning: `stream` {1} of filter {0} (protected) leaves by all other ports of VLAN {2}, because no `static` entry has its address. Add a `static` entry with the egress ports.\n";
 
-/// Adds the sentence of a finding, a line that begins with `Warning: ` and says what to change where that isn't plain.
-pub fn put_advice<A: Allocator>(said: &mut Text<A>, advice: &Advice) {
+/// Writes the sentence of a warning: a line that begins with `Warning: `. If the remedy isn't obvious, the line states it.
+pub fn put_warning<A: Allocator>(said: &mut TextBuilder<A>, advice: &Warning) {
     match advice {
-        Advice::IdleChange { line } => said.fill(IDLE, &[*line as u64], &[]),
-        Advice::NoneProtected => said.put(NONE_PROTECTED),
-        Advice::OtherVlan(other) => put_other_vlan(said, other),
-        Advice::OwnPort(own) => put_own_port(said, own),
-        Advice::ClosedGate { gate } => said.fill(CLOSED, &[u64::from(*gate)], &[]),
-        Advice::ClosedFrom(closed) => put_closed_from(said, closed),
-        Advice::NoToken { meter } => said.fill(NO_TOKEN, &[u64::from(*meter), SHORTEST], &[]),
-        Advice::NoTokenAgain { meter } => said.fill(NONE_AGAIN, &[u64::from(*meter)], &[]),
-        Advice::NoStream { filter, handle } => said.fill(
-            NO_STREAM,
-            &[u64::from(*filter), u64::from(*handle)],
-            &[],
-        ),
-        Advice::AllTaken(taken) => said.fill(
-            TAKEN,
-            &[u64::from(taken.filter), u64::from(taken.lower)],
-            &[],
-        ),
-        Advice::TakenTogether(taken) => put_taken(said, taken),
-        Advice::NoLength { filter, sdu } => said.fill(
-            NO_LENGTH,
-            &[u64::from(*filter), u64::from(*sdu)],
-            &[],
-        ),
-        Advice::LimitBelow(below) => put_limit(said, below),
-        Advice::Hidden(hidden) => put_hidden(said, hidden),
-        Advice::HiddenTogether(hidden) => put_hidden_together(said, hidden),
-        Advice::NeverOpen(never) => put_never_open(said, never),
-        Advice::Flooded(flooded) => said.fill(
-            FLOODED,
-            &[
-                u64::from(flooded.filter),
-                flooded.place as u64,
-                u64::from(flooded.vid),
-            ],
-            &[],
-        ),
-        Advice::Nowhere(stuck) => put_stuck(said, stuck),
-        Advice::Outside(outside) => put_outside(said, outside),
-        Advice::Burst(burst) => put_burst(said, burst),
-        Advice::Rate(rate) => put_rate(said, rate),
-        Advice::Flood(flood) => put_flood(said, flood),
-        Advice::Rooms(rooms) => put_rooms(said, rooms),
-        Advice::Pause(pause) => put_pause(said, pause),
-        Advice::Cycles(cycles) => put_cycles(said, cycles),
+        Warning::IdleChange { line } => said.put_template(IDLE, &[*line as u64], &[]),
+        Warning::NoneProtected => said.put(NONE_PROTECTED),
+        Warning::OtherVlan(other) => put_other_vlan(said, other),
+        Warning::OwnPort(own) => put_static_to_ingress(said, own),
+        Warning::ClosedGate { gate } => said.put_template(CLOSED, &[u64::from(*gate)], &[]),
+        Warning::ClosedFrom(closed) => put_closing_time(said, closed),
+        Warning::NoToken { meter } => put_pair(said, NO_TOKEN, u64::from(*meter), SHORTEST),
+        Warning::NoTokenRefill { meter } => put_pair(said, NO_TOKEN_REFILL, u64::from(*meter), 0),
+        Warning::NoStream { filter, handle } => {
+            put_pair(said, NO_STREAM, u64::from(*filter), u64::from(*handle))
+        }
+        Warning::HiddenFilter(taken) => {
+            put_pair(
+                said,
+                HIDDEN_FILTER,
+                u64::from(taken.filter),
+                u64::from(taken.lower),
+            )
+        }
+        Warning::TakenTogether(taken) => put_taken(said, taken),
+        Warning::NoLength { filter, sdu } => {
+            put_pair(said, NO_LENGTH, u64::from(*filter), u64::from(*sdu))
+        }
+        Warning::LowOctetLimit(below) => put_low_limit(said, below),
+        Warning::HiddenStream(hidden) => put_hidden_stream(said, hidden),
+        Warning::HiddenTogether(hidden) => put_hidden_together(said, hidden),
+        Warning::NeverOpen(never) => put_never_open(said, never),
+        Warning::Flooded(flooded) => put_flooded(said, flooded),
+        Warning::NotForwarded(stuck) => put_not_forwarded(said, stuck),
+        Warning::NonMemberPort(outside) => put_non_member_port(said, outside),
+        Warning::SmallBurst(burst) => put_small_burst(said, burst),
+        Warning::LowRate(rate) => put_low_rate(said, rate),
+        Warning::QueueOverload(flood) => put_overload(said, flood),
+        Warning::SmallQueue(rooms) => put_small_queue(said, rooms),
+        Warning::LongWait(pause) => put_long_wait(said, pause),
+        Warning::CycleMismatch(cycles) => put_cycle_mismatch(said, cycles),
     }
 }
 
-/// Adds that a stream asks for frames without a VLAN, which its port puts into another one.
-fn put_other_vlan<A: Allocator>(said: &mut Text<A>, other: &OtherVlan) {
+/// Writes a sentence whose template has at most the two numbers `first` and `second`.
+fn put_pair<A: Allocator>(said: &mut TextBuilder<A>, template: &str, first: u64, second: u64) {
+    said.put_template(template, &[first, second], &[]);
+}
+
+/// Writes that frames of a stream leave by all other ports of their VLAN.
+fn put_flooded<A: Allocator>(said: &mut TextBuilder<A>, flooded: &Flooded) {
+    let numbers = [
+        u64::from(flooded.filter),
+        flooded.place as u64,
+        u64::from(flooded.vid),
+    ];
+    said.put_template(FLOODED, &numbers, &[]);
+}
+
+/// Writes that a stream asks for frames without a VLAN, but its port puts them into another VLAN.
+fn put_other_vlan<A: Allocator>(said: &mut TextBuilder<A>, other: &OtherVlan) {
     let numbers = [
         other.place as u64,
         u64::from(other.handle),
@@ -123,17 +130,17 @@ fn put_other_vlan<A: Allocator>(said: &mut Text<A>, other: &OtherVlan) {
         u64::from(other.vid),
         u64::from(other.own),
     ];
-    said.fill(OTHER_VLAN, &numbers, &[]);
+    said.put_template(OTHER_VLAN, &numbers, &[]);
 }
 
-/// Adds that a gate is closed from the change of schedules on.
-fn put_closed_from<A: Allocator>(said: &mut Text<A>, closed: &ClosedFrom) {
+/// Writes that a stream gate is closed from the schedule change on.
+fn put_closing_time<A: Allocator>(said: &mut TextBuilder<A>, closed: &ClosedFrom) {
     let numbers = [u64::from(closed.gate), closed.at, u64::from(closed.filter)];
-    said.fill(CLOSED_FROM, &numbers, &[]);
+    said.put_template(CLOSED_FROM, &numbers, &[]);
 }
 
-/// Adds that filters of lower numbers together take each frame that a filter does.
-fn put_taken<A: Allocator>(said: &mut Text<A>, taken: &TakenTogether) {
+/// Writes that filters with lower numbers together match all frames of a filter.
+fn put_taken<A: Allocator>(said: &mut TextBuilder<A>, taken: &TakenTogether) {
     let [a, b, c, d, e, f, g, h] = taken.takers;
     let numbers = [
         u64::from(taken.filter),
@@ -146,53 +153,57 @@ fn put_taken<A: Allocator>(said: &mut Text<A>, taken: &TakenTogether) {
         u64::from(g),
         u64::from(h),
     ];
-    said.fill(TAKEN_TOGETHER, &numbers, &[]);
+    said.put_template(TAKEN_TOGETHER, &numbers, &[]);
 }
 
-/// Adds that two earlier streams together take each frame that a stream does.
-fn put_hidden_together<A: Allocator>(said: &mut Text<A>, hidden: &HiddenTogether) {
+/// Writes that two earlier streams together match all frames of a stream.
+fn put_hidden_together<A: Allocator>(said: &mut TextBuilder<A>, hidden: &HiddenTogether) {
     let numbers = [
         hidden.place as u64,
         u64::from(hidden.handle),
         hidden.tagged as u64,
         hidden.untagged as u64,
     ];
-    said.fill(HIDDEN_TOGETHER, &numbers, &[]);
+    said.put_template(HIDDEN_TOGETHER, &numbers, &[]);
 }
 
-/// Adds that a stream comes in at a port to which its static entry sends it.
-fn put_own_port<A: Allocator>(said: &mut Text<A>, own: &OwnPort) {
+/// Writes that a stream's static entry names its ingress port.
+fn put_static_to_ingress<A: Allocator>(said: &mut TextBuilder<A>, own: &StaticToIngress) {
     let numbers = [own.place as u64, u64::from(own.handle), u64::from(own.port)];
-    said.fill(OWN_PORT, &numbers, &[]);
+    said.put_template(OWN_PORT, &numbers, &[]);
 }
 
-/// Adds that an entry of a gate has a limit below the largest service data unit of a filter.
-fn put_limit<A: Allocator>(said: &mut Text<A>, below: &LimitBelow) {
+/// Writes that a stream gate's entry has an octet limit less than a filter's largest SDU.
+fn put_low_limit<A: Allocator>(said: &mut TextBuilder<A>, below: &LowOctetLimit) {
     let numbers = [
         u64::from(below.gate),
         u64::from(below.octets),
         u64::from(below.sdu),
         u64::from(below.filter),
     ];
-    said.fill(LIMIT, &numbers, &[]);
+    said.put_template(LIMIT, &numbers, &[]);
 }
 
-/// Adds that an earlier stream takes each frame that a stream does.
-fn put_hidden<A: Allocator>(said: &mut Text<A>, hidden: &Hidden) {
+/// Writes that an earlier stream matches all frames of a stream.
+fn put_hidden_stream<A: Allocator>(said: &mut TextBuilder<A>, hidden: &HiddenStream) {
     let numbers = [
         hidden.place as u64,
         u64::from(hidden.handle),
         hidden.earlier as u64,
         u64::from(hidden.other),
     ];
-    said.fill(HIDDEN, &numbers, &[]);
+    said.put_template(HIDDEN_STREAM, &numbers, &[]);
 }
 
-/// Adds why no frame of a protected filter leaves by a stream, and what to change.
-fn put_stuck<A: Allocator>(said: &mut Text<A>, stuck: &Stuck) {
-    said.fill(STUCK, &[u64::from(stuck.filter), stuck.place as u64], &[]);
+/// Writes why a protected filter's stream isn't forwarded, and what to change.
+fn put_not_forwarded<A: Allocator>(said: &mut TextBuilder<A>, stuck: &NotForwarded) {
+    said.put_template(
+        NOT_FORWARDED,
+        &[u64::from(stuck.filter), stuck.place as u64],
+        &[],
+    );
     let named = match stuck.reason {
-        Nowhere::Egress { port } => port,
+        NotForwardedCause::Egress { port } => port,
         _ => 0,
     };
     let numbers = [
@@ -200,34 +211,39 @@ fn put_stuck<A: Allocator>(said: &mut Text<A>, stuck: &Stuck) {
         u64::from(stuck.vid),
         u64::from(named),
     ];
-    said.fill(reason_of(stuck.reason), &numbers, &[]);
+    said.put_template(cause_sentence(stuck.reason), &numbers, &[]);
 }
 
-/// The sentence on a reason: of a stream that comes in at port `{0}`, in VLAN `{1}`, and is to leave by port `{2}`.
-fn reason_of(reason: Nowhere) -> &'static str {
+/// Returns the sentence of a cause with its remedy, for a stream with ingress port `{0}`, VLAN `{1}` and egress port `{2}`.
+fn cause_sentence(reason: NotForwardedCause) -> &'static str {
     match reason {
-        Nowhere::Reserved =>
+        NotForwardedCause::Reserved =>
             "no bridge forwards the addresses 01-80-C2-00-00-00 to 01-80-C2-00-00-0F. Use another address.\n",
-        Nowhere::NoVlan =>
+        NotForwardedCause::NoVlan =>
             "the plan has no VLAN {1}. Add it, with ingress port {0} and the egress ports as `members`.\n",
-        Nowhere::Ingress => "its ingress port {0} isn't in VLAN {1}. Add port {0} to `members`.\n",
-        Nowhere::NoPorts => "its `static` entry has empty `ports`. Add the egress ports.\n",
-        Nowhere::OwnPort =>
+        NotForwardedCause::Ingress =>
+            "its ingress port {0} isn't in VLAN {1}. Add port {0} to `members`.\n",
+        NotForwardedCause::NoPorts =>
+            "its `static` entry has empty `ports`. Add the egress ports.\n",
+        NotForwardedCause::OwnPort =>
             "its `static` entry names only the ingress port {0}. Add the egress ports.\n",
-        Nowhere::Egress { .. } =>
+        NotForwardedCause::Egress { .. } =>
             "its `static` entry names port {2}, which isn't in VLAN {1}. Add port {2} to `members`.\n",
-        Nowhere::Alone =>
+        NotForwardedCause::Alone =>
             "the ingress port {0} is the only member of VLAN {1}. Add the egress ports.\n",
     }
 }
 
-/// Adds that a stream doesn't leave by a port of its static entry.
-fn put_outside<A: Allocator>(said: &mut Text<A>, outside: &Outside) {
+/// Writes that a stream doesn't leave by a port of its static entry.
+fn put_non_member_port<A: Allocator>(said: &mut TextBuilder<A>, outside: &NonMemberPort) {
     let numbers = [
         u64::from(outside.filter),
         u64::from(outside.port),
         outside.place as u64,
         u64::from(outside.vid),
     ];
-    said.fill(OUTSIDE, &numbers, &[]);
+    said.put_template(NON_MEMBER_PORT, &numbers, &[]);
 }
+
+/// Text of an explanation or of warnings, as written up to now.
+pub(crate) type LintText = TextBuilder<Global>;

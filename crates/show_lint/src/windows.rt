@@ -1,22 +1,22 @@
-//! When a class of a port is open, and the longest frame that fits in it.
+//! Finds the windows of a class at a port, and the longest frame that fits.
 ghost use Rattle.std.specs.Prelude.{◌↔◌, ◌<◌, ◌≡◌, true, IfSome};
 ghost use Rattle.bridge_cycle.specs.Runs.{Allows};
-ghost use Rattle.bridge_frame.specs.Link.{occupied};
+ghost use Rattle.bridge_frame.specs.Link.{transmission_time};
 
-use crate::saying::Said;
+use crate::sentence::LintText;
 use bridge_config::PortPlan;
 use bridge_cycle::{CyclicList, Egress, Run, Timeline, is_open, longest_run};
 use bridge_frame::{Speed, occupation};
 use bridge_limits::LONGEST_FRAME;
 use std::alloc::Allocator;
 
-/// The steps in which the longest frame is looked for, in octets.
-const STEPS: [u32; 14] = [
+/// Steps of the search for the longest frame, in octets: powers of two, the largest first.
+const LENGTH_STEPS: [u32; 14] = [
     8192, 4096, 2048, 1024, 512, 256, 128, 64, 32, 16, 8, 4, 2, 1,
 ];
 
-/// What is said of a window from the phase `{0}` to `{1}`, in ns, by its place among all, from 0: the first eight are listed.
-fn window_at(place: usize) -> &'static str {
+/// Returns the text of a window from offset `{0}` to `{1}` in ns, by its index from 0. The first eight windows are listed.
+fn window_template(place: usize) -> &'static str {
     match place {
         0 => "open {0} to {1} ns",
         1..=7 => ", {0} to {1} ns",
@@ -25,13 +25,13 @@ fn window_at(place: usize) -> &'static str {
     }
 }
 
-/// Adds one more window of a class, by its place from 0, or that there are more.
-fn put_window(said: &mut Said, place: usize, from: u64, to: u64) {
-    said.fill(window_at(place), &[from, to], &[]);
+/// Writes a window of a class by its index from 0. After eight windows, writes that there are more.
+fn put_window(said: &mut LintText, place: usize, from: u64, to: u64) {
+    said.put_template(window_template(place), &[from, to], &[]);
 }
 
-/// Adds when a list opens a class: each time for which it is open without a break in a cycle, the first eight of them.
-fn put_list<A: Allocator + Copy>(said: &mut Said, list: &CyclicList<u8, A>, class: u8)
+/// Writes the windows of a class in a list's cycle, at most eight.
+fn put_list_windows<A: Allocator + Copy>(said: &mut LintText, list: &CyclicList<u8, A>, class: u8)
     requires { class < 8 }
 {
     let mut count = 0usize;
@@ -53,52 +53,60 @@ fn put_list<A: Allocator + Copy>(said: &mut Said, list: &CyclicList<u8, A>, clas
         None if count == 0 => return said.put("never open"),
         None => {}
     }
-    said.fill(" of each {0} ns", &[cycle], &[]);
+    said.put_template(" of each {0} ns", &[cycle], &[]);
 }
 
-/// Adds when a port opens a class.
-pub(crate) fn put_open<A: Allocator + Copy>(said: &mut Said, port: &PortPlan<A>, class: u8)
+/// Writes the windows of a class at a port.
+pub(crate) fn put_open_windows<A: Allocator + Copy>(
+    said: &mut LintText,
+    port: &PortPlan<A>,
+    class: u8,
+)
     requires { class < 8 }
 {
     match &port.list {
         None => said.put("always open"),
-        Some(Egress::Cyclic(list)) => put_list(said, list, class),
+        Some(Egress::Cyclic(list)) => put_list_windows(said, list, class),
         Some(Egress::Joined(joined)) => {
             let (old, new) = joined.lists();
-            put_list(said, old, class);
-            said.fill("; after the change at {0} ns ", &[joined.at()], &[]);
-            put_list(said, new, class);
+            put_list_windows(said, old, class);
+            said.put_template(
+                "; after the change at {0} ns ",
+                &[joined.change_time()],
+                &[],
+            );
+            put_list_windows(said, new, class);
         }
     }
 }
 
-/// Whether a frame of a length fits in a run on a link of a speed.
-fn fits(run: Run, speed: Speed, length: u32) -> bool
-    ensures { (result ≡ true) ↔ Allows run (occupied length speed) }
+/// Whether a frame of `length` octets fits a run on a link with speed `speed`.
+fn can_fit(run: Run, speed: Speed, length: u32) -> bool
+    ensures { (result ≡ true) ↔ Allows run (transmission_time length speed) }
 {
     run.allows(occupation(length, speed))
 }
 
-/// The length of the longest frame, at most 9,216 octets without frame check sequence, that fits in a run on a link of a
-/// speed; none where not even the shortest does.
-pub(crate) fn longest_in(run: Run, speed: Speed) -> Option<u32>
-    ensures fits { IfSome result (λ length. Allows run (occupied length speed)) }
+/// Returns the length in octets, at most 9,216, of the longest frame that fits a run; `None` if no frame fits. Lengths exclude the frame
+/// check sequence.
+pub(crate) fn longest_frame_in_run(run: Run, speed: Speed) -> Option<u32>
+    ensures fits { IfSome result (λ length. Allows run (transmission_time length speed)) }
 {
-    if !fits(run, speed, 1) {
+    if !can_fit(run, speed, 1) {
         return None;
     }
     let mut longest = 1u32;
-    for step in &STEPS {
+    for step in &LENGTH_STEPS {
         let more = longest.saturating_add(*step);
-        if more <= LONGEST_FRAME && fits(run, speed, more) {
+        if more <= LONGEST_FRAME && can_fit(run, speed, more) {
             longest = more;
         }
     }
     Some(longest)
 }
 
-/// The shorter of two runs.
-fn shorter(one: Run, other: Run) -> Run {
+/// Returns the shorter of two runs: frames must fit before and after a schedule change.
+fn shorter_run(one: Run, other: Run) -> Run {
     match one {
         Run::Always => other,
         Run::Never => one,
@@ -110,8 +118,8 @@ fn shorter(one: Run, other: Run) -> Run {
     }
 }
 
-/// The longest run of a class of a port, the shorter one where its lists are exchanged.
-pub(crate) fn run_of<A: Allocator + Copy>(port: &PortPlan<A>, class: u8) -> Run
+/// Returns the longest window of a class at a port. If a schedule change joins two lists, returns the shorter of their longest windows.
+pub(crate) fn class_run<A: Allocator + Copy>(port: &PortPlan<A>, class: u8) -> Run
     requires { class < 8 }
 {
     match &port.list {
@@ -119,14 +127,17 @@ pub(crate) fn run_of<A: Allocator + Copy>(port: &PortPlan<A>, class: u8) -> Run
         Some(Egress::Cyclic(list)) => longest_run(list, class),
         Some(Egress::Joined(joined)) => {
             let (old, new) = joined.lists();
-            shorter(longest_run(old, class), longest_run(new, class))
+            shorter_run(longest_run(old, class), longest_run(new, class))
         }
     }
 }
 
-/// The length of the longest frame that fits in a class of a port.
-pub(crate) fn longest_at<A: Allocator + Copy>(port: &PortPlan<A>, class: u8) -> Option<u32>
+/// Returns the length in octets of the longest frame that fits a class of a port, or `None` if no frame fits.
+pub(crate) fn longest_frame_of_class<A: Allocator + Copy>(
+    port: &PortPlan<A>,
+    class: u8,
+) -> Option<u32>
     requires { class < 8 }
 {
-    longest_in(run_of(port, class), port.speed)
+    longest_frame_in_run(class_run(port, class), port.speed)
 }

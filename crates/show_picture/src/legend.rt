@@ -1,16 +1,17 @@
-//! What the shapes of a picture say.
-use crate::lanes::digits_of;
+//! Legend of a picture.
+use crate::lane::digit_count;
 use crate::picture::Picture;
-use show_svg::{Legend, Sample, either};
+use show_svg::{LegendRow, Sample, choose_word};
 
-/// The styles of the colours of filters, without an edge and with one.
+/// Styles of the filters' colours, by colour number.
 const COLOURS: [&str; 8] = ["c0", "c1", "c2", "c3", "c4", "c5", "c6", "c7"];
 
+/// The colours with an edge, for protected filters.
 const EDGED: [&str; 8] = [
     "c0 e", "c1 e", "c2 e", "c3 e", "c4 e", "c5 e", "c6 e", "c7 e",
 ];
 
-/// The style of a colour of filters, by its number, with an edge or without.
+/// Returns the style of a filter's colour. `is_edged` is true for protected filters.
 pub(crate) fn colour_style(colour: u64, is_edged: bool) -> &'static str {
     let place = (colour % 8) as usize;
     if is_edged {
@@ -20,8 +21,8 @@ pub(crate) fn colour_style(colour: u64, is_edged: bool) -> &'static str {
     }
 }
 
-/// What lanes say, the stream gates of a plan, the picture of a run, a change of schedules, a fault.
-const LANES: &[Legend] = &[
+/// Legend rows of all pictures: lanes and their windows.
+const LANES: &[LegendRow] = &[
     (Sample::Bar, "own", "window of a protected filter"),
     (Sample::Bar, "open", "window of other classes"),
     (Sample::Bar, "hatch", "too much to draw"),
@@ -32,7 +33,8 @@ const LANES: &[Legend] = &[
     ),
 ];
 
-pub(crate) const GATES: &[Legend] = &[
+/// Legend rows of a plan's picture: stream gates.
+pub(crate) const GATES: &[LegendRow] = &[
     (
         Sample::Bar,
         "gate",
@@ -41,7 +43,8 @@ pub(crate) const GATES: &[Legend] = &[
     (Sample::Nothing, "", "number at a gate: its filter"),
 ];
 
-pub(crate) const RUN: &[Legend] = &[
+/// Legend rows of a run's picture: frames and marks.
+pub(crate) const RUN: &[LegendRow] = &[
     (Sample::Waits, "grey", "arrival and wait"),
     (Sample::Due, "grey", "latest end by the bound"),
     (Sample::TipBelow, "grey", "dropped by a queue"),
@@ -54,28 +57,28 @@ pub(crate) const RUN: &[Legend] = &[
 ];
 
 impl Picture {
-    /// Names a filter with its colour, behind the others.
-    pub(crate) fn put_filter(&mut self, filter: u32, is_protected: bool, colour: u64) {
+    /// Draws the legend row of a filter: a sample of its colour, its number, and whether it is protected.
+    pub(crate) fn put_filter_legend(&mut self, filter: u32, is_protected: bool, colour: u64) {
         let style = colour_style(colour, is_protected);
-        let words = either(is_protected, "{0} protected", "{0} unprotected");
-        let letters = digits_of(filter).saturating_add(if is_protected { 10 } else { 12 });
+        let words = choose_word(is_protected, "{0} protected", "{0} unprotected");
+        let letters = digit_count(filter).saturating_add(if is_protected { 10 } else { 12 });
         self.page
-            .put_legend((Sample::Bar, style, words), letters, u64::from(filter));
+            .put_legend_row((Sample::Bar, style, words), letters, u64::from(filter));
     }
 
-    /// Puts the legend of what lanes say and some more, with a change of schedules or not and with a fault where there is one.
-    pub(crate) fn put_legend(&mut self, rows: &[Legend]) {
+    /// Writes the legend: lanes, `rows`, and if present the schedule change and the fault.
+    pub(crate) fn put_legend(&mut self, rows: &[LegendRow]) {
         self.page.begin_legend();
         for row in LANES.iter().chain(rows) {
-            self.page.put_legend(*row, row.2.len(), 0);
+            self.page.put_legend_row(*row, row.2.len(), 0);
         }
         if self.change.is_some() {
             self.page
-                .put_legend((Sample::Line, "change", "schedule change"), 15, 0);
+                .put_legend_row((Sample::Line, "change", "schedule change"), 15, 0);
         }
         if self.fault.0 > 0 {
             self.page
-                .put_legend((Sample::Bar, "b c1", "cause of the fault"), 18, 0);
+                .put_legend_row((Sample::Bar, "b c1", "cause of the fault"), 18, 0);
         }
     }
 }

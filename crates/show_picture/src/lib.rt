@@ -1,18 +1,17 @@
 #![tactic(auto)]
-//! Pictures: a plan's windows and gates by time, and what left each port in a run, as SVG texts.
+//! Draws pictures of plans and runs as SVG text: windows and stream gates by time, and frames that left each port.
 //!
-//! Layout gives elements, each with its places, its style and its words, to a page of `show_svg`, which writes them. The colours follow
-//! the reader's light or dark scheme. Nothing here changes what it draws.
+//! This crate computes positions, styles and words; `show_svg` writes the markup. Colours follow the reader's light or dark scheme.
 
-mod frames;
-mod lanes;
+mod frame_selection;
+mod lane;
 mod legend;
 mod picture;
-mod plan;
-mod run;
-mod time;
+mod plan_picture;
+mod run_picture;
+mod selection;
 
 pub use bridge_limits::NoMemory;
-pub use plan::draw_plan;
-pub use run::draw_run;
-pub use time::{LONGEST_HYPERCYCLE, Part};
+pub use plan_picture::draw_plan;
+pub use run_picture::draw_run;
+pub use selection::Selection;

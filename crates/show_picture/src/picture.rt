@@ -1,12 +1,12 @@
-//! A picture of a part of a plan, or of a run under it, on a page. All lengths are tenths of a pixel.
+//! A picture of part of a plan or run, on a page. All lengths are tenths of a pixel.
 ghost use Rattle.std.specs.Prelude.{◌≤◌, IfOk, length, string_bytes};
 
-use crate::lanes::Window;
+use crate::lane::Window;
 use bridge_limits::NoMemory;
 use show_svg::{Page, Span};
 use std::alloc::Global;
 
-/// The styles of all shapes.
+/// Styles of all shapes.
 const STYLES: &str = ":root{color-scheme:light dark}\
 text{font:110px system-ui,sans-serif;fill:#222}.h{font-weight:700;font-size:150px}.b{font-weight:700}.s{font-size:90px;fill:#666}.r{text-anchor:end}.m{text-anchor:middle}\
 .page{fill:#fff}.lane{fill:#f3f4f6}.open{fill:#c3cbd6}.own{fill:#7fb069}.gate{fill:#9db8d9}.hatch{fill:url(#h)}.h0{stroke:#111;stroke-width:22;opacity:.6}\
@@ -14,18 +14,16 @@ text{font:110px system-ui,sans-serif;fill:#222}.h{font-weight:700;font-size:150p
 .c0{fill:#2a7de1}.c1{fill:#e4572e}.c2{fill:#29a37a}.c3{fill:#a14fc4}.c4{fill:#d9a400}.c5{fill:#16a3b8}.c6{fill:#c2447a}.c7{fill:#7a7f3c}\
 @media(prefers-color-scheme:dark){text{fill:#e6e6e6}.s{fill:#a0a0a0}.page{fill:#16181c}.lane{fill:#22262c}.open{fill:#4a525e}.own{fill:#5c8a49}.gate{fill:#4b6a91}.h0{stroke:#fff}.e{stroke:#fff}}";
 
-/// A picture of a part of a plan in a stretch of time: when schedules change, its page, the stream gates that it draws, each with
-/// its port, how many windows each lane may have, how many lanes have more, and the port and the class that are at fault, of
-/// port 0 where none is: only beside another class, or always; of the lane that is drawn the filters that it names and its
-/// windows; and whether memory was refused to it.
+/// Picture under construction. `fault` has the port (0 for none) and class at fault, and whether only shared windows are at fault.
+/// `is_refused` is set if memory ran out.
 #[derive(Drop)]
 pub(crate) struct Picture {
     pub change: Option<u64>,
     pub span: Span,
     pub page: Page,
     pub gates: Vec<(u8, u32)>,
-    pub most: usize,
-    pub bands: u64,
+    pub window_limit: usize,
+    pub hatched_lanes: u64,
     pub fault: (u8, u8, bool),
     pub named: Vec<u32>,
     pub windows: Vec<Window>,
@@ -33,15 +31,15 @@ pub(crate) struct Picture {
 }
 
 impl Picture {
-    /// A picture with nothing in it.
+    /// Returns an empty picture for this time span. `change` is the time of the schedule change, if any.
     pub(crate) fn new(alloc: Global, change: Option<u64>, span: Span) -> Picture {
         Picture {
             change,
             span,
             page: Page::new(alloc),
             gates: Vec::new(alloc),
-            most: 0,
-            bands: 0,
+            window_limit: 0,
+            hatched_lanes: 0,
             fault: (0, 0, false),
             named: Vec::new(alloc),
             windows: Vec::new(alloc),
@@ -49,13 +47,13 @@ impl Picture {
         }
     }
 
-    /// The picture as an SVG text of at most 2,000,000 octets.
-    pub(crate) fn done(self, alloc: Global) -> Result<String, NoMemory>
+    /// Returns the picture as SVG text of at most 2,000,000 octets. Fails if memory ran out at any step.
+    pub(crate) fn finish(self, alloc: Global) -> Result<String, NoMemory>
         ensures { IfOk result (λ text. length (string_bytes text) ≤ 2000000) }
     {
         if self.is_refused {
             return Err(NoMemory);
         }
-        self.page.done(alloc, STYLES)
+        self.page.finish(alloc, STYLES)
     }
 }

@@ -1,9 +1,8 @@
 #![tactic(auto)]
-//! SVG pictures: shapes, of which as many are kept as have room, a page that grows downwards, and stretches of time with their
-//! axis.
+//! Writes SVG pictures: shapes up to a limit, a page that grows downwards, and spans of time with their axis.
 //!
-//! Who lays out a picture gives elements with their places, styles and words; here their markup is written, each word is escaped,
-//! and a picture kept at 2,000,000 octets at most. There is no script in it.
+//! Callers give elements with positions, styles and words. This crate writes the markup, escapes each word, and keeps a picture within
+//! 2,000,000 octets.
 
 mod elements;
 mod page;
@@ -11,7 +10,7 @@ mod shapes;
 mod span;
 
 pub use bridge_limits::NoMemory;
-pub use elements::{Bar, Element, Mark, Point, Size, head_of, note_of};
-pub use page::{ACROSS, LEFT, Legend, Page, Sample, WIDTH, either};
-pub use shapes::{Shapes, form_of};
-pub use span::{Clock, Span};
+pub use elements::{Bar, Element, Mark, Point, Size, picture_head, text_line};
+pub use page::{AXIS_LEFT, AXIS_WIDTH, LegendRow, Page, Sample, choose_word};
+pub use shapes::{Shapes, fill_form};
+pub use span::Span;

@@ -1,108 +1,116 @@
-//! The one writer of pictures: shapes as lines of SVG.
+//! Writes shapes as lines of SVG.
 ghost use Rattle.std.specs.Prelude.{◌≤◌, IfOk, length, string_bytes};
 
 use bridge_limits::NoMemory;
-use bridge_text::Text;
+use bridge_text::TextBuilder;
 use std::alloc::Global;
 
-/// The most octets of a picture, and those that are kept free for one shape and for what stands around the shapes.
-const MOST_OCTETS: usize = 2_000_000;
+/// Largest size of a picture in octets.
+const MAX_PICTURE_OCTETS: usize = 2_000_000;
 
-const FREE: usize = 20_000;
+/// Octets reserved for the last shape, head and foot: no shape begins beyond the rest.
+const RESERVED_OCTETS: usize = 20_000;
 
-/// What stands in place of a picture whose shapes are too long.
-const TOO_MUCH: &str =
+/// Picture that replaces one whose last shape exceeds the reserved octets.
+const TOO_LARGE_PICTURE: &str =
     r#"<svg xmlns="http://www.w3.org/2000/svg" width="400" height="40"><text x="10" y="25">too much to draw</text></svg>
 "#;
 
-/// Shapes, a line each, as many as have room; the others are counted.
+/// Shapes of a picture, one for each line, up to the size limit. Further shapes are only counted.
 #[derive(Drop)]
 pub struct Shapes {
-    text: Text<Global>,
-    left_out: u64,
-    /// Whether the shape that comes next, or is begun, has no room.
+    /// Markup of the shapes that fit, and of the current shape.
+    text: TextBuilder<Global>,
+    /// Number of shapes that don't fit.
+    omitted: u64,
+    /// Whether the size limit leaves no space for the next shape.
     is_full: bool,
 }
 
 impl Shapes {
-    /// No shapes.
+    /// Returns an empty list of shapes.
     pub fn new(alloc: Global) -> Shapes {
         Shapes {
-            text: Text::new(alloc),
-            left_out: 0,
+            text: TextBuilder::new(alloc),
+            omitted: 0,
             is_full: false,
         }
     }
 
-    /// How many shapes have no room.
-    pub fn left_out(&self) -> u64 {
-        self.left_out
+    /// Returns the number of omitted shapes, for a note in the picture.
+    pub fn omitted_shapes(&self) -> u64 {
+        self.omitted
     }
 
-    /// Counts a shape that isn't drawn.
-    fn leave_out(&mut self) {
-        self.left_out = self.left_out.saturating_add(1);
+    /// Counts a shape that doesn't fit.
+    fn omit_shape(&mut self) {
+        self.omitted = self.omitted.saturating_add(1);
     }
 
-    /// Adds a piece of a shape: what a form says, in place of `{0}` to `{9}` with numbers, in place of `{a}` to `{z}` with words,
-    /// by their places.
-    pub fn add(&mut self, form: &str, numbers: &[u64], words: &[&str]) {
+    /// Writes a piece of the current shape by a form: numbers replace `{0}` to `{9}`, and words replace `{a}` to `{z}`. Writes nothing if
+    /// the picture is full.
+    pub fn add_piece(&mut self, form: &str, numbers: &[u64], words: &[&str]) {
         if !self.is_full {
             put_form(&mut self.text, form, numbers, words);
         }
     }
 
-    /// Ends a shape.
-    pub fn end(&mut self) {
+    /// Ends the current shape: a new line, or one more omitted shape if the picture is full.
+    pub fn end_shape(&mut self) {
         if self.is_full {
-            return self.leave_out();
+            return self.omit_shape();
         }
         self.text.put("\n");
-        self.is_full = self.text.len() > MOST_OCTETS - FREE;
+        self.is_full = self.text.len() > MAX_PICTURE_OCTETS - RESERVED_OCTETS;
     }
 
-    /// Adds a shape of one piece.
-    pub fn put(&mut self, form: &str, numbers: &[u64], words: &[&str]) {
-        self.add(form, numbers, words);
-        self.end();
+    /// Draws a shape of one piece.
+    pub fn put_shape(&mut self, form: &str, numbers: &[u64], words: &[&str]) {
+        self.add_piece(form, numbers, words);
+        self.end_shape();
     }
 
-    /// The picture as an SVG text of at most 2,000,000 octets: the shapes behind what begins it and before the last of it.
-    pub fn done(self, alloc: Global, head: &str, foot: &str) -> Result<String, NoMemory>
+    /// Returns the picture as SVG text of at most 2,000,000 octets: `head`, the shapes, `foot`.
+    pub fn finish(self, alloc: Global, head: &str, foot: &str) -> Result<String, NoMemory>
         ensures { IfOk result (λ text. length (string_bytes text) ≤ 2000000) }
     {
-        let shapes = self.text.done()?;
-        let mut svg = Text::new(alloc);
+        let shapes = self.text.finish()?;
+        let mut svg = TextBuilder::new(alloc);
         svg.put(head);
         svg.put(shapes.as_str());
         svg.put(foot);
         svg.put("</svg>\n");
-        let svg = svg.done()?;
-        if svg.len() <= MOST_OCTETS {
+        let svg = svg.finish()?;
+        if svg.len() <= MAX_PICTURE_OCTETS {
             return Ok(svg);
         }
-        Ok(String::from_str(alloc, TOO_MUCH)?)
+        Ok(String::from_str(alloc, TOO_LARGE_PICTURE)?)
     }
 }
 
-/// What a form says, with its numbers and words.
-pub fn form_of(
+/// Returns the text of a form: numbers replace `{0}` to `{9}`, and escaped words replace `{a}` to `{z}`.
+pub fn fill_form(
     alloc: Global,
     form: &str,
     numbers: &[u64],
     words: &[&str],
 ) -> Result<String, NoMemory> {
-    let mut text = Text::new(alloc);
+    let mut text = TextBuilder::new(alloc);
     put_form(&mut text, form, numbers, words);
-    text.done()
+    text.finish()
 }
 
-/// Writes what a form says.
-pub(crate) fn put_form(text: &mut Text<Global>, form: &str, numbers: &[u64], words: &[&str]) {
+/// Writes the text of a form: numbers replace `{0}` to `{9}`, and escaped words replace `{a}` to `{z}`.
+pub(crate) fn put_form(
+    text: &mut TextBuilder<Global>,
+    form: &str,
+    numbers: &[u64],
+    words: &[&str],
+) {
     for piece in form.split('{') {
         match piece.split_once('}') {
             Some((place, behind)) => {
-                put_place(text, place.as_bytes(), numbers, words);
+                put_placeholder(text, place.as_bytes(), numbers, words);
                 text.put(behind);
             }
             None => text.put(piece),
@@ -110,8 +118,8 @@ pub(crate) fn put_form(text: &mut Text<Global>, form: &str, numbers: &[u64], wor
     }
 }
 
-/// Writes what stands for a place of a form; nothing where there are fewer.
-fn put_place(text: &mut Text<Global>, place: &[u8], numbers: &[u64], words: &[&str]) {
+/// Writes the number or word of the placeholder `place`. Writes nothing if it is missing.
+fn put_placeholder(text: &mut TextBuilder<Global>, place: &[u8], numbers: &[u64], words: &[&str]) {
     match place {
         [digit @ b'0'..=b'9'] => {
             if let Some(number) = numbers.get((*digit - b'0') as usize) {
@@ -127,8 +135,8 @@ fn put_place(text: &mut Text<Global>, place: &[u8], numbers: &[u64], words: &[&s
     }
 }
 
-/// Writes a word with what has a meaning in SVG escaped.
-fn put_escaped(text: &mut Text<Global>, word: &str) {
+/// Writes a word, with SVG's special characters escaped, because names of users may contain them.
+fn put_escaped(text: &mut TextBuilder<Global>, word: &str) {
     for letter in word.chars() {
         match letter {
             '&' => text.put("&amp;"),

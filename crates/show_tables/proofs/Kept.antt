@@ -1,4 +1,4 @@
--- The copies of a frame among copies by rising number of their frames.
+-- The copies of one frame in a list sorted by frame number.
 use Rattle.std.proofs.Common.{◌≡◌, ◌∙◌, ◌⊎◌, inl, inr, ℕ, suc, ◌+◌, ◌-◌, ◌≤◌, ◌<◌, Bool, true, false, not, ◌&&◌, List, [], ◌∷◌, ◌++◌, length, take, drop, get_or, ap, sym, refl, arith}
 use Rattle.std.specs.Prelude.{nat_eq}
 use Rattle.std.specs.List.{filter}
@@ -10,11 +10,11 @@ use Rattle.std.proofs.lemmas.Bool.Decides.{nat_tests}
 use Rattle.std.proofs.lemmas.List.{append-nil, get_or-drop, get_or-take, length-drop, length-take, take-append-drop}
 use Rattle.std.proofs.lemmas.List.Elements.{filter-append, filter_agree}
 
--- numbers tie where they are the same
+-- Two numbers are equal if neither is less.
 tie : (a b : ℕ) → nat_eq b a ≡ not (is_lt (nat_cmp a b)) && not (is_lt (nat_cmp b a))
 tie a b = grind (arith, nat_tests)
 
--- a stable sort by a number keeps the elements of each number in their order
+-- A stable sort by a number keeps the order of items with equal numbers.
 pub same_of : {X : Type 0} (key : X → ℕ) (x : X) (xs ys : List X) → IsStableByKey key nat_cmp xs ys → filter (λ d. nat_eq (key d) (key x)) ys ≡ filter (λ d. nat_eq (key d) (key x)) xs
 same_of {X} key x xs ys stable =
     let by : X → X → Bool = λ a b. is_lt (nat_cmp (key a) (key b)) in
@@ -31,11 +31,11 @@ module _ {X : Type 0} (p : X → Bool) where
   all_pass (x ∷ xs) h = rw (h 0 x (omega arith)) (ap (λ l. x ∷ l) (all_pass xs (λ k d l. h (suc k) d (omega arith))))
 
 module _ {X : Type 0} (key : X → ℕ) (n first end : ℕ) (xs : List X) where
-  -- below the first place numbers are less, from it on they are not
+  -- Holds if items before index `first` have smaller numbers, and items from it have at least the number.
   abbrev pub IsFirst : Type 0
   IsFirst = IsPartitionPoint (λ y. ltb (key y) n ≡ true) (λ y. ltb (key y) n ≡ false) xs first
 
-  -- below the end they are no greater, from it on they are
+  -- Holds if items before index `end` have at most the number, and items from it have greater numbers.
   abbrev pub IsEnd : Type 0
   IsEnd = IsPartitionPoint (λ y. leb (key y) n ≡ true) (λ y. leb (key y) n ≡ false) xs end
 
@@ -51,7 +51,7 @@ module _ {X : Type 0} (key : X → ℕ) (n first end : ℕ) (xs : List X) where
       order_of : (a b : ℕ) → (a < b) ⊎ (b ≤ a)
       order_of a b = grind (arith)
 
-  -- what stands between is what has the number
+  -- The items between both indices are the items with the number.
   pub run_of : first ≤ end → end ≤ length xs → IsFirst → IsEnd → take (end - first) (drop first xs) ≡ filter (λ d. nat_eq (key d) n) xs
   run_of ordered within begins ends =
       let same : X → Bool = λ d. nat_eq (key d) n in

@@ -1,4 +1,4 @@
--- The ports from 1 on, one more at a time.
+-- The ports from 1, one more at a time.
 use Rattle.std.proofs.Common.{◌≡◌, ◌∙◌, ℕ, zero, suc, ◌+◌, ◌-◌, ◌≤◌, List, [], ◌∷◌, ◌++◌, ap, sym, arith}
 use Rattle.std.specs.List.{flat_map, range_with_len}
 use Rattle.std.proofs.lemmas.Grind.{flat_map-append}
@@ -8,7 +8,7 @@ range_more : (a n : ℕ) → range_with_len a (suc n) ≡ range_with_len a n ++ 
 range_more a zero = ap (λ m. m ∷ []) (omega arith)
 range_more a (suc n) = ap (λ l. a ∷ l) (range_more (a + 1) n ∙ ap (λ m. range_with_len (a + 1) n ++ m ∷ []) (omega arith))
 
--- the text of one port more
+-- The text with one port more.
 pub one_port_more : (f : ℕ → List ℕ) (port : ℕ) → 1 ≤ port → flat_map f (range_with_len 1 (port - 1)) ++ f port ≡ flat_map f (range_with_len 1 (port + 1 - 1))
 one_port_more f port from =
     let before = range_with_len 1 (port - 1) in

@@ -1,4 +1,4 @@
--- Rows of frames and of filters, one more at a time.
+-- The rows of frames and filters, one more at a time.
 use Rattle.std.proofs.Common.{true, false, ◌≡◌, ◌≢◌, ◌∙◌, ℕ, ◌+◌, List, [], ◌∷◌, ◌++◌, Option, Some, None, length, ap, sym, subst, refl, arith}
 use Rattle.std.specs.Prelude.{nat_eq, IfSome}
 use Rattle.std.proofs.lemmas.List.{length-append}
@@ -9,11 +9,11 @@ use Rattle.bridge_semantics.specs.declared.outcome.Origin.{Origin}
 use Rattle.bridge_semantics.specs.declared.outcome.View.{View}
 use Rattle.bridge_text.specs.Growth.{HasGrown}
 use Rattle.bridge_text.proofs.Puts.{put_as, put_piece}
-use Rattle.show_tables.specs.declared.rows.Frame.{Frame}
-use Rattle.show_tables.specs.Delays.{or_unsent, unsent_row}
-use Rattle.show_tables.specs.Frames.{dropped_of, frame_of, frame_rows, left_of, lone_row, or_lone, rows_from, rows_of}
+use Rattle.show_tables.specs.declared.frame_rows.FilterFrame.{FilterFrame}
+use Rattle.show_tables.specs.DelayTable.{rows_or_unsent, unsent_row}
+use Rattle.show_tables.specs.FrameTable.{frame_drops, make_frame, frame_rows, frame_departures, lone_row, rows_or_lone, frames_rows, copies_or_lone_row}
 
--- a text that was let go
+-- A discarded text.
 pub let_go : (o p : Option (List ℕ)) (a : List ℕ) → p ≡ None → HasGrown o a p
 let_go o p a gone = subst (HasGrown o a) (sym gone) (record { grows = tt })
 
@@ -21,7 +21,7 @@ is_empty : (l : List ℕ) → length l ≡ 0 → l ≡ []
 is_empty [] none = refl
 is_empty (x ∷ l) none = absurd (cc)
 
--- a text that is longer than before got some octets, and one that isn't got none
+-- A text that is longer than before received octets; otherwise it received none.
 module _ (rows all : List ℕ) (before after : ℕ) where
   pub some_put : (o p : Option (List ℕ)) → IfSome o (λ l. before ≡ length l) → IfSome p (λ l. after ≡ length l) → after ≢ before → (rows ≢ [] → all ≡ rows) → HasGrown o rows p → HasGrown o all p
   some_put o None was is other same grown = record { grows = tt }
@@ -38,39 +38,39 @@ module _ (rows all : List ℕ) (before after : ℕ) where
       let none : rows ≡ [] = is_empty rows (omega (arith, longer, was, is, same)) in
       put_as _ _ _ _ (put_piece _ _ _ [] other (put_as _ _ _ _ grown none) more) (sym (alone none))
 
--- rows of a frame with copies, and of one without
-pub lone_some : (f : Frame) (rows : List ℕ) → rows ≢ [] → or_lone f rows ≡ rows
+-- The rows of a frame with copies, and the row of a frame without copies.
+pub lone_some : (f : FilterFrame) (rows : List ℕ) → rows ≢ [] → rows_or_lone f rows ≡ rows
 lone_some f [] some = absurd (some refl)
 lone_some f (octet ∷ more) some = refl
 
-pub lone_none : (f : Frame) (rows : List ℕ) → rows ≡ [] → or_lone f rows ≡ lone_row f
+pub lone_none : (f : FilterFrame) (rows : List ℕ) → rows ≡ [] → rows_or_lone f rows ≡ lone_row f
 lone_none f [] none = refl
 lone_none f (octet ∷ more) none = absurd (cc)
 
--- those of a filter of which copies left, of one of which none did, and of one to which no frame came
-pub sent_some : {A : Type 0} (n : ℕ) (v : View A) (rows : List ℕ) → rows ≢ [] → or_unsent n v rows ≡ rows
+-- The rows of a filter with departures, of a filter without departures, and of a filter without frames.
+pub sent_some : {A : Type 0} (n : ℕ) (v : View A) (rows : List ℕ) → rows ≢ [] → rows_or_unsent n v rows ≡ rows
 sent_some n v [] some = absurd (some refl)
 sent_some n v (octet ∷ more) some = refl
 
-pub sent_none : {A : Type 0} (n : ℕ) (v : View A) (rows : List ℕ) → nat_eq (length v.verdicts.items) 0 ≡ false → rows ≡ [] → or_unsent n v rows ≡ unsent_row n v
+pub sent_none : {A : Type 0} (n : ℕ) (v : View A) (rows : List ℕ) → nat_eq (length v.verdicts.items) 0 ≡ false → rows ≡ [] → rows_or_unsent n v rows ≡ unsent_row n v
 sent_none n v [] came none = rw came refl
 sent_none n v (octet ∷ more) came none = absurd (cc)
 
-pub sent_idle : {A : Type 0} (n : ℕ) (v : View A) (rows : List ℕ) → nat_eq (length v.verdicts.items) 0 ≡ true → or_unsent n v rows ≡ rows
+pub sent_idle : {A : Type 0} (n : ℕ) (v : View A) (rows : List ℕ) → nat_eq (length v.verdicts.items) 0 ≡ true → rows_or_unsent n v rows ≡ rows
 sent_idle n v [] idle = rw idle refl
 sent_idle n v (octet ∷ more) idle = refl
 
--- copies that are the same frame by frame have the same rows
-pub rows_same : (filter : ℕ) (ds es : List Departure) (xs ys : List Dropped) → ((own : ℕ) → left_of own ds ≡ left_of own es) → ((own : ℕ) → dropped_of own xs ≡ dropped_of own ys)
-    → (own : ℕ) (origins : List Origin) (verdicts : List Verdict) → rows_from filter ds xs own origins verdicts ≡ rows_from filter es ys own origins verdicts
+-- Copies that are equal frame by frame have equal rows.
+pub rows_same : (filter : ℕ) (ds es : List Departure) (xs ys : List Dropped) → ((own : ℕ) → frame_departures own ds ≡ frame_departures own es) → ((own : ℕ) → frame_drops own xs ≡ frame_drops own ys)
+    → (own : ℕ) (origins : List Origin) (verdicts : List Verdict) → frames_rows filter ds xs own origins verdicts ≡ frames_rows filter es ys own origins verdicts
 rows_same filter ds es xs ys left dropped own [] verdicts = refl
 rows_same filter ds es xs ys left dropped own (o ∷ os) [] = refl
 rows_same filter ds es xs ys left dropped own (o ∷ os) (v ∷ vs) =
-    let f : Frame = frame_of filter own o v in
-    let first : frame_rows f ds xs ≡ frame_rows f es ys = ap (λ l. rows_of f l (dropped_of own xs)) (left own) ∙ ap (rows_of f (left_of own es)) (dropped own) in
-    ap (λ l. l ++ rows_from filter ds xs (own + 1) os vs) first ∙ ap (λ l. frame_rows f es ys ++ l) (rows_same filter ds es xs ys left dropped (own + 1) os vs)
+    let f : FilterFrame = make_frame filter own o v in
+    let first : frame_rows f ds xs ≡ frame_rows f es ys = ap (λ l. copies_or_lone_row f l (frame_drops own xs)) (left own) ∙ ap (copies_or_lone_row f (frame_departures own es)) (dropped own) in
+    ap (λ l. l ++ frames_rows filter ds xs (own + 1) os vs) first ∙ ap (λ l. frame_rows f es ys ++ l) (rows_same filter ds es xs ys left dropped (own + 1) os vs)
 
--- the same of lists by other names
+-- Equal lists have equal rows.
 pub filter_told : (filter : ℕ) (ds es fs : List Departure) (xs ys zs : List Dropped) (os ps : List Origin) (vs ws : List Verdict) → ds ≡ es → xs ≡ ys → os ≡ ps → vs ≡ ws
-    → ((own : ℕ) → left_of own es ≡ left_of own fs) → ((own : ℕ) → dropped_of own ys ≡ dropped_of own zs) → rows_from filter ds xs 1 os vs ≡ rows_from filter fs zs 1 ps ws
+    → ((own : ℕ) → frame_departures own es ≡ frame_departures own fs) → ((own : ℕ) → frame_drops own ys ≡ frame_drops own zs) → frames_rows filter ds xs 1 os vs ≡ frames_rows filter fs zs 1 ps ws
 filter_told filter ds es fs xs ys zs os ps vs ws a b c d left dropped = rw (a, b, c, d) (rows_same filter es fs ys zs left dropped 1 ps ws)

@@ -1,5 +1,5 @@
-pub mod Frames
+pub mod FrameTable
 pub mod Losses
 pub mod PortBounds
-pub mod Delays
+pub mod DelayTable
 pub mod Examples

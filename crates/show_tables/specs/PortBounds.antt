@@ -1,55 +1,55 @@
--- The bound of what leaves by a port: the greatest of its classes.
+-- The delay bound of a port: the greatest bound of its classes.
 use Rattle.std.specs.Prelude.{◌≡◌, ℕ, ◌+◌, ◌-◌, max, nat_eq, Option, None, Some, MatchOption, List, fold, length, slice_get, if◌then◌else◌}
 use Rattle.bridge_config.specs.Model.{Plan}
 use Rattle.bridge_bounds.specs.Bounds.{HasNoBound, IsTightBound}
 
--- the greater of two bounds, of those that there are
-abbrev pub greater : Option ℕ → Option ℕ → Option ℕ
-greater None b = b
-greater (Some a) None = Some a
-greater (Some a) (Some b) = Some (max a b)
+-- The greater of two optional bounds; a missing bound counts as less.
+abbrev pub greater_bound : Option ℕ → Option ℕ → Option ℕ
+greater_bound None b = b
+greater_bound (Some a) None = Some a
+greater_bound (Some a) (Some b) = Some (max a b)
 
--- the greatest of some bounds, of those that there are
+-- The greatest of the bounds that are present; `None` if there is none.
 abbrev pub greatest_bound : List (Option ℕ) → Option ℕ
-greatest_bound bounds = fold greater None bounds
+greatest_bound bounds = fold greater_bound None bounds
 
--- the tight bound of a class of a port; none where no frame of a protected filter of the number comes to its queue
+-- Holds if `b` is the tight bound of class `c` at port `q`. `None` means that no frame of a protected filter `n` can enter the queue.
 abbrev pub IsClassBound : {A : Type 0} → Plan A → ℕ → ℕ → ℕ → Option ℕ → Type 0
 IsClassBound p n q c b = MatchOption b (HasNoBound p n q c) (IsTightBound p n q c)
 
--- so of each class from 0 on
-abbrev pub AreEach : {A : Type 0} → Plan A → ℕ → ℕ → List (Option ℕ) → Type 0
-AreEach p n q bounds = (c : ℕ) (b : Option ℕ) → slice_get bounds c ≡ Some b → IsClassBound p n q c b
+-- Holds if the list has the tight bound of each class, from 0.
+abbrev pub AreBoundsByClass : {A : Type 0} → Plan A → ℕ → ℕ → List (Option ℕ) → Type 0
+AreBoundsByClass p n q bounds = (c : ℕ) (b : Option ℕ) → slice_get bounds c ≡ Some b → IsClassBound p n q c b
 
--- the tight bounds of the first classes of a port
+-- Holds if the list has the tight bounds of the first `classes` classes of port `q`.
 pub record AreClassBounds {A : Type 0} (p : Plan A) (n q classes : ℕ) (bounds : List (Option ℕ)) : Type 0 where
   pub many : length bounds ≡ classes
-  pub each : AreEach p n q bounds
+  pub each : AreBoundsByClass p n q bounds
 
--- the greatest tight bound of the first classes of a port
-pub record IsGreatest {A : Type 0} (p : Plan A) (n q classes : ℕ) (bound : Option ℕ) : Type 0 where
+-- Holds if `bound` is the greatest tight bound of the first `classes` classes of port `q`.
+pub record IsGreatestBound {A : Type 0} (p : Plan A) (n q classes : ℕ) (bound : Option ℕ) : Type 0 where
   pub bounds : List (Option ℕ)
   pub are : AreClassBounds p n q classes bounds
   pub is : bound ≡ greatest_bound bounds
 
--- the bound of a port: the greatest tight bound of its eight classes, so that each copy that leaves by it is done so long after its frame came
+-- Holds if `bound` is the port's delay bound: the greatest tight bound of its eight classes. Each copy has left within this time of its frame's arrival.
 abbrev pub IsPortBound : {A : Type 0} → Plan A → ℕ → ℕ → Option ℕ → Type 0
-IsPortBound p n q bound = IsGreatest p n q 8 bound
+IsPortBound p n q bound = IsGreatestBound p n q 8 bound
 
--- so of each port from 1 on
-abbrev pub AreAll : {A : Type 0} → Plan A → ℕ → List (Option ℕ) → Type 0
-AreAll p n bounds = (i : ℕ) (b : Option ℕ) → slice_get bounds i ≡ Some b → IsPortBound p n (i + 1) b
+-- Holds if the list has the delay bound of each port, from 1.
+abbrev pub AreBoundsByPort : {A : Type 0} → Plan A → ℕ → List (Option ℕ) → Type 0
+AreBoundsByPort p n bounds = (i : ℕ) (b : Option ℕ) → slice_get bounds i ≡ Some b → IsPortBound p n (i + 1) b
 
--- the bounds of ports 1 to 16 for a filter
+-- Holds if the list has the delay bounds of ports 1 to 16 for filter `n`.
 pub record ArePortBounds {A : Type 0} (p : Plan A) (n : ℕ) (bounds : List (Option ℕ)) : Type 0 where
   pub many : length bounds ≡ 16
-  pub all : AreAll p n bounds
+  pub all : AreBoundsByPort p n bounds
 
--- a bound that may be there
-abbrev pub or_none : Option (Option ℕ) → Option ℕ
-or_none None = None
-or_none (Some b) = b
+-- The bound if an optional entry is present and has one, otherwise `None`.
+abbrev pub flatten_bound : Option (Option ℕ) → Option ℕ
+flatten_bound None = None
+flatten_bound (Some b) = b
 
--- the bound of a port, of bounds for the ports from 1 on
-abbrev pub bound_at : List (Option ℕ) → ℕ → Option ℕ
-bound_at bounds port = if nat_eq port 0 then None else or_none (slice_get bounds (port - 1))
+-- The bound of port `port`, from a list of bounds by port from 1.
+abbrev pub bound_by_port : List (Option ℕ) → ℕ → Option ℕ
+bound_by_port bounds port = if nat_eq port 0 then None else flatten_bound (slice_get bounds (port - 1))

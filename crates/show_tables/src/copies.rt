@@ -1,52 +1,53 @@
-//! The copies of the frames of a filter, by rising number of their frames.
+//! Copies of a filter's frames, sorted by frame number. The record lists copies in the order of the run, the table of frames by frame.
 ghost use Rattle.std.specs.Prelude.{◌≡◌, ℕ, IfOk};
 ghost use Rattle.std.specs.List.Sorted.{IsNonDecreasingBy};
-ghost use Rattle.show_tables.specs.Frames.{dropped_of, left_of};
+ghost use Rattle.show_tables.specs.FrameTable.{frame_drops, frame_departures};
 
 use bridge_limits::NoMemory;
 use bridge_semantics::{Departure, Dropped};
 use std::alloc::Allocator;
 
-/// The copies that left, by rising number of their frames.
+/// Returns the departures sorted by rising frame number. Departures of one frame keep their order.
 pub(crate) fn departures_by_frame<A: Allocator>(
     alloc: A,
     departures: &[Departure],
 ) -> Result<Vec<Departure, A>, NoMemory>
     ensures rising { IfOk result (λ sorted. IsNonDecreasingBy (λ (d : Departure). d.own) sorted.items) }
-    ensures same { (own : ℕ) → IfOk result (λ sorted. left_of own sorted.items ≡ left_of own departures.now) }
+    ensures same { (own : ℕ) → IfOk result (λ sorted. frame_departures own sorted.items
+        ≡ frame_departures own departures.now) }
 {
     let mut sorted = Vec::from_slice(alloc, departures)?;
     sorted.sort_by_key(|d| d.own)?;
     Ok(sorted)
 }
 
-/// The copies that were dropped, by rising number of their frames.
+/// Returns the drops sorted by rising frame number. Drops of one frame keep their order.
 pub(crate) fn drops_by_frame<A: Allocator>(
     alloc: A,
     drops: &[Dropped],
 ) -> Result<Vec<Dropped, A>, NoMemory>
     ensures rising { IfOk result (λ sorted. IsNonDecreasingBy (λ (d : Dropped). d.own) sorted.items) }
-    ensures same { (own : ℕ) → IfOk result (λ sorted. dropped_of own sorted.items ≡ dropped_of own drops.now) }
+    ensures same { (own : ℕ) → IfOk result (λ sorted. frame_drops own sorted.items ≡ frame_drops own drops.now) }
 {
     let mut sorted = Vec::from_slice(alloc, drops)?;
     sorted.sort_by_key(|d| d.own)?;
     Ok(sorted)
 }
 
-/// Those copies of a frame that left, of copies by rising number of their frames.
-pub(crate) fn departures_of(sorted: &[Departure], own: u64) -> &[Departure]
+/// Returns the departures of frame `own`. The list must rise by frame number, so a binary search finds them.
+pub(crate) fn frame_departures(sorted: &[Departure], own: u64) -> &[Departure]
     requires { IsNonDecreasingBy (λ (d : Departure). d.own) sorted.now }
-    ensures { result.now ≡ left_of own sorted.now }
+    ensures { result.now ≡ frame_departures own sorted.now }
 {
     let first = sorted.partition_point(|d| d.own < own);
     let end = sorted.partition_point(|d| d.own <= own);
     &sorted[first..end]
 }
 
-/// Those copies of a frame that were dropped, of copies by rising number of their frames.
-pub(crate) fn drops_of(sorted: &[Dropped], own: u64) -> &[Dropped]
+/// Returns the drops of frame `own`. The list must rise by frame number, so a binary search finds them.
+pub(crate) fn frame_drops(sorted: &[Dropped], own: u64) -> &[Dropped]
     requires { IsNonDecreasingBy (λ (d : Dropped). d.own) sorted.now }
-    ensures { result.now ≡ dropped_of own sorted.now }
+    ensures { result.now ≡ frame_drops own sorted.now }
 {
     let first = sorted.partition_point(|d| d.own < own);
     let end = sorted.partition_point(|d| d.own <= own);

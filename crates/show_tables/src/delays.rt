@@ -1,28 +1,26 @@
-//! The table of delays: how long the frames of each filter took that left by each port, and how many were lost.
+//! The table of delays: the delays of each filter's frames at each egress port, and its losses.
 ghost use Rattle.std.specs.Prelude.{IfOk, OnOk, List, ℕ, string_bytes};
 ghost use Rattle.bridge_text.specs.Growth.{HasGrown};
-ghost use Rattle.show_tables.specs.Delays as spec;
+ghost use Rattle.show_tables.specs.DelayTable as spec;
 
-use crate::bounds::{bound_at, port_bounds};
-use crate::figures::{delays_at, put_figures};
-use crate::losses::{full_at, never_at, put_losses};
-use crate::rows::put_field;
+use crate::delay_figures::{port_delays, put_figures};
+use crate::frame_rows::put_field;
+use crate::losses::{count_full_on_port, count_never_on_port, put_losses};
+use crate::port_bounds::{bound_by_port, port_bounds};
 use bridge_check::Accepted;
 use bridge_limits::NoMemory;
 use bridge_report::{count_full, count_never_fitting};
 use bridge_semantics::{Outcome, View};
-use bridge_text::Text;
+use bridge_text::TextBuilder;
 use std::alloc::Allocator;
 
-/// The first line of the table: the filter, the port out of which its frames left, how many copies left there, how long they
-/// took at least, in the mean (rounded down) and at most, how far these differ, and the bound of that port; then the
-/// filter's frames that were refused, by each reason, and the copies that were dropped at the port, at a full queue and
-/// since no moment fits them. Times in ns.
+/// Header line of the table: filter, egress port, departures and their delays, delay bound, refused frames by reason, and dropped copies by
+/// reason. The mean is rounded down. Times are in ns.
 pub const DELAYS_HEADER: &str =
     "filter,port,frames,least,mean,greatest,jitter,bound,blocked,oversize,gate-closed,shut-rx,shut-octets,octets-exceeded,red,yellow-dropped,full,never\n";
 
-/// Puts a bound, or an empty field.
-fn put_bound<A: Allocator>(text: &mut Text<A>, bound: Option<u64>)
+/// Writes the field of a bound; an empty field if there is none.
+fn put_bound<A: Allocator>(text: &mut TextBuilder<A>, bound: Option<u64>)
     ensures { HasGrown text.old (spec.bound_field bound) text.new }
 {
     match bound {
@@ -31,9 +29,9 @@ fn put_bound<A: Allocator>(text: &mut Text<A>, bound: Option<u64>)
     }
 }
 
-/// Puts the row of a filter and a port, of how long the copies took that left there.
-fn put_row<A: Allocator>(
-    text: &mut Text<A>,
+/// Writes the row of a filter at a port that sent copies.
+fn put_port_row<A: Allocator>(
+    text: &mut TextBuilder<A>,
     filter: u32,
     view: &View<A>,
     port: u8,
@@ -51,13 +49,13 @@ fn put_row<A: Allocator>(
     put_losses(
         text,
         &view.verdicts,
-        full_at(port, drops),
-        never_at(port, drops),
+        count_full_on_port(port, drops),
+        count_never_on_port(port, drops),
     );
 }
 
-/// Puts the row of a filter of which no copy left.
-fn put_unsent<A: Allocator>(text: &mut Text<A>, filter: u32, view: &View<A>)
+/// Writes the row of a filter whose frames left by no port: an empty port, 0 frames, no delays, and its losses.
+fn put_unsent_row<A: Allocator>(text: &mut TextBuilder<A>, filter: u32, view: &View<A>)
     ensures { HasGrown text.old (spec.unsent_row filter view.now) text.new }
 {
     put_field(text, u64::from(filter));
@@ -71,43 +69,50 @@ fn put_unsent<A: Allocator>(text: &mut Text<A>, filter: u32, view: &View<A>)
     );
 }
 
-/// Puts the row of a filter and a port, if copies left there.
-fn put_if<A: Allocator>(
-    text: &mut Text<A>,
+/// Writes the row of a filter at a port, if `delays` isn't empty.
+fn put_row_if_any<A: Allocator>(
+    text: &mut TextBuilder<A>,
     filter: u32,
     view: &View<A>,
     port: u8,
     bound: Option<u64>,
     delays: &[u64],
 )
-    ensures { HasGrown text.old (spec.row_if filter view.now port bound delays.now) text.new }
+    ensures { HasGrown text.old (spec.row_if_any filter view.now port bound delays.now) text.new }
 {
     if !delays.is_empty() {
-        put_row(text, filter, view, port, bound, delays);
+        put_port_row(text, filter, view, port, bound, delays);
     }
 }
 
-/// Puts the row of a filter at a port, if copies of its frames left there.
-fn put_port<A: Allocator + Copy>(
+/// Writes the row of a filter at a port, if copies of its frames left there.
+fn put_row_of_port<A: Allocator + Copy>(
     alloc: A,
-    text: &mut Text<A>,
+    text: &mut TextBuilder<A>,
     filter: u32,
     view: &View<A>,
     bounds: &[Option<u64>],
     port: u8,
 )
-    ensures { HasGrown text.old (spec.row_at filter view.now bounds.now port) text.new }
+    ensures { HasGrown text.old (spec.row_of_port filter view.now bounds.now port) text.new }
 {
-    match delays_at(alloc, &view.origins, port, &view.departures) {
-        Ok(delays) => put_if(text, filter, view, port, bound_at(bounds, port), &delays),
-        Err(_) => text.give_up(),
+    match port_delays(alloc, &view.origins, port, &view.departures) {
+        Ok(delays) => put_row_if_any(
+            text,
+            filter,
+            view,
+            port,
+            bound_by_port(bounds, port),
+            &delays,
+        ),
+        Err(_) => text.discard(),
     }
 }
 
-/// Puts the rows of a filter, by rising port.
-fn put_ports<A: Allocator + Copy>(
+/// Writes the rows of a filter, by rising port.
+fn put_port_rows<A: Allocator + Copy>(
     alloc: A,
-    text: &mut Text<A>,
+    text: &mut TextBuilder<A>,
     filter: u32,
     view: &View<A>,
     bounds: &[Option<u64>],
@@ -115,64 +120,64 @@ fn put_ports<A: Allocator + Copy>(
     ensures { HasGrown text.old (spec.port_rows filter view.now bounds.now) text.new }
 {
     for port in 1..17u8 {
-        put_port(alloc, text, filter, view, bounds, port);
+        put_row_of_port(alloc, text, filter, view, bounds, port);
     }
 }
 
-/// Puts the rows of a filter, or where no copy of its frames left the row that says so.
-fn put_rows<A: Allocator + Copy>(
+/// Writes the rows of a filter by port, or its row without departures.
+fn put_filter_rows<A: Allocator + Copy>(
     alloc: A,
-    text: &mut Text<A>,
+    text: &mut TextBuilder<A>,
     filter: u32,
     view: &View<A>,
     bounds: &[Option<u64>],
 )
-    ensures { HasGrown text.old (spec.or_unsent filter view.now (spec.port_rows filter view.now bounds.now)) text.new }
+    ensures { HasGrown text.old (spec.rows_or_unsent filter view.now (spec.port_rows filter view.now bounds.now))
+        text.new }
 {
     let before = text.len();
-    put_ports(alloc, text, filter, view, bounds);
+    put_port_rows(alloc, text, filter, view, bounds);
     if text.len() == before && !view.verdicts.is_empty() {
-        put_unsent(text, filter, view);
+        put_unsent_row(text, filter, view);
     }
 }
 
-/// Puts the rows of a filter, with the bounds of its ports.
-fn put_filter<A: Allocator + Copy>(
+/// Writes the rows of a filter to the table of delays. Computes the delay bounds of its ports first.
+fn put_filter_with_bounds<A: Allocator + Copy>(
     alloc: A,
     accepted: &Accepted<A>,
-    text: &mut Text<A>,
+    text: &mut TextBuilder<A>,
     filter: u32,
     view: &View<A>,
 ) -> Result<(), NoMemory>
-    ensures { OnOk result ((rows : List ℕ) × spec.AreRowsOf accepted.now filter view.now rows
+    ensures { OnOk result ((rows : List ℕ) × spec.AreFilterRows accepted.now filter view.now rows
         × HasGrown text.old rows text.new) }
 {
     let bounds = port_bounds(alloc, accepted, filter)?;
-    put_rows(alloc, text, filter, view, &bounds);
+    put_filter_rows(alloc, text, filter, view, &bounds);
     Ok(())
 }
 
-/// Puts the rows of some filters.
+/// Writes the rows of `filters`, in list order.
 fn put_filters<A: Allocator + Copy>(
     alloc: A,
     accepted: &Accepted<A>,
-    text: &mut Text<A>,
+    text: &mut TextBuilder<A>,
     filters: &[(u32, View<A>)],
 ) -> Result<(), NoMemory>
-    ensures { OnOk result ((rows : List ℕ) × spec.AreRows accepted.now filters.now rows
+    ensures { OnOk result ((rows : List ℕ) × spec.AreFiltersRows accepted.now filters.now rows
         × HasGrown text.old rows text.new) }
 {
     let mut left = filters;
     while let Some((first, rest)) = left.split_first() {
-        put_filter(alloc, accepted, text, first.0, &first.1)?;
+        put_filter_with_bounds(alloc, accepted, text, first.0, &first.1)?;
         left = rest;
     }
     Ok(())
 }
 
-/// The table of delays of a run under an accepted plan, as CSV: the line that names its columns, then for each filter, by
-/// rising number, a row for each port out of which its frames left, by rising port. A filter whose frames left nowhere has
-/// one row without a port and without times; one to which no frame came has none.
+/// Returns the table of delays as CSV: a header line, then rows by rising filter and egress port. A filter with frames but without
+/// departures has one row; a filter without frames has none.
 pub fn delay_table<A: Allocator + Copy>(
     alloc: A,
     accepted: &Accepted<A>,
@@ -180,8 +185,8 @@ pub fn delay_table<A: Allocator + Copy>(
 ) -> Result<String<A>, NoMemory>
     ensures { IfOk result (λ table. spec.IsDelayTable accepted.now outcome.now.filters.items (string_bytes table)) }
 {
-    let mut text = Text::new(alloc);
+    let mut text = TextBuilder::new(alloc);
     text.put(DELAYS_HEADER);
     put_filters(alloc, accepted, &mut text, &outcome.filters)?;
-    text.done()
+    text.finish()
 }

@@ -1,37 +1,37 @@
-//! The table of frames: what became of each frame of each filter, and of its copies.
+//! The table of frames: verdict of each frame, and fate of each copy.
 ghost use Rattle.std.specs.Prelude.{◌≡◌, IfOk, string_bytes};
 ghost use Rattle.bridge_text.specs.Growth.{HasGrown};
 ghost use Rattle.std.specs.List.Sorted.{IsNonDecreasingBy};
-ghost use Rattle.show_tables.specs.Frames as spec;
+ghost use Rattle.show_tables.specs.FrameTable as spec;
 
-use crate::copies::{departures_by_frame, departures_of, drops_by_frame, drops_of};
-use crate::rows::{FRAMES_HEADER, Frame, put_copies, put_lone};
+use crate::copies::{departures_by_frame, drops_by_frame, frame_departures, frame_drops};
+use crate::frame_rows::{FRAMES_HEADER, FilterFrame, put_copies, put_lone_row};
 use bridge_filter::Verdict;
 use bridge_limits::NoMemory;
 use bridge_semantics::{Departure, Dropped, Origin, Outcome, View};
-use bridge_text::Text;
+use bridge_text::TextBuilder;
 use std::alloc::Allocator;
 
-/// Puts the rows of a frame, of which these copies left and were dropped.
+/// Writes the rows of a frame. `departures` and `drops` are the frame's own; without both, the frame gets one row.
 fn put_frame<A: Allocator>(
-    text: &mut Text<A>,
-    frame: &Frame,
+    text: &mut TextBuilder<A>,
+    frame: &FilterFrame,
     departures: &[Departure],
     drops: &[Dropped],
 )
-    ensures { HasGrown text.old (spec.rows_of frame.now departures.now drops.now) text.new }
+    ensures { HasGrown text.old (spec.copies_or_lone_row frame.now departures.now drops.now) text.new }
 {
     let before = text.len();
     put_copies(text, frame, departures, drops);
     if text.len() == before {
-        put_lone(text, frame);
+        put_lone_row(text, frame);
     }
 }
 
-/// Puts the rows of a frame, of copies by rising number of their frames.
-fn put_own<A: Allocator>(
-    text: &mut Text<A>,
-    frame: &Frame,
+/// Writes the rows of a frame. `departures` and `drops` belong to all frames of its filter, and must rise by frame number.
+fn put_sorted_frame<A: Allocator>(
+    text: &mut TextBuilder<A>,
+    frame: &FilterFrame,
     departures: &[Departure],
     drops: &[Dropped],
 )
@@ -42,14 +42,14 @@ fn put_own<A: Allocator>(
     put_frame(
         text,
         frame,
-        departures_of(departures, frame.own),
-        drops_of(drops, frame.own),
+        frame_departures(departures, frame.own),
+        frame_drops(drops, frame.own),
     );
 }
 
-/// Puts the rows of the frames of a filter, which are numbered from 1, of copies by rising number of their frames.
+/// Writes the rows of a filter's frames, numbered from 1. Departures and drops must rise by frame number.
 fn put_frames<A: Allocator>(
-    text: &mut Text<A>,
+    text: &mut TextBuilder<A>,
     filter: u32,
     origins: &[Origin],
     verdicts: &[Verdict],
@@ -58,7 +58,7 @@ fn put_frames<A: Allocator>(
 )
     requires departures { IsNonDecreasingBy (λ (d : Departure). d.own) departures.now }
     requires drops { IsNonDecreasingBy (λ (d : Dropped). d.own) drops.now }
-    ensures { HasGrown text.old (spec.rows_from filter departures.now drops.now 1 origins.now verdicts.now) text.new }
+    ensures { HasGrown text.old (spec.frames_rows filter departures.now drops.now 1 origins.now verdicts.now) text.new }
 {
     let mut came = origins;
     let mut judged = verdicts;
@@ -67,29 +67,34 @@ fn put_frames<A: Allocator>(
         let Some((verdict, rest)) = judged.split_first() else {
             return;
         };
-        let frame = Frame {
+        let frame = FilterFrame {
             filter,
             own,
             origin: *origin,
             verdict: *verdict,
         };
-        put_own(text, &frame, departures, drops);
+        put_sorted_frame(text, &frame, departures, drops);
         own += 1;
         came = behind;
         judged = rest;
     }
 }
 
-/// Puts the rows of a filter.
-fn put_filter<A: Allocator + Copy>(alloc: A, text: &mut Text<A>, filter: u32, view: &View<A>)
+/// Writes the rows of a filter's frames. If memory runs out while copies are sorted, the whole text is discarded.
+fn put_filter_frames<A: Allocator + Copy>(
+    alloc: A,
+    text: &mut TextBuilder<A>,
+    filter: u32,
+    view: &View<A>,
+)
     ensures { HasGrown text.old (spec.filter_rows filter view.now) text.new }
 {
     let Ok(departures) = departures_by_frame(alloc, &view.departures) else {
-        text.give_up();
+        text.discard();
         return;
     };
     let Ok(drops) = drops_by_frame(alloc, &view.drops) else {
-        text.give_up();
+        text.discard();
         return;
     };
     put_frames(
@@ -102,19 +107,18 @@ fn put_filter<A: Allocator + Copy>(alloc: A, text: &mut Text<A>, filter: u32, vi
     );
 }
 
-/// The table of frames of a run, as CSV: the line that names its columns, then for each filter, by rising number, each of
-/// its frames in the order in which they came, with a row for each copy, by rising port: of one that left when it started
-/// and was done, and its delay; of one that was dropped why. A frame without copies has one row.
+/// Returns the table of frames as CSV: a header line, then rows by filter, frame and port. A departure has start, end and delay, a drop has
+/// its reason. A frame without copies has one row.
 pub fn frame_table<A: Allocator + Copy>(
     alloc: A,
     outcome: &Outcome<A>,
 ) -> Result<String<A>, NoMemory>
     ensures { IfOk result (λ table. string_bytes table ≡ spec.frame_table outcome.now.filters.items) }
 {
-    let mut text = Text::new(alloc);
+    let mut text = TextBuilder::new(alloc);
     text.put(FRAMES_HEADER);
     for (filter, view) in &outcome.filters {
-        put_filter(alloc, &mut text, *filter, view);
+        put_filter_frames(alloc, &mut text, *filter, view);
     }
-    text.done()
+    text.finish()
 }

@@ -1,15 +1,15 @@
 #![tactic(auto)]
-//! Tables of a run of one bridge: what became of each frame, and how long the frames of each filter took.
+//! Writes tables of a run of one bridge: each frame's fate, and the delays of each filter's frames.
 
-mod bounds;
 mod copies;
+mod delay_figures;
 mod delays;
-mod figures;
+mod frame_rows;
 mod frames;
 mod losses;
-mod rows;
+mod port_bounds;
 
 pub use bridge_limits::NoMemory;
-pub use delays::{DELAYS_HEADER, delay_table};
+pub use delays::delay_table;
+pub use frame_rows::FRAMES_HEADER;
 pub use frames::frame_table;
-pub use rows::FRAMES_HEADER;

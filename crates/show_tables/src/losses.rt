@@ -1,21 +1,21 @@
-//! How many frames of a filter were refused, and how many copies of them were dropped.
+//! Counts a filter's refused frames and dropped copies, and writes their fields.
 ghost use Rattle.std.specs.Prelude.{◌≡◌};
 ghost use Rattle.bridge_text.specs.Growth.{HasGrown};
 ghost use Rattle.bridge_report.specs.Losses.{refused_for};
-ghost use Rattle.show_tables.specs.Frames.{field};
+ghost use Rattle.show_tables.specs.FrameTable.{field};
 ghost use Rattle.show_tables.specs.Losses as spec;
 
-use crate::rows::{put_field, put_last};
+use crate::frame_rows::{put_field, put_last_field};
 use bridge_filter::Verdict;
 use bridge_port::Refusal;
 use bridge_report::{Reason, count_refused};
 use bridge_semantics::Dropped;
-use bridge_text::Text;
+use bridge_text::TextBuilder;
 use std::alloc::Allocator;
 
-/// How many copies were dropped at a port since their queues were full.
-pub(crate) fn full_at(port: u8, drops: &[Dropped]) -> usize
-    ensures { result ≡ spec.full_at port drops.now }
+/// Returns how many copies `port` dropped because their queues were full.
+pub(crate) fn count_full_on_port(port: u8, drops: &[Dropped]) -> usize
+    ensures { result ≡ spec.count_full_on_port port drops.now }
 {
     drops
         .iter()
@@ -23,9 +23,9 @@ pub(crate) fn full_at(port: u8, drops: &[Dropped]) -> usize
         .count()
 }
 
-/// How many copies were dropped at a port since no moment fits them.
-pub(crate) fn never_at(port: u8, drops: &[Dropped]) -> usize
-    ensures { result ≡ spec.never_at port drops.now }
+/// Returns how many copies `port` dropped because they fit no window.
+pub(crate) fn count_never_on_port(port: u8, drops: &[Dropped]) -> usize
+    ensures { result ≡ spec.count_never_on_port port drops.now }
 {
     drops
         .iter()
@@ -33,51 +33,51 @@ pub(crate) fn never_at(port: u8, drops: &[Dropped]) -> usize
         .count()
 }
 
-/// Puts how many frames were refused for a reason.
-fn put_refused<A: Allocator>(text: &mut Text<A>, reason: Reason, verdicts: &[Verdict])
+/// Writes the field with the number of frames refused for `reason`.
+fn put_refused_count<A: Allocator>(text: &mut TextBuilder<A>, reason: Reason, verdicts: &[Verdict])
     ensures { HasGrown text.old (field (refused_for reason verdicts.now)) text.new }
 {
     put_field(text, count_refused(reason, verdicts));
 }
 
-/// Puts how many frames the filter itself refused, by each reason.
-fn put_filter<A: Allocator>(text: &mut Text<A>, verdicts: &[Verdict])
+/// Writes the fields of frames that the filter itself refused, by reason.
+fn put_filter_losses<A: Allocator>(text: &mut TextBuilder<A>, verdicts: &[Verdict])
     ensures { HasGrown text.old (spec.filter_fields verdicts.now) text.new }
 {
-    put_refused(text, Reason::Blocked, verdicts);
-    put_refused(text, Reason::Oversize, verdicts);
+    put_refused_count(text, Reason::Blocked, verdicts);
+    put_refused_count(text, Reason::Oversize, verdicts);
 }
 
-/// Puts how many frames the gate refused, by each reason.
-fn put_gate<A: Allocator>(text: &mut Text<A>, verdicts: &[Verdict])
+/// Writes the fields of frames that the stream gate refused, by reason.
+fn put_gate_losses<A: Allocator>(text: &mut TextBuilder<A>, verdicts: &[Verdict])
     ensures { HasGrown text.old (spec.gate_fields verdicts.now) text.new }
 {
-    put_refused(text, Reason::GateClosed, verdicts);
-    put_refused(text, Reason::ShutByRx, verdicts);
-    put_refused(text, Reason::ShutByOctets, verdicts);
-    put_refused(text, Reason::OctetsExceeded, verdicts);
+    put_refused_count(text, Reason::GateClosed, verdicts);
+    put_refused_count(text, Reason::ShutByRx, verdicts);
+    put_refused_count(text, Reason::ShutByOctets, verdicts);
+    put_refused_count(text, Reason::OctetsExceeded, verdicts);
 }
 
-/// Puts how many frames the meter discarded, by each reason.
-fn put_meter<A: Allocator>(text: &mut Text<A>, verdicts: &[Verdict])
+/// Writes the fields of frames that the meter discarded, by reason.
+fn put_meter_losses<A: Allocator>(text: &mut TextBuilder<A>, verdicts: &[Verdict])
     ensures { HasGrown text.old (spec.meter_fields verdicts.now) text.new }
 {
-    put_refused(text, Reason::Red, verdicts);
-    put_refused(text, Reason::YellowDropped, verdicts);
+    put_refused_count(text, Reason::Red, verdicts);
+    put_refused_count(text, Reason::YellowDropped, verdicts);
 }
 
-/// Puts the end of a row: how many frames were refused and how many copies dropped.
+/// Writes the end of a row: fields of refused frames and dropped copies.
 pub(crate) fn put_losses<A: Allocator>(
-    text: &mut Text<A>,
+    text: &mut TextBuilder<A>,
     verdicts: &[Verdict],
     full: usize,
     never: usize,
 )
     ensures { HasGrown text.old (spec.loss_fields verdicts.now full never) text.new }
 {
-    put_filter(text, verdicts);
-    put_gate(text, verdicts);
-    put_meter(text, verdicts);
+    put_filter_losses(text, verdicts);
+    put_gate_losses(text, verdicts);
+    put_meter_losses(text, verdicts);
     put_field(text, full as u64);
-    put_last(text, never as u64);
+    put_last_field(text, never as u64);
 }

@@ -1,45 +1,49 @@
-//! A heap that counts.
-use fixture_alloc::RefusesOne;
+//! A heap that counts allocations and octets.
+use fixture_bridge::RefusesOne;
 use linked_list_allocator::LocalHeap;
 use std::alloc::{AllocError, Allocator, Global};
 use std::process::Abort;
 
-/// A heap of its own, which counts growths and says how much of it is in use.
+/// A separate heap that counts allocations and octets in use.
 pub(crate) type Counting = RefusesOne<LocalHeap>;
 
-/// More growths than any test asks for.
+/// Number of an allocation that no test reaches.
 pub(crate) const NEVER: u64 = 1_000_000;
 
-/// The octets of a heap.
+/// Size of a heap in octets.
 const ROOM: usize = 262_144;
 
-/// What a heap tells: the growths until the one that it refuses, and the octets in use.
+/// Account of a heap: number of allocations up to the refused one, and octets in use.
 #[derive(Clone, Copy, PartialEq, Eq)]
 pub(crate) struct Account {
     pub(crate) left: u64,
     pub(crate) used: usize,
 }
 
-/// A heap that refuses growth number `n`, from 1.
-pub(crate) fn counting(alloc: Global, n: u64) -> Result<Counting, AllocError> {
+/// Returns a heap that refuses allocation number `n`, from 1.
+pub(crate) fn counting_heap(alloc: Global, n: u64) -> Result<Counting, AllocError> {
     Ok(RefusesOne::new(LocalHeap::new(alloc, ROOM)?, n))
 }
 
-/// An allocator that tells what was asked of it.
-pub(crate) trait Tells {
-    /// What it tells now.
+/// An allocator with an account.
+pub(crate) trait HasAccount {
+    /// Returns the account.
     fn account(&self) -> Account;
 }
 
-/// Tests that nothing was asked of an allocator since it told this.
-pub(crate) fn is_untouched<H: Allocator + Copy + Tells>(rt: &impl Abort, heap: H, told: Account) {
+/// Tests that an allocator's account still equals `told`.
+pub(crate) fn is_untouched<H: Allocator + Copy + HasAccount>(
+    rt: &impl Abort,
+    heap: H,
+    told: Account,
+) {
     assert!(rt; heap.account() == told);
 }
 
-impl Tells for &Counting {
+impl HasAccount for &Counting {
     fn account(&self) -> Account {
         Account {
-            left: self.left(),
+            left: self.growths_left(),
             used: self.inner().used(),
         }
     }

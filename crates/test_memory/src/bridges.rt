@@ -1,20 +1,20 @@
-//! Bridges: what their calls take, and what is given back.
+//! Tests the memory that the calls of a bridge allocate and free.
 ghost use Rattle.std.specs.Prelude.{◌≡◌};
-ghost use Rattle.bridge_core.specs.Bridges.{plan_in};
+ghost use Rattle.bridge_core.specs.Bridges.{bridge_plan};
 
-use crate::account::{NEVER, Tells, is_untouched};
+use crate::account::{HasAccount, NEVER, is_untouched};
 use crate::parts;
 use bridge_capture::Packet;
 use bridge_check::{Accepted, check};
 use bridge_config::Command;
 use bridge_core::{Agenda, Bridge, Outcome, RowAgenda, TreeAgenda};
 use bridge_filter::Clear;
-use fixture_bridge::{Frame, bring, come, hand, obey, same};
+use fixture_bridge::{Frame, bring_frame, bring_or_fail, hand, run_command, test_same};
 use std::alloc::{Allocator, Global};
 use std::process::Abort;
 use std::test::Fail;
 
-/// A frame of VLAN 10 from port 1 to the listener behind port 3.
+/// A frame of VLAN 10 from port 1, which leaves by port 3.
 const TO_ONE: Frame = (
     100_000,
     60,
@@ -23,7 +23,7 @@ const TO_ONE: Frame = (
     ],
 );
 
-/// The same, a millisecond later.
+/// A frame like `TO_ONE`, one millisecond later.
 const LATER: Frame = (
     1_100_000,
     60,
@@ -32,7 +32,7 @@ const LATER: Frame = (
     ],
 );
 
-/// A frame of VLAN 10 from port 1 to the ports 2 and 3.
+/// A frame of VLAN 10 from port 1, which leaves by ports 2 and 3.
 const TO_TWO: Frame = (
     100_000,
     60,
@@ -41,17 +41,17 @@ const TO_TWO: Frame = (
     ],
 );
 
-/// The plan of these tests, where it is accepted.
-fn accepted_in<A: Allocator + Copy>(heap: A, document: Global) -> Option<Accepted<A>> {
-    match parts::plan_in(heap, document) {
+/// Returns the accepted plan of these tests, or `None` if memory ran out.
+fn accepted_plan<A: Allocator + Copy>(heap: A, document: Global) -> Option<Accepted<A>> {
+    match parts::make_plan(heap, document) {
         Ok(plan) => check(heap, plan).ok(),
         Err(_) => None,
     }
 }
 
-/// Makes the starts that are due, and gives how many.
+/// Makes the due starts, and returns their number.
 fn send<G: Agenda + Drop, A: Allocator + Copy>(bridge: &mut Bridge<'_, G, A>) -> u64
-    ensures plan { plan_in bridge.new ≡ plan_in bridge.old }
+    ensures plan { bridge_plan bridge.new ≡ bridge_plan bridge.old }
 {
     let mut starts: u64 = 0;
     while bridge.due().is_some() {
@@ -61,13 +61,13 @@ fn send<G: Agenda + Drop, A: Allocator + Copy>(bridge: &mut Bridge<'_, G, A>) ->
     starts
 }
 
-/// What leaves gives its octets back.
-fn leave_first<G: Agenda + Drop, H: Allocator + Copy + Tells>(
+/// Tests that a sent frame frees its octets, without an allocation.
+fn leave_first<G: Agenda + Drop, H: Allocator + Copy + HasAccount>(
     rt: &impl Abort,
     heap: H,
     bridge: &mut Bridge<'_, G, H>,
 )
-    ensures plan { plan_in bridge.new ≡ plan_in bridge.old }
+    ensures plan { bridge_plan bridge.new ≡ bridge_plan bridge.old }
 {
     let came = heap.account();
     let is_due = bridge.due() == Some((3, 100_000));
@@ -76,37 +76,36 @@ fn leave_first<G: Agenda + Drop, H: Allocator + Copy + Tells>(
     assert!(rt; is_due & (starts == 1) & (sent.left == came.left) & (sent.used < came.used));
 }
 
-/// A frame that goes to one port takes its octets and what the lists of its filter grow by, and what leaves gives its octets
-/// back.
-fn come_first<G: Agenda + Drop, H: Allocator + Copy + Tells>(
+/// Tests that a frame to one port makes five allocations, for its octets and the lists of its filter, and frees its octets when sent.
+fn come_first<G: Agenda + Drop, H: Allocator + Copy + HasAccount>(
     rt: &impl Abort,
     heap: H,
     accepted: &Accepted<H>,
     bridge: &mut Bridge<'_, G, H>,
 ) -> Result<(), Fail>
-    requires plan { plan_in bridge.old ≡ accepted.now }
-    ensures plan { plan_in bridge.new ≡ plan_in bridge.old }
+    requires plan { bridge_plan bridge.old ≡ accepted.now }
+    ensures plan { bridge_plan bridge.new ≡ bridge_plan bridge.old }
 {
     let made = heap.account();
-    come(heap, accepted, bridge, 1, TO_ONE)?;
+    bring_or_fail(heap, accepted, bridge, 1, TO_ONE)?;
     assert!(rt; made.left.saturating_sub(heap.account().left) == 5);
     leave_first(rt, heap, bridge);
     Ok(())
 }
 
-/// A command takes no memory, and a second frame takes its octets alone.
-fn come_second<G: Agenda + Drop, H: Allocator + Copy + Tells>(
+/// Tests that a command allocates nothing, and that a second frame only allocates its octets.
+fn come_second<G: Agenda + Drop, H: Allocator + Copy + HasAccount>(
     rt: &impl Abort,
     heap: H,
     accepted: &Accepted<H>,
     bridge: &mut Bridge<'_, G, H>,
 ) -> Result<(), Fail>
-    requires plan { plan_in bridge.old ≡ accepted.now }
+    requires plan { bridge_plan bridge.old ≡ accepted.now }
 {
     let sent = heap.account();
-    obey(accepted, bridge, &UNBLOCK)?;
+    run_command(accepted, bridge, &UNBLOCK)?;
     let obeyed = heap.account();
-    come(heap, accepted, bridge, 1, LATER)?;
+    bring_or_fail(heap, accepted, bridge, 1, LATER)?;
     let came = heap.account();
     let starts = send(bridge);
     let is_so = (obeyed == sent)
@@ -123,8 +122,8 @@ const UNBLOCK: Command = Command {
     number: 10,
 };
 
-/// Nothing has come to a bridge, and to ask it takes no memory.
-fn is_idle<G: Agenda + Drop, H: Allocator + Copy + Tells>(
+/// Tests that no frame has arrived, and that asking a bridge allocates nothing.
+fn is_idle<G: Agenda + Drop, H: Allocator + Copy + HasAccount>(
     rt: &impl Abort,
     heap: H,
     bridge: &Bridge<'_, G, H>,
@@ -138,22 +137,22 @@ fn is_idle<G: Agenda + Drop, H: Allocator + Copy + Tells>(
     is_untouched(rt, heap, made);
 }
 
-/// Drives a bridge; no other call takes memory.
-fn use_bridge<G: Agenda + Drop, H: Allocator + Copy + Tells>(
+/// Drives a bridge, and tests its allocations.
+fn use_bridge<G: Agenda + Drop, H: Allocator + Copy + HasAccount>(
     rt: &impl Abort,
     heap: H,
     accepted: &Accepted<H>,
     bridge: &mut Bridge<'_, G, H>,
 ) -> Result<(), Fail>
-    requires plan { plan_in bridge.old ≡ accepted.now }
+    requires plan { bridge_plan bridge.old ≡ accepted.now }
 {
     is_idle(rt, heap, bridge);
     come_first(rt, heap, accepted, bridge)?;
     come_second(rt, heap, accepted, bridge)
 }
 
-/// Ends a bridge without a growth.
-fn end<G: Agenda + Drop, H: Allocator + Copy + Tells>(
+/// Ends a bridge without allocation.
+fn end<G: Agenda + Drop, H: Allocator + Copy + HasAccount>(
     rt: &impl Abort,
     heap: H,
     bridge: Bridge<'_, G, H>,
@@ -171,8 +170,8 @@ fn end<G: Agenda + Drop, H: Allocator + Copy + Tells>(
     }
 }
 
-/// Tests what a bridge tells at its end, which took no growth.
-fn has_ended<H: Allocator + Copy + Tells>(
+/// Tests the result of a bridge, which must have made no allocation.
+fn has_ended<H: Allocator + Copy + HasAccount>(
     rt: &impl Abort,
     heap: H,
     left: u64,
@@ -183,8 +182,8 @@ fn has_ended<H: Allocator + Copy + Tells>(
     assert!(rt; is_so);
 }
 
-/// Drives a bridge over an agenda.
-fn takes_no_memory<G: Agenda + Drop, H: Allocator + Copy + Tells>(
+/// Drives and ends a bridge with the agenda `G`, and tests its allocations.
+fn takes_no_memory<G: Agenda + Drop, H: Allocator + Copy + HasAccount>(
     rt: &impl Abort,
     heap: H,
     accepted: &Accepted<H>,
@@ -201,8 +200,8 @@ fn takes_no_memory<G: Agenda + Drop, H: Allocator + Copy + Tells>(
     }
 }
 
-/// Drives a bridge of an accepted plan over each agenda, which gives all back.
-fn give_all_back<H: Allocator + Copy + Tells>(
+/// Drives a bridge of an accepted plan with each agenda, and tests that it frees all its memory.
+fn give_all_back<H: Allocator + Copy + HasAccount>(
     rt: &impl Abort,
     heap: H,
     accepted: &Accepted<H>,
@@ -216,13 +215,13 @@ fn give_all_back<H: Allocator + Copy + Tells>(
     Ok(())
 }
 
-/// Drives a bridge over each agenda, which gives all back.
-pub(crate) fn gives_all_back<H: Allocator + Copy + Tells>(
+/// Drives a bridge with each agenda, and tests that it frees all its memory.
+pub(crate) fn gives_all_back<H: Allocator + Copy + HasAccount>(
     rt: &impl Abort,
     heap: H,
     document: Global,
 ) -> Result<(), Fail> {
-    let Some(accepted) = accepted_in(heap, document) else {
+    let Some(accepted) = accepted_plan(heap, document) else {
         return Err(Fail::from("the plan was refused"));
     };
     let given = give_all_back(rt, heap, &accepted);
@@ -231,7 +230,7 @@ pub(crate) fn gives_all_back<H: Allocator + Copy + Tells>(
 }
 
 /// Whether a bridge of an accepted plan can be made.
-fn is_bridge_of<G: Agenda + Drop, A: Allocator + Copy>(heap: A, accepted: &Accepted<A>) -> bool {
+fn can_make_bridge<G: Agenda + Drop, A: Allocator + Copy>(heap: A, accepted: &Accepted<A>) -> bool {
     match Bridge::<G, A>::new(heap, accepted) {
         Ok(bridge) => {
             drop(bridge);
@@ -241,14 +240,14 @@ fn is_bridge_of<G: Agenda + Drop, A: Allocator + Copy>(heap: A, accepted: &Accep
     }
 }
 
-/// Whether a bridge over an agenda can be made.
+/// Whether a plan and a bridge with the agenda `G` can be made.
 pub(crate) fn is_bridge_made<G: Agenda + Drop, A: Allocator + Copy>(
     heap: A,
     document: Global,
 ) -> bool {
-    match accepted_in(heap, document) {
+    match accepted_plan(heap, document) {
         Some(accepted) => {
-            let is_made = is_bridge_of::<G, A>(heap, &accepted);
+            let is_made = can_make_bridge::<G, A>(heap, &accepted);
             drop(accepted);
             is_made
         }
@@ -256,19 +255,22 @@ pub(crate) fn is_bridge_made<G: Agenda + Drop, A: Allocator + Copy>(
     }
 }
 
-/// Whether a frame comes to a bridge that goes to two ports.
+/// Whether a bridge accepts a frame that leaves by two ports.
 fn is_frame_taken<G: Agenda + Drop, A: Allocator + Copy>(
     heap: A,
     accepted: &Accepted<A>,
     bridge: &mut Bridge<'_, G, A>,
 ) -> bool
-    requires plan { plan_in bridge.old ≡ accepted.now }
+    requires plan { bridge_plan bridge.old ≡ accepted.now }
 {
-    bring(heap, accepted, bridge, 1, TO_TWO).is_ok()
+    bring_frame(heap, accepted, bridge, 1, TO_TWO).is_ok()
 }
 
-/// Whether a bridge is made, and a frame comes to it that goes to two ports.
-fn is_relayed_by<G: Agenda + Drop, A: Allocator + Copy>(heap: A, accepted: &Accepted<A>) -> bool {
+/// Whether a bridge can be made and accepts a frame that leaves by two ports.
+fn is_relayed_by_bridge<G: Agenda + Drop, A: Allocator + Copy>(
+    heap: A,
+    accepted: &Accepted<A>,
+) -> bool {
     match Bridge::<G, A>::new(heap, accepted) {
         Ok(mut bridge) => {
             let is_taken = is_frame_taken(heap, accepted, &mut bridge);
@@ -279,14 +281,14 @@ fn is_relayed_by<G: Agenda + Drop, A: Allocator + Copy>(heap: A, accepted: &Acce
     }
 }
 
-/// Whether a plan is made, and a frame comes to a bridge of it that goes to two ports.
+/// Whether a plan and its bridge can be made, and the bridge accepts a frame that leaves by two ports.
 pub(crate) fn is_frame_relayed<G: Agenda + Drop, A: Allocator + Copy>(
     heap: A,
     document: Global,
 ) -> bool {
-    match accepted_in(heap, document) {
+    match accepted_plan(heap, document) {
         Some(accepted) => {
-            let is_relayed = is_relayed_by::<G, A>(heap, &accepted);
+            let is_relayed = is_relayed_by_bridge::<G, A>(heap, &accepted);
             drop(accepted);
             is_relayed
         }
@@ -294,7 +296,7 @@ pub(crate) fn is_frame_relayed<G: Agenda + Drop, A: Allocator + Copy>(
     }
 }
 
-/// The frame that goes to two ports, where there is memory for it.
+/// Returns the frame that leaves by two ports, or `None` if memory ran out.
 fn packet_to_two<A: Allocator + Copy>(heap: A) -> Option<Packet<A>> {
     let (time, len, captured) = TO_TWO;
     match Vec::from_slice(heap, captured) {
@@ -303,41 +305,41 @@ fn packet_to_two<A: Allocator + Copy>(heap: A) -> Option<Packet<A>> {
     }
 }
 
-/// Tests that a frame came back as it was, and that a bridge is as if it had not come.
-fn is_as_before<G: Agenda + Drop, A: Allocator + Copy>(
+/// Tests that a returned frame is unchanged, and that the bridge has no arrival and no due start.
+fn is_unchanged<G: Agenda + Drop, A: Allocator + Copy>(
     bridge: &Bridge<'_, G, A>,
     back: &Packet<A>,
 ) -> Result<(), Fail> {
     let (time, len, captured) = TO_TWO;
-    same(
+    test_same(
         &(back.time, back.len),
         &(time, len),
         "the frame that came back",
     )?;
-    same(&back.octets.as_slice(), &captured, "its octets")?;
-    same(
+    test_same(&back.octets.as_slice(), &captured, "its octets")?;
+    test_same(
         &(bridge.due(), bridge.arrived(), bridge.earliest()),
         &(None, 0, 0),
         "the start that is due, the frames that came, and the moment of the next frame",
     )
 }
 
-/// Hands a frame to a bridge, and again where it comes back and is to; says whether it came back.
-fn comes_back<G: Agenda + Drop, A: Allocator + Copy>(
+/// Hands a frame to a bridge, and once more if the frame is returned and `again` is true. Returns whether it was returned.
+fn hand_frame<G: Agenda + Drop, A: Allocator + Copy>(
     accepted: &Accepted<A>,
     bridge: &mut Bridge<'_, G, A>,
     packet: Packet<A>,
     again: bool,
 ) -> Result<bool, Fail>
-    requires plan { plan_in bridge.old ≡ accepted.now }
+    requires plan { bridge_plan bridge.old ≡ accepted.now }
 {
     let back = match hand(accepted, bridge, 1, packet) {
         Ok(Ok(())) => return Ok(false),
         Ok(Err(back)) => back,
         Err(why) => return Err(Fail::from(why)),
     };
-    match is_as_before(bridge, &back) {
-        Ok(()) => comes_again(accepted, bridge, back, again),
+    match is_unchanged(bridge, &back) {
+        Ok(()) => hand_frame_again(accepted, bridge, back, again),
         Err(fail) => {
             drop(back);
             Err(fail)
@@ -345,14 +347,14 @@ fn comes_back<G: Agenda + Drop, A: Allocator + Copy>(
     }
 }
 
-/// Hands a frame that came back to a bridge again, if it is to come again.
-fn comes_again<G: Agenda + Drop, A: Allocator + Copy>(
+/// Hands a returned frame to a bridge once more, if `again` is true.
+fn hand_frame_again<G: Agenda + Drop, A: Allocator + Copy>(
     accepted: &Accepted<A>,
     bridge: &mut Bridge<'_, G, A>,
     back: Packet<A>,
     again: bool,
 ) -> Result<bool, Fail>
-    requires plan { plan_in bridge.old ≡ accepted.now }
+    requires plan { bridge_plan bridge.old ≡ accepted.now }
 {
     if !again {
         drop(back);
@@ -368,8 +370,8 @@ fn comes_again<G: Agenda + Drop, A: Allocator + Copy>(
     }
 }
 
-/// Tests what a run tells of so many frames to two ports, 0 or 1.
-fn tells_of<A: Allocator + Copy>(outcome: &Outcome<A>, frames: u64) -> Result<(), Fail> {
+/// Tests the result of a run over `frames` frames to two ports, 0 or 1.
+fn test_outcome<A: Allocator + Copy>(outcome: &Outcome<A>, frames: u64) -> Result<(), Fail> {
     let [own, others] = outcome.filters.as_slice() else {
         return Err(Fail::from("other filters"));
     };
@@ -380,7 +382,7 @@ fn tells_of<A: Allocator + Copy>(outcome: &Outcome<A>, frames: u64) -> Result<()
         others.1.verdicts.len() as u64,
         others.1.departures.len() as u64,
     );
-    same(
+    test_same(
         &told,
         &(0, frames, frames, copies),
         "frames of filter 10, frames, verdicts and departures of filter 99",
@@ -394,11 +396,11 @@ fn tells_of<A: Allocator + Copy>(outcome: &Outcome<A>, frames: u64) -> Result<()
             other.saturating_add(count.dropped),
         ];
     }
-    same(&sums, &[frames, copies, 0], "counts of the ports")
+    test_same(&sums, &[frames, copies, 0], "counts of the ports")
 }
 
-/// Makes all starts of a bridge, ends it, and tests what it tells of so many frames.
-fn ends_with<G: Agenda + Drop, A: Allocator + Copy>(
+/// Makes all starts of a bridge, ends it, and tests its result for `frames` frames.
+fn test_ending<G: Agenda + Drop, A: Allocator + Copy>(
     mut bridge: Bridge<'_, G, A>,
     frames: u64,
 ) -> Result<(), Fail> {
@@ -408,27 +410,26 @@ fn ends_with<G: Agenda + Drop, A: Allocator + Copy>(
             drop(bridge);
             Err(Fail::from("a start that is still due"))
         }
-        None => ended_with(bridge.finish(), starts, frames),
+        None => test_starts_and_outcome(bridge.finish(), starts, frames),
     }
 }
 
-/// Tests how many starts a run had, and what it tells, of so many frames.
-fn ended_with<A: Allocator + Copy>(
+/// Tests the number of starts and the result of a run over `frames` frames.
+fn test_starts_and_outcome<A: Allocator + Copy>(
     outcome: Outcome<A>,
     starts: u64,
     frames: u64,
 ) -> Result<(), Fail> {
-    let told = match same(&starts, &frames.saturating_mul(2), "starts") {
-        Ok(()) => tells_of(&outcome, frames),
+    let told = match test_same(&starts, &frames.saturating_mul(2), "starts") {
+        Ok(()) => test_outcome(&outcome, frames),
         Err(fail) => Err(fail),
     };
     drop(outcome);
     told
 }
 
-/// Tests a bridge to which a frame comes that goes to two ports, and comes again where it comes back and is to; says whether
-/// it came back.
-fn takes_back<G: Agenda + Drop, A: Allocator + Copy>(
+/// Makes a frame and a bridge, hands the frame over, and tests the bridge. Returns whether the frame was returned.
+fn test_returned_frame<G: Agenda + Drop, A: Allocator + Copy>(
     heap: A,
     accepted: &Accepted<A>,
     again: bool,
@@ -437,7 +438,7 @@ fn takes_back<G: Agenda + Drop, A: Allocator + Copy>(
         return Ok(false);
     };
     match Bridge::<G, A>::new(heap, accepted) {
-        Ok(bridge) => takes_back_of(accepted, bridge, packet, again),
+        Ok(bridge) => test_returned_packet(accepted, bridge, packet, again),
         Err(_) => {
             drop(packet);
             Ok(false)
@@ -445,17 +446,17 @@ fn takes_back<G: Agenda + Drop, A: Allocator + Copy>(
     }
 }
 
-/// Tests a bridge to which a frame comes, and again where it comes back and is to; says whether it came back.
-fn takes_back_of<G: Agenda + Drop, A: Allocator + Copy>(
+/// Hands a frame to a new bridge, and tests the bridge until its end. Returns whether the frame was returned.
+fn test_returned_packet<G: Agenda + Drop, A: Allocator + Copy>(
     accepted: &Accepted<A>,
     mut bridge: Bridge<'_, G, A>,
     packet: Packet<A>,
     again: bool,
 ) -> Result<bool, Fail>
-    requires plan { plan_in bridge ≡ accepted.now }
+    requires plan { bridge_plan bridge ≡ accepted.now }
 {
-    match comes_back(accepted, &mut bridge, packet, again) {
-        Ok(back) => match ends_with(bridge, if back && !again { 0 } else { 1 }) {
+    match hand_frame(accepted, &mut bridge, packet, again) {
+        Ok(back) => match test_ending(bridge, if back && !again { 0 } else { 1 }) {
             Ok(()) => Ok(back),
             Err(fail) => Err(fail),
         },
@@ -466,20 +467,20 @@ fn takes_back_of<G: Agenda + Drop, A: Allocator + Copy>(
     }
 }
 
-/// Tests the same over each agenda, where a plan can be made; says whether the frame came back.
+/// Tests a returned frame with the agenda that `over_tree` selects. Returns whether the frame was returned.
 pub(crate) fn is_frame_back<A: Allocator + Copy>(
     heap: A,
     document: Global,
     again: bool,
     over_tree: bool,
 ) -> Result<bool, Fail> {
-    let Some(accepted) = accepted_in(heap, document) else {
+    let Some(accepted) = accepted_plan(heap, document) else {
         return Ok(false);
     };
     let back = if over_tree {
-        takes_back::<TreeAgenda, A>(heap, &accepted, again)
+        test_returned_frame::<TreeAgenda, A>(heap, &accepted, again)
     } else {
-        takes_back::<RowAgenda, A>(heap, &accepted, again)
+        test_returned_frame::<RowAgenda, A>(heap, &accepted, again)
     };
     drop(accepted);
     back

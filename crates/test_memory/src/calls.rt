@@ -1,9 +1,10 @@
-//! Calls that take no memory and give none back.
+//! Tests calls that neither allocate nor free memory.
 ghost use Rattle.std.specs.Prelude.{◌<◌, ◌≤◌};
 
-use crate::account::{Account, NEVER, Tells, is_untouched};
+use crate::account::{Account, HasAccount, NEVER, is_untouched};
 use crate::parts::{
-    LISTENER, METER, TALKER, database_of, ident_of, list_of, plan_in, port_of, window_of,
+    LISTENER, METER, TALKER, make_database, make_ident, make_list, make_plan, make_port,
+    make_window_gate,
 };
 use bridge_check::{Accepted, check};
 use bridge_config::Plan;
@@ -21,23 +22,23 @@ use std::alloc::{AllocError, Allocator, Global};
 use std::process::Abort;
 use std::test::Fail;
 
-/// What was made took some memory.
-fn begins(rt: &impl Abort, made: Account) {
+/// Tests that making a part allocated memory.
+fn has_memory_in_use(rt: &impl Abort, made: Account) {
     assert!(rt; made.left < NEVER && made.used > 0);
 }
 
-/// Turns, fits and runs of a list.
+/// Tests intervals and fits of a list.
 fn ask_list<A: Allocator + Copy>(rt: &impl Abort, list: &CyclicList<u8, A>) {
     let is_so = (list.turn(600_000).end == 1_000_000)
         & (list.base() == 0)
         & (list.cycle() == 1_000_000)
         & (list.entries().len() == 2)
-        & (fit_of(rt, list, 7, 672, 499_329) == 1_000_000);
+        & (first_fit_time(rt, list, 7, 672, 499_329) == 1_000_000);
     assert!(rt; is_so);
 }
 
-/// The first fit of a class that is open for `occ` ns or more, and not always.
-fn fit_of<A: Allocator + Copy>(
+/// Returns the first time at which `class` is open for `occ` ns. The class must not always be open.
+fn first_fit_time<A: Allocator + Copy>(
     rt: &impl Abort,
     list: &CyclicList<u8, A>,
     class: u8,
@@ -55,31 +56,31 @@ fn fit_of<A: Allocator + Copy>(
     first_fit(list, class, occ, from)
 }
 
-/// Makes a list and asks it.
-pub(crate) fn use_list<H: Allocator + Copy + Tells>(
+/// Makes a list, and tests that asking it allocates nothing.
+pub(crate) fn use_list<H: Allocator + Copy + HasAccount>(
     rt: &impl Abort,
     heap: H,
 ) -> Result<(), ListFault> {
-    let list = list_of(heap)?;
+    let list = make_list(heap)?;
     let made = heap.account();
-    begins(rt, made);
+    has_memory_in_use(rt, made);
     ask_list(rt, &list);
     is_untouched(rt, heap, made);
     drop(list);
     Ok(())
 }
 
-/// Turns and fits of lists that are exchanged at 2,000,000.
+/// Tests intervals and fits of lists with a schedule change at 2,000,000 ns.
 fn ask_joined<A: Allocator + Copy>(rt: &impl Abort, joined: &Joined<u8, A>) {
     let is_so = (joined.turn(1_700_000).end == 2_000_000)
-        & (joined.at() == 2_000_000)
+        & (joined.change_time() == 2_000_000)
         & (joined.cycle() == 1_000_000)
-        & (fit_of_both(rt, joined, 7, 672, 1_499_329) == 2_000_000);
+        & (first_joint_fit(rt, joined, 7, 672, 1_499_329) == 2_000_000);
     assert!(rt; is_so);
 }
 
-/// The first fit of a class that both lists open for `occ` ns or more.
-fn fit_of_both<A: Allocator + Copy>(
+/// Returns the first time at which `class` is open for `occ` ns. Both lists must open it long enough.
+fn first_joint_fit<A: Allocator + Copy>(
     rt: &impl Abort,
     joined: &Joined<u8, A>,
     class: u8,
@@ -98,15 +99,15 @@ fn fit_of_both<A: Allocator + Copy>(
     first_fit(joined, class, occ, from)
 }
 
-/// Makes two lists that are exchanged at a moment, and asks them.
-pub(crate) fn use_joined<H: Allocator + Copy + Tells>(
+/// Makes two lists with a schedule change, and tests that asking them allocates nothing.
+pub(crate) fn use_joined<H: Allocator + Copy + HasAccount>(
     rt: &impl Abort,
     heap: H,
 ) -> Result<(), ListFault> {
-    let old = list_of(heap)?;
-    let new = list_of(heap)?;
+    let old = make_list(heap)?;
+    let new = make_list(heap)?;
     let made = heap.account();
-    begins(rt, made);
+    has_memory_in_use(rt, made);
     let joined = Joined::new(old, new, 2_000_000);
     ask_joined(rt, &joined);
     is_untouched(rt, heap, made);
@@ -114,7 +115,7 @@ pub(crate) fn use_joined<H: Allocator + Copy + Tells>(
     Ok(())
 }
 
-/// Frames at an open and at a closed gate, and each clear.
+/// Tests frames at an open and at a closed gate, and clears its flags.
 fn ask_gate<A: Allocator + Copy>(rt: &impl Abort, gate: &mut StreamGate<A>) {
     assert!(rt; gate.earliest() == 0);
     let is_so = (gate.ask(299_999, 64) == Through(Some(7)))
@@ -128,15 +129,15 @@ fn ask_gate<A: Allocator + Copy>(rt: &impl Abort, gate: &mut StreamGate<A>) {
     assert!(rt; is_so);
 }
 
-/// Makes a gate and asks it.
-pub(crate) fn use_gate<H: Allocator + Copy + Tells>(
+/// Makes a stream gate, and tests that asking it allocates nothing.
+pub(crate) fn use_gate<H: Allocator + Copy + HasAccount>(
     rt: &impl Abort,
     heap: H,
 ) -> Result<(), NoMemory> {
-    let plan = window_of(heap)?;
+    let plan = make_window_gate(heap)?;
     let made = heap.account();
-    begins(rt, made);
-    assert!(rt; plan.schedule.has_priorities());
+    has_memory_in_use(rt, made);
+    assert!(rt; plan.schedule.has_valid_priorities());
     assert!(rt; plan.schedule.turn(0).end == 300_000);
     let mut gate = StreamGate::new(plan);
     ask_gate(rt, &mut gate);
@@ -145,13 +146,13 @@ pub(crate) fn use_gate<H: Allocator + Copy + Tells>(
     Ok(())
 }
 
-/// The colour of a frame.
+/// Tests the colour of a frame.
 fn is_coloured(rt: &impl Abort, meter: &mut Meter, wanted: Colour) {
     assert!(rt; meter.state().at == 0);
     assert!(rt; meter.colour(0, 64, false) == wanted);
 }
 
-/// A meter has no allocator; that it takes no memory is shown by those of a police.
+/// Tests the colours of a meter. A meter has no allocator; the tests of stream filters show that it allocates nothing.
 #[test]
 fn a_meter_colours(rt: HostRuntime) {
     assert!(rt; METER.is_within_limits());
@@ -161,7 +162,7 @@ fn a_meter_colours(rt: HostRuntime) {
     meter.clear_red();
 }
 
-/// A frame to the listener with a tag.
+/// Returns the head of a tagged frame to the listener.
 fn head() -> Head {
     Head {
         da: LISTENER,
@@ -182,14 +183,14 @@ fn ask_ident<A: Allocator + Copy>(rt: &impl Abort, table: &Ident<A>) {
     assert!(rt; is_so);
 }
 
-/// Makes a table of streams and asks it.
-pub(crate) fn use_ident<H: Allocator + Copy + Tells>(
+/// Makes a table of streams, and tests that asking it allocates nothing.
+pub(crate) fn use_ident<H: Allocator + Copy + HasAccount>(
     rt: &impl Abort,
     heap: H,
 ) -> Result<(), AllocError> {
-    let table = ident_of(heap)?;
+    let table = make_ident(heap)?;
     let made = heap.account();
-    begins(rt, made);
+    has_memory_in_use(rt, made);
     ask_ident(rt, &table);
     is_untouched(rt, heap, made);
     drop(table);
@@ -205,21 +206,21 @@ fn ask_database<A: Allocator + Copy>(rt: &impl Abort, database: &Forwarding<A>) 
     assert!(rt; is_so);
 }
 
-/// Makes the tables of addresses and asks them.
-pub(crate) fn use_database<H: Allocator + Copy + Tells>(
+/// Makes the filtering database, and tests that asking it allocates nothing.
+pub(crate) fn use_database<H: Allocator + Copy + HasAccount>(
     rt: &impl Abort,
     heap: H,
 ) -> Result<(), bridge_forward::NoMemory> {
-    let database = database_of(heap)?;
+    let database = make_database(heap)?;
     let made = heap.account();
-    begins(rt, made);
+    has_memory_in_use(rt, made);
     ask_database(rt, &database);
     is_untouched(rt, heap, made);
     drop(database);
     Ok(())
 }
 
-/// Offers a frame of class 7 at the least moment at which one may come, and says whether it is taken.
+/// Offers a frame of class 7 at the earliest possible time, and returns whether it is queued.
 fn offer<A: Allocator + Copy>(rt: &impl Abort, port: &mut Port<u32, A>) -> bool {
     let t = port.earliest();
     assert!(rt; t < 4_000_000_000_000_000_000);
@@ -227,7 +228,7 @@ fn offer<A: Allocator + Copy>(rt: &impl Abort, port: &mut Port<u32, A>) -> bool 
     port.offer(t, 7, Item { len: 60, load: 1 }).is_ok()
 }
 
-/// Makes the next start, if there is one, and gives its moment.
+/// Makes the next start, and returns its time, or `None` if no frame waits.
 fn start<A: Allocator + Copy>(port: &mut Port<u32, A>) -> Option<u64> {
     match port.next_start() {
         Some(moment) => {
@@ -239,7 +240,7 @@ fn start<A: Allocator + Copy>(port: &mut Port<u32, A>) -> Option<u64> {
 }
 
 fn use_port<A: Allocator + Copy>(rt: &impl Abort, port: &mut Port<u32, A>) {
-    // The second offer is refused, since the queue is full.
+    // The queue is full, so it drops the frame of the second offer.
     let is_so = (start(port) == None)
         & offer(rt, port)
         & !offer(rt, port)
@@ -251,21 +252,21 @@ fn use_port<A: Allocator + Copy>(rt: &impl Abort, port: &mut Port<u32, A>) {
     assert!(rt; is_so);
 }
 
-/// Makes a port and uses it.
-pub(crate) fn have_port<H: Allocator + Copy + Tells>(
+/// Makes a port, and tests that using it allocates nothing.
+pub(crate) fn have_port<H: Allocator + Copy + HasAccount>(
     rt: &impl Abort,
     heap: H,
 ) -> Result<(), NoMemory> {
-    let mut port = port_of(heap)?;
+    let mut port = make_port(heap)?;
     let made = heap.account();
-    begins(rt, made);
+    has_memory_in_use(rt, made);
     use_port(rt, &mut port);
     is_untouched(rt, heap, made);
     drop(port);
     Ok(())
 }
 
-/// The readers of gates, meters and filters.
+/// Tests the lengths of a plan's gates, meters and filters.
 fn read_sections<A: Allocator + Copy>(rt: &impl Abort, plan: &Plan<A>) {
     let are_so = (plan.gates().len() == 2)
         & (plan.meters().len() == 1)
@@ -273,7 +274,7 @@ fn read_sections<A: Allocator + Copy>(rt: &impl Abort, plan: &Plan<A>) {
     assert!(rt; are_so);
 }
 
-/// Each reader of a plan.
+/// Tests each reader of a plan.
 fn read_plan<A: Allocator + Copy>(rt: &impl Abort, plan: &Plan<A>) {
     let are_so = (plan.ports().len() == 3)
         & plan.port(3).is_some()
@@ -286,8 +287,8 @@ fn read_plan<A: Allocator + Copy>(rt: &impl Abort, plan: &Plan<A>) {
     read_sections(rt, plan);
 }
 
-/// An accepted plan that is read takes no memory, and what its check took was given back.
-fn use_accepted<H: Allocator + Copy + Tells>(
+/// Tests that reading an accepted plan allocates nothing, and that the check freed its memory.
+fn use_accepted<H: Allocator + Copy + HasAccount>(
     rt: &impl Abort,
     heap: H,
     accepted: &Accepted<H>,
@@ -302,15 +303,15 @@ fn use_accepted<H: Allocator + Copy + Tells>(
     is_untouched(rt, heap, checked);
 }
 
-/// A plan that is read takes no memory, and what its check took is given back.
-pub(crate) fn use_plan<H: Allocator + Copy + Tells>(
+/// Tests that reading a plan allocates nothing, and that its check frees its memory.
+pub(crate) fn use_plan<H: Allocator + Copy + HasAccount>(
     rt: &impl Abort,
     heap: H,
     document: Global,
 ) -> Result<(), Fail> {
-    let plan = plan_in(heap, document)?;
+    let plan = make_plan(heap, document)?;
     let made = heap.account();
-    begins(rt, made);
+    has_memory_in_use(rt, made);
     read_plan(rt, &plan);
     is_untouched(rt, heap, made);
     match check(heap, plan) {

@@ -1,12 +1,12 @@
-//! What is made in an allocator lies there, whichever allocator its parts have.
-use crate::account::{Account, NEVER, Tells, counting};
-use crate::parts::{HALVES, list_of, plan_in, window_of};
+//! Tests that values are allocated by the allocator of their call, independently of the allocator of their parts.
+use crate::account::{Account, HasAccount, NEVER, counting_heap};
+use crate::parts::{HALVES, make_list, make_plan, make_window_gate};
 use bridge_cycle::CyclicList;
 use std::alloc::{Allocator, Global};
 use std::process::Abort;
 use std::test::Fail;
 
-/// What is made of something that lies in another heap.
+/// Kinds of values that are made from a value in another heap.
 #[derive(Clone, Copy, Debug)]
 enum Made {
     List,
@@ -24,7 +24,7 @@ const MADE: [Made; 5] = [
     Made::PortNumbers,
 ];
 
-/// What the first heap tells before and after something of it is made in the second one, and the octets of that.
+/// Accounts of the first heap before and after a value is made in the second heap, and the value's octets.
 #[derive(Clone, Copy)]
 struct Making {
     before: Account,
@@ -32,7 +32,7 @@ struct Making {
     made: usize,
 }
 
-fn made_in<H: Allocator + Copy + Tells>(from: H, to: H, before: Account) -> Making {
+fn new_making<H: Allocator + Copy + HasAccount>(from: H, to: H, before: Account) -> Making {
     Making {
         before,
         after: from.account(),
@@ -40,8 +40,8 @@ fn made_in<H: Allocator + Copy + Tells>(from: H, to: H, before: Account) -> Maki
     }
 }
 
-/// What the heaps tell, where something was made, which is let go.
-fn making_of<T: Drop, E>(made: Result<T, E>, making: Making) -> Result<Making, E> {
+/// Drops the value, and returns the accounts if the value was made.
+fn finish_making<T: Drop, E>(made: Result<T, E>, making: Making) -> Result<Making, E> {
     match made {
         Ok(made) => {
             drop(made);
@@ -51,56 +51,56 @@ fn making_of<T: Drop, E>(made: Result<T, E>, making: Making) -> Result<Making, E
     }
 }
 
-fn new_list<H: Allocator + Copy + Tells>(from: H, to: H) -> Result<Making, Fail> {
+fn new_list<H: Allocator + Copy + HasAccount>(from: H, to: H) -> Result<Making, Fail> {
     let entries = Vec::from_slice(from, &HALVES)?;
     let before = from.account();
     let list = CyclicList::new(to, 0, 1_000_000, entries)?;
-    let making = made_in(from, to, before);
+    let making = new_making(from, to, before);
     drop(list);
     Ok(making)
 }
 
-fn list_copy<H: Allocator + Copy + Tells>(from: H, to: H) -> Result<Making, Fail> {
-    let list = list_of(from)?;
+fn list_copy<H: Allocator + Copy + HasAccount>(from: H, to: H) -> Result<Making, Fail> {
+    let list = make_list(from)?;
     let before = from.account();
     let copied = list.copy(to);
-    let making = made_in(from, to, before);
+    let making = new_making(from, to, before);
     drop(list);
-    Ok(making_of(copied, making)?)
+    Ok(finish_making(copied, making)?)
 }
 
-fn schedule_copy<H: Allocator + Copy + Tells>(from: H, to: H) -> Result<Making, Fail> {
-    let plan = window_of(from)?;
+fn schedule_copy<H: Allocator + Copy + HasAccount>(from: H, to: H) -> Result<Making, Fail> {
+    let plan = make_window_gate(from)?;
     let before = from.account();
     let copied = plan.schedule.copy(to);
-    let making = made_in(from, to, before);
+    let making = new_making(from, to, before);
     drop(plan);
-    Ok(making_of(copied, making)?)
+    Ok(finish_making(copied, making)?)
 }
 
-fn gate_plan_copy<H: Allocator + Copy + Tells>(from: H, to: H) -> Result<Making, Fail> {
-    let plan = window_of(from)?;
+fn gate_plan_copy<H: Allocator + Copy + HasAccount>(from: H, to: H) -> Result<Making, Fail> {
+    let plan = make_window_gate(from)?;
     let before = from.account();
     let copied = plan.copy(to);
-    let making = made_in(from, to, before);
+    let making = new_making(from, to, before);
     drop(plan);
-    Ok(making_of(copied, making)?)
+    Ok(finish_making(copied, making)?)
 }
 
-fn port_numbers<H: Allocator + Copy + Tells>(
+fn port_numbers<H: Allocator + Copy + HasAccount>(
     from: H,
     to: H,
     document: Global,
 ) -> Result<Making, Fail> {
-    let plan = plan_in(from, document)?;
+    let plan = make_plan(from, document)?;
     let before = from.account();
     let numbers = plan.port_numbers(to);
-    let making = made_in(from, to, before);
+    let making = new_making(from, to, before);
     drop(plan);
-    Ok(making_of(numbers, making)?)
+    Ok(finish_making(numbers, making)?)
 }
 
-fn make<H: Allocator + Copy + Tells>(
+fn make<H: Allocator + Copy + HasAccount>(
     made: Made,
     from: H,
     to: H,
@@ -115,10 +115,10 @@ fn make<H: Allocator + Copy + Tells>(
     }
 }
 
-/// Makes something in a heap of its own, of what lies in another one.
+/// Makes a value in a separate heap from a value in another heap, and tests the accounts.
 fn lies_apart(rt: &impl Abort, document: Global, made: Made) -> Result<(), Fail> {
-    let from = counting(document, NEVER)?;
-    let to = counting(document, NEVER)?;
+    let from = counting_heap(document, NEVER)?;
+    let to = counting_heap(document, NEVER)?;
     let making = make(made, &from, &to, document)?;
     let is_so = (making.after == making.before)
         & (making.made > 0)

@@ -1,5 +1,5 @@
 #![tactic(auto)]
-//! What memory the bridge and its parts take and give back, counted, as tests on their public calls.
+//! Tests the memory that public calls of the bridge and its parts allocate and free.
 
 #[cfg(test)]
 mod account;

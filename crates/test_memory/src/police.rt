@@ -1,9 +1,9 @@
-//! A police takes no memory and gives none back.
+//! Tests that stream filters neither allocate nor free memory.
 ghost use Rattle.std.specs.Prelude.{◌≡◌, IsTrue};
-ghost use Rattle.bridge_filter.specs.Plans.{is_there, KeepsNumbers};
+ghost use Rattle.bridge_filter.specs.Plans.{is_listed, KeepsNumbers};
 
-use crate::account::{NEVER, Tells, is_untouched};
-use crate::parts::police_of;
+use crate::account::{HasAccount, NEVER, is_untouched};
+use crate::parts::make_police;
 use bridge_filter::Verdict::{
     Blocked, GateClosed, OctetsExceeded, Oversize, Pass, Red, ShutByOctets, ShutByRx,
 };
@@ -11,7 +11,7 @@ use bridge_filter::{Clear, Flags, NoMemory, Police, Ruling, Verdict};
 use std::alloc::Allocator;
 use std::process::Abort;
 
-/// Let through by the gate, and yellow.
+/// Passed by the gate, and coloured yellow.
 const YELLOW: Verdict = Pass {
     ipv: Some(7),
     eligible: true,
@@ -24,7 +24,7 @@ const NO_FLAGS: Flags = Flags {
     red: false,
 };
 
-/// Tests that filter 10 rules a frame with this verdict.
+/// Tests that filter 10 gives a frame this verdict.
 fn is_ruled(rt: &impl Abort, ruling: Option<Ruling>, verdict: Verdict, t: u64) {
     let wanted = Ruling {
         filter: 10,
@@ -33,7 +33,7 @@ fn is_ruled(rt: &impl Abort, ruling: Option<Ruling>, verdict: Verdict, t: u64) {
     assert!(rt; ruling == Some(wanted), "the frame at {t}");
 }
 
-/// Gives the police frames of the stream, each with its moment and its octets, and compares the verdicts.
+/// Judges frames of the stream, each with its time and octets, and tests the verdicts.
 fn verdicts<A: Allocator + Copy>(
     rt: &impl Abort,
     police: &mut Police<A>,
@@ -53,9 +53,9 @@ fn verdicts<A: Allocator + Copy>(
 
 /// Clears each flag.
 fn clear_all<A: Allocator + Copy>(police: &mut Police<A>)
-    requires filter { IsTrue (is_there 10 police.old.filters) }
-    requires gate { IsTrue (is_there 1 police.old.gates) }
-    requires meter { IsTrue (is_there 5 police.old.meters) }
+    requires filter { IsTrue (is_listed 10 police.old.filters) }
+    requires gate { IsTrue (is_listed 1 police.old.gates) }
+    requires meter { IsTrue (is_listed 5 police.old.meters) }
     ensures filters { police.new.filters ≡ police.old.filters }
 {
     police.clear(Clear::Blocked, 10);
@@ -64,16 +64,16 @@ fn clear_all<A: Allocator + Copy>(police: &mut Police<A>)
     police.clear(Clear::Red, 5);
 }
 
-/// What is shown of filter 10.
+/// Tests flags, counters and buckets of filter 10.
 fn show<A: Allocator + Copy>(rt: &impl Abort, police: &Police<A>, wanted: Flags, frames: u64)
-    requires { IsTrue (is_there 10 police.now.filters) }
+    requires { IsTrue (is_listed 10 police.now.filters) }
 {
     let is_so = (police.flags(10) == wanted)
         & (police.counters(10).matching == frames)
         & police.buckets(10).is_some()
         & (police.calls() == frames)
-        & (police.filter_of(Some(1), 0) == Some(10))
-        & (police.filter_of(None, 0) == None);
+        & (police.filter_number(Some(1), 0) == Some(10))
+        & (police.filter_number(None, 0) == None);
     assert!(rt; is_so);
 }
 
@@ -99,11 +99,11 @@ const SECOND: [(u64, u32, Verdict); 3] = [
     (1_030_000, 44, ShutByOctets),
 ];
 
-/// Frames, and each clear.
+/// Judges frames, and clears each flag in between.
 fn ask_police<A: Allocator + Copy>(rt: &impl Abort, police: &mut Police<A>)
-    requires filter { IsTrue (is_there 10 police.old.filters) }
-    requires gate { IsTrue (is_there 1 police.old.gates) }
-    requires meter { IsTrue (is_there 5 police.old.meters) }
+    requires filter { IsTrue (is_listed 10 police.old.filters) }
+    requires gate { IsTrue (is_listed 1 police.old.gates) }
+    requires meter { IsTrue (is_listed 5 police.old.meters) }
 {
     verdicts(rt, police, &FIRST);
     show(rt, police, FLAGS, 6);
@@ -112,12 +112,12 @@ fn ask_police<A: Allocator + Copy>(rt: &impl Abort, police: &mut Police<A>)
     verdicts(rt, police, &SECOND);
 }
 
-/// Makes a police and asks it.
-pub(crate) fn use_police<H: Allocator + Copy + Tells>(
+/// Makes stream filters, and tests that asking them allocates nothing.
+pub(crate) fn use_police<H: Allocator + Copy + HasAccount>(
     rt: &impl Abort,
     heap: H,
 ) -> Result<(), NoMemory> {
-    let mut police = police_of(heap)?;
+    let mut police = make_police(heap)?;
     let made = heap.account();
     assert!(rt; made.left < NEVER && made.used > 0);
     ask_police(rt, &mut police);

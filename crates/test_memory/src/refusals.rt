@@ -1,8 +1,9 @@
-//! Where something can't be made, all that was handed in is given back.
-use crate::account::counting;
+//! Tests that a refused allocation frees all arguments of its call.
+use crate::account::counting_heap;
 use crate::bridges::{is_bridge_made, is_frame_back, is_frame_relayed};
 use crate::parts::{
-    database_of, ident_of, list_of, plan_in, police_of, port_of, window_of, wrong_list,
+    make_database, make_ident, make_list, make_plan, make_police, make_port, make_window_gate,
+    wrong_list,
 };
 use bridge_check::check;
 use bridge_core::{RowAgenda, TreeAgenda};
@@ -10,7 +11,7 @@ use std::alloc::{Allocator, Global};
 use std::process::Abort;
 use std::test::Fail;
 
-/// What is made, of parts that are made before it.
+/// Kinds of values that are made from other values.
 #[derive(Clone, Copy, Debug)]
 enum Made {
     List,
@@ -44,13 +45,13 @@ const MADE: [Made; 13] = [
     Made::Relayed,
 ];
 
-/// Whether something was made, which is let go.
+/// Whether a value was made. The value is dropped.
 fn was_made<T: Drop, E: Drop>(made: Result<T, E>) -> bool {
     made.is_ok()
 }
 
 fn makes_list<A: Allocator + Copy>(heap: A) -> bool {
-    was_made(list_of(heap))
+    was_made(make_list(heap))
 }
 
 fn makes_wrong_list<A: Allocator + Copy>(heap: A) -> bool {
@@ -58,7 +59,7 @@ fn makes_wrong_list<A: Allocator + Copy>(heap: A) -> bool {
 }
 
 fn copies_list<A: Allocator + Copy>(heap: A) -> bool {
-    match list_of(heap) {
+    match make_list(heap) {
         Ok(list) => {
             let copied = list.copy(heap);
             drop(list);
@@ -69,7 +70,7 @@ fn copies_list<A: Allocator + Copy>(heap: A) -> bool {
 }
 
 fn copies_gate_plan<A: Allocator + Copy>(heap: A) -> bool {
-    match window_of(heap) {
+    match make_window_gate(heap) {
         Ok(plan) => {
             let copied = plan.copy(heap);
             drop(plan);
@@ -80,33 +81,33 @@ fn copies_gate_plan<A: Allocator + Copy>(heap: A) -> bool {
 }
 
 fn makes_ident<A: Allocator + Copy>(heap: A) -> bool {
-    was_made(ident_of(heap))
+    was_made(make_ident(heap))
 }
 
 fn makes_database<A: Allocator + Copy>(heap: A) -> bool {
-    was_made(database_of(heap))
+    was_made(make_database(heap))
 }
 
 fn makes_police<A: Allocator + Copy>(heap: A) -> bool {
-    was_made(police_of(heap))
+    was_made(make_police(heap))
 }
 
 fn makes_port<A: Allocator + Copy>(heap: A) -> bool {
-    was_made(port_of(heap))
+    was_made(make_port(heap))
 }
 
 fn makes_plan<A: Allocator + Copy>(heap: A, document: Global) -> bool {
-    was_made(plan_in(heap, document))
+    was_made(make_plan(heap, document))
 }
 
 fn accepts<A: Allocator + Copy>(heap: A, document: Global) -> bool {
-    match plan_in(heap, document) {
+    match make_plan(heap, document) {
         Ok(plan) => was_made(check(heap, plan)),
         Err(_) => false,
     }
 }
 
-/// Whether something can be made. It is dropped then, each in a function of its own.
+/// Whether a value can be made. Each value is dropped in a function of its own.
 fn is_made<A: Allocator + Copy>(made: Made, heap: A, document: Global) -> bool {
     match made {
         Made::List => makes_list(heap),
@@ -125,12 +126,11 @@ fn is_made<A: Allocator + Copy>(made: Made, heap: A, document: Global) -> bool {
     }
 }
 
-/// Tests something where growth number `n` is refused, and that nothing is in use afterwards; says whether that growth was
-/// asked for.
+/// Makes a value with allocation `n` refused, and tests that no memory stays in use. Returns whether the allocation was requested.
 fn is_refused(rt: &impl Abort, document: Global, made: Made, n: u64) -> Result<bool, Fail> {
-    let heap = counting(document, n)?;
+    let heap = counting_heap(document, n)?;
     let is_made = is_made(made, &heap, document);
-    let is_refused = heap.refused();
+    let is_refused = heap.has_refused();
     let used = heap.inner().used();
     drop(heap);
     let wanted = !is_refused && made != Made::WrongList;
@@ -138,7 +138,7 @@ fn is_refused(rt: &impl Abort, document: Global, made: Made, n: u64) -> Result<b
     Ok(is_refused)
 }
 
-/// Refuses each growth in turn, and sees that nothing is in use afterwards.
+/// Refuses each allocation in turn, and tests that no memory stays in use.
 fn refuse_each(rt: &impl Abort, document: Global, made: Made) -> Result<(), Fail> {
     for n in 1..1_000 {
         if !is_refused(rt, document, made, n)? {
@@ -157,13 +157,13 @@ fn what_is_refused_gives_all_back(rt: HostRuntime) -> Result<(), Fail> {
     Ok(())
 }
 
-/// Refuses each growth in turn, and counts how often a frame came back to be handed in again, or not.
-fn backs_of(document: Global, again: bool, over_tree: bool) -> Result<u32, Fail> {
+/// Refuses each allocation in turn, and returns how often a bridge returned the frame.
+fn count_returned_frames(document: Global, again: bool, over_tree: bool) -> Result<u32, Fail> {
     let mut backs = 0u32;
     for n in 1..1_000 {
-        let heap = counting(document, n)?;
+        let heap = counting_heap(document, n)?;
         let back = is_frame_back(&heap, document, again, over_tree);
-        let is_refused = heap.refused();
+        let is_refused = heap.has_refused();
         drop(heap);
         if back? {
             backs = backs.saturating_add(1);
@@ -175,12 +175,12 @@ fn backs_of(document: Global, again: bool, over_tree: bool) -> Result<u32, Fail>
     Err(Fail::from("some growth was always refused"))
 }
 
-/// A frame for which there is no memory comes back, the bridge is as before, and the frame can be handed in again.
+/// Tests that a bridge without memory returns the frame unchanged, and can accept it later.
 #[test]
 fn a_frame_comes_back_where_memory_runs_out(rt: HostRuntime) -> Result<(), Fail> {
     for over_tree in [false, true] {
-        assert!(rt; backs_of(rt.alloc(), false, over_tree)? > 3);
-        assert!(rt; backs_of(rt.alloc(), true, over_tree)? > 3);
+        assert!(rt; count_returned_frames(rt.alloc(), false, over_tree)? > 3);
+        assert!(rt; count_returned_frames(rt.alloc(), true, over_tree)? > 3);
     }
     Ok(())
 }

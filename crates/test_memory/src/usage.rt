@@ -1,5 +1,5 @@
-//! What is made in a heap that counts, and used there.
-use crate::account::{NEVER, Tells, counting};
+//! Makes values in a counting heap, and tests their use.
+use crate::account::{HasAccount, NEVER, counting_heap};
 use crate::bridges::gives_all_back;
 use crate::calls::{have_port, use_database, use_gate, use_ident, use_joined, use_list, use_plan};
 use crate::police::use_police;
@@ -7,7 +7,7 @@ use std::alloc::{Allocator, Global};
 use std::process::Abort;
 use std::test::Fail;
 
-/// What takes no memory once it is made.
+/// Kinds of values whose use is tested.
 #[derive(Clone, Copy)]
 enum Made {
     List,
@@ -21,37 +21,37 @@ enum Made {
     Bridge,
 }
 
-/// Makes something and uses it.
-fn use_made<H: Allocator + Copy + Tells>(
+/// Makes a value, and tests its use.
+fn use_made<H: Allocator + Copy + HasAccount>(
     rt: &impl Abort,
     heap: H,
     document: Global,
     made: Made,
 ) -> Result<(), Fail> {
     match made {
-        Made::List => done(use_list(rt, heap)),
-        Made::Change => done(use_joined(rt, heap)),
-        Made::Gate => done(use_gate(rt, heap)),
-        Made::Identification => done(use_ident(rt, heap)),
-        Made::Database => done(use_database(rt, heap)),
-        Made::Police => done(use_police(rt, heap)),
-        Made::Port => done(have_port(rt, heap)),
+        Made::List => require_used(use_list(rt, heap)),
+        Made::Change => require_used(use_joined(rt, heap)),
+        Made::Gate => require_used(use_gate(rt, heap)),
+        Made::Identification => require_used(use_ident(rt, heap)),
+        Made::Database => require_used(use_database(rt, heap)),
+        Made::Police => require_used(use_police(rt, heap)),
+        Made::Port => require_used(have_port(rt, heap)),
         Made::Plan => use_plan(rt, heap, document),
         Made::Bridge => gives_all_back(rt, heap, document),
     }
 }
 
-/// Whether a part was made and used.
-fn done<E: Drop>(used: Result<(), E>) -> Result<(), Fail> {
+/// Returns a failure if a part wasn't made.
+fn require_used<E: Drop>(used: Result<(), E>) -> Result<(), Fail> {
     match used {
         Ok(()) => Ok(()),
         Err(_) => Err(Fail::from("a part that is not made")),
     }
 }
 
-/// Makes something in a heap of its own and uses it. No test has a heap, since its type is long.
+/// Makes a value in a separate heap, and tests its use. The tests call this function, because the heap's type is long.
 fn takes_no_memory(rt: &impl Abort, document: Global, made: Made) -> Result<(), Fail> {
-    let heap = counting(document, NEVER)?;
+    let heap = counting_heap(document, NEVER)?;
     use_made(rt, &heap, document, made)
 }
 

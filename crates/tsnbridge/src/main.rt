@@ -1,25 +1,25 @@
 #![tactic(auto)]
-//! The program tsnbridge: it does what its words ask for, prints the output, and ends with the exit status.
+//! Runs the program tsnbridge: carries out its arguments, prints the output, and ends with the exit status.
 ghost use Rattle.std.specs.Prelude.{IfOk, map, string_bytes};
 ghost use Rattle.app_networks.specs.Program.{IsPrinted};
 
-use app_cli::words_of;
-use app_commands::{put_stdout, tell};
-use app_failure::{NoMemory, end};
-use app_networks::{Output, of_words_fault, perform};
+use app_cli::read_arguments;
+use app_commands::{put_stdout, tell, words_failure};
+use app_failure::{NoMemory, print_fault};
+use app_networks::{Output, perform};
 use std::io::IsTerminal;
 use std::process::ExitCode;
 use std::rt::Files;
 
 fn main(rt: HostRuntime) -> ExitCode {
     let is_watched = rt.stderr().is_terminal();
-    match words_of(&rt) {
+    match read_arguments(&rt) {
         Ok(words) => tell(&rt, run(&rt, &words, is_watched)),
-        Err(fault) => end(&rt, &of_words_fault(fault)),
+        Err(fault) => print_fault(&rt, &words_failure(fault)),
     }
 }
 
-/// Does what the words ask for, and prints the text for standard output.
+/// Carries out the arguments, and prints the text for standard output.
 fn run<H: Input + AllocGlobal + Print + Eprint + Files>(
     rt: &H,
     words: &[String],

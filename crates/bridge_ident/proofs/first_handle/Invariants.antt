@@ -1,6 +1,6 @@
 use Rattle.std.proofs.Common.{◌≡◌, drop}
-use Rattle.bridge_ident.specs.Identification.{handle_in}
+use Rattle.bridge_ident.specs.Identification.{first_handle}
 use Rattle.bridge_ident.proofs.first_handle.Given as goal
 
 abbrev pub invariant-loop-entry : goal.invariant-loop-entry
-invariant-loop-entry l = handle_in (drop l.entry-index l.entries) l.port l.head l.vid ≡ handle_in l.entries l.port l.head l.vid
+invariant-loop-entry l = first_handle (drop l.entry-index l.entries) l.port l.head l.vid ≡ first_handle l.entries l.port l.head l.vid

@@ -1,11 +1,11 @@
 use Rattle.std.proofs.Common.{◌≡◌}
-use Rattle.bridge_core.specs.Bridges.{plan_in, queued_in}
+use Rattle.bridge_core.specs.Bridges.{bridge_plan, bridge_queued}
 use Rattle.fixture_bridge.proofs.depart.Given as goal
 
--- the bridge has the plan that it began with
+-- The bridge keeps its plan.
 abbrev pub invariant-loop-port : goal.invariant-loop-port
-invariant-loop-port g l = plan_in l.bridge ≡ plan_in l.fn.bridge
+invariant-loop-port g l = bridge_plan l.bridge ≡ bridge_plan l.fn.bridge
 
--- the copies that are still queued
+-- Each iteration has fewer queued copies.
 abbrev pub decreases-loop-port : goal.decreases-loop-port
-decreases-loop-port g l = queued_in l.bridge
+decreases-loop-port g l = bridge_queued l.bridge

@@ -1,7 +1,7 @@
 use Rattle.std.proofs.Common.{◌≡◌, drop}
-use Rattle.bridge_filter.specs.Plans.{is_there}
+use Rattle.bridge_filter.specs.Plans.{is_listed}
 use Rattle.fixture_bridge.proofs.is_listed.Given as goal
 
--- what is left has the number exactly if all has it
+-- The rest of the list contains the number exactly if the whole list contains it.
 abbrev pub invariant-loop-item : goal.invariant-loop-item
-invariant-loop-item g l = is_there l.number (drop l.item-index l.list) ≡ is_there l.number l.list
+invariant-loop-item g l = is_listed l.number (drop l.item-index l.list) ≡ is_listed l.number l.list

@@ -1,30 +1,30 @@
-//! Frames that arrive at the open ports of a network.
+//! Makes the captures of frames that arrive at the open ports of a network.
 ghost use Rattle.std.specs.Prelude.{IfOk};
-ghost use Rattle.net_run.specs.Stations.{IsIncoming};
-ghost use Rattle.net_run.specs.Rounds.{AreIncoming};
+ghost use Rattle.net_run.specs.BridgeRuns.{IsBridgeInput};
+ghost use Rattle.net_run.specs.Rounds.{AreBridgeInputs};
 ghost use Rattle.gate_greens.specs.Coming.{AllIncoming};
 
-use crate::frames::{Addresses, Frame, capture_of, tagged, untagged};
+use crate::frames::{Addresses, Frame, sorted_capture, tagged_head, untagged_head};
 use crate::networks::drawing::is_cabled;
 use crate::networks::shape::{Net, Route, Twist};
 use crate::numbers::Numbers;
 use bridge_check::Accepted;
 use bridge_limits::NoMemory;
-use net_run::Incoming;
+use net_run::BridgeInput;
 use std::alloc::Global;
 
-/// Destination of the frames for which no plan has a `static` entry.
+/// Last octet of a destination for which no plan has a `static` entry.
 const UNLISTED: u64 = 0x40;
 
-/// Sources of hostile talkers, by port.
+/// Last octet of a hostile talker's source address, before its port number is added.
 const HOSTILE: u64 = 0x80;
 
-/// Destination of a stream's frames.
-fn address_of(route: &Route) -> u64 {
+/// Returns the last octet of the stream's destination.
+fn stream_address(route: &Route) -> u64 {
     route.place.saturating_add(10)
 }
 
-/// Whether a stream's talker is at a port.
+/// Whether `port` of `bridge` is the talker's port.
 fn is_talker(route: &Route, bridge: u64, port: u64) -> bool {
     match route.hops.first() {
         Some(first) => first.bridge == bridge && first.ingress == port,
@@ -32,14 +32,14 @@ fn is_talker(route: &Route, bridge: u64, port: u64) -> bool {
     }
 }
 
-/// Adds the frames of a stream's talker: in each period at most one.
+/// Adds the frames of a stream's talker: at most one in each period.
 fn add_periodic(
     numbers: &mut Numbers,
     net: &Net,
     route: &Route,
     frames: &mut Vec<Frame>,
 ) -> Result<(), NoMemory> {
-    let address = address_of(route);
+    let address = stream_address(route);
     let addresses = Addresses {
         to: address,
         from: address,
@@ -49,24 +49,24 @@ fn add_periodic(
         let at = index.saturating_mul(net.period).saturating_add(phase);
         let len = numbers.between_ends(route.least, route.longest);
         let priority = numbers.below(8);
-        if !numbers.is_one_in(6) {
-            let head = tagged(addresses, address, priority);
+        if !numbers.is_drawn(6) {
+            let head = tagged_head(addresses, address, priority);
             frames.push(Frame { at, len, head })?;
         }
     }
     Ok(())
 }
 
-/// Whether a tagged frame with a stream's destination and VLAN belongs to the stream at its talker's port.
+/// Whether `bridge` and `port` are the talker's port of a stream with destination `to`.
 fn is_own(net: &Net, to: u64, bridge: u64, port: u64) -> bool {
     let mut is_own = false;
     for route in &net.routes {
-        is_own = is_own || (address_of(route) == to && is_talker(route, bridge, port));
+        is_own = is_own || (stream_address(route) == to && is_talker(route, bridge, port));
     }
     is_own
 }
 
-/// The first octets of a hostile frame.
+/// Returns the first octets of a hostile frame.
 fn hostile_head(numbers: &mut Numbers, net: &Net, bridge: u64, port: u64) -> [u8; 18] {
     let to = numbers.pick(&[10, 10, 11, UNLISTED]);
     let addresses = Addresses {
@@ -75,19 +75,19 @@ fn hostile_head(numbers: &mut Numbers, net: &Net, bridge: u64, port: u64) -> [u8
     };
     let priority = numbers.below(8);
     match numbers.below(4) {
-        0 => untagged(addresses),
-        1 => tagged(addresses, numbers.pick(&[0, 1]), priority),
+        0 => untagged_head(addresses),
+        1 => tagged_head(addresses, numbers.pick(&[0, 1]), priority),
         _ => {
             if is_own(net, to, bridge, port) {
-                tagged(addresses, 30, priority)
+                tagged_head(addresses, 30, priority)
             } else {
-                tagged(addresses, numbers.pick(&[10, 11, to]), priority)
+                tagged_head(addresses, numbers.pick(&[10, 11, to]), priority)
             }
         }
     }
 }
 
-/// Adds hostile frames. Some arrive at the talkers' phases.
+/// Adds at most 19 hostile frames at random times within ten periods.
 fn add_hostile(
     numbers: &mut Numbers,
     net: &Net,
@@ -104,7 +104,7 @@ fn add_hostile(
     Ok(())
 }
 
-/// The capture of an open port.
+/// Returns the capture of an open port: frames of its talkers, and mostly hostile frames.
 fn open_capture(
     alloc: Global,
     numbers: &mut Numbers,
@@ -119,15 +119,15 @@ fn open_capture(
         }
     }
     let has_further = net.twist == Twist::FurtherPort || net.twist == Twist::FurtherTalker;
-    let is_loud = has_further || !numbers.is_one_in(4);
+    let is_loud = has_further || !numbers.is_drawn(4);
     if is_loud {
         add_hostile(numbers, net, bridge, port, &mut frames)?;
     }
-    capture_of(alloc, &mut frames)
+    sorted_capture(alloc, &mut frames)
 }
 
-/// The captures of the ports 1 to 4. That of a linked port isn't read.
-fn captures_of(
+/// Returns the captures of ports 1 to 4. A linked port's capture stays empty, because no run reads it.
+fn input_captures(
     alloc: Global,
     numbers: &mut Numbers,
     net: &Net,
@@ -145,38 +145,38 @@ fn captures_of(
     Ok(captures)
 }
 
-/// What arrives at a bridge with four ports.
+/// Returns the input of a bridge with four ports: captures, and no commands.
 #[tactic(auto, using(crate::proofs::NoCommands::none))]
-fn coming(
+fn network_inputs(
     alloc: Global,
     numbers: &mut Numbers,
     net: &Net,
     accepted: &Accepted<Global>,
     bridge: u64,
-) -> Result<Incoming<Global>, NoMemory>
-    ensures { IfOk result (IsIncoming accepted.now) }
+) -> Result<BridgeInput<Global>, NoMemory>
+    ensures { IfOk result (IsBridgeInput accepted.now) }
 {
     let commands = Vec::new(alloc);
-    let captures = captures_of(alloc, numbers, net, bridge)?;
+    let captures = input_captures(alloc, numbers, net, bridge)?;
     if captures.len() != accepted.plan().ports().len() {
         return Err(NoMemory);
     }
-    Ok(Incoming { commands, captures })
+    Ok(BridgeInput { commands, captures })
 }
 
-/// What arrives at each bridge of these plans.
+/// Returns the input of each plan's bridge.
 fn each_coming(
     alloc: Global,
     numbers: &mut Numbers,
     net: &Net,
     plans: &[Accepted<Global>],
-) -> Result<Vec<Incoming<Global>>, NoMemory>
+) -> Result<Vec<BridgeInput<Global>>, NoMemory>
     ensures { IfOk result (λ all. AllIncoming plans.now all.items) }
 {
     let mut all = Vec::new(alloc);
     let mut bridge = 0u64;
     for accepted in plans {
-        let came = coming(alloc, numbers, net, accepted, bridge)?;
+        let came = network_inputs(alloc, numbers, net, accepted, bridge)?;
         let Ok(()) = all.push(came) else {
             return Err(NoMemory);
         };
@@ -185,14 +185,14 @@ fn each_coming(
     Ok(all)
 }
 
-/// What arrives at the bridges of these plans.
+/// Returns the inputs of all bridges, as a network run requires them.
 pub fn all_coming(
     alloc: Global,
     numbers: &mut Numbers,
     net: &Net,
     plans: &[Accepted<Global>],
-) -> Result<Vec<Incoming<Global>>, NoMemory>
-    ensures { IfOk result (λ all. AreIncoming plans.now all.items) }
+) -> Result<Vec<BridgeInput<Global>>, NoMemory>
+    ensures { IfOk result (λ all. AreBridgeInputs plans.now all.items) }
 {
     let all = each_coming(alloc, numbers, net, plans)?;
     Ok(all)

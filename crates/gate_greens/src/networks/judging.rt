@@ -1,40 +1,40 @@
-//! Whether a run of a network refutes the line of a stream.
+//! Judges whether a run of a network refutes a stream's line.
 use crate::networks::line::Line;
 use crate::networks::shape::{Hop, Net, Route, Twist};
 use crate::plans::{add_if, is_pass};
-use crate::runs::view_of;
+use crate::runs::filter_view;
 use bridge_core::View;
 use bridge_semantics::{Departure, Origin};
-use net_run::Settled;
+use net_run::BridgeResult;
 use std::alloc::Global;
 
-/// What a run shows of a stream.
+/// Counts of a stream in a run.
 #[derive(Clone, Copy, Default)]
 pub struct Seen {
-    /// Frames of the talker, and delivered copies.
+    /// Number of frames at the first hop, and of delivered copies.
     pub frames: u64,
     pub delivered: u64,
-    /// Frames at the first hop that break the talker's promise: the generator made a mistake.
+    /// Number of frames at the first hop that break the talker's promise. These frames are mistakes of the generator.
     pub stray: u64,
-    /// Facts that contradict the line.
+    /// Number of facts that contradict the line.
     pub refuted: u64,
-    /// Refused frames and dropped copies.
+    /// Number of refused frames and dropped copies.
     pub lost: u64,
-    /// Whether a delay is the worst of the line, and whether one is the best.
+    /// Whether a delay equals the line's worst delay, and whether a delay equals its best delay.
     pub reaches_worst: bool,
     pub reaches_best: bool,
 }
 
-/// A network in a run.
+/// A run of a network, with a stream and its line.
 #[derive(Clone, Copy)]
 struct Run<'a> {
     net: &'a Net,
     route: &'a Route,
-    settled: &'a [Settled<Global>],
+    settled: &'a [BridgeResult<Global>],
     line: Line,
 }
 
-/// The port at the other end of a port's link, and the delay of the link.
+/// Returns the port at the other end of a port's link, and the link's delay in ns.
 fn far_end(net: &Net, bridge: u64, port: u64) -> Option<((u64, u64), u64)> {
     for cable in &net.cables {
         if cable.one == (bridge, port) {
@@ -48,14 +48,14 @@ fn far_end(net: &Net, bridge: u64, port: u64) -> Option<((u64, u64), u64)> {
 }
 
 impl<'a> Run<'a> {
-    /// The record of the stream's filter at a bridge.
+    /// Returns the record of the stream's filter at `bridge`.
     fn view(&self, bridge: u64) -> Option<&'a View<Global>> {
         let settled = self.settled.get(bridge as usize)?;
         let filter = u32::try_from(self.route.filter()).ok()?;
-        view_of(&settled.outcome, filter)
+        filter_view(&settled.outcome, filter)
     }
 
-    /// The number of hops in the network file.
+    /// Returns the number of hops in the network file. The twist `Shortened` omits the last hop of the first stream.
     fn hops(&self) -> usize {
         let count = self.route.hops.len();
         if self.net.twist == Twist::Shortened && self.route.place == 0 {
@@ -65,8 +65,8 @@ impl<'a> Run<'a> {
         }
     }
 
-    /// The number, from 0, of the stream's hop at a bridge.
-    fn hop_at(&self, bridge: u64) -> Option<usize> {
+    /// Returns the index of the stream's hop at `bridge`.
+    fn bridge_hop(&self, bridge: u64) -> Option<usize> {
         let mut index = 0usize;
         for hop in &self.route.hops {
             if hop.bridge == bridge && index < self.hops() {
@@ -77,7 +77,7 @@ impl<'a> Run<'a> {
         None
     }
 
-    /// The departure before an arrival over a link: the bridge and the frame's number in its filter there.
+    /// Returns the departure that led to an arrival over a link: the sending bridge, and the frame's number in its filter there.
     fn sender(&self, bridge: u64, origin: &Origin) -> Option<(u64, u64)> {
         let (far, delay) = far_end(self.net, bridge, u64::from(origin.port))?;
         let view = self.view(far.0)?;
@@ -90,14 +90,14 @@ impl<'a> Run<'a> {
         None
     }
 
-    /// When a frame arrived at the first hop, by its number in the filter of a bridge.
+    /// Returns the arrival time at the first hop of a frame, found by its number `own` in the filter at `bridge`.
     fn first_arrival(&self, bridge: u64, own: u64) -> Option<u64> {
         let mut bridge = bridge;
         let mut own = own;
         for _ in 0..4 {
             let view = self.view(bridge)?;
             let origin = view.origins.get(own.saturating_sub(1) as usize)?;
-            if self.hop_at(bridge) == Some(0) {
+            if self.bridge_hop(bridge) == Some(0) {
                 return Some(origin.at);
             }
             let before = self.sender(bridge, origin)?;
@@ -108,14 +108,14 @@ impl<'a> Run<'a> {
     }
 
     /// Whether a port leads to a hop of the stream.
-    fn leads_on(&self, bridge: u64, port: u8) -> bool {
+    fn is_route_port(&self, bridge: u64, port: u8) -> bool {
         match far_end(self.net, bridge, u64::from(port)) {
-            Some((far, _)) => self.hop_at(far.0).is_some(),
+            Some((far, _)) => self.bridge_hop(far.0).is_some(),
             None => false,
         }
     }
 
-    /// Adds what is seen of a delivered copy.
+    /// Adds a delivered copy, and the facts by which it contradicts the line.
     fn judge_delivery(&self, bridge: u64, departure: &Departure, seen: &mut Seen) {
         seen.delivered = seen.delivered.saturating_add(1);
         match self.first_arrival(bridge, departure.own) {
@@ -130,7 +130,7 @@ impl<'a> Run<'a> {
         }
     }
 
-    /// Whether an end of transmission lies between the phases of the line, in some period.
+    /// Whether an end of transmission lies between the phases of the line in a period.
     fn has_phase(&self, done: u64) -> bool {
         let (Some(from), Some(to)) = (self.line.from, self.line.to) else {
             return true;
@@ -139,16 +139,16 @@ impl<'a> Run<'a> {
         from <= done && later <= to.saturating_sub(from)
     }
 
-    /// Adds what is seen of the stream at a hop.
+    /// Adds the deliveries and losses at a hop, and the facts that contradict the line.
     fn judge_hop(&self, hop: &Hop, frames: u64, seen: &mut Seen) {
         let Some(view) = self.view(hop.bridge) else {
             add_if(&mut seen.stray, true);
             return;
         };
-        let lost = lost_in(view);
+        let lost = count_lost(view);
         seen.lost = seen.lost.saturating_add(lost);
         for departure in &view.departures {
-            if !self.leads_on(hop.bridge, departure.port) {
+            if !self.is_route_port(hop.bridge, departure.port) {
                 self.judge_delivery(hop.bridge, departure, seen);
             }
         }
@@ -166,8 +166,8 @@ impl<'a> Run<'a> {
     }
 }
 
-/// The number of frames that the filter refused, and of dropped copies.
-fn lost_in(view: &View<Global>) -> u64 {
+/// Returns the number of refused frames and dropped copies.
+fn count_lost(view: &View<Global>) -> u64 {
     let mut lost = view.drops.len() as u64;
     for verdict in &view.verdicts {
         add_if(&mut lost, !is_pass(*verdict));
@@ -175,8 +175,8 @@ fn lost_in(view: &View<Global>) -> u64 {
     lost
 }
 
-/// The number of arrivals at the talker's port that break the talker's promise.
-fn strays_in(net: &Net, route: &Route, ingress: u64, view: &View<Global>) -> u64 {
+/// Returns the number of arrivals at the talker's port that break the talker's promise.
+fn count_strays(net: &Net, route: &Route, ingress: u64, view: &View<Global>) -> u64 {
     let mut strays = 0u64;
     let mut earlier = None;
     for origin in &view.origins {
@@ -193,8 +193,8 @@ fn strays_in(net: &Net, route: &Route, ingress: u64, view: &View<Global>) -> u64
     strays
 }
 
-/// What a run shows of a stream and its line.
-pub fn judge(net: &Net, route: &Route, settled: &[Settled<Global>], line: Line) -> Seen {
+/// Returns the counts of a stream, compared with its line.
+pub fn judge(net: &Net, route: &Route, settled: &[BridgeResult<Global>], line: Line) -> Seen {
     let run = Run {
         net,
         route,
@@ -210,7 +210,7 @@ pub fn judge(net: &Net, route: &Route, settled: &[Settled<Global>], line: Line) 
         return seen;
     };
     seen.frames = first.origins.len() as u64;
-    seen.stray = strays_in(net, route, hop.ingress, first);
+    seen.stray = count_strays(net, route, hop.ingress, first);
     let frames = seen.frames;
     let mut index = 0usize;
     for hop in &route.hops {

@@ -1,6 +1,6 @@
-//! The line that `net check` prints of a stream.
+//! Reads the line that `net check` prints for a stream.
 
-/// The words of a line. Times are in ns.
+/// Words of a line. Times are in ns.
 #[derive(Clone, Copy, Default)]
 pub struct Line {
     pub is_refusable: bool,
@@ -14,17 +14,17 @@ pub struct Line {
 }
 
 impl Line {
-    /// Whether the line says that each frame passes.
+    /// Whether the line promises that each frame passes.
     pub fn passes(&self) -> bool {
         self.worst.is_some() && !self.is_refusable
     }
 
-    /// The greatest delay that the line allows.
+    /// Returns the greatest delay in ns that the line allows.
     pub fn greatest(&self) -> Option<u64> {
         self.worst.or(self.bound)
     }
 
-    /// Whether a delay and a phase agree with the line.
+    /// Whether the line allows a delay: from the best to the greatest, and at most a deadline that is met.
     pub fn allows(&self, delay: u64) -> bool {
         let is_soon = match self.greatest() {
             Some(greatest) => delay <= greatest,
@@ -42,22 +42,22 @@ impl Line {
     }
 }
 
-/// The number that a word is.
-fn number_of(word: &str) -> Option<u64> {
+/// Returns the number that `word` contains.
+fn parse_number(word: &str) -> Option<u64> {
     word.parse::<u64>().ok()
 }
 
-/// Adds a word that follows another one.
+/// Adds a word to the line. If it is a number, the word `before` gives the meaning.
 fn add_word(line: &mut Line, before: &str, word: &str) {
     match before {
-        "worst" => line.worst = number_of(word),
-        "best" => line.best = number_of(word),
-        "bound" => line.bound = number_of(word),
-        "deadline" => line.deadline = number_of(word),
+        "worst" => line.worst = parse_number(word),
+        "best" => line.best = parse_number(word),
+        "bound" => line.bound = parse_number(word),
+        "deadline" => line.deadline = parse_number(word),
         "phases" => {
             if let Some((from, to)) = word.split_once("..") {
-                line.from = number_of(from);
-                line.to = number_of(to);
+                line.from = parse_number(from);
+                line.to = parse_number(to);
             }
         }
         _ => {}
@@ -70,7 +70,7 @@ fn add_word(line: &mut Line, before: &str, word: &str) {
 }
 
 /// Reads a line.
-pub fn line_of(text: &str) -> Line {
+pub fn parse_line(text: &str) -> Line {
     let mut line = Line::default();
     let mut before = "";
     for word in text.split(' ') {

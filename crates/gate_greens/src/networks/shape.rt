@@ -1,9 +1,9 @@
-//! Random networks: how bridges are linked, and the routes of streams.
+//! Draws random networks: links between bridges, and routes of streams.
 use crate::numbers::Numbers;
 use bridge_limits::NoMemory;
 use std::alloc::Global;
 
-/// A bridge on a stream's route: its ingress port and its egress ports. 0 stands for no port.
+/// A bridge on a stream's route, with ingress port and egress ports. 0 stands for no port.
 #[derive(Clone, Copy)]
 pub struct Hop {
     pub bridge: u64,
@@ -11,7 +11,7 @@ pub struct Hop {
     pub egress: [u64; 2],
 }
 
-/// A link between two ports.
+/// A link between two bridge ports, each given by bridge and port.
 #[derive(Clone, Copy)]
 pub struct Cable {
     pub one: (u64, u64),
@@ -20,10 +20,10 @@ pub struct Cable {
     pub delay: u64,
 }
 
-/// How a network departs from one whose hops agree.
+/// A change that makes the hops of a network disagree, or its file incomplete.
 #[derive(Clone, Copy, PartialEq, Eq)]
 pub enum Twist {
-    /// It doesn't.
+    /// No change.
     None,
     /// The second hop's entry compares other tags.
     OtherTag,
@@ -31,9 +31,9 @@ pub enum Twist {
     OtherVlan,
     /// The second hop's `max_sdu` is smaller.
     SmallerSdu,
-    /// At the second hop, a further port has an entry with the stream's handle.
+    /// At the second hop, port 3 also has an entry with the stream's handle.
     FurtherPort,
-    /// At the first hop, a further port has an entry with the stream's handle.
+    /// At the first hop, port 3 also has an entry with the stream's handle.
     FurtherTalker,
     /// At the second hop, an earlier entry gives frames of the stream another handle.
     EarlierEntry,
@@ -41,13 +41,13 @@ pub enum Twist {
     LowerFilter,
     /// The last hop has no egress port.
     Nowhere,
-    /// The file lacks the last hop.
+    /// The network file omits the last hop.
     Shortened,
     /// The second hop's stream gate is closed in a part of the period.
     Gated,
 }
 
-/// A stream: route, lengths in octets, and the times of its talker in ns.
+/// A stream: index, route, lengths in octets, and its talker's phases in ns.
 #[derive(Drop)]
 pub struct Route {
     pub place: u64,
@@ -58,33 +58,33 @@ pub struct Route {
     pub to: u64,
 }
 
-/// A network.
+/// A network with its streams. The period is in ns.
 #[derive(Drop)]
 pub struct Net {
     pub bridges: u64,
     pub cables: Vec<Cable>,
     pub routes: Vec<Route>,
-    /// Speed in Mb/s of linked ports and of open ports.
+    /// Speed of linked ports and of open ports in Mb/s.
     pub speeds: [u64; 2],
     pub period: u64,
     pub twist: Twist,
-    /// Whether the bridges are a ring. Then VLAN 1 leaves out the last link.
+    /// Whether the links form a ring. Then VLAN 1 omits the last link.
     pub is_ring: bool,
 }
 
 impl Route {
-    /// Number of the stream's filter at each bridge.
+    /// Returns the number of the stream's filter at each bridge.
     pub fn filter(&self) -> u64 {
         self.place.saturating_add(10)
     }
 
-    /// Class of the stream at each bridge.
+    /// Returns the class of the stream at each bridge.
     pub fn class(&self) -> u64 {
         7u64.saturating_sub(self.place)
     }
 }
 
-/// How bridges are linked.
+/// Arrangement of bridges and links.
 #[derive(Clone, Copy, PartialEq, Eq)]
 enum Form {
     Pair,
@@ -93,8 +93,8 @@ enum Form {
     Ring,
 }
 
-/// A hop with one egress port.
-fn hop_through(bridge: u64, ingress: u64, egress: u64) -> Hop {
+/// Returns a hop with one egress port.
+fn one_port_hop(bridge: u64, ingress: u64, egress: u64) -> Hop {
     Hop {
         bridge,
         ingress,
@@ -102,73 +102,106 @@ fn hop_through(bridge: u64, ingress: u64, egress: u64) -> Hop {
     }
 }
 
-/// A route of one to three hops. Those of bridge 9 are none.
+/// Returns a route of two or three hops. If the third hop has bridge 9, the route has two hops.
 fn next_hops(numbers: &mut Numbers, form: Form) -> [Hop; 3] {
-    let none = hop_through(9, 0, 0);
     let choice = numbers.below(4);
     match form {
-        Form::Pair => {
-            if choice == 0 {
-                [hop_through(1, 4, 1), hop_through(0, 2, 4), none]
-            } else {
-                [hop_through(0, 4, 2), hop_through(1, 1, 4), none]
-            }
-        }
-        Form::Row => match choice {
-            0 => [
-                hop_through(2, 4, 1),
-                hop_through(1, 2, 1),
-                hop_through(0, 2, 4),
-            ],
-            1 => [hop_through(1, 4, 2), hop_through(2, 1, 4), none],
-            _ => [
-                hop_through(0, 4, 2),
-                hop_through(1, 1, 2),
-                hop_through(2, 1, 4),
-            ],
-        },
-        Form::Star => match choice {
-            0 => [hop_through(1, 4, 1), hop_through(0, 2, 4), none],
-            1 => [
-                hop_through(1, 4, 1),
-                hop_through(0, 2, 3),
-                hop_through(2, 1, 4),
-            ],
-            _ => {
-                let split = Hop {
-                    bridge: 0,
-                    ingress: 4,
-                    egress: [2, 3],
-                };
-                [split, hop_through(1, 1, 4), hop_through(2, 1, 4)]
-            }
-        },
-        Form::Ring => match choice {
-            0 => [hop_through(2, 4, 2), hop_through(0, 1, 4), none],
-            1 => [
-                hop_through(1, 4, 2),
-                hop_through(2, 1, 2),
-                hop_through(0, 1, 4),
-            ],
-            2 => {
-                let split = Hop {
-                    bridge: 0,
-                    ingress: 4,
-                    egress: [1, 2],
-                };
-                [split, hop_through(1, 1, 4), hop_through(2, 2, 4)]
-            }
-            _ => [
-                hop_through(0, 4, 2),
-                hop_through(1, 1, 2),
-                hop_through(2, 1, 4),
-            ],
-        },
+        Form::Pair => pair_hops(choice),
+        Form::Row => row_hops(choice),
+        Form::Star => star_hops(choice),
+        Form::Ring => ring_hops(choice),
     }
 }
 
-/// The hops of a route that are at a bridge.
-fn hops_of(alloc: Global, hops: [Hop; 3]) -> Result<Vec<Hop>, NoMemory> {
+/// A route over both bridges of a pair.
+fn pair_hops(choice: u64) -> [Hop; 3] {
+    let none = one_port_hop(9, 0, 0);
+    if choice == 0 {
+        [one_port_hop(1, 4, 1), one_port_hop(0, 2, 4), none]
+    } else {
+        [one_port_hop(0, 4, 2), one_port_hop(1, 1, 4), none]
+    }
+}
+
+/// A route through a row of three bridges.
+fn row_hops(choice: u64) -> [Hop; 3] {
+    match choice {
+        0 => [
+            one_port_hop(2, 4, 1),
+            one_port_hop(1, 2, 1),
+            one_port_hop(0, 2, 4),
+        ],
+        1 => [
+            one_port_hop(1, 4, 2),
+            one_port_hop(2, 1, 4),
+            one_port_hop(9, 0, 0),
+        ],
+        _ => [
+            one_port_hop(0, 4, 2),
+            one_port_hop(1, 1, 2),
+            one_port_hop(2, 1, 4),
+        ],
+    }
+}
+
+/// A route through a star, whose center is bridge 0. The last one has two branches.
+fn star_hops(choice: u64) -> [Hop; 3] {
+    match choice {
+        0 => [
+            one_port_hop(1, 4, 1),
+            one_port_hop(0, 2, 4),
+            one_port_hop(9, 0, 0),
+        ],
+        1 => [
+            one_port_hop(1, 4, 1),
+            one_port_hop(0, 2, 3),
+            one_port_hop(2, 1, 4),
+        ],
+        _ => [
+            branching_hop([2, 3]),
+            one_port_hop(1, 1, 4),
+            one_port_hop(2, 1, 4),
+        ],
+    }
+}
+
+/// A route through a ring. The third one has two branches.
+fn ring_hops(choice: u64) -> [Hop; 3] {
+    match choice {
+        0 => [
+            one_port_hop(2, 4, 2),
+            one_port_hop(0, 1, 4),
+            one_port_hop(9, 0, 0),
+        ],
+        1 => [
+            one_port_hop(1, 4, 2),
+            one_port_hop(2, 1, 2),
+            one_port_hop(0, 1, 4),
+        ],
+        2 => [
+            branching_hop([1, 2]),
+            one_port_hop(1, 1, 4),
+            one_port_hop(2, 2, 4),
+        ],
+        _ => [
+            one_port_hop(0, 4, 2),
+            one_port_hop(1, 1, 2),
+            one_port_hop(2, 1, 4),
+        ],
+    }
+}
+
+/// The hop at bridge 0 that sends by two ports what arrives at its port 4.
+fn branching_hop(egress: [u64; 2]) -> Hop {
+    Hop {
+        bridge: 0,
+        ingress: 4,
+        egress,
+    }
+}
+
+/// Returns the hops of a route, without a hop at bridge 9.
+fn route_hops(alloc: Global, hops: [Hop; 3]) -> Result<Vec<Hop>, NoMemory> {
     let mut all = Vec::new(alloc);
     for hop in hops {
         if hop.bridge < 9 {
@@ -178,7 +211,7 @@ fn hops_of(alloc: Global, hops: [Hop; 3]) -> Result<Vec<Hop>, NoMemory> {
     Ok(all)
 }
 
-/// The delay of a link in ns.
+/// Returns the next delay of a link in ns.
 fn next_delay(numbers: &mut Numbers, period: u64) -> u64 {
     match numbers.below(6) {
         0 => 0,
@@ -189,7 +222,7 @@ fn next_delay(numbers: &mut Numbers, period: u64) -> u64 {
     }
 }
 
-/// The links of a form of network.
+/// Returns the links of an arrangement.
 fn next_cables(
     alloc: Global,
     numbers: &mut Numbers,
@@ -221,7 +254,7 @@ fn next_cables(
     Ok(cables)
 }
 
-/// The next twist, mostly none.
+/// Returns the next twist, mostly `None`.
 fn next_twist(numbers: &mut Numbers) -> Twist {
     match numbers.below(24) {
         0 => Twist::OtherTag,
@@ -238,7 +271,7 @@ fn next_twist(numbers: &mut Numbers) -> Twist {
     }
 }
 
-/// The next form of a network.
+/// Returns the next arrangement of bridges and links.
 fn next_form(numbers: &mut Numbers) -> Form {
     match numbers.below(4) {
         0 => Form::Pair,
@@ -248,7 +281,7 @@ fn next_form(numbers: &mut Numbers) -> Form {
     }
 }
 
-/// The next stream. Its arrivals lie in a part of the period.
+/// Returns the next stream. Its talker's phases lie in at most a quarter of the period.
 fn next_route(
     alloc: Global,
     numbers: &mut Numbers,
@@ -256,9 +289,9 @@ fn next_route(
     place: u64,
     period: u64,
 ) -> Result<Route, NoMemory> {
-    let hops = hops_of(alloc, next_hops(numbers, form))?;
+    let hops = route_hops(alloc, next_hops(numbers, form))?;
     let longest = numbers.between(60, 300);
-    let least = if numbers.is_one_in(2) {
+    let least = if numbers.is_drawn(2) {
         longest
     } else {
         numbers.between(60, longest)
@@ -280,7 +313,7 @@ fn next_route(
     })
 }
 
-/// The period of a network: a multiple of 12 ns, and a few transmissions of 324 octets at `mbps` Mb/s.
+/// Returns the next period: a multiple of 12 ns, at least eight transmission times of 300 octets at `mbps` Mb/s.
 fn next_period(numbers: &mut Numbers, mbps: u64) -> u64 {
     let times = numbers.pick(&[8, 12, 20, 40]);
     let longest = 2_600_000 / mbps.max(1);
@@ -289,7 +322,7 @@ fn next_period(numbers: &mut Numbers, mbps: u64) -> u64 {
         .saturating_mul(12)
 }
 
-/// The next network.
+/// Returns the next network.
 pub fn next_net(alloc: Global, numbers: &mut Numbers) -> Result<Net, NoMemory> {
     let form = next_form(numbers);
     let speeds = [numbers.pick(&[100, 1_000]), numbers.pick(&[100, 1_000])];
@@ -297,7 +330,7 @@ pub fn next_net(alloc: Global, numbers: &mut Numbers) -> Result<Net, NoMemory> {
     let period = next_period(numbers, one.min(other));
     let mut routes = Vec::new(alloc);
     routes.push(next_route(alloc, numbers, form, 0, period)?)?;
-    if numbers.is_one_in(2) {
+    if numbers.is_drawn(2) {
         routes.push(next_route(alloc, numbers, form, 1, period)?)?;
     }
     let cables = next_cables(alloc, numbers, form, period)?;

@@ -1,10 +1,10 @@
-//! Plans, as TOML, of random streams.
+//! Writes plans and traffic files of random streams, as TOML.
 use crate::numbers::Numbers;
 use crate::plans::shape::{
-    GateKind, Shape, Stream, StreamGate, Tag, next_base, next_cycle, next_gate, sdu_of,
-    transmission,
+    GateKind, Shape, Stream, StreamGate, Tag, next_base, next_cycle, next_gate,
+    service_data_octets, transmission,
 };
-use bridge_text::{NoMemory, Text};
+use bridge_text::{NoMemory, TextBuilder};
 use std::alloc::Global;
 
 /// Classes that are open outside the windows of streams.
@@ -35,7 +35,7 @@ const NEW: Keys = Keys {
     entries: "next_entries",
 };
 
-/// A list of classes with the class of a stream alone.
+/// Returns a list with only the stream's class.
 fn class_word(stream: &Stream) -> &'static str {
     match stream.place {
         0 => "[7]",
@@ -45,16 +45,16 @@ fn class_word(stream: &Stream) -> &'static str {
 }
 
 /// Adds an entry of a gate control list.
-fn put_entry(text: &mut Text<Global>, is_first: bool, classes: &'static str, ns: u64) {
+fn put_entry(text: &mut TextBuilder<Global>, is_first: bool, classes: &'static str, ns: u64) {
     let comma = if is_first { "" } else { ", " };
-    text.fill(
+    text.put_template(
         "{a}{b} open = {c}, ns = {0} {d}",
         &[ns],
         &[comma, "{", classes, "}"],
     );
 }
 
-/// The length in ns of a stream's window: mostly enough for some longest frames, seldom too short.
+/// Returns the length of a stream's window in ns, at most `left`. It can be shorter than `longest`, the longest transmission time.
 fn next_window(numbers: &mut Numbers, longest: u64, left: u64) -> u64 {
     let window = match numbers.below(24) {
         0 => longest.saturating_sub(1),
@@ -68,16 +68,16 @@ fn next_window(numbers: &mut Numbers, longest: u64, left: u64) -> u64 {
     window.min(left)
 }
 
-/// Adds the windows of the streams that reach a port, and returns the rest of the cycle in ns.
+/// Adds the windows of the streams that reach `port`, and returns the rest of the cycle time in ns.
 fn put_windows(
-    text: &mut Text<Global>,
+    text: &mut TextBuilder<Global>,
     numbers: &mut Numbers,
     shape: &Shape,
     port: u64,
     cycle: u64,
 ) -> u64 {
     let mut left = cycle;
-    let lead = if numbers.is_one_in(2) {
+    let lead = if numbers.is_drawn(2) {
         numbers.below(cycle / 3)
     } else {
         0
@@ -97,30 +97,36 @@ fn put_windows(
     left
 }
 
-/// Adds the entry after the streams' windows, if the cycle has a rest. Seldom it opens the class of a stream too.
-fn put_rest(text: &mut Text<Global>, numbers: &mut Numbers, is_first: bool, left: u64) {
-    let classes = if numbers.is_one_in(40) {
+/// Adds the entry after the streams' windows, if the cycle has a rest. Seldom the entry opens classes 0 and 7, or no class.
+fn put_rest(text: &mut TextBuilder<Global>, numbers: &mut Numbers, is_first: bool, left: u64) {
+    let classes = if numbers.is_drawn(40) {
         "[0, 7]"
-    } else if numbers.is_one_in(12) {
+    } else if numbers.is_drawn(12) {
         "[]"
     } else {
         OTHERS
     };
-    let ns = if numbers.is_one_in(6) { left / 2 } else { left };
+    let ns = if numbers.is_drawn(6) { left / 2 } else { left };
     if ns > 0 {
         put_entry(text, is_first, classes, ns);
     }
 }
 
 /// Adds the gate control list of a port.
-fn put_list(text: &mut Text<Global>, numbers: &mut Numbers, shape: &Shape, port: u64, keys: Keys) {
+fn put_list(
+    text: &mut TextBuilder<Global>,
+    numbers: &mut Numbers,
+    shape: &Shape,
+    port: u64,
+    keys: Keys,
+) {
     let cycle = next_cycle(numbers, shape.period);
-    text.fill(
+    text.put_template(
         "{a} = {0}\n{b} = {1}\n{c} = [",
         &[next_base(numbers, cycle), cycle],
         &[keys.base, keys.cycle, keys.gates],
     );
-    let is_single = numbers.is_one_in(10);
+    let is_single = numbers.is_drawn(10);
     match shape.streams.first() {
         Some(stream) if is_single && stream.reaches(port) => {
             put_entry(text, true, class_word(stream), cycle);
@@ -133,7 +139,7 @@ fn put_list(text: &mut Text<Global>, numbers: &mut Numbers, shape: &Shape, port:
     text.put("]\n");
 }
 
-/// Whether a stream reaches a port.
+/// Whether a stream reaches `port`.
 fn is_reached(shape: &Shape, port: u64) -> bool {
     let mut is_reached = false;
     for stream in &shape.streams {
@@ -142,10 +148,10 @@ fn is_reached(shape: &Shape, port: u64) -> bool {
     is_reached
 }
 
-/// Adds a port, with a list if a stream reaches it.
-fn put_port(text: &mut Text<Global>, numbers: &mut Numbers, shape: &Shape, port: u64) {
+/// Adds a port. It mostly gets a list if a stream reaches it.
+fn put_port(text: &mut TextBuilder<Global>, numbers: &mut Numbers, shape: &Shape, port: u64) {
     let priority = numbers.below(8);
-    text.fill(
+    text.put_template(
         "[[port]]\nnumber = {0}\nmbps = {1}\nvid = 10\npriority = {2}\n",
         &[port, shape.speed(port), priority],
         &[],
@@ -156,23 +162,23 @@ fn put_port(text: &mut Text<Global>, numbers: &mut Numbers, shape: &Shape, port:
         numbers.between(1, 3),
         numbers.between(1, 3),
     ];
-    text.fill("rooms = [2, 2, 2, 2, {0}, {1}, {2}, {3}]\n", &rooms, &[]);
-    let is_listed = numbers.is_one_in(4) || is_reached(shape, port);
-    if is_listed && !numbers.is_one_in(60) {
+    text.put_template("rooms = [2, 2, 2, 2, {0}, {1}, {2}, {3}]\n", &rooms, &[]);
+    let is_listed = numbers.is_drawn(4) || is_reached(shape, port);
+    if is_listed && !numbers.is_drawn(60) {
         put_list(text, numbers, shape, port, OLD);
-        if shape.change.is_some() && numbers.is_one_in(2) {
+        if shape.change.is_some() && numbers.is_drawn(2) {
             put_list(text, numbers, shape, port, NEW);
         }
     }
 }
 
 /// Adds the `static` entry of a stream, unless the bridge floods its frames.
-fn put_static(text: &mut Text<Global>, stream: &Stream) {
+fn put_static(text: &mut TextBuilder<Global>, stream: &Stream) {
     if stream.way.floods {
         return;
     }
     let [one, other] = stream.way.egress;
-    text.fill(
+    text.put_template(
         "[[static]]\nvid = 10\naddress = \"02-00-00-00-00-0{a}\"\nports = [",
         &[],
         &[stream.address()],
@@ -188,7 +194,7 @@ fn put_static(text: &mut Text<Global>, stream: &Stream) {
 }
 
 impl Stream {
-    /// The last digit of the stream's destination and source address.
+    /// Returns the last digit of the stream's destination and source address.
     fn address(&self) -> &'static str {
         match self.place {
             0 => "A",
@@ -198,8 +204,8 @@ impl Stream {
     }
 }
 
-/// Adds the `stream` entry of a stream. Seldom a second entry, whose address no frame has, shares its handle.
-fn put_entries(text: &mut Text<Global>, numbers: &mut Numbers, stream: &Stream) {
+/// Adds the `stream` entry of a stream. Seldom a second entry for VLAN 11, which no frame has, gives its handle.
+fn put_entries(text: &mut TextBuilder<Global>, numbers: &mut Numbers, stream: &Stream) {
     let handle = stream.place.saturating_add(1);
     let tag = match stream.way.tag {
         Tag::Tagged => "tagged",
@@ -211,13 +217,13 @@ fn put_entries(text: &mut Text<Global>, numbers: &mut Numbers, stream: &Stream) 
     } else {
         ("null", "0")
     };
-    text.fill(
+    text.put_template(
         "[[stream]]\nhandle = {0}\nport = {1}\nkind = \"{a}\"\naddress = \"02-00-00-00-0{b}-0{c}\"\nvid = 10\ntag = \"{d}\"\n",
         &[handle, stream.way.ingress],
         &[kind, middle, stream.address(), tag],
     );
-    if numbers.is_one_in(12) {
-        text.fill(
+    if numbers.is_drawn(12) {
+        text.put_template(
             "[[stream]]\nhandle = {0}\nport = {1}\nkind = \"null\"\naddress = \"02-00-00-00-00-0{a}\"\nvid = 11\ntag = \"all\"\n",
             &[handle, stream.way.ingress],
             &[stream.address()],
@@ -225,9 +231,9 @@ fn put_entries(text: &mut Text<Global>, numbers: &mut Numbers, stream: &Stream) 
     }
 }
 
-/// Adds the list of a stream gate. `ipv` is empty or the key of its priority.
-fn put_gate_list(text: &mut Text<Global>, gate: &StreamGate, ipv: &'static str, keys: Keys) {
-    text.fill(
+/// Adds the list of a stream gate. `ipv` is empty or the key of the internal priority.
+fn put_gate_list(text: &mut TextBuilder<Global>, gate: &StreamGate, ipv: &'static str, keys: Keys) {
+    text.put_template(
         "{a} = {0}\n{b} = {1}\n{c} = [",
         &[gate.base, gate.cycle],
         &[keys.base, keys.cycle, keys.entries],
@@ -250,22 +256,22 @@ fn put_gate_list(text: &mut Text<Global>, gate: &StreamGate, ipv: &'static str, 
     text.put("]\n");
 }
 
-/// Adds an entry of the list of a stream gate.
+/// Adds an entry of a stream gate's list.
 fn put_gate_entry(
-    text: &mut Text<Global>,
+    text: &mut TextBuilder<Global>,
     gate: &StreamGate,
     open: &'static str,
     ipv: &'static str,
     ns: u64,
 ) {
-    text.fill("{a} open = {b}, ns = {0}{c}", &[ns], &["{", open, ipv]);
+    text.put_template("{a} open = {b}, ns = {0}{c}", &[ns], &["{", open, ipv]);
     if gate.octets > 0 {
-        text.fill(", octets = {0}", &[gate.octets], &[]);
+        text.put_template(", octets = {0}", &[gate.octets], &[]);
     }
     text.put(" }");
 }
 
-/// The key of a gate entry's priority.
+/// Returns the key of a gate entry's internal priority.
 fn ipv_word(stream: &Stream) -> &'static str {
     if stream.way.by_priority {
         return "";
@@ -277,10 +283,10 @@ fn ipv_word(stream: &Stream) -> &'static str {
     }
 }
 
-/// Adds the stream gate of a stream, and after a schedule change sometimes another list.
-fn put_gate(text: &mut Text<Global>, numbers: &mut Numbers, shape: &Shape, stream: &Stream) {
+/// Adds the stream gate of a stream, and sometimes the list after a schedule change.
+fn put_gate(text: &mut TextBuilder<Global>, numbers: &mut Numbers, shape: &Shape, stream: &Stream) {
     let gate = &stream.gate;
-    text.fill(
+    text.put_template(
         "[[gate]]\nnumber = {0}\n",
         &[stream.place.saturating_add(1)],
         &[],
@@ -291,14 +297,14 @@ fn put_gate(text: &mut Text<Global>, numbers: &mut Numbers, shape: &Shape, strea
     if gate.kind == GateKind::Open {
         text.put("state = \"open\"\n");
         if !stream.way.by_priority {
-            text.fill("ipv = {0}\n", &[stream.class()], &[]);
+            text.put_template("ipv = {0}\n", &[stream.class()], &[]);
         }
         return;
     }
     let ipv = ipv_word(stream);
     put_gate_list(text, gate, ipv, OLD);
-    if shape.change.is_some() && numbers.is_one_in(2) {
-        let sdu = sdu_of(stream.way.tag, stream.lengths.longest);
+    if shape.change.is_some() && numbers.is_drawn(2) {
+        let sdu = service_data_octets(stream.way.tag, stream.lengths.longest);
         let next = StreamGate {
             kind: gate.kind,
             ..next_gate(numbers, shape.period, sdu)
@@ -308,8 +314,8 @@ fn put_gate(text: &mut Text<Global>, numbers: &mut Numbers, shape: &Shape, strea
 }
 
 /// Adds a meter for a stream.
-fn put_meter(text: &mut Text<Global>, numbers: &mut Numbers, stream: &Stream) {
-    text.fill(
+fn put_meter(text: &mut TextBuilder<Global>, numbers: &mut Numbers, stream: &Stream) {
+    text.put_template(
         "[[meter]]\nnumber = {0}\ncir = {1}\ncbs = {2}\neir = 0\nebs = 0\n",
         &[
             stream.place.saturating_add(1),
@@ -321,31 +327,31 @@ fn put_meter(text: &mut Text<Global>, numbers: &mut Numbers, stream: &Stream) {
 }
 
 /// Adds the filter of a stream.
-fn put_filter(text: &mut Text<Global>, numbers: &mut Numbers, stream: &Stream) {
+fn put_filter(text: &mut TextBuilder<Global>, numbers: &mut Numbers, stream: &Stream) {
     let number = stream.place.saturating_add(1);
-    let has_meter = numbers.is_one_in(10);
+    let has_meter = numbers.is_drawn(10);
     if has_meter {
         put_meter(text, numbers, stream);
     }
-    text.fill(
+    text.put_template(
         "[[filter]]\nnumber = {0}\nhandle = {1}\ngate = {1}\nmax_sdu = {2}\nprotected = true\n",
         &[stream.filter(), number, stream.lengths.max_sdu],
         &[],
     );
     if has_meter {
-        text.fill("meter = {0}\n", &[number], &[]);
+        text.put_template("meter = {0}\n", &[number], &[]);
     }
     if stream.way.by_priority {
-        text.fill("priority = {0}\n", &[stream.class()], &[]);
+        text.put_template("priority = {0}\n", &[stream.class()], &[]);
     }
-    if numbers.is_one_in(6) {
+    if numbers.is_drawn(6) {
         text.put("block_oversize = true\n");
     }
 }
 
-/// Adds the VLAN with all ports. Seldom a port is missing.
-fn put_vlan(text: &mut Text<Global>, numbers: &mut Numbers, shape: &Shape) {
-    let missing = if numbers.is_one_in(24) {
+/// Adds VLAN 10 with all ports. Seldom a port is missing.
+fn put_vlan(text: &mut TextBuilder<Global>, numbers: &mut Numbers, shape: &Shape) {
+    let missing = if numbers.is_drawn(24) {
         numbers.between(1, shape.ports)
     } else {
         0
@@ -360,10 +366,10 @@ fn put_vlan(text: &mut Text<Global>, numbers: &mut Numbers, shape: &Shape) {
     text.put("]\n");
 }
 
-/// Adds the catch-all filter 99 of class 0, and sometimes unprotected filters: 50 of class 1, and 5 for one priority.
-fn put_others(text: &mut Text<Global>, numbers: &mut Numbers, shape: &Shape) {
-    if numbers.is_one_in(3) {
-        text.fill(
+/// Adds the catch-all filter 99. Sometimes adds unprotected filters: 50 of class 1, and 5 for priority 3.
+fn put_others(text: &mut TextBuilder<Global>, numbers: &mut Numbers, shape: &Shape) {
+    if numbers.is_drawn(3) {
+        text.put_template(
             "[[stream]]\nhandle = 50\nport = {0}\nkind = \"null\"\naddress = \"02-00-00-00-00-32\"\nvid = 10\ntag = \"all\"\n",
             &[numbers.between(1, shape.ports)],
             &[],
@@ -372,7 +378,7 @@ fn put_others(text: &mut Text<Global>, numbers: &mut Numbers, shape: &Shape) {
             "[[gate]]\nnumber = 50\nstate = \"open\"\nipv = 1\n[[filter]]\nnumber = 50\nhandle = 50\ngate = 50\n",
         );
     }
-    if numbers.is_one_in(12) {
+    if numbers.is_drawn(12) {
         text.put(
             "[[gate]]\nnumber = 5\nstate = \"open\"\nipv = 0\n[[filter]]\nnumber = 5\npriority = 3\ngate = 5\n",
         );
@@ -382,8 +388,8 @@ fn put_others(text: &mut Text<Global>, numbers: &mut Numbers, shape: &Shape) {
     );
 }
 
-/// Adds everything of the streams.
-fn put_streams(text: &mut Text<Global>, numbers: &mut Numbers, shape: &Shape) {
+/// Adds the `static` entry, `stream` entries, stream gate and filter of each stream.
+fn put_streams(text: &mut TextBuilder<Global>, numbers: &mut Numbers, shape: &Shape) {
     for stream in &shape.streams {
         put_static(text, stream);
         put_entries(text, numbers, stream);
@@ -392,11 +398,11 @@ fn put_streams(text: &mut Text<Global>, numbers: &mut Numbers, shape: &Shape) {
     }
 }
 
-/// The plan of a bridge.
+/// Returns the plan of a bridge.
 pub fn plan_text(alloc: Global, numbers: &mut Numbers, shape: &Shape) -> Result<String, NoMemory> {
-    let mut text = Text::new(alloc);
+    let mut text = TextBuilder::new(alloc);
     if let Some(at) = shape.change {
-        text.fill("[[change]]\nat = {0}\n", &[at], &[]);
+        text.put_template("[[change]]\nat = {0}\n", &[at], &[]);
     }
     for port in 1..5u64 {
         if port <= shape.ports {
@@ -406,12 +412,12 @@ pub fn plan_text(alloc: Global, numbers: &mut Numbers, shape: &Shape) -> Result<
     put_vlan(&mut text, numbers, shape);
     put_streams(&mut text, numbers, shape);
     put_others(&mut text, numbers, shape);
-    text.done()
+    text.finish()
 }
 
-/// The traffic file of the streams that have a row, with the deadlines of the rows in their order.
+/// Returns the traffic file: a row for each stream with `has_row`. `deadlines` follows the order of rows.
 pub fn traffic_text(alloc: Global, shape: &Shape, deadlines: &[u64]) -> Result<String, NoMemory> {
-    let mut text = Text::new(alloc);
+    let mut text = TextBuilder::new(alloc);
     let mut row = 0usize;
     for stream in &shape.streams {
         if stream.talker.has_row {
@@ -419,13 +425,13 @@ pub fn traffic_text(alloc: Global, shape: &Shape, deadlines: &[u64]) -> Result<S
             row = row.saturating_add(1);
         }
     }
-    text.done()
+    text.finish()
 }
 
-/// Adds a row of the traffic file. A deadline of 0 is none.
-fn put_row(text: &mut Text<Global>, stream: &Stream, deadline: u64) {
+/// Adds a row of the traffic file. A `deadline` of 0 ns adds no deadline.
+fn put_row(text: &mut TextBuilder<Global>, stream: &Stream, deadline: u64) {
     let talker = &stream.talker;
-    text.fill(
+    text.put_template(
         "[[traffic]]\nfilter = {0}\nperiod = {1}\nfrom = {2}\nto = {3}\nleast = {4}\nlongest = {5}\n",
         &[
             stream.filter(),
@@ -438,6 +444,6 @@ fn put_row(text: &mut Text<Global>, stream: &Stream, deadline: u64) {
         &[],
     );
     if deadline > 0 {
-        text.fill("deadline = {0}\n", &[deadline], &[]);
+        text.put_template("deadline = {0}\n", &[deadline], &[]);
     }
 }

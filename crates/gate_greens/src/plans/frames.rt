@@ -1,20 +1,20 @@
-//! Frames of conforming talkers and of all others, at the ports of one bridge.
-use crate::frames::{Addresses, Frame, capture_of, tagged, untagged};
+//! Makes frames of conforming and hostile talkers at the ports of one bridge.
+use crate::frames::{Addresses, Frame, sorted_capture, tagged_head, untagged_head};
 use crate::numbers::Numbers;
 use crate::plans::shape::{Shape, Stream, Tag};
 use bridge_limits::NoMemory;
 use std::alloc::Global;
 
-/// Destination of the frames for which no plan has a `static` entry.
+/// Last octet of a destination for which no plan has a `static` entry.
 const UNLISTED: u64 = 0x40;
 
-/// Destination of the frames of filter 50.
+/// Last octet of the destination of filter 50.
 const FIFTY: u64 = 0x32;
 
-/// Sources of hostile talkers, by port.
+/// Last octet of a hostile talker's source address, before its port number is added.
 const HOSTILE: u64 = 0x80;
 
-/// The addresses of a stream's frames from its talker.
+/// Returns the addresses of the frames that the stream's talker sends.
 fn own_addresses(stream: &Stream) -> Addresses {
     let address = stream.place.saturating_add(10);
     Addresses {
@@ -23,7 +23,7 @@ fn own_addresses(stream: &Stream) -> Addresses {
     }
 }
 
-/// The first octets of a frame that matches the `stream` entry and the filter of a stream.
+/// Returns the first octets of a frame that matches the stream's `stream` entry and filter.
 fn own_head(numbers: &mut Numbers, stream: &Stream) -> [u8; 18] {
     let priority = if stream.way.by_priority {
         stream.class()
@@ -32,11 +32,11 @@ fn own_head(numbers: &mut Numbers, stream: &Stream) -> [u8; 18] {
     };
     let addresses = own_addresses(stream);
     match stream.way.tag {
-        Tag::Tagged => tagged(addresses, 10, priority),
+        Tag::Tagged => tagged_head(addresses, 10, priority),
         Tag::Priority => untagged_or(numbers, addresses, priority),
         Tag::All => {
-            if numbers.is_one_in(2) {
-                tagged(addresses, 10, priority)
+            if numbers.is_drawn(2) {
+                tagged_head(addresses, 10, priority)
             } else {
                 untagged_or(numbers, addresses, priority)
             }
@@ -44,16 +44,16 @@ fn own_head(numbers: &mut Numbers, stream: &Stream) -> [u8; 18] {
     }
 }
 
-/// The first octets of a frame without a tag or with a priority tag.
+/// Returns the first octets of a frame with no tag or with a priority tag.
 fn untagged_or(numbers: &mut Numbers, addresses: Addresses, priority: u64) -> [u8; 18] {
-    if numbers.is_one_in(2) {
-        untagged(addresses)
+    if numbers.is_drawn(2) {
+        untagged_head(addresses)
     } else {
-        tagged(addresses, 0, priority)
+        tagged_head(addresses, 0, priority)
     }
 }
 
-/// The next frame of a stream. Twice in three times, it has the least or the greatest length.
+/// Returns the next frame of a stream. Two frames in three have the least or the greatest length.
 fn own_frame(numbers: &mut Numbers, stream: &Stream, at: u64) -> Frame {
     let lengths = &stream.lengths;
     Frame {
@@ -63,7 +63,7 @@ fn own_frame(numbers: &mut Numbers, stream: &Stream, at: u64) -> Frame {
     }
 }
 
-/// Adds frames of a talker that keeps its period: in each period at most one.
+/// Adds frames of a periodic talker: at most one in each period.
 fn add_periodic(
     numbers: &mut Numbers,
     stream: &Stream,
@@ -75,14 +75,14 @@ fn add_periodic(
     for index in 0..count {
         let phase = numbers.between_ends(talker.from, talker.to);
         let at = index.saturating_mul(talker.period).saturating_add(phase);
-        if !numbers.is_one_in(6) {
+        if !numbers.is_drawn(6) {
             frames.push(own_frame(numbers, stream, at))?;
         }
     }
     Ok(())
 }
 
-/// Adds frames of a talker without a row, at any times.
+/// Adds frames of a talker without a row, at random times.
 fn add_restless(
     numbers: &mut Numbers,
     stream: &Stream,
@@ -96,7 +96,7 @@ fn add_restless(
     Ok(())
 }
 
-/// Adds the frames of the streams that enter at a port.
+/// Adds the frames of the streams that enter at `port`.
 fn add_own(
     numbers: &mut Numbers,
     shape: &Shape,
@@ -116,7 +116,7 @@ fn add_own(
     Ok(())
 }
 
-/// The first octets of a hostile frame with the destination of a stream, which isn't a frame of the stream's filter.
+/// Returns the first octets of a hostile frame with the stream's destination. The stream's filter doesn't match it.
 fn forged_head(numbers: &mut Numbers, stream: &Stream, port: u64) -> [u8; 18] {
     let addresses = Addresses {
         to: stream.place.saturating_add(10),
@@ -125,47 +125,43 @@ fn forged_head(numbers: &mut Numbers, stream: &Stream, port: u64) -> [u8; 18] {
     let priority = numbers.below(8);
     if stream.way.ingress != port || stream.way.by_source {
         return match numbers.below(3) {
-            0 => untagged(addresses),
-            1 => tagged(addresses, 0, priority),
-            _ => tagged(addresses, 10, priority),
+            0 => untagged_head(addresses),
+            1 => tagged_head(addresses, 0, priority),
+            _ => tagged_head(addresses, 10, priority),
         };
     }
-    if stream.way.by_priority && numbers.is_one_in(2) {
+    if stream.way.by_priority && numbers.is_drawn(2) {
         let other = stream
             .class()
             .saturating_add(1)
             .saturating_add(numbers.below(7));
-        return tagged(addresses, 10, other);
+        return tagged_head(addresses, 10, other);
     }
     match stream.way.tag {
         Tag::Tagged => untagged_or(numbers, addresses, priority),
-        Tag::Priority => tagged(addresses, 10, priority),
-        Tag::All => tagged(addresses, 30, priority),
+        Tag::Priority => tagged_head(addresses, 10, priority),
+        Tag::All => tagged_head(addresses, 30, priority),
     }
 }
 
-/// The first octets of a hostile frame.
+/// Returns the first octets of a hostile frame.
 fn hostile_head(numbers: &mut Numbers, shape: &Shape, port: u64) -> [u8; 18] {
     let from = HOSTILE.saturating_add(port);
     let index = numbers.below(5);
     if let Some(stream) = shape.streams.get(index as usize) {
         return forged_head(numbers, stream, port);
     }
-    let to = if numbers.is_one_in(2) {
-        FIFTY
-    } else {
-        UNLISTED
-    };
+    let to = if numbers.is_drawn(2) { FIFTY } else { UNLISTED };
     let addresses = Addresses { to, from };
     let priority = numbers.below(8);
-    if numbers.is_one_in(3) {
-        untagged(addresses)
+    if numbers.is_drawn(3) {
+        untagged_head(addresses)
     } else {
-        tagged(addresses, 10, priority)
+        tagged_head(addresses, 10, priority)
     }
 }
 
-/// The next length of a hostile frame in octets.
+/// Returns the next length of a hostile frame in octets.
 fn hostile_len(numbers: &mut Numbers) -> u64 {
     match numbers.below(4) {
         0 => 1_514,
@@ -175,7 +171,7 @@ fn hostile_len(numbers: &mut Numbers) -> u64 {
     }
 }
 
-/// Adds hostile frames: some at any times, some at the phases of the streams.
+/// Adds hostile frames. Some arrive at random times, others in the phases of the streams.
 fn add_hostile(
     numbers: &mut Numbers,
     shape: &Shape,
@@ -202,8 +198,8 @@ fn add_hostile(
     Ok(())
 }
 
-/// The captures of all ports: of the streams' talkers and of hostile talkers.
-pub fn captures_of(
+/// Returns the captures of all ports, with frames of the streams' talkers and of hostile talkers.
+pub fn input_captures(
     alloc: Global,
     numbers: &mut Numbers,
     shape: &Shape,
@@ -215,7 +211,7 @@ pub fn captures_of(
             let mut frames = Vec::new(alloc);
             add_own(numbers, shape, port, until, &mut frames)?;
             add_hostile(numbers, shape, port, until, &mut frames)?;
-            captures.push(capture_of(alloc, &mut frames)?)?;
+            captures.push(sorted_capture(alloc, &mut frames)?)?;
         }
     }
     Ok(captures)

@@ -1,5 +1,5 @@
-//! Whether a run refutes the figures of its plan.
-use crate::runs::view_of;
+//! Judges whether a run refutes the figures of its plan.
+use crate::runs::filter_view;
 use bridge_core::{Outcome, View};
 use bridge_filter::Verdict;
 use bridge_semantics::{Departure, Origin};
@@ -7,7 +7,7 @@ use net_file::TrafficRow;
 use net_latency::{QueueBound, QueueTiming, TrafficFigures};
 use std::alloc::Global;
 
-/// A plan with a traffic file: its bounds, rows and figures.
+/// Bounds, rows and figures of a plan with a traffic file.
 #[derive(Clone, Copy)]
 pub struct Case<'a> {
     pub bounds: &'a [QueueBound],
@@ -15,20 +15,20 @@ pub struct Case<'a> {
     pub figures: &'a [TrafficFigures],
 }
 
-/// What runs show of a plan.
+/// Counts over the runs of a plan.
 #[derive(Clone, Copy, Default)]
 pub struct Shown {
-    /// Frames of the rows' filters.
+    /// Number of frames of the rows' filters.
     pub frames: u64,
-    /// Frames of rows that break the rows: the generator made a mistake.
+    /// Number of frames that break their rows. These frames are mistakes of the generator.
     pub stray: u64,
-    /// Facts that contradict a figure.
+    /// Number of facts that contradict a figure.
     pub refuted: u64,
-    /// Frames that a filter refused, and copies that a queue dropped, of rows that are refusable.
+    /// Number of refused frames and dropped copies of rows whose figures allow losses.
     pub lost: u64,
 }
 
-/// A transmission of a frame: when the frame arrived and when it had left, in ns.
+/// Arrival time of a frame, and end of its transmission, in ns.
 #[derive(Clone, Copy)]
 struct Passage {
     at: u64,
@@ -36,21 +36,21 @@ struct Passage {
 }
 
 impl Passage {
-    /// The delay in ns.
+    /// Returns the delay in ns.
     fn delay(&self) -> u64 {
         self.done.saturating_sub(self.at)
     }
 }
 
-/// Adds one to a count if a condition holds.
+/// Adds one to `count` if `holds` is true.
 pub fn add_if(count: &mut u64, holds: bool) {
     if holds {
         *count = count.saturating_add(1);
     }
 }
 
-/// The passage of a departure.
-fn passage_of(origins: &[Origin], departure: &Departure) -> Option<Passage> {
+/// Returns arrival and end of transmission of a departure.
+fn departure_passage(origins: &[Origin], departure: &Departure) -> Option<Passage> {
     let index = departure.own.checked_sub(1)?;
     let origin = origins.get(index as usize)?;
     Some(Passage {
@@ -59,7 +59,7 @@ fn passage_of(origins: &[Origin], departure: &Departure) -> Option<Passage> {
     })
 }
 
-/// Whether a passage agrees with the figures of a queue: times, phases and, if it is met, the deadline.
+/// Whether a passage agrees with the figures of a queue: delay, phases and, if it is met, the deadline.
 fn agrees(timing: &QueueTiming, row: &TrafficRow, passage: Passage) -> bool {
     let delay = passage.delay();
     let period = row.traffic.period.max(1);
@@ -74,7 +74,7 @@ fn agrees(timing: &QueueTiming, row: &TrafficRow, passage: Passage) -> bool {
     is_timed && is_phased && is_in_time(timing, delay)
 }
 
-/// Whether a delay is at most the deadline, if the figures say that it is met.
+/// Whether a delay is at most the deadline, if the figures promise to meet it.
 fn is_in_time(timing: &QueueTiming, delay: u64) -> bool {
     match timing.deadline {
         Some(deadline) => !is_met(timing) || delay <= deadline,
@@ -82,7 +82,7 @@ fn is_in_time(timing: &QueueTiming, delay: u64) -> bool {
     }
 }
 
-/// Whether the figures of a queue have a deadline and say that it is met.
+/// Whether the figures of a queue have a deadline, and the worst delay meets it.
 pub fn is_met(timing: &QueueTiming) -> bool {
     match timing.deadline {
         Some(deadline) => timing.timing.worst <= deadline,
@@ -90,13 +90,13 @@ pub fn is_met(timing: &QueueTiming) -> bool {
     }
 }
 
-/// Whether the figures of a queue have a deadline and say that it is missed.
+/// Whether the figures of a queue have a deadline, and the worst delay misses it.
 pub fn is_missed(timing: &QueueTiming) -> bool {
     timing.deadline.is_some() && !is_met(timing)
 }
 
-/// The figures of a row at a port, the first of its queues there.
-fn timing_at(figures: &[TrafficFigures], row: u32, port: u8) -> Option<&QueueTiming> {
+/// Returns the figures of a row for its first queue at `port`.
+fn port_timing(figures: &[TrafficFigures], row: u32, port: u8) -> Option<&QueueTiming> {
     for figures in figures {
         if let TrafficFigures::Queue(timing) = figures {
             if timing.row == row && timing.port == port {
@@ -107,14 +107,14 @@ fn timing_at(figures: &[TrafficFigures], row: u32, port: u8) -> Option<&QueueTim
     None
 }
 
-/// Whether an arrival keeps to a row.
+/// Whether an arrival time lies between the phases of a row.
 fn keeps(row: &TrafficRow, at: u64) -> bool {
     let phase = at % row.traffic.period.max(1);
     row.traffic.from <= phase && phase <= row.traffic.to
 }
 
-/// The number of arrivals that break a row: by their phase, or as the second one in a period.
-fn strays_in(row: &TrafficRow, view: &View<Global>) -> u64 {
+/// Returns the number of arrivals that break a row: by their phase, or as the second arrival in a period.
+fn count_strays(row: &TrafficRow, view: &View<Global>) -> u64 {
     let mut strays = 0u64;
     let mut earlier = None;
     for origin in &view.origins {
@@ -125,13 +125,13 @@ fn strays_in(row: &TrafficRow, view: &View<Global>) -> u64 {
     strays
 }
 
-/// Whether a verdict is that the frame passes.
+/// Whether the verdict lets the frame pass.
 pub fn is_pass(verdict: Verdict) -> bool {
     matches!(verdict, Verdict::Pass { .. })
 }
 
-/// The number of frames that the filter refused.
-fn refused_in(view: &View<Global>) -> u64 {
+/// Returns the number of frames that the filter refused.
+fn count_refused(view: &View<Global>) -> u64 {
     let mut refused = 0u64;
     for verdict in &view.verdicts {
         add_if(&mut refused, !is_pass(*verdict));
@@ -139,7 +139,7 @@ fn refused_in(view: &View<Global>) -> u64 {
     refused
 }
 
-/// Whether some figures of a row say that it passes.
+/// Whether the row's figures for a queue promise that each frame passes.
 fn passes(figures: &[TrafficFigures], row: u32) -> bool {
     let mut passes = false;
     for figures in figures {
@@ -162,11 +162,11 @@ fn is_nowhere(figures: &[TrafficFigures], index: u32) -> bool {
     false
 }
 
-/// The number of dropped copies of a row at ports where its figures say that it passes.
+/// Returns the number of dropped copies of a row, without ports at which its figures admit a loss.
 fn drops_against(figures: &[TrafficFigures], row: u32, view: &View<Global>) -> u64 {
     let mut drops = 0u64;
     for dropped in &view.drops {
-        let passes = match timing_at(figures, row, dropped.port) {
+        let passes = match port_timing(figures, row, dropped.port) {
             Some(timing) => timing.passes,
             None => true,
         };
@@ -175,7 +175,7 @@ fn drops_against(figures: &[TrafficFigures], row: u32, view: &View<Global>) -> u
     drops
 }
 
-/// The number of departures of a row that contradict its figures.
+/// Returns the number of departures of a row that contradict its figures.
 fn departures_against(
     figures: &[TrafficFigures],
     index: u32,
@@ -184,8 +184,8 @@ fn departures_against(
 ) -> u64 {
     let mut count = 0u64;
     for departure in &view.departures {
-        let timing = timing_at(figures, index, departure.port);
-        let agrees = match (timing, passage_of(&view.origins, departure)) {
+        let timing = port_timing(figures, index, departure.port);
+        let agrees = match (timing, departure_passage(&view.origins, departure)) {
             (Some(timing), Some(passage)) => agrees(timing, row, passage),
             _ => false,
         };
@@ -194,13 +194,13 @@ fn departures_against(
     count
 }
 
-/// Adds what a run shows of a row.
+/// Adds the counts of a row in a run.
 fn judge_row(case: Case<'_>, index: u32, row: &TrafficRow, view: &View<Global>, shown: &mut Shown) {
-    let refused = refused_in(view);
+    let refused = count_refused(view);
     let dropped = drops_against(case.figures, index, view);
     let against = departures_against(case.figures, index, row, view);
     shown.frames = shown.frames.saturating_add(view.origins.len() as u64);
-    shown.stray = shown.stray.saturating_add(strays_in(row, view));
+    shown.stray = shown.stray.saturating_add(count_strays(row, view));
     shown.refuted = shown
         .refuted
         .saturating_add(against)
@@ -216,8 +216,8 @@ fn judge_row(case: Case<'_>, index: u32, row: &TrafficRow, view: &View<Global>, 
     }
 }
 
-/// The greatest bound of a filter's queues at a port.
-fn bound_at(bounds: &[QueueBound], filter: u32, port: u8) -> Option<u64> {
+/// Returns the greatest bound of a filter's queues at a port, in ns.
+fn port_bound(bounds: &[QueueBound], filter: u32, port: u8) -> Option<u64> {
     let mut greatest = None;
     for bound in bounds {
         if bound.filter == filter && bound.port == port {
@@ -227,12 +227,12 @@ fn bound_at(bounds: &[QueueBound], filter: u32, port: u8) -> Option<u64> {
     greatest
 }
 
-/// The number of departures of a protected filter that exceed the bound of their queue.
-fn late_in(bounds: &[QueueBound], filter: u32, view: &View<Global>) -> u64 {
+/// Returns the number of departures of a protected filter that exceed their port's bound, or have no bound.
+fn count_late(bounds: &[QueueBound], filter: u32, view: &View<Global>) -> u64 {
     let mut late = 0u64;
     for departure in &view.departures {
-        let bound = bound_at(bounds, filter, departure.port);
-        let is_late = match (bound, passage_of(&view.origins, departure)) {
+        let bound = port_bound(bounds, filter, departure.port);
+        let is_late = match (bound, departure_passage(&view.origins, departure)) {
             (Some(bound), Some(passage)) => bound < passage.delay(),
             _ => true,
         };
@@ -241,22 +241,22 @@ fn late_in(bounds: &[QueueBound], filter: u32, view: &View<Global>) -> u64 {
     late
 }
 
-/// Adds what a run shows of the bounds.
+/// Adds the departures that exceed their bounds.
 fn judge_bounds(case: Case<'_>, outcome: &Outcome<Global>, shown: &mut Shown) {
     for (filter, view) in &outcome.filters {
         if view.protected {
-            let late = late_in(case.bounds, *filter, view);
+            let late = count_late(case.bounds, *filter, view);
             shown.refuted = shown.refuted.saturating_add(late);
         }
     }
 }
 
-/// Adds what a run shows.
+/// Adds the counts of a run.
 pub fn judge(case: Case<'_>, outcome: &Outcome<Global>, shown: &mut Shown) {
     judge_bounds(case, outcome, shown);
     let mut index = 1u32;
     for row in case.rows {
-        match view_of(outcome, row.filter) {
+        match filter_view(outcome, row.filter) {
             Some(view) => judge_row(case, index, row, view, shown),
             None => add_if(&mut shown.stray, true),
         }
@@ -264,13 +264,13 @@ pub fn judge(case: Case<'_>, outcome: &Outcome<Global>, shown: &mut Shown) {
     }
 }
 
-/// The least and the greatest delay in ns of the departures of a filter at a port.
-pub fn delays_at(outcome: &Outcome<Global>, filter: u32, port: u8) -> Option<(u64, u64)> {
-    let view = view_of(outcome, filter)?;
+/// Returns the least and the greatest delay of a filter's departures at a port, in ns.
+pub fn delay_range(outcome: &Outcome<Global>, filter: u32, port: u8) -> Option<(u64, u64)> {
+    let view = filter_view(outcome, filter)?;
     let mut delays: Option<(u64, u64)> = None;
     for departure in &view.departures {
         if departure.port == port {
-            let delay = passage_of(&view.origins, departure)?.delay();
+            let delay = departure_passage(&view.origins, departure)?.delay();
             delays = match delays {
                 None => Some((delay, delay)),
                 Some((least, most)) => Some((least.min(delay), most.max(delay))),

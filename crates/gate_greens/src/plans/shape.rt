@@ -1,9 +1,9 @@
-//! Random streams of one bridge: ports, lengths, stream gates and periodic talkers.
+//! Draws random streams of one bridge: ports, lengths, stream gates and periodic talkers.
 use crate::numbers::Numbers;
 use bridge_limits::NoMemory;
 use std::alloc::Global;
 
-/// Which frames a `stream` entry compares, by their tag.
+/// Tags that a `stream` entry compares.
 #[derive(Clone, Copy, PartialEq, Eq)]
 pub enum Tag {
     Tagged,
@@ -11,18 +11,18 @@ pub enum Tag {
     All,
 }
 
-/// How a stream enters and leaves the bridge.
+/// Path of a stream through the bridge.
 #[derive(Clone, Copy)]
 pub struct Way {
     /// Ingress port.
     pub ingress: u64,
     /// Egress ports of the `static` entry. 0 stands for no port.
     pub egress: [u64; 2],
-    /// Whether there is no `static` entry, so that the bridge floods the frames.
+    /// Whether the bridge floods the frames, because there is no `static` entry.
     pub floods: bool,
-    /// Whether the `stream` entry compares the source.
+    /// Whether the `stream` entry compares the source address.
     pub by_source: bool,
-    /// Whether the stream gate gives no priority and the filter compares it.
+    /// Whether the filter compares the priority, and the stream gate sets none.
     pub by_priority: bool,
     pub tag: Tag,
 }
@@ -40,7 +40,7 @@ pub struct Lengths {
 pub enum GateKind {
     /// Always.
     Open,
-    /// In one entry of its list.
+    /// Only in the second entry of its list.
     Window,
     /// In both entries of its list, which limit the octets.
     Limits,
@@ -54,9 +54,9 @@ pub struct StreamGate {
     pub cycle: u64,
     pub first: u64,
     pub second: u64,
-    /// Limit of the octets, or 0.
+    /// Limit of the octets, or 0 for none.
     pub octets: u64,
-    /// Whether an invalid frame shuts the gate.
+    /// Whether an invalid frame shuts the stream gate.
     pub shuts: bool,
 }
 
@@ -66,11 +66,11 @@ pub struct Talker {
     pub period: u64,
     pub from: u64,
     pub to: u64,
-    /// Whether the traffic file has a row for it.
+    /// Whether the traffic file has a row for the talker.
     pub has_row: bool,
 }
 
-/// A stream with a protected filter. Its numbers follow from `place`, from 0 to 2.
+/// A stream with a protected filter. Its numbers follow from `place`, its index from 0 to 2.
 #[derive(Clone, Copy)]
 pub struct Stream {
     pub place: u64,
@@ -80,32 +80,32 @@ pub struct Stream {
     pub talker: Talker,
 }
 
-/// One bridge with its streams.
+/// A bridge with its streams.
 #[derive(Drop)]
 pub struct Shape {
     /// Number of ports, from 2 to 4.
     pub ports: u64,
     /// Speed of each port in Mb/s.
     pub speeds: [u64; 4],
-    /// Period in ns, of which each cycle is a divisor.
+    /// Period in ns, a multiple of each cycle time.
     pub period: u64,
     pub streams: Vec<Stream>,
-    /// Time of the schedule change.
+    /// Time of the schedule change in ns.
     pub change: Option<u64>,
 }
 
 impl Stream {
-    /// Number of the filter.
+    /// Returns the number of the filter.
     pub fn filter(&self) -> u64 {
         self.place.saturating_add(10)
     }
 
-    /// Class of the stream's frames.
+    /// Returns the class of the stream's frames.
     pub fn class(&self) -> u64 {
         7u64.saturating_sub(self.place)
     }
 
-    /// Whether frames of the filter can enter a queue of a port.
+    /// Whether frames of the filter can enter a queue of `port`.
     pub fn reaches(&self, port: u64) -> bool {
         let way = &self.way;
         let [one, other] = way.egress;
@@ -114,20 +114,20 @@ impl Stream {
 }
 
 impl Shape {
-    /// Speed of a port in Mb/s.
+    /// Returns the speed of `port` in Mb/s.
     pub fn speed(&self, port: u64) -> u64 {
         let index = port.saturating_sub(1) as usize;
         self.speeds.get(index).copied().unwrap_or(1_000)
     }
 }
 
-/// Transmission time in ns of a frame of `len` octets at `mbps` Mb/s.
+/// Returns the transmission time in ns of a frame of `len` octets at `mbps` Mb/s.
 pub fn transmission(len: u64, mbps: u64) -> u64 {
     let bits = len.max(60).saturating_add(24).saturating_mul(8_000);
     if mbps == 0 { bits } else { bits / mbps }
 }
 
-/// A port other than `port`.
+/// Returns a port other than `port`.
 fn other_port(numbers: &mut Numbers, ports: u64, port: u64) -> u64 {
     let other = numbers.between(1, ports.saturating_sub(1));
     if other >= port {
@@ -137,7 +137,7 @@ fn other_port(numbers: &mut Numbers, ports: u64, port: u64) -> u64 {
     }
 }
 
-/// How a stream's frames are tagged: mostly with a VLAN.
+/// Returns the tag of a stream's frames, mostly a VLAN tag.
 fn next_tag(numbers: &mut Numbers) -> Tag {
     match numbers.below(8) {
         0 => Tag::Priority,
@@ -146,7 +146,7 @@ fn next_tag(numbers: &mut Numbers) -> Tag {
     }
 }
 
-/// Egress ports: mostly one, sometimes two, seldom none.
+/// Returns egress ports: mostly one, sometimes two, seldom none.
 fn next_egress(numbers: &mut Numbers, ports: u64, ingress: u64) -> [u64; 2] {
     let one = other_port(numbers, ports, ingress);
     match numbers.below(16) {
@@ -157,7 +157,7 @@ fn next_egress(numbers: &mut Numbers, ports: u64, ingress: u64) -> [u64; 2] {
     }
 }
 
-/// The next way of a stream through a bridge.
+/// Returns the next path of a stream through a bridge.
 fn next_way(numbers: &mut Numbers, ports: u64) -> Way {
     let ingress = numbers.between(1, ports);
     let egress = next_egress(numbers, ports, ingress);
@@ -165,15 +165,15 @@ fn next_way(numbers: &mut Numbers, ports: u64) -> Way {
     Way {
         ingress,
         egress,
-        floods: numbers.is_one_in(16),
-        by_source: numbers.is_one_in(24),
-        by_priority: tag == Tag::Tagged && numbers.is_one_in(5),
+        floods: numbers.is_drawn(16),
+        by_source: numbers.is_drawn(24),
+        by_priority: tag == Tag::Tagged && numbers.is_drawn(5),
         tag,
     }
 }
 
-/// Octets of the service data unit of a frame that a stream entry can match.
-pub fn sdu_of(tag: Tag, len: u64) -> u64 {
+/// Returns the octets of the service data unit of a frame that the `stream` entry can match.
+pub fn service_data_octets(tag: Tag, len: u64) -> u64 {
     if tag == Tag::Tagged {
         len.saturating_sub(16)
     } else {
@@ -181,7 +181,7 @@ pub fn sdu_of(tag: Tag, len: u64) -> u64 {
     }
 }
 
-/// The next lengths of a stream. `max_sdu` is mostly just enough for the longest frame.
+/// Returns the next lengths of a stream. `max_sdu` mostly equals the service data unit of the longest frame.
 fn next_lengths(numbers: &mut Numbers, tag: Tag) -> Lengths {
     let longest = match numbers.below(4) {
         0 => 64,
@@ -193,7 +193,7 @@ fn next_lengths(numbers: &mut Numbers, tag: Tag) -> Lengths {
         1 => numbers.between(20, longest),
         _ => longest.min(60),
     };
-    let sdu = sdu_of(tag, longest);
+    let sdu = service_data_octets(tag, longest);
     let max_sdu = match numbers.below(12) {
         0 => sdu.saturating_sub(1),
         1 => sdu.saturating_sub(20),
@@ -208,7 +208,7 @@ fn next_lengths(numbers: &mut Numbers, tag: Tag) -> Lengths {
     }
 }
 
-/// The limit of a stream gate's octets: near that of one longest frame or of two.
+/// Returns the octet limit of a stream gate, near the service data units of one or two longest frames.
 fn next_octets(numbers: &mut Numbers, sdu: u64) -> u64 {
     let octets = match numbers.below(8) {
         0 => sdu.saturating_sub(1),
@@ -219,7 +219,7 @@ fn next_octets(numbers: &mut Numbers, sdu: u64) -> u64 {
     octets.max(2)
 }
 
-/// The next base of a list: often 0, sometimes in a later cycle.
+/// Returns the next base time of a list in ns: often 0, sometimes in the fourth cycle.
 pub fn next_base(numbers: &mut Numbers, cycle: u64) -> u64 {
     match numbers.below(4) {
         0 => numbers.below(cycle),
@@ -228,7 +228,7 @@ pub fn next_base(numbers: &mut Numbers, cycle: u64) -> u64 {
     }
 }
 
-/// The kind of a gate.
+/// Returns the next kind of a stream gate.
 fn next_kind(numbers: &mut Numbers) -> GateKind {
     match numbers.below(8) {
         0 | 1 | 2 => GateKind::Open,
@@ -237,7 +237,7 @@ fn next_kind(numbers: &mut Numbers) -> GateKind {
     }
 }
 
-/// A cycle that divides the period, which is a multiple of 12.
+/// Returns a cycle time that divides the period, a multiple of 12 ns.
 pub fn next_cycle(numbers: &mut Numbers, period: u64) -> u64 {
     match numbers.below(6) {
         0 => period / 2,
@@ -247,14 +247,14 @@ pub fn next_cycle(numbers: &mut Numbers, period: u64) -> u64 {
     }
 }
 
-/// The next stream gate, for frames whose service data unit has at most `sdu` octets.
+/// Returns the next stream gate, for frames whose service data unit has at most `sdu` octets.
 pub fn next_gate(numbers: &mut Numbers, period: u64, sdu: u64) -> StreamGate {
     let kind = next_kind(numbers);
     let cycle = next_cycle(numbers, period).max(12);
     let first = numbers.between(1, cycle / 2);
     let rest = cycle.saturating_sub(first);
     let second = numbers.between(1, rest.max(1));
-    let is_limited = kind == GateKind::Limits || numbers.is_one_in(3);
+    let is_limited = kind == GateKind::Limits || numbers.is_drawn(3);
     StreamGate {
         kind,
         base: next_base(numbers, cycle),
@@ -266,11 +266,11 @@ pub fn next_gate(numbers: &mut Numbers, period: u64, sdu: u64) -> StreamGate {
         } else {
             0
         },
-        shuts: numbers.is_one_in(6),
+        shuts: numbers.is_drawn(6),
     }
 }
 
-/// The phases of a talker: the earliest, and the latest from `least` to `most`.
+/// Returns the earliest and latest phase of a talker, both from `least` to `most`.
 fn next_phases(numbers: &mut Numbers, least: u64, most: u64) -> (u64, u64) {
     let from = match numbers.below(3) {
         0 => least,
@@ -284,7 +284,7 @@ fn next_phases(numbers: &mut Numbers, least: u64, most: u64) -> (u64, u64) {
     (from, to)
 }
 
-/// The phases in which a gate's entry of `second` ns is open, in its first cycle or a later one.
+/// Returns the first and last phase of the gate's second entry, in a cycle of the period.
 fn open_phases(numbers: &mut Numbers, gate: &StreamGate, period: u64) -> (u64, u64) {
     let cycle = gate.cycle.max(1);
     let later = numbers.below(period / cycle).saturating_mul(cycle);
@@ -294,9 +294,9 @@ fn open_phases(numbers: &mut Numbers, gate: &StreamGate, period: u64) -> (u64, u
     (least, end.min(period.saturating_sub(1)).max(least))
 }
 
-/// The phases between which a talker's phases are drawn: mostly where the gate is open.
-fn room_of(numbers: &mut Numbers, gate: &StreamGate, period: u64) -> (u64, u64) {
-    if gate.kind == GateKind::Open || numbers.is_one_in(8) {
+/// Returns the range for a talker's phases. Mostly the stream gate is open in this range.
+fn phase_range(numbers: &mut Numbers, gate: &StreamGate, period: u64) -> (u64, u64) {
+    if gate.kind == GateKind::Open || numbers.is_drawn(8) {
         let last = period.saturating_sub(1);
         let share = numbers.pick(&[1, 2, 3, 10]).max(1);
         let least = numbers.below(last);
@@ -305,27 +305,27 @@ fn room_of(numbers: &mut Numbers, gate: &StreamGate, period: u64) -> (u64, u64) 
     open_phases(numbers, gate, period)
 }
 
-/// The next talker, of frames that a gate judges.
+/// Returns the next talker, for frames that `gate` judges.
 pub fn next_talker(numbers: &mut Numbers, gate: &StreamGate, period: u64) -> Talker {
     let period = period.saturating_mul(numbers.pick(&[1, 1, 1, 2]));
-    let (least, most) = room_of(numbers, gate, period);
+    let (least, most) = phase_range(numbers, gate, period);
     let (from, to) = next_phases(numbers, least, most);
     Talker {
         period,
         from,
         to,
-        has_row: !numbers.is_one_in(8),
+        has_row: !numbers.is_drawn(8),
     }
 }
 
-/// What is drawn of a stream before the period.
+/// Values of a stream that are drawn before the period.
 #[derive(Clone, Copy)]
 struct Start {
     way: Way,
     lengths: Lengths,
 }
 
-/// The next ways and lengths of `count` streams.
+/// Returns the next paths and lengths of `count` streams.
 fn next_starts(
     alloc: Global,
     numbers: &mut Numbers,
@@ -341,7 +341,7 @@ fn next_starts(
     Ok(starts)
 }
 
-/// A multiple of 12 ns: a few times the longest transmission of all streams at `mbps` Mb/s.
+/// Returns the next period: a multiple of 12 ns, about 4 to 40 times the longest transmission time at `mbps` Mb/s.
 fn next_period(numbers: &mut Numbers, starts: &[Start], mbps: u64) -> u64 {
     let mut longest = 0;
     for start in starts {
@@ -354,7 +354,7 @@ fn next_period(numbers: &mut Numbers, starts: &[Start], mbps: u64) -> u64 {
         .saturating_mul(12)
 }
 
-/// The slowest of the speeds of `ports` ports.
+/// Returns the slowest speed of ports 1 to `ports`, in Mb/s.
 fn slowest(speeds: &[u64; 4], ports: u64) -> u64 {
     let mut slowest = 1_000;
     let mut port = 0u64;
@@ -367,13 +367,13 @@ fn slowest(speeds: &[u64; 4], ports: u64) -> u64 {
     slowest
 }
 
-/// The next speed of a port in Mb/s.
+/// Returns the next speed of a port in Mb/s.
 fn next_speed(numbers: &mut Numbers) -> u64 {
     numbers.pick(&[10, 100, 100, 1_000, 1_000, 1_000])
 }
 
-/// Adds gates and talkers to the ways and lengths of streams.
-fn streams_of(
+/// Draws stream gates and talkers for streams with known paths and lengths.
+fn draw_streams(
     alloc: Global,
     numbers: &mut Numbers,
     starts: &[Start],
@@ -382,7 +382,7 @@ fn streams_of(
     let mut streams = Vec::new(alloc);
     let mut place = 0u64;
     for start in starts {
-        let sdu = sdu_of(start.way.tag, start.lengths.longest);
+        let sdu = service_data_octets(start.way.tag, start.lengths.longest);
         let gate = next_gate(numbers, period, sdu);
         let talker = next_talker(numbers, &gate, period);
         streams.push(Stream {
@@ -397,7 +397,7 @@ fn streams_of(
     Ok(streams)
 }
 
-/// The next bridge.
+/// Returns the next bridge.
 pub fn next_shape(alloc: Global, numbers: &mut Numbers) -> Result<Shape, NoMemory> {
     let ports = numbers.between(2, 4);
     let speeds = [
@@ -409,8 +409,8 @@ pub fn next_shape(alloc: Global, numbers: &mut Numbers) -> Result<Shape, NoMemor
     let count = numbers.between(2, 3);
     let starts = next_starts(alloc, numbers, ports, count)?;
     let period = next_period(numbers, &starts, slowest(&speeds, ports));
-    let streams = streams_of(alloc, numbers, &starts, period)?;
-    let change = if numbers.is_one_in(6) {
+    let streams = draw_streams(alloc, numbers, &starts, period)?;
+    let change = if numbers.is_drawn(6) {
         Some(numbers.below(period.saturating_mul(8)))
     } else {
         None

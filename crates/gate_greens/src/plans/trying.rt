@@ -1,51 +1,51 @@
-//! One random plan with its traffic file, figures and runs.
+//! Draws a random plan, and compares its figures with its runs.
 ghost use Rattle.std.specs.Prelude.{◌≤◌, All, IfOk, length};
 ghost use Rattle.net_file.specs.TrafficRows.{IsRow};
 
 use crate::numbers::Numbers;
 use crate::plans::drawing::{plan_text, traffic_text};
-use crate::plans::frames::captures_of;
-use crate::plans::judging::{Case, Shown, add_if, delays_at, is_met, is_missed, judge};
+use crate::plans::frames::input_captures;
+use crate::plans::judging::{Case, Shown, add_if, delay_range, is_met, is_missed, judge};
 use crate::plans::shape::{Shape, next_shape};
 use crate::runs::run_bridge;
-use app_failure::accepted_of;
+use app_failure::accepted_plan;
 use bridge_capture::RunFault;
 use bridge_check::Accepted;
 use bridge_core::Outcome;
 use bridge_limits::NoMemory;
-use net_file::{TrafficRow, traffic_of};
+use net_file::{TrafficRow, parse_traffic};
 use net_latency::{
-    QueueTiming, TrafficFigures, are_kept, tight_bounds_of, timings_of, traffic_fault,
+    QueueTiming, TrafficFigures, are_in_time, queue_timings, tight_queue_bounds, traffic_fault,
 };
 use std::alloc::Global;
 
-/// Runs of each accepted plan.
+/// Number of runs of each accepted plan.
 const RUNS: u64 = 2;
 
-/// What is counted of plans.
+/// Counts over all plans.
 #[derive(Clone, Copy, Default)]
 pub struct Tally {
     pub drawn: u64,
     pub accepted: u64,
-    /// Accepted plans whose traffic file is refused.
+    /// Number of accepted plans whose traffic file is refused.
     pub unsuited: u64,
-    /// Plans for which `bounds --traffic` ends with status 0.
+    /// Number of plans for which `bounds --traffic` ends with status 0.
     pub kept: u64,
-    /// Lines of the figures, by their words.
+    /// Numbers of lines of figures, by their words.
     pub passing: u64,
     pub refusable: u64,
     pub nowhere: u64,
     pub met: u64,
     pub missed: u64,
-    /// Passing lines whose worst, and whose best, a run reached.
+    /// Number of passing lines whose worst, and whose best, delay a run reached.
     pub worst_reached: u64,
     pub best_reached: u64,
-    /// Refusable plans of which a run lost a frame.
+    /// Number of plans with a lost frame in a row whose figures allow losses.
     pub lossy: u64,
     pub shown: Shown,
 }
 
-/// A plan of a seed with its files, if something of it is wrong.
+/// A tried plan: its text, its traffic file, and whether a figure is refuted or a frame is stray.
 #[derive(Drop)]
 pub struct Tried {
     pub plan: String,
@@ -53,18 +53,18 @@ pub struct Tried {
     pub is_wrong: bool,
 }
 
-/// The rows of a traffic file.
-fn rows_of(alloc: Global, text: &str) -> Result<Vec<TrafficRow>, RunFault>
+/// Reads the rows of a traffic file.
+fn traffic_rows(alloc: Global, text: &str) -> Result<Vec<TrafficRow>, RunFault>
     ensures rows { IfOk result (λ rows. All IsRow rows.items) }
     ensures few { IfOk result (λ rows. length rows.items ≤ 1024) }
 {
-    match traffic_of(alloc, alloc, text.as_bytes()) {
+    match parse_traffic(alloc, alloc, text.as_bytes()) {
         Ok(rows) => Ok(rows),
         Err(_) => Err(RunFault::NoMemory),
     }
 }
 
-/// The next deadline of a row near a delay in ns, or 0 for none.
+/// Returns the next deadline in ns, near `worst`, or 0 for none.
 fn next_deadline(numbers: &mut Numbers, worst: u64) -> u64 {
     match numbers.below(6) {
         0 => 0,
@@ -75,8 +75,8 @@ fn next_deadline(numbers: &mut Numbers, worst: u64) -> u64 {
     }
 }
 
-/// The worst delay of a row in its first queue.
-fn worst_of(figures: &[TrafficFigures], row: u32) -> u64 {
+/// Returns the worst delay of a row in its first queue, or 1,000 ns if it has no queue.
+fn worst_delay(figures: &[TrafficFigures], row: u32) -> u64 {
     for figures in figures {
         if let TrafficFigures::Queue(timing) = figures {
             if timing.row == row {
@@ -87,21 +87,21 @@ fn worst_of(figures: &[TrafficFigures], row: u32) -> u64 {
     1_000
 }
 
-/// Deadlines of all rows, near their worst delays.
-fn deadlines_of(
+/// Returns deadlines of all rows, near their worst delays.
+fn row_deadlines(
     alloc: Global,
     numbers: &mut Numbers,
     accepted: &Accepted<Global>,
     text: &str,
 ) -> Result<Vec<u64>, RunFault> {
-    let rows = rows_of(alloc, text)?;
-    let Ok(figures) = timings_of(alloc, accepted, &rows) else {
+    let rows = traffic_rows(alloc, text)?;
+    let Ok(figures) = queue_timings(alloc, accepted, &rows) else {
         return Err(RunFault::NoMemory);
     };
     deadlines_near(alloc, numbers, rows.len() as u64, &figures)
 }
 
-/// Deadlines of `count` rows, near their worst delays.
+/// Returns deadlines of `count` rows, near the worst delays in `figures`.
 fn deadlines_near(
     alloc: Global,
     numbers: &mut Numbers,
@@ -111,7 +111,7 @@ fn deadlines_near(
     let mut deadlines = Vec::new(alloc);
     let mut row = 1u32;
     for _ in 0..count {
-        let deadline = next_deadline(numbers, worst_of(figures, row));
+        let deadline = next_deadline(numbers, worst_delay(figures, row));
         if deadlines.push(deadline).is_err() {
             return Err(RunFault::NoMemory);
         }
@@ -120,7 +120,7 @@ fn deadlines_near(
     Ok(deadlines)
 }
 
-/// Tries the plan of a seed.
+/// Tries the plan of `seed`.
 pub fn try_plan(alloc: Global, seed: u64, tally: &mut Tally) -> Result<Tried, RunFault> {
     let mut numbers = Numbers::of_seed(seed);
     let Ok(shape) = next_shape(alloc, &mut numbers) else {
@@ -135,14 +135,14 @@ pub fn try_plan(alloc: Global, seed: u64, tally: &mut Tally) -> Result<Tried, Ru
         traffic: String::new(alloc),
         is_wrong: false,
     };
-    if let Ok(accepted) = accepted_of(alloc, alloc, tried.plan.as_bytes()) {
+    if let Ok(accepted) = accepted_plan(alloc, alloc, tried.plan.as_bytes()) {
         tally.accepted = tally.accepted.saturating_add(1);
         try_accepted(alloc, &mut numbers, &shape, &accepted, tally, &mut tried)?;
     }
     Ok(tried)
 }
 
-/// Tries an accepted plan with traffic.
+/// Tries an accepted plan with a traffic file.
 fn try_accepted(
     alloc: Global,
     numbers: &mut Numbers,
@@ -154,20 +154,20 @@ fn try_accepted(
     let Ok(first) = traffic_text(alloc, shape, &[]) else {
         return Err(RunFault::NoMemory);
     };
-    let deadlines = deadlines_of(alloc, numbers, accepted, first.as_str())?;
+    let deadlines = row_deadlines(alloc, numbers, accepted, first.as_str())?;
     let Ok(traffic) = traffic_text(alloc, shape, &deadlines) else {
         return Err(RunFault::NoMemory);
     };
-    let rows = rows_of(alloc, traffic.as_str())?;
+    let rows = traffic_rows(alloc, traffic.as_str())?;
     tried.traffic = traffic;
     if traffic_fault(accepted.plan(), &rows).is_some() {
         tally.unsuited = tally.unsuited.saturating_add(1);
         return Ok(());
     }
-    let Ok(figures) = timings_of(alloc, accepted, &rows) else {
+    let Ok(figures) = queue_timings(alloc, accepted, &rows) else {
         return Err(RunFault::NoMemory);
     };
-    let Ok(bounds) = tight_bounds_of(alloc, accepted) else {
+    let Ok(bounds) = tight_queue_bounds(alloc, accepted) else {
         return Err(RunFault::NoMemory);
     };
     let case = Case {
@@ -178,7 +178,7 @@ fn try_accepted(
     run_case(alloc, numbers, shape, accepted, case, tally, tried)
 }
 
-/// Runs a plan some times, and judges its figures.
+/// Runs a plan `RUNS` times, and judges its figures.
 fn run_case(
     alloc: Global,
     numbers: &mut Numbers,
@@ -191,7 +191,7 @@ fn run_case(
     let mut shown = Shown::default();
     let mut outcomes = Vec::new(alloc);
     for _ in 0..RUNS {
-        let Ok(captures) = captures_of(alloc, numbers, shape) else {
+        let Ok(captures) = input_captures(alloc, numbers, shape) else {
             return Err(RunFault::NoMemory);
         };
         let outcome = run_bridge(alloc, accepted, &captures)?;
@@ -207,7 +207,7 @@ fn run_case(
 
 /// Counts a plan.
 fn count_case(case: Case<'_>, outcomes: &[Outcome<Global>], shown: Shown, tally: &mut Tally) {
-    add_if(&mut tally.kept, are_kept(case.figures));
+    add_if(&mut tally.kept, are_in_time(case.figures));
     add_if(&mut tally.lossy, shown.lost > 0);
     for figures in case.figures {
         match figures {
@@ -235,7 +235,7 @@ fn count_queue(timing: &QueueTiming, outcomes: &[Outcome<Global>], tally: &mut T
     let mut reaches_best = false;
     let mut reaches_worst = false;
     for outcome in outcomes {
-        if let Some((least, most)) = delays_at(outcome, timing.filter, timing.port) {
+        if let Some((least, most)) = delay_range(outcome, timing.filter, timing.port) {
             reaches_best = reaches_best || least == timing.timing.best;
             reaches_worst = reaches_worst || most == timing.timing.worst;
         }

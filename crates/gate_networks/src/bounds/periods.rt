@@ -1,28 +1,28 @@
-//! The first and the last phase at which the frames of a talker that keeps a period are done, and runs that reach both: its
-//! shortest frame comes at the first phase of a period, its longest at the last one of the next.
+//! Compares the phases of a periodic talker with a run that reaches both. The shortest frame arrives at the first phase, the longest in the
+//! next period at the last phase.
 ghost use Rattle.std.specs.Prelude.{◌≤◌, All, IfOk, length};
 ghost use Rattle.net_file.specs.TrafficRows.{IsRow};
 
-use crate::bounds::captures::{Ends, ends_capture};
-use crate::bounds::plan_at;
-use crate::bounds::running::{done_in, ran_at};
-use crate::of_run;
-use app_failure::{Fault, file_failure};
-use app_files::{Cause, failed_at, read_at_most};
+use crate::bounds::captures::{PhaseEnds, ends_capture};
+use crate::bounds::delays::{done_times, run_with_capture};
+use crate::bounds::read_plan;
+use crate::run_result;
+use app_failure::{Failure, file_failure};
+use app_files::{Cause, file_fault, read_at_most};
 use bridge_capture::RunFault;
 use bridge_check::Accepted;
-use bridge_text::Text;
-use net_file::{TrafficRow, traffic_of};
-use net_latency::{QueueTiming, TrafficFigures, timings_of};
+use bridge_text::TextBuilder;
+use net_file::{TrafficRow, parse_traffic};
+use net_latency::{QueueTiming, TrafficFigures, queue_timings};
 use net_periods::Phases;
 use std::alloc::Global;
 use std::fs;
 use std::rt::Files;
 
-/// The most octets of a text of traffic that are read.
+/// Greatest number of octets read from a traffic file.
 const MOST_OCTETS: u64 = 1_048_577;
 
-/// A talker: the texts of its plan and of its traffic, the port where its frames come, and how they begin.
+/// A talker: paths of its plan and traffic file, the port at which its frames arrive, and their first octets.
 struct Talker {
     plan: &'static str,
     traffic: &'static str,
@@ -30,7 +30,7 @@ struct Talker {
     head: [u8; 18],
 }
 
-/// The talkers of `data/`.
+/// Talkers of `data/`.
 const TALKERS: [Talker; 4] = [
     Talker {
         plan: "base.toml",
@@ -66,60 +66,60 @@ const TALKERS: [Talker; 4] = [
     },
 ];
 
-/// Tells of all talkers; whether both phases of each queue are reached.
-pub fn tell_talkers(
+/// Reports all talkers, and returns whether runs reach both phases of each queue.
+pub fn report_talkers(
     rt: &(impl AllocGlobal + Files),
-    said: &mut Text<Global>,
-) -> Result<bool, Fault> {
+    said: &mut TextBuilder<Global>,
+) -> Result<bool, Failure> {
     let mut are_so = true;
     for talker in &TALKERS {
-        are_so = tell_talker(rt, said, talker)? && are_so;
+        are_so = report_talker(rt, said, talker)? && are_so;
     }
     Ok(are_so)
 }
 
-/// The rows of traffic of a file.
-fn rows_of(rt: &(impl AllocGlobal + Files), file: &str) -> Result<Vec<TrafficRow>, Fault>
+/// Reads the rows of a traffic file.
+fn read_rows(rt: &(impl AllocGlobal + Files), file: &str) -> Result<Vec<TrafficRow>, Failure>
     ensures rows { IfOk result (λ rows. All IsRow rows.items) }
     ensures few { IfOk result (λ rows. length rows.items ≤ 1024) }
 {
     let Ok(reader) = fs::open(rt, file) else {
-        return Err(file_failure(failed_at(rt.alloc(), file, Cause::Unknown)));
+        return Err(file_failure(file_fault(rt.alloc(), file, Cause::Unknown)));
     };
     let Ok(text) = read_at_most(rt.alloc(), reader, MOST_OCTETS) else {
-        return Err(file_failure(failed_at(rt.alloc(), file, Cause::Unknown)));
+        return Err(file_failure(file_fault(rt.alloc(), file, Cause::Unknown)));
     };
-    match traffic_of(rt.alloc(), rt.alloc(), &text) {
+    match parse_traffic(rt.alloc(), rt.alloc(), &text) {
         Ok(rows) => Ok(rows),
-        Err(_) => Err(file_failure(failed_at(rt.alloc(), file, Cause::Unknown))),
+        Err(_) => Err(file_failure(file_fault(rt.alloc(), file, Cause::Unknown))),
     }
 }
 
-/// Tells of a talker; whether both phases are reached in each of its queues.
-fn tell_talker(
+/// Reports a talker, and returns whether a run reaches both phases in each of its queues.
+fn report_talker(
     rt: &(impl AllocGlobal + Files),
-    said: &mut Text<Global>,
+    said: &mut TextBuilder<Global>,
     talker: &Talker,
-) -> Result<bool, Fault> {
-    let accepted = plan_at(rt, talker.plan)?;
-    tell_traffic(rt, said, talker, &accepted)
+) -> Result<bool, Failure> {
+    let accepted = read_plan(rt, talker.plan)?;
+    report_traffic(rt, said, talker, &accepted)
 }
 
-/// Tells of the traffic of a talker.
-fn tell_traffic(
+/// Reads a talker's traffic file, and reports its rows.
+fn report_traffic(
     rt: &(impl AllocGlobal + Files),
-    said: &mut Text<Global>,
+    said: &mut TextBuilder<Global>,
     talker: &Talker,
     accepted: &Accepted<Global>,
-) -> Result<bool, Fault> {
-    let rows = rows_of(rt, talker.traffic)?;
-    of_run(tell_rows(rt.alloc(), said, talker, accepted, &rows))
+) -> Result<bool, Failure> {
+    let rows = read_rows(rt, talker.traffic)?;
+    run_result(report_rows(rt.alloc(), said, talker, accepted, &rows))
 }
 
-/// Tells of rows of traffic.
-fn tell_rows(
+/// Reports rows of a traffic file.
+fn report_rows(
     alloc: Global,
-    said: &mut Text<Global>,
+    said: &mut TextBuilder<Global>,
     talker: &Talker,
     accepted: &Accepted<Global>,
     rows: &[TrafficRow],
@@ -127,16 +127,16 @@ fn tell_rows(
     requires few { length rows.now ≤ 1024 }
     requires rows { All IsRow rows.now }
 {
-    match timings_of(alloc, accepted, rows) {
-        Ok(timings) => tell_timings(alloc, said, talker, accepted, rows, &timings),
+    match queue_timings(alloc, accepted, rows) {
+        Ok(timings) => report_timings(alloc, said, talker, accepted, rows, &timings),
         Err(_) => Err(RunFault::NoMemory),
     }
 }
 
-/// Tells of rows of traffic in their queues.
-fn tell_timings(
+/// Reports rows of a traffic file in their queues. Returns false if a row has no queue.
+fn report_timings(
     alloc: Global,
-    said: &mut Text<Global>,
+    said: &mut TextBuilder<Global>,
     talker: &Talker,
     accepted: &Accepted<Global>,
     rows: &[TrafficRow],
@@ -154,10 +154,10 @@ fn tell_timings(
     Ok(are_so)
 }
 
-/// Tells of a row of traffic in a queue; whether both phases are reached.
+/// Reports a row in a queue, and returns whether a run reaches both phases.
 fn tell_timing(
     alloc: Global,
-    said: &mut Text<Global>,
+    said: &mut TextBuilder<Global>,
     talker: &Talker,
     accepted: &Accepted<Global>,
     rows: &[TrafficRow],
@@ -167,20 +167,20 @@ fn tell_timing(
     let (Some(row), Some(phases)) = (rows.get(place), timing.timing.phases) else {
         return Ok(false);
     };
-    let reached = reached_by(alloc, talker, accepted, row, timing.port)?;
-    tell_reached(said, talker, timing, phases, reached);
+    let reached = reached_phases(alloc, talker, accepted, row, timing.port)?;
+    report_reached_phases(said, talker, timing, phases, reached);
     Ok(reached == phases)
 }
 
-/// Tells of a row of traffic in a queue, and which phases a run reaches.
-fn tell_reached(
-    said: &mut Text<Global>,
+/// Adds a line with the computed and the reached phases of a row in a queue.
+fn report_reached_phases(
+    said: &mut TextBuilder<Global>,
     talker: &Talker,
     timing: &QueueTiming,
     phases: Phases,
     reached: Phases,
 ) {
-    said.fill(
+    said.put_template(
         "{a} traffic {0} filter {1} port {2} class {3} done from {4} to {5} reached {6} and {7}\n",
         &[
             u64::from(timing.row),
@@ -196,8 +196,8 @@ fn tell_reached(
     );
 }
 
-/// The phases at which the two frames of a run are done at a port.
-fn reached_by(
+/// Returns the phases at which the two frames of a run have left `port`.
+fn reached_phases(
     alloc: Global,
     talker: &Talker,
     accepted: &Accepted<Global>,
@@ -206,15 +206,15 @@ fn reached_by(
 ) -> Result<Phases, RunFault> {
     let traffic = row.traffic;
     let second = traffic.period.saturating_mul(2);
-    let ends = Ends {
+    let ends = PhaseEnds {
         first: traffic.period.saturating_add(traffic.from),
         last: second.saturating_add(traffic.to),
         least: traffic.least,
         longest: traffic.longest,
     };
     let capture = ends_capture(alloc, &talker.head, ends);
-    let ran = ran_at(alloc, accepted, talker.port, &capture)?;
-    let (one, other) = done_in(&ran, row.filter, port);
+    let ran = run_with_capture(alloc, accepted, talker.port, &capture)?;
+    let (one, other) = done_times(&ran, row.filter, port);
     Ok(Phases {
         from: one.saturating_sub(traffic.period),
         to: other.saturating_sub(second),

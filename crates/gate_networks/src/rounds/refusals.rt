@@ -1,22 +1,22 @@
-//! A run of a network of two bridges, of which each growth is refused in turn.
+//! Runs a network of two bridges repeatedly, each time with another allocation refused.
 ghost use Rattle.std.specs.Prelude.{IfOk};
 ghost use Rattle.bridge_config.specs.Commands.{AreCommands};
-ghost use Rattle.net_run.specs.Stations.{IsIncoming};
-ghost use Rattle.net_run.specs.Rounds.{AreIncoming};
+ghost use Rattle.net_run.specs.BridgeRuns.{IsBridgeInput};
+ghost use Rattle.net_run.specs.Rounds.{AreBridgeInputs};
 ghost use Rattle.gate_networks.specs.Coming.{AllIncoming};
 
 use crate::captures::Recording;
-use app_failure::accepted_of;
+use app_failure::accepted_plan;
 use bridge_check::Accepted;
 use bridge_config::{Command, commands_of};
 use bridge_limits::NoMemory;
-use bridge_text::Text;
-use fixture_alloc::{Ending, RefusesOne};
-use net_model::{End, Link, Network, StreamHop, check_network};
-use net_run::{Incoming, Nobody, RoundsFault, Settled, settle};
+use bridge_text::TextBuilder;
+use fixture_bridge::{Ending, RefusesOne};
+use net_model::{BridgePort, Link, Network, StreamHop, check_network};
+use net_run::{BridgeInput, BridgeResult, NoObserver, RoundsFault, run_network};
 use std::alloc::{Allocator, Global};
 
-/// The plan of each bridge: the stream comes to port 1 and leaves by port 2.
+/// Plan of each bridge. The stream arrives at port 1 and leaves by port 2.
 const PLAN: &str = "
 [[port]]
 number = 1
@@ -72,48 +72,52 @@ number = 99
 gate = 99
 ";
 
-/// The commands to each bridge: one to the first.
+/// Commands of each bridge: one for the first, none for the second.
 const COMMANDS: [&str; 2] = [
     "[[command]]\nat = 2000\nclear = \"blocked\"\nnumber = 10\n",
     "",
 ];
 
-/// How many octets of a frame are captured.
+/// Number of captured octets of a frame.
 const CAPTURED: usize = 18;
 
-/// A moment at which a frame comes, and its octets that are captured.
+/// Arrival time of a frame in ns, and its captured octets.
 type Frame = (u64, [u8; CAPTURED]);
 
 /// A frame of the stream.
-const OF_STREAM: [u8; CAPTURED] = [
+const STREAM_FRAME: [u8; CAPTURED] = [
     0x91, 0xe0, 0xf0, 0, 0xfe, 1, 2, 0, 0, 0, 0, 1, 0x81, 0, 0xe0, 10, 0x88, 0xb5,
 ];
 
-/// A frame of no stream, which goes to all other ports.
-const OF_NONE: [u8; CAPTURED] = [
+/// A frame of no stream, which the bridge floods.
+const OTHER_FRAME: [u8; CAPTURED] = [
     0x91, 0xe0, 0xf0, 0, 0xfe, 5, 2, 0, 0, 0, 0, 1, 0x81, 0, 0, 1, 0x88, 0xb5,
 ];
 
-/// The frames that come to port 1 of the first bridge.
-const COMING: [Frame; 3] = [(1_000, OF_STREAM), (3_000, OF_NONE), (5_000, OF_STREAM)];
+/// Frames that arrive at port 1 of the first bridge.
+const ARRIVALS: [Frame; 3] = [
+    (1_000, STREAM_FRAME),
+    (3_000, OTHER_FRAME),
+    (5_000, STREAM_FRAME),
+];
 
-/// The octets of the capture of as many frames.
+/// Octets of a capture of three frames.
 const OCTETS: usize = 24 + 3 * (16 + CAPTURED);
 
-/// How many rounds the network may take.
+/// Greatest number of rounds of the run.
 const ROUNDS: u32 = 8;
 
-/// More growths than are asked for.
+/// Greatest number of allocations tried. A run has fewer.
 const NEVER: u64 = 100_000;
 
-/// The link of both bridges.
+/// Link between both bridges.
 const LINK: Link = Link {
-    one: End { bridge: 0, port: 2 },
-    other: End { bridge: 1, port: 1 },
+    one: BridgePort { bridge: 0, port: 2 },
+    other: BridgePort { bridge: 1, port: 1 },
     delay: 50,
 };
 
-/// Adds a bridge: its plan and its hop of the stream; whether there was memory for both.
+/// Adds the plan of a bridge and its hop of the stream, and returns whether memory sufficed.
 fn add_bridge<A: Allocator + Copy>(
     alloc: A,
     heap: Global,
@@ -121,7 +125,7 @@ fn add_bridge<A: Allocator + Copy>(
     plans: &mut Vec<Accepted<A>, A>,
     hops: &mut Vec<StreamHop, A>,
 ) -> bool {
-    match accepted_of(alloc, heap, PLAN.as_bytes()) {
+    match accepted_plan(alloc, heap, PLAN.as_bytes()) {
         Ok(accepted) => {
             plans.push(accepted).is_ok() && hops.push(StreamHop { bridge, filter: 10 }).is_ok()
         }
@@ -129,8 +133,8 @@ fn add_bridge<A: Allocator + Copy>(
     }
 }
 
-/// The network, where it is accepted.
-fn network_in<A: Allocator + Copy>(alloc: A, heap: Global) -> Option<Network<A>> {
+/// Returns the network, or `None` if it is refused or memory ran out.
+fn small_network<A: Allocator + Copy>(alloc: A, heap: Global) -> Option<Network<A>> {
     let mut plans = Vec::new(alloc);
     let mut links = Vec::new(alloc);
     let mut hops = Vec::new(alloc);
@@ -146,8 +150,8 @@ fn network_in<A: Allocator + Copy>(alloc: A, heap: Global) -> Option<Network<A>>
     }
 }
 
-/// The capture of frames.
-fn capture_of<A: Allocator + Copy>(
+/// Returns the capture of `frames`.
+fn frames_capture<A: Allocator + Copy>(
     alloc: A,
     heap: Global,
     frames: &[Frame],
@@ -159,8 +163,8 @@ fn capture_of<A: Allocator + Copy>(
     Ok(Vec::from_slice(alloc, capture.octets())?)
 }
 
-/// The captures of the ports of a bridge: of those with a link, and where nothing comes, of no frame.
-fn captures_in<A: Allocator + Copy>(
+/// Returns the captures of a bridge's ports. Only port 1 of the first bridge gets frames.
+fn port_captures<A: Allocator + Copy>(
     alloc: A,
     heap: Global,
     bridge: usize,
@@ -168,17 +172,17 @@ fn captures_in<A: Allocator + Copy>(
     let mut captures = Vec::new(alloc);
     for port in 1..4u8 {
         let frames: &[Frame] = if bridge == 0 && port == 1 {
-            &COMING
+            &ARRIVALS
         } else {
             &[]
         };
-        captures.push(capture_of(alloc, heap, frames)?)?;
+        captures.push(frames_capture(alloc, heap, frames)?)?;
     }
     Ok(captures)
 }
 
-/// The commands to a bridge.
-fn commands_in<A: Allocator + Copy>(
+/// Returns the commands of a bridge.
+fn bridge_commands<A: Allocator + Copy>(
     alloc: A,
     heap: Global,
     accepted: &Accepted<A>,
@@ -193,35 +197,35 @@ fn commands_in<A: Allocator + Copy>(
     }
 }
 
-/// What comes to a bridge from outside.
-fn coming<A: Allocator + Copy>(
+/// Returns the input of a bridge from outside.
+fn bridge_input<A: Allocator + Copy>(
     alloc: A,
     heap: Global,
     accepted: &Accepted<A>,
     bridge: usize,
-) -> Result<Incoming<A>, NoMemory>
-    ensures { IfOk result (IsIncoming accepted.now) }
+) -> Result<BridgeInput<A>, NoMemory>
+    ensures { IfOk result (IsBridgeInput accepted.now) }
 {
-    let commands = commands_in(alloc, heap, accepted, bridge)?;
-    let captures = captures_in(alloc, heap, bridge)?;
+    let commands = bridge_commands(alloc, heap, accepted, bridge)?;
+    let captures = port_captures(alloc, heap, bridge)?;
     if captures.len() != accepted.plan().ports().len() {
         return Err(NoMemory);
     }
-    Ok(Incoming { commands, captures })
+    Ok(BridgeInput { commands, captures })
 }
 
-/// What comes to each bridge of these plans.
-fn each_coming<A: Allocator + Copy>(
+/// Returns the input of each plan's bridge.
+fn inputs_by_bridge<A: Allocator + Copy>(
     alloc: A,
     heap: Global,
     plans: &[Accepted<A>],
-) -> Result<Vec<Incoming<A>, A>, NoMemory>
+) -> Result<Vec<BridgeInput<A>, A>, NoMemory>
     ensures { IfOk result (λ all. AllIncoming plans.now all.items) }
 {
     let mut all = Vec::new(alloc);
     for accepted in plans {
         let bridge = all.len();
-        let came = coming(alloc, heap, accepted, bridge)?;
+        let came = bridge_input(alloc, heap, accepted, bridge)?;
         let Ok(()) = all.push(came) else {
             return Err(NoMemory);
         };
@@ -229,20 +233,20 @@ fn each_coming<A: Allocator + Copy>(
     Ok(all)
 }
 
-/// What comes to the bridges of these plans.
-fn all_coming<A: Allocator + Copy>(
+/// Returns the inputs of all bridges, as a network run requires them.
+fn network_inputs<A: Allocator + Copy>(
     alloc: A,
     heap: Global,
     plans: &[Accepted<A>],
-) -> Result<Vec<Incoming<A>, A>, NoMemory>
-    ensures { IfOk result (λ all. AreIncoming plans.now all.items) }
+) -> Result<Vec<BridgeInput<A>, A>, NoMemory>
+    ensures { IfOk result (λ all. AreBridgeInputs plans.now all.items) }
 {
-    let all = each_coming(alloc, heap, plans)?;
+    let all = inputs_by_bridge(alloc, heap, plans)?;
     Ok(all)
 }
 
-/// Whether all frames that come left port 2 of the second bridge.
-fn have_left<A: Allocator + Copy>(settled: &[Settled<A>]) -> bool {
+/// Whether all frames have left port 2 of the second bridge.
+fn have_all_left<A: Allocator + Copy>(settled: &[BridgeResult<A>]) -> bool {
     let Some(second) = settled.get(1) else {
         return false;
     };
@@ -252,57 +256,55 @@ fn have_left<A: Allocator + Copy>(settled: &[Settled<A>]) -> bool {
     }
 }
 
-/// How the run of the network over what comes to it ends.
-fn ending_of<A: Allocator + Copy>(
+/// Runs the network, and returns how the run ends.
+fn run_ending<A: Allocator + Copy>(
     alloc: A,
     network: &Network<A>,
-    came: Vec<Incoming<A>, A>,
+    came: Vec<BridgeInput<A>, A>,
 ) -> Ending
-    requires { AreIncoming network.now.plans came.items }
+    requires { AreBridgeInputs network.now.plans came.items }
 {
-    match settle(alloc, network, came, ROUNDS, &mut Nobody) {
-        Ok(settled) => Ending::of(have_left(&settled.bridges), false),
-        Err(fault) => Ending::of(false, fault == RoundsFault::NoMemory),
+    match run_network(alloc, network, came, ROUNDS, &mut NoObserver) {
+        Ok(settled) => Ending::from_flags(have_all_left(&settled.bridges), false),
+        Err(fault) => Ending::from_flags(false, fault == RoundsFault::NoMemory),
     }
 }
 
-/// How the run of the network ends; none where what comes to it can't be made, or a growth was refused before the run.
-fn ending_over<'a>(
+/// Makes the inputs and runs the network. Returns `None` if an input failed or an allocation before the run was refused.
+fn network_ending<'a>(
     gate: &'a RefusesOne<Global>,
     heap: Global,
     network: &Network<&'a RefusesOne<Global>>,
 ) -> Option<Ending> {
-    let Ok(came) = all_coming(gate, heap, network.plans()) else {
+    let Ok(came) = network_inputs(gate, heap, network.plans()) else {
         return None;
     };
-    if gate.refused() {
+    if gate.has_refused() {
         return None;
     }
-    Some(ending_of(gate, network, came))
+    Some(run_ending(gate, network, came))
 }
 
-/// How the run ends; none where the network or what comes to it can't be made, or a growth was refused before the run.
-fn ending_in(gate: &RefusesOne<Global>, heap: Global) -> Option<Ending> {
-    match network_in(gate, heap) {
-        Some(network) => ending_over(gate, heap, &network),
+/// Makes and runs the network. Returns `None` if the network or an input failed, or an allocation before the run was refused.
+fn whole_ending(gate: &RefusesOne<Global>, heap: Global) -> Option<Ending> {
+    match small_network(gate, heap) {
+        Some(network) => network_ending(gate, heap, &network),
         None => None,
     }
 }
 
-/// Makes the network and what comes to it and runs it over and over, the growths from the first on refused in turn, until it
-/// asks for fewer. Each that falls within the run has to be answered with want of memory, and the run has to be whole where
-/// none is refused. Gives how many growths the run has, or 0 where it ended as it mustn't have, and tells of it: the growth
-/// that was to be refused, of all from the first plan on, and whether it was.
-pub fn growths_refused(heap: Global, said: &mut Text<Global>) -> u64 {
+/// Repeats the run, each time with the next allocation refused. A refusal within the run must give `NoMemory`. Returns the number of the
+/// run's allocations, or 0 after a wrong ending.
+pub fn refuse_growths(heap: Global, said: &mut TextBuilder<Global>) -> u64 {
     let mut growths = 0u64;
     for growth in 1..=NEVER {
         let gate = RefusesOne::new(heap, growth);
-        let ending = ending_in(&gate, heap);
-        match (ending, gate.refused()) {
+        let ending = whole_ending(&gate, heap);
+        match (ending, gate.has_refused()) {
             (None, true) if growths == 0 => {}
             (Some(Ending::NoMemory), true) => growths = growths.saturating_add(1),
             (Some(Ending::Whole), false) => {
-                said.fill(
+                said.put_template(
                     "growths of settle {0}, each refused: no memory\n",
                     &[growths],
                     &[],
@@ -310,7 +312,7 @@ pub fn growths_refused(heap: Global, said: &mut Text<Global>) -> u64 {
                 return growths;
             }
             (_, refused) => {
-                said.fill(
+                said.put_template(
                     "WRONG growth {0} refused {1}\n",
                     &[growth, u64::from(refused)],
                     &[],

@@ -1,9 +1,9 @@
-//! What a call of `pass` costs with 1,024 filters, each with a gate and a meter of its own, beside one such filter.
+//! Measures calls of `pass` with `filters` filters, each with its own gate and meter.
 ghost use Rattle.std.specs.Prelude.{◌≡◌, ◌≤◌, IfOk};
 
 use super::{nanos, next};
-use crate::police::{Gates, police_of, push_gate};
-use crate::words::{Fault, Said};
+use crate::police::{Gates, make_police, push_gate};
+use crate::words::{Fault, Output};
 use bridge_filter::{FilterPlan, Police, Ruling, Verdict};
 use bridge_meter::MeterPlan;
 use std::alloc::{AllocError, Global};
@@ -11,7 +11,7 @@ use std::io;
 use std::rt::Clock;
 use std::time::{Duration, Instant};
 
-/// The nanoseconds from one frame to the next.
+/// Time in ns from a frame to the next.
 const STEP: u64 = 700;
 
 const METER: MeterPlan = MeterPlan {
@@ -28,12 +28,12 @@ const METER: MeterPlan = MeterPlan {
 /// A gate that is open for 300,000 ns, then closed for 700,000 ns.
 const WINDOW: &str = "gate cycle 1000000 open,7:300000 shut:700000";
 
-/// Has so many filters judge frames, and tells what it took.
-pub fn measure(clock: &impl Clock, said: &mut Said, calls: u64, filters: u32) -> io::Result<()>
+/// Lets `filters` filters judge `calls` frames, and adds the time.
+pub fn measure(clock: &impl Clock, said: &mut Output, calls: u64, filters: u32) -> io::Result<()>
     requires few { calls ≤ 4_000_000 }
     requires some { 1 ≤ filters }
 {
-    let Ok(mut police) = police_over(said.alloc, filters) else {
+    let Ok(mut police) = make_bench_police(said.alloc, filters) else {
         return Err(io::Error::from(io::ErrorKind::OutOfMemory));
     };
     let timed = time(clock, &mut police, calls, filters);
@@ -41,7 +41,7 @@ pub fn measure(clock: &impl Clock, said: &mut Said, calls: u64, filters: u32) ->
     match timed {
         Ok((time, passed)) => {
             let numbers = [calls, filters as u64, nanos(time), passed];
-            said.text.fill(
+            said.text.put_template(
                 "{0} calls of pass, {1} filters: {2} ns, {3} frames passed\n",
                 &numbers,
                 &[],
@@ -52,7 +52,7 @@ pub fn measure(clock: &impl Clock, said: &mut Said, calls: u64, filters: u32) ->
     }
 }
 
-/// How long the calls take, and how many frames pass.
+/// Returns the duration of the calls, and the number of frames that passed the gates.
 fn time(
     clock: &impl Clock,
     police: &mut Police<Global>,
@@ -65,12 +65,12 @@ fn time(
     requires some { 1 ≤ filters }
 {
     let start = Instant::now(clock)?;
-    let passed = passes(police, calls, filters);
+    let passed = count_passes(police, calls, filters);
     Ok((start.elapsed(clock)?, passed))
 }
 
-/// How many of this many frames pass, each of a stream drawn among as many as there are filters.
-fn passes(police: &mut Police<Global>, calls: u64, streams: u32) -> u64
+/// Returns the number of frames that passed the gates. Each frame belongs to a random stream of `streams`.
+fn count_passes(police: &mut Police<Global>, calls: u64, streams: u32) -> u64
     requires early { police.old.earliest ≡ 0 }
     requires fresh { police.old.calls ≡ 0 }
     requires few { calls ≤ 4_000_000 }
@@ -82,32 +82,32 @@ fn passes(police: &mut Police<Global>, calls: u64, streams: u32) -> u64
         seed = next(seed);
         let handle = (seed / 65_536 % u64::from(streams)) as u32;
         let ruling = police.pass(call * STEP, Some(handle), 3, false, 100, 80);
-        if is_through(ruling) {
+        if is_passed(ruling) {
             passed = passed.wrapping_add(1);
         }
     }
     passed
 }
 
-/// Whether a gate let a frame through.
-fn is_through(ruling: Option<Ruling>) -> bool {
+/// Whether a stream gate let the frame pass.
+fn is_passed(ruling: Option<Ruling>) -> bool {
     match ruling {
         Some(ruling) => ruling.verdict != Verdict::GateClosed,
         None => false,
     }
 }
 
-/// The police of this many filters, each of one stream, with a gate and a meter of its own.
-fn police_over(alloc: Global, count: u32) -> Result<Police<Global>, Fault>
+/// Makes `count` filters, each with its own stream, gate and meter.
+fn make_bench_police(alloc: Global, count: u32) -> Result<Police<Global>, Fault>
     ensures { IfOk result (λ p. (p.calls ≡ 0) × (p.earliest ≡ 0)) }
 {
-    let filters = filters_over(alloc, count)?;
-    let meters = meters_over(alloc, count)?;
-    let gates = gates_over(alloc, count)?;
-    police_of(alloc, filters, gates, meters)
+    let filters = make_filters(alloc, count)?;
+    let meters = make_meters(alloc, count)?;
+    let gates = make_gates(alloc, count)?;
+    make_police(alloc, filters, gates, meters)
 }
 
-fn filters_over(alloc: Global, count: u32) -> Result<Vec<(u32, FilterPlan)>, AllocError> {
+fn make_filters(alloc: Global, count: u32) -> Result<Vec<(u32, FilterPlan)>, AllocError> {
     let mut filters = Vec::new(alloc);
     for number in 0..count {
         let plan = FilterPlan {
@@ -124,7 +124,7 @@ fn filters_over(alloc: Global, count: u32) -> Result<Vec<(u32, FilterPlan)>, All
     Ok(filters)
 }
 
-fn meters_over(alloc: Global, count: u32) -> Result<Vec<(u32, MeterPlan)>, AllocError> {
+fn make_meters(alloc: Global, count: u32) -> Result<Vec<(u32, MeterPlan)>, AllocError> {
     let mut meters = Vec::new(alloc);
     for number in 0..count {
         meters.push((number, METER))?;
@@ -132,7 +132,7 @@ fn meters_over(alloc: Global, count: u32) -> Result<Vec<(u32, MeterPlan)>, Alloc
     Ok(meters)
 }
 
-fn gates_over(alloc: Global, count: u32) -> Result<Gates<Global>, Fault> {
+fn make_gates(alloc: Global, count: u32) -> Result<Gates<Global>, Fault> {
     let mut gates = Vec::new(alloc);
     match push_windows(alloc, &mut gates, count) {
         Ok(()) => Ok(gates),

@@ -1,17 +1,17 @@
-//! What a call of `colour` costs, beside an empty loop of as many calls.
+//! Measures calls of `colour`, and an empty loop with an equal number of iterations.
 ghost use Rattle.std.specs.Prelude.{◌≡◌, ◌≤◌};
 
 use super::{nanos, next};
-use crate::words::Said;
+use crate::words::Output;
 use bridge_meter::{Colour, Meter, MeterPlan};
 use std::io;
 use std::rt::Clock;
 use std::time::{Duration, Instant};
 
-/// The nanoseconds from one frame to the next.
+/// Time in ns from a frame to the next.
 const STEP: u64 = 700;
 
-/// Half of the frames are above what this meter's rates allow.
+/// Meter with a committed rate of 4 Gb/s and an excess rate of 2 Gb/s.
 const PLAN: MeterPlan = MeterPlan {
     cir: 4_000_000_000,
     cbs: 10_000,
@@ -23,14 +23,14 @@ const PLAN: MeterPlan = MeterPlan {
     mark_all_red: false,
 };
 
-/// Has a meter judge frames, and tells what it took.
-pub fn measure(clock: &impl Clock, said: &mut Said, calls: u64) -> io::Result<()>
+/// Lets a meter judge `calls` frames, and adds the time.
+pub fn measure(clock: &impl Clock, said: &mut Output, calls: u64) -> io::Result<()>
     requires few { calls ≤ 10_000_000 }
 {
     let (without, sum) = time_empty(clock, calls)?;
     let (with, greens) = time_judged(clock, calls)?;
     let numbers = [calls, nanos(with), greens, nanos(without), sum];
-    said.text.fill(
+    said.text.put_template(
         "{0} calls of colour: {1} ns, {2} green; an empty loop: {3} ns, sum {4}\n",
         &numbers,
         &[],
@@ -40,7 +40,7 @@ pub fn measure(clock: &impl Clock, said: &mut Said, calls: u64) -> io::Result<()
 
 fn time_empty(clock: &impl Clock, calls: u64) -> io::Result<(Duration, u64)> {
     let start = Instant::now(clock)?;
-    let sum = empty(calls);
+    let sum = empty_loop(calls);
     Ok((start.elapsed(clock)?, sum))
 }
 
@@ -49,12 +49,12 @@ fn time_judged(clock: &impl Clock, calls: u64) -> io::Result<(Duration, u64)>
 {
     let mut meter = Meter::new(PLAN);
     let start = Instant::now(clock)?;
-    let greens = judged(&mut meter, calls);
+    let greens = count_green(&mut meter, calls);
     Ok((start.elapsed(clock)?, greens))
 }
 
-/// The loop without a meter: it draws the octets of as many frames, and adds those of even length.
-fn empty(calls: u64) -> u64 {
+/// Repeats the loop without a meter: draws numbers, and returns how many are even.
+fn empty_loop(calls: u64) -> u64 {
     let mut seed = 1;
     let mut sum = 0u64;
     for _ in 0..calls {
@@ -66,8 +66,8 @@ fn empty(calls: u64) -> u64 {
     sum
 }
 
-/// The same loop with a call of `colour` in it: how many frames were green.
-fn judged(meter: &mut Meter, calls: u64) -> u64
+/// Repeats the loop with a call of `colour`, and returns the number of green frames.
+fn count_green(meter: &mut Meter, calls: u64) -> u64
     requires fresh { meter.old.buckets.at ≡ 0 }
     requires few { calls ≤ 10_000_000 }
 {
@@ -83,7 +83,7 @@ fn judged(meter: &mut Meter, calls: u64) -> u64
     greens
 }
 
-/// Whether the frame at `t` is green.
+/// Whether the frame at time `t` is green.
 fn is_green(meter: &mut Meter, t: u64, octets: u32) -> bool
     requires { meter.old.buckets.at ≤ t }
     ensures { meter.new.buckets.at ≤ t }

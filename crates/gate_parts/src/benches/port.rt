@@ -1,7 +1,7 @@
-//! How many starts and offers a second a port makes, over two lists of 256 entries.
+//! Measures starts and offers of a port with a list of 256 entries.
 
 use super::nanos;
-use crate::words::{Fault, Said};
+use crate::words::{Fault, Output};
 use bridge_cycle::{CyclicList, Egress};
 use bridge_frame::Speed;
 use bridge_port::{Item, Port};
@@ -10,53 +10,53 @@ use std::io;
 use std::rt::Clock;
 use std::time::{Duration, Instant};
 
-/// The frames that each queue holds.
+/// Queue capacity in frames.
 const ROOM: u16 = 64;
 
-/// The length of a turn in ns, and of 256 of them.
+/// Interval of an entry in ns, and cycle time of 256 entries.
 const TURN: u64 = 3_906;
 
 const CYCLE: u64 = 1_000_000;
 
-/// Each class once, from 0 to 7.
-const IN_TURN: [u8; 8] = [1, 2, 4, 8, 16, 32, 64, 128];
+/// States that open each class once, from 0 to 7.
+const EACH_CLASS: [u8; 8] = [1, 2, 4, 8, 16, 32, 64, 128];
 
-/// No class, and every class in the last entry.
+/// States that open no class, and states that open all classes in the last entry.
 const SHUT: [u8; 8] = [0; 8];
 
-const AT_LAST: [u8; 8] = [0, 0, 0, 0, 0, 0, 0, 255];
+const LAST_OPEN: [u8; 8] = [0, 0, 0, 0, 0, 0, 0, 255];
 
-/// How often something was done, and for how many nanoseconds.
+/// Number of calls, and their time in ns.
 #[derive(Clone, Copy)]
 struct Tally {
     count: u64,
     nanos: u64,
 }
 
-/// Makes starts and offers, a few or enough to be measured, and tells how many there were a second.
-pub fn measure(clock: &impl Clock, said: &mut Said, measures: bool) -> io::Result<()> {
+/// Makes starts and offers, few or enough to measure, and adds their rates.
+pub fn measure(clock: &impl Clock, said: &mut Output, measures: bool) -> io::Result<()> {
     let (rounds, long_rounds, fills) = if measures {
         (1_000_000, 20_000, 2_000)
     } else {
         (600, 20, 1)
     };
     let name = "starts, each class open in turn";
-    measure_starts(clock, said, name, IN_TURN, IN_TURN, rounds)?;
+    measure_starts(clock, said, name, EACH_CLASS, EACH_CLASS, rounds)?;
     let name = "starts, all classes open in the last entry";
-    measure_starts(clock, said, name, SHUT, AT_LAST, long_rounds)?;
+    measure_starts(clock, said, name, SHUT, LAST_OPEN, long_rounds)?;
     measure_offers(clock, said, fills)
 }
 
-/// Asks for the next start and makes it, with eight full queues, and fills its place again.
+/// Measures starts of a port with eight full queues. Each start is followed by an offer to its queue.
 fn measure_starts(
     clock: &impl Clock,
-    said: &mut Said,
+    said: &mut Output,
     name: &str,
     first: [u8; 8],
     last: [u8; 8],
     rounds: u64,
 ) -> io::Result<()> {
-    let Ok(mut port) = port_of(said.alloc, first, last) else {
+    let Ok(mut port) = make_port(said.alloc, first, last) else {
         return Err(io::Error::from(io::ErrorKind::OutOfMemory));
     };
     fill(&mut port);
@@ -68,14 +68,14 @@ fn measure_starts(
     }
 }
 
-/// Asks for the next start of a full port and makes it, and fills its place again.
+/// Measures `rounds` starts of a full port, each followed by an offer to its queue.
 fn time_starts(clock: &impl Clock, port: &mut Port<u32, Global>, rounds: u64) -> io::Result<Tally> {
     let begin = Instant::now(clock)?;
-    let count = starts_of(port, rounds);
-    tally_of(count, begin.elapsed(clock))
+    let count = count_starts(port, rounds);
+    make_tally(count, begin.elapsed(clock))
 }
 
-fn starts_of(port: &mut Port<u32, Global>, rounds: u64) -> u64 {
+fn count_starts(port: &mut Port<u32, Global>, rounds: u64) -> u64 {
     let mut count = 0;
     for round in 0..rounds {
         let Some(class) = start_one(port) else {
@@ -87,8 +87,8 @@ fn starts_of(port: &mut Port<u32, Global>, rounds: u64) -> u64 {
     count
 }
 
-/// So many done since a moment.
-fn tally_of(count: u64, time: io::Result<Duration>) -> io::Result<Tally> {
+/// Returns a tally of `count` calls in a measured time.
+fn make_tally(count: u64, time: io::Result<Duration>) -> io::Result<Tally> {
     match time {
         Ok(time) => Ok(Tally {
             count,
@@ -98,12 +98,12 @@ fn tally_of(count: u64, time: io::Result<Duration>) -> io::Result<Tally> {
     }
 }
 
-/// Fills the queues of so many new ports, and makes all their starts beside the clock.
-fn measure_offers(clock: &impl Clock, said: &mut Said, fills: u64) -> io::Result<()> {
+/// Measures the offers that fill the queues of `fills` new ports, and makes their starts after the measurement.
+fn measure_offers(clock: &impl Clock, said: &mut Output, fills: u64) -> io::Result<()> {
     let mut count = 0u64;
     let mut nanos = 0u64;
     for _ in 0..fills {
-        let tally = offers_of(clock, said.alloc)?;
+        let tally = count_offers(clock, said.alloc)?;
         count = count.saturating_add(tally.count);
         nanos = nanos.saturating_add(tally.nanos);
     }
@@ -111,8 +111,8 @@ fn measure_offers(clock: &impl Clock, said: &mut Said, fills: u64) -> io::Result
     report(said, "offers", tally, fills.saturating_mul(512))
 }
 
-fn offers_of(clock: &impl Clock, alloc: Global) -> io::Result<Tally> {
-    let Ok(mut port) = port_of(alloc, IN_TURN, IN_TURN) else {
+fn count_offers(clock: &impl Clock, alloc: Global) -> io::Result<Tally> {
+    let Ok(mut port) = make_port(alloc, EACH_CLASS, EACH_CLASS) else {
         return Err(io::Error::from(io::ErrorKind::OutOfMemory));
     };
     let tally = time_offers(clock, &mut port);
@@ -120,16 +120,16 @@ fn offers_of(clock: &impl Clock, alloc: Global) -> io::Result<Tally> {
     tally
 }
 
-/// Fills the queues of a new port, and makes all their starts beside the clock.
+/// Measures the offers that fill the queues of a new port, then makes their starts. Returns the tally of offers.
 fn time_offers(clock: &impl Clock, port: &mut Port<u32, Global>) -> io::Result<Tally> {
     let begin = Instant::now(clock)?;
     let taken = fill(port);
     let time = begin.elapsed(clock);
-    tally_of(empty(port, taken), time)
+    make_tally(start_all(port, taken), time)
 }
 
-/// Makes so many starts, and says how many of them are as they were offered.
-fn empty(port: &mut Port<u32, Global>, taken: u64) -> u64 {
+/// Makes `taken` starts, and returns how many give an item as offered.
+fn start_all(port: &mut Port<u32, Global>, taken: u64) -> u64 {
     let mut count = 0u64;
     for _ in 0..taken {
         if start_one(port).is_some() {
@@ -139,13 +139,13 @@ fn empty(port: &mut Port<u32, Global>, taken: u64) -> u64 {
     count
 }
 
-/// Tells how many there were a second, and fails where there were not as many as there should.
-fn report(said: &mut Said, name: &str, tally: Tally, wanted: u64) -> io::Result<()> {
+/// Adds the rate of calls. Fails if their number isn't `wanted`.
+fn report(said: &mut Output, name: &str, tally: Tally, wanted: u64) -> io::Result<()> {
     let count = tally.count;
     let nanos = tally.nanos.max(1);
     let each = nanos / count.max(1);
     let rate = count.saturating_mul(1_000_000_000) / nanos;
-    said.text.fill(
+    said.text.put_template(
         "{a}: {0} in {1} ns, {2} ns each, {3} a second\n",
         &[count, nanos, each, rate],
         &[name],
@@ -157,9 +157,9 @@ fn report(said: &mut Said, name: &str, tally: Tally, wanted: u64) -> io::Result<
     }
 }
 
-/// A port with a list of 256 entries, all of the states of `first` in turn but for the last eight.
-fn port_of(alloc: Global, first: [u8; 8], last: [u8; 8]) -> Result<Port<u32, Global>, Fault> {
-    let list = list_of(alloc, first, last)?;
+/// Returns a port with a list of 256 entries: 31 times the states `first`, then the states `last`.
+fn make_port(alloc: Global, first: [u8; 8], last: [u8; 8]) -> Result<Port<u32, Global>, Fault> {
+    let list = make_list(alloc, first, last)?;
     Ok(Port::new(
         alloc,
         Speed::Mbps1000,
@@ -168,7 +168,11 @@ fn port_of(alloc: Global, first: [u8; 8], last: [u8; 8]) -> Result<Port<u32, Glo
     )?)
 }
 
-fn list_of(alloc: Global, first: [u8; 8], last: [u8; 8]) -> Result<CyclicList<u8, Global>, Fault> {
+fn make_list(
+    alloc: Global,
+    first: [u8; 8],
+    last: [u8; 8],
+) -> Result<CyclicList<u8, Global>, Fault> {
     let mut entries = Vec::new(alloc);
     match push_all(&mut entries, first, last) {
         Ok(()) => Ok(CyclicList::new(alloc, 0, CYCLE, entries)?),
@@ -190,8 +194,7 @@ fn push_states(entries: &mut Vec<(u8, u64)>, states: [u8; 8]) -> Result<(), Allo
     Ok(())
 }
 
-/// Offers a frame of 60 to 67 octets to a class at the least moment that an offer may have, and says whether it is
-/// queued.
+/// Offers a frame of 60 to 67 octets at the earliest possible time, and returns whether the frame was queued.
 fn offer_one(port: &mut Port<u32, Global>, class: u8) -> bool {
     let t = port.earliest();
     if class >= 8 || t >= 4_000_000_000_000_000_000 || port.offered() >= 16_000_000 {
@@ -201,7 +204,7 @@ fn offer_one(port: &mut Port<u32, Global>, class: u8) -> bool {
     port.offer(t, class, Item { len, load: len }).is_ok()
 }
 
-/// Makes the next start, and says of which class, if the item is as it was offered.
+/// Makes the next start, and returns its class if the item is as offered.
 fn start_one(port: &mut Port<u32, Global>) -> Option<u8> {
     match port.next_start() {
         Some(_) => {
@@ -216,7 +219,7 @@ fn start_one(port: &mut Port<u32, Global>) -> Option<u8> {
     }
 }
 
-/// Fills the eight queues, and says how many frames they took.
+/// Fills the eight queues, and returns the number of queued frames.
 fn fill(port: &mut Port<u32, Global>) -> u64 {
     let mut count = 0u64;
     for _ in 0..ROOM {

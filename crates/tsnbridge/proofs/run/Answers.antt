@@ -5,7 +5,7 @@ use Rattle.app_commands.specs.CommandOutputs.{IsStandardFailure}
 use Rattle.app_networks.specs.Program.{IsOutput, IsPrinted}
 use Rattle.tsnbridge.proofs.run.Goals as goal
 
--- the output is that of the words, or the report that standard output failed
+-- The output is the output for the arguments, or the report that standard output failed.
 printed : {E : Type 0} (words : List (List ℕ)) (output : Output) (r : Result Output E) → IsOutput words output → IfOk r (λ o. (o ≡ output) ⊎ IsStandardFailure (explains words) o) → IfOk r (IsPrinted words)
 printed words output (Ok o) is (inl same) = inl (subst (IsOutput words) (sym same) is)
 printed words output (Ok o) is (inr failed) = inr failed

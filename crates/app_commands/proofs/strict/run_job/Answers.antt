@@ -10,4 +10,4 @@ returns-in-Err-clause-err g c =
 pub returns-clause-err : goal.returns-clause-err
 returns-clause-err g c =
     let j = c.args.job.now in
-    all_told_of c.in-Ok.read.0 j.plan.now (option_map string_bytes j.commands.now) j.input.now j.output.now (option_map string_bytes j.tables.now.delays) (option_map string_bytes j.tables.now.frames) (option_map (λ s. string_bytes s.file) j.picture.now) c.send_by-told.result c.in-Ok.ensures.accepted c.send_by-told.ensures.err
+    all_told_of c.in-Ok.read.0 j.plan.now (option_map string_bytes j.commands.now) j.input.now j.output.now (option_map string_bytes j.tables.now.delays) (option_map string_bytes j.tables.now.frames) (option_map (λ s. string_bytes s.file) j.picture.now) c.run_accepted_captures-told.result c.in-Ok.ensures.accepted c.run_accepted_captures-told.ensures.err

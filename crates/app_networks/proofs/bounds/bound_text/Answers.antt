@@ -8,10 +8,10 @@ pub returns-clause-ok : goal.returns-clause-ok
 returns-clause-ok c = (
   c.args.text.now,
   string_bytes c.in-Ok.lines,
-  string_bytes c.output_of.result.stderr,
+  string_bytes c.bounds_output.result.stderr,
   c.in-Ok-warning_if.warning,
   c.in-Ok.ensures.ok c.args.text.now refl,
   c.in-Ok-warning_if.ensures,
-  (λ is. ap string_bytes (c.output_of.ensures.stderr is) ∙ c.new.ensures.bytes),
-  (ap string_bytes c.output_of.ensures.stdout, refl, c.output_of.ensures.status),
+  (λ is. ap string_bytes (c.bounds_output.ensures.stderr is) ∙ c.new.ensures.bytes),
+  (ap string_bytes c.bounds_output.ensures.stdout, refl, c.bounds_output.ensures.status),
 )

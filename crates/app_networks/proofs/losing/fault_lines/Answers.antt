@@ -18,5 +18,5 @@ loop-stream-preserved c =
 
 pub returns : goal.returns
 returns c =
-    all_told string_bytes c.done.result c.args.links.now c.args.settled.now c.args.file.now.bridges c.args.file.now.streams c.streams-stream-items.result.now c.loop-stream.stream-index _ _
-    c.new-text.ensures c.streams-stream-items.ensures.streams c.loop-stream-test.false c.loop-stream.invariant c.done.ensures.text
+    all_told string_bytes c.finish.result c.args.links.now c.args.settled.now c.args.file.now.bridges c.args.file.now.streams c.streams-stream-items.result.now c.loop-stream.stream-index _ _
+    c.new-text.ensures c.streams-stream-items.ensures.streams c.loop-stream-test.false c.loop-stream.invariant c.finish.ensures.text

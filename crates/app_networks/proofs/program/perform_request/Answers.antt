@@ -8,5 +8,5 @@ use Rattle.app_networks.proofs.program.perform_request.Goals as goal
 pub returns-in-Err : goal.returns-in-Err
 returns-in-Err g c =
     let words = map string_bytes c.args.words.now in
-    refused words c.of_words_fault.result c.report_words.result
-    (subst (RefusesWords words) (sym c.of_words_fault.ensures) (refuses_words words c.in-Err.fault c.request_of.result c.requires c.in-Err.is c.request_of.ensures.words)) c.report_words.ensures
+    refused words c.words_failure.result c.report_words.result
+    (subst (RefusesWords words) (sym c.words_failure.ensures) (refuses_words words c.in-Err.fault c.parse_request.result c.requires c.in-Err.is c.parse_request.ensures.words)) c.report_words.ensures

@@ -1,9 +1,9 @@
 use Rattle.std.proofs.Common.{◌≡◌, [], replicate, take}
-use Rattle.bridge_port.specs.Rings.{queues_of, rooms_of}
+use Rattle.bridge_port.specs.Rings.{ring_queues, ring_rooms}
 use Rattle.bridge_port.proofs.queues.with_rooms.Given as goal
 
 abbrev pub invariant-loop-room : goal.invariant-loop-room
 invariant-loop-room g l = record {
-  queues : queues_of l.rings.items ≡ replicate l.room-index [];
-  rooms : rooms_of l.rings.items ≡ take l.room-index l.rooms;
+  queues : ring_queues l.rings.items ≡ replicate l.room-index [];
+  rooms : ring_rooms l.rings.items ≡ take l.room-index l.rooms;
 }

@@ -12,6 +12,6 @@ loop-filter-preserved g c = item_put (λ f. lost_lines_of f.0 f.1) c.deref-filte
     c.loop-filter-test.true c.filter-item.is c.loop-filter.invariant c.put_lost.ensures
 
 pub returns : goal.returns
-returns g c = whole_if string_bytes c.done.result _ _ _ c.new-text.ensures
+returns g c = whole_if string_bytes c.finish.result _ _ _ c.new-text.ensures
     (put_as _ _ _ _ (all_put (λ f. lost_lines_of f.0 f.1) c.deref-filter-items.result.now c.loop-filter.filter-index _ _ c.loop-filter-test.false c.loop-filter.invariant)
-    (ap (flat_map (λ f. lost_lines_of f.0 f.1)) c.deref-filter-items.ensures.value)) c.done.ensures.text
+    (ap (flat_map (λ f. lost_lines_of f.0 f.1)) c.deref-filter-items.ensures.value)) c.finish.ensures.text

@@ -7,5 +7,5 @@ pub returns : goal.returns
 returns g c =
     let view = c.args.view.now in
     let frames = c.len.ensures ∙ sym c.deref.ensures.len ∙ ap length c.deref.ensures.value in
-    let losses = c.losses_of-losses.ensures ∙ ap (λ v. losses_of v c.deref-2.result.now) c.deref.ensures.value ∙ ap (losses_of view.verdicts.items) c.deref-2.ensures.value in
-    put_as _ _ _ _ c.put_if.ensures (ap (λ n. line_if view.protected c.args.filter n c.losses_of-losses.result) frames ∙ ap (line_if view.protected c.args.filter (length view.verdicts.items)) losses)
+    let losses = c.count_losses-losses.ensures ∙ ap (λ v. losses_of v c.deref-2.result.now) c.deref.ensures.value ∙ ap (losses_of view.verdicts.items) c.deref-2.ensures.value in
+    put_as _ _ _ _ c.put_if.ensures (ap (λ n. line_if view.protected c.args.filter n c.count_losses-losses.result) frames ∙ ap (line_if view.protected c.args.filter (length view.verdicts.items)) losses)

@@ -2,11 +2,11 @@ use Rattle.std.proofs.lemmas.Option.{slice_get-get_or}
 use Rattle.net_latency.proofs.Bounded.{found_own, no_bound, one_bound}
 use Rattle.net_latency.proofs.bounds.put_bound.Goals as goal
 
-pub bound_by-requires-clause-found : goal.bound_by-requires-clause-found
-bound_by-requires-clause-found g c = found_own c.args.accepted.now c.args.order.now c.args.at _ c.requires.at c.requires.rises c.requires.same
+pub bound_in_reach-requires-clause-found : goal.bound_in_reach-requires-clause-found
+bound_in_reach-requires-clause-found g c = found_own c.args.accepted.now c.args.order.now c.args.at _ c.requires.at c.requires.rises c.requires.same
 
-pub bound_by-requires-clause-reach : goal.bound_by-requires-clause-reach
-bound_by-requires-clause-reach g c = c.requires.reach _ (slice_get-get_or c.args.order.now c.args.at _ c.requires.at)
+pub bound_in_reach-requires-clause-reach : goal.bound_in_reach-requires-clause-reach
+bound_in_reach-requires-clause-reach g c = c.requires.reach _ (slice_get-get_or c.args.order.now c.args.at _ c.requires.at)
 
 pub returns-in_ok-push : goal.returns-in_ok-push
 returns-in_ok-push g c = record {

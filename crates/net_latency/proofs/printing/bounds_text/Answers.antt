@@ -4,7 +4,7 @@ use Rattle.net_latency.proofs.Lined.{all_pieces, piece_more}
 use Rattle.net_latency.proofs.printing.bounds_text.Goals as goal
 
 pub loop-row-preserved : goal.loop-row-preserved
-loop-row-preserved g c = piece_more bound_line [] c.args.rows.now c.loop-row.row-index _ (string_bytes c.loop-row.text) (string_bytes c.push_line.new.text) c.loop-row-test.true c.loop-row.invariant c.in-Ok.ensures
+loop-row-preserved g c = piece_more bound_line [] c.args.rows.now c.loop-row.row-index _ (string_bytes c.loop-row.text) (string_bytes c.push_bound_line.new.text) c.loop-row-test.true c.loop-row.invariant c.in-Ok.ensures
 
 pub returns : goal.returns
 returns g c = all_pieces bound_line [] c.args.rows.now c.loop-row.row-index (string_bytes c.loop-row.text) c.loop-row-test.false c.loop-row.invariant

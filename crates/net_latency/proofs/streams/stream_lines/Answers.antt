@@ -4,16 +4,16 @@ use Rattle.net_file.specs.Model.{Stream}
 use Rattle.net_file.specs.Rules.{IsTalker}
 use Rattle.net_model.specs.declared.links.Link.{Link}
 use Rattle.bridge_text.proofs.Puts.{put_none, put_piece}
-use Rattle.net_latency.specs.Streams.{hop_in, stream_line}
-use Rattle.net_latency.specs.Talkers.{IsCourseOf}
+use Rattle.net_latency.specs.Streams.{stream_hop_value, stream_line}
+use Rattle.net_latency.specs.Talkers.{IsTalkerLatency}
 use Rattle.net_latency.proofs.Queued.{next_line, no_lines}
 use Rattle.net_latency.proofs.streams.stream_lines.Goals as goal
 
-pub course_for-requires-clause-few : goal.course_for-requires-clause-few
-course_for-requires-clause-few g c = subst (λ (s : Stream). length s.hops ≤ 64) (sym c.stream-item.is) (c.requires.few c.loop-stream.stream-index _ c.loop-stream-test.true)
+pub talker_latency-requires-clause-few : goal.talker_latency-requires-clause-few
+talker_latency-requires-clause-few g c = subst (λ (s : Stream). length s.hops ≤ 64) (sym c.stream-item.is) (c.requires.few c.loop-stream.stream-index _ c.loop-stream-test.true)
 
-pub course_for-requires-clause-talker : goal.course_for-requires-clause-talker
-course_for-requires-clause-talker g c = subst (λ (s : Stream). ForSome s.talker IsTalker) (sym c.stream-item.is) (c.requires.talkers c.loop-stream.stream-index _ c.loop-stream-test.true)
+pub talker_latency-requires-clause-talker : goal.talker_latency-requires-clause-talker
+talker_latency-requires-clause-talker g c = subst (λ (s : Stream). ForSome s.talker IsTalker) (sym c.stream-item.is) (c.requires.talkers c.loop-stream.stream-index _ c.loop-stream-test.true)
 
 pub put_stream-here-requires-clause-some : goal.put_stream-here-requires-clause-some
 put_stream-here-requires-clause-some g c = subst (λ (s : Stream). 1 ≤ length s.hops) (sym c.stream-item.is) (c.requires.some c.loop-stream.stream-index _ c.loop-stream-test.true)
@@ -24,10 +24,10 @@ put_stream-here-requires-clause-few g c = subst (λ (s : Stream). length s.hops 
 pub loop-stream-preserved : goal.loop-stream-preserved
 loop-stream-preserved g c =
     let s = c.stream-item.result in
-    let hops = map hop_in s.hops in
-    let by_links = subst (λ (ls : List Link). IsCourseOf c.plans.result.now ls c.args.bounds.now s.talker hops c.in-Ok.course) c.links.ensures c.in-Ok.ensures in
-    let course : IsCourseOf c.args.network.now.plans c.args.network.now.links c.args.bounds.now s.talker hops c.in-Ok.course =
-    subst (λ ps. IsCourseOf ps c.args.network.now.links c.args.bounds.now s.talker hops c.in-Ok.course) c.plans.ensures.plans by_links in
+    let hops = map stream_hop_value s.hops in
+    let by_links = subst (λ (ls : List Link). IsTalkerLatency c.plans.result.now ls c.args.bounds.now s.talker hops c.in-Ok.course) c.links.ensures c.in-Ok.ensures in
+    let course : IsTalkerLatency c.args.network.now.plans c.args.network.now.links c.args.bounds.now s.talker hops c.in-Ok.course =
+    subst (λ ps. IsTalkerLatency ps c.args.network.now.links c.args.bounds.now s.talker hops c.in-Ok.course) c.plans.ensures.plans by_links in
     let (octets, grown, lines) = c.loop-stream.invariant in (
       octets ++ stream_line c.args.bounds.now c.args.links.now (s, c.in-Ok.course),
       put_piece _ _ _ _ _ grown c.put_stream-here.ensures.text,

@@ -8,7 +8,7 @@ use Rattle.net_file.specs.Model.{Stream}
 use Rattle.net_latency.specs.Talkers as spec
 use Rattle.net_latency.proofs.talkers.first_misfit.Goals as goal
 
--- a stream, and those behind it
+-- A stream, and the later streams.
 one_more : {A : Type 0} (plans : List (Plan A)) (i : ℕ) (ss : List Stream) (k : ℕ) (s : Stream) (t : Bool) → k < length ss → s ≡ get_or ss k s → t ≡ spec.suits_hops plans s.talker s.hops
     → spec.first_misfit plans i (drop k ss) ≡ cond t (spec.first_misfit plans (i + 1) (drop (k + 1) ss)) (Some (net.OutOfRange (record { section = section.Stream; index = i; field = field.Period })))
 one_more plans i ss k s t there is holds =

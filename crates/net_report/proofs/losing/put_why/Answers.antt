@@ -8,5 +8,5 @@ use Rattle.net_report.proofs.losing.put_why.Goals as goal
 pub returns : goal.returns
 unfolding why_words
 returns g c =
-    put_piece _ _ _ _ _ c.put_hops.ensures (put_piece _ _ _ _ _ (put_as _ _ _ _ c.put_reason.ensures (ap (reason_words [] (codes "astray")) c.astray_of.ensures))
-    (put_as _ _ _ _ c.put_reason-2.ensures (ap (reason_words [] (codes "nowhere")) c.nowhere_in.ensures)))
+    put_piece _ _ _ _ _ c.put_hops.ensures (put_piece _ _ _ _ _ (put_as _ _ _ _ c.put_reason.ensures (ap (reason_words [] (codes "astray")) c.total_astray.ensures))
+    (put_as _ _ _ _ c.put_reason-2.ensures (ap (reason_words [] (codes "nowhere")) c.count_not_forwarded.ensures)))

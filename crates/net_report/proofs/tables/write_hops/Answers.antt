@@ -1,7 +1,7 @@
 use Rattle.std.proofs.Common.{ℕ, List, Option, ap, length, map, string_bytes, subst, sym, ◌∙◌}
 use Rattle.std.proofs.Math.ListN.{get_or-map}
 use Rattle.std.proofs.lemmas.List.{length-map}
-use Rattle.net_report.specs.declared.tracing.Root.{Root}
+use Rattle.net_report.specs.declared.sources.SourceFrame.{SourceFrame}
 use Rattle.net_report.specs.Tables.{WritesHop}
 use Rattle.net_report.proofs.Tabled.{hops_more}
 use Rattle.net_report.proofs.tables.write_hops.Goals as goal
@@ -27,4 +27,4 @@ loop-place-preserved g c =
     (ap string_bytes c.index-names-place.is ∙ sym (get_or-map string_bytes names i s)) c.index-hops-place.is c.index-known-place.is
     c.loop-place.invariant
     (subst (λ (n : List ℕ). WritesHop links hops stream n h k.items a1 a2 b1 b2) c.as_str.ensures.value
-    (subst (λ (roots : List (Option Root)). WritesHop links hops stream c.as_str.result.now h roots a1 a2 b1 b2) c.deref.ensures.value c.in_ok-write_hop.ensures))
+    (subst (λ (roots : List (Option SourceFrame)). WritesHop links hops stream c.as_str.result.now h roots a1 a2 b1 b2) c.deref.ensures.value c.in_ok-write_hop.ensures))

@@ -1,8 +1,8 @@
 use Rattle.std.proofs.Common.{ℕ, List, ap, string_bytes, subst, ◌∙◌}
 use Rattle.std.specs.Io.KnownBytes.{Appends}
 use Rattle.std.proofs.lemmas.Result.{on_ok_weaker}
-use Rattle.net_report.specs.Figures.{figures_of}
-use Rattle.net_report.specs.Streams.{stream_line}
+use Rattle.net_report.specs.Statistics.{delay_statistics}
+use Rattle.net_report.specs.StreamTable.{stream_line}
 use Rattle.net_report.specs.Tables.{heading_of}
 use Rattle.net_report.proofs.Tabled.{stream_written}
 use Rattle.net_report.proofs.tables.write_stream.Goals as goal
@@ -22,6 +22,6 @@ returns g c =
     let b1 = g.W.Write.contents c.write_hops.new.frames in
     on_ok_weaker c.write_hops.result
     (λ written. stream_written links hops c.args.known.now tallies s delays line a0 a1 a2 b0 b1 c.in_ok-delays.ensures
-    (c.in_ok-line.ensures ∙ ap (λ f. stream_line s.name tallies f s.bound s.deadline) (c.figures_of.ensures ∙ ap figures_of c.deref.ensures.value))
+    (c.in_ok-line.ensures ∙ ap (λ f. stream_line s.name tallies f s.bound s.deadline) (c.delay_statistics.ensures ∙ ap delay_statistics c.deref.ensures.value))
     (subst (λ (text : List ℕ). Appends a0 a1 text) c.as_str.ensures.value c.in_ok-put_table.ensures) written)
     c.write_hops.ensures

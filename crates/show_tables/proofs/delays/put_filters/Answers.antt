@@ -6,7 +6,7 @@ loop-first-init g c = reaches_first c.args.accepted.now c.args.filters.now _
 
 pub loop-first-preserved : goal.loop-first-preserved
 loop-first-preserved g c =
-    let told = c.in_ok-put_filter.ensures in
+    let told = c.in_ok-put_filter_with_bounds.ensures in
     reaches_more c.args.accepted.now c.args.filters.now c.loop-first.left.now c.in-Some.rest.now c.in-Some.first.now _ _ _ told.0 c.in-Some.ensures.cases.0 c.loop-first.invariant told.1 told.2
 
 pub returns : goal.returns

@@ -1,7 +1,7 @@
 use Rattle.std.proofs.Common.{take}
 use Rattle.std.specs.Prelude.{flat_map}
 use Rattle.bridge_text.specs.Growth.{HasGrown}
-use Rattle.show_tables.specs.Frames.{filter_rows}
+use Rattle.show_tables.specs.FrameTable.{filter_rows}
 use Rattle.show_tables.proofs.frames.frame_table.Given as goal
 
 abbrev pub invariant-loop-filter : goal.invariant-loop-filter

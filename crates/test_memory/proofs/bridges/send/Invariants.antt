@@ -1,11 +1,11 @@
 use Rattle.std.proofs.Common.{◌≡◌}
-use Rattle.bridge_core.specs.Bridges.{plan_in, queued_in}
+use Rattle.bridge_core.specs.Bridges.{bridge_plan, bridge_queued}
 use Rattle.test_memory.proofs.bridges.send.Given as goal
 
--- the bridge has the plan that it began with
+-- The bridge keeps its plan.
 abbrev pub invariant-loop-bridge : goal.invariant-loop-bridge
-invariant-loop-bridge g l = plan_in l.bridge ≡ plan_in l.fn.bridge
+invariant-loop-bridge g l = bridge_plan l.bridge ≡ bridge_plan l.fn.bridge
 
--- the copies that are still queued
+-- Each iteration has fewer queued copies.
 abbrev pub decreases-loop-bridge : goal.decreases-loop-bridge
-decreases-loop-bridge g l = queued_in l.bridge
+decreases-loop-bridge g l = bridge_queued l.bridge

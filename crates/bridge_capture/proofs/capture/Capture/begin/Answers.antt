@@ -2,8 +2,8 @@ use Rattle.std.proofs.Common.{rules, arith, refl, true≢false, sym, ◌∙◌, 
 use Rattle.std.specs.Io.KnownBytes.{Consumes}
 use Rattle.std.proofs.lemmas.List.{length-take}
 use Rattle.bridge_capture.proofs.Headers.{begun, begun_cut, begun_fault, begun_short, header_read}
-use Rattle.bridge_capture.specs.declared.fault.CaptureFault.TheVariants as faults
-use Rattle.bridge_capture.specs.Reading.{IsOfHeader}
+use Rattle.bridge_capture.specs.declared.capture_fault.CaptureFault.TheVariants as faults
+use Rattle.bridge_capture.specs.Reading.{IsHeaderFault}
 use Rattle.bridge_capture.proofs.Answered.{apart, of_kind}
 use Rattle.bridge_capture.proofs.Taken.{header_taken}
 use Rattle.bridge_capture.proofs.capture.Capture.begin.Goals as goal
@@ -13,20 +13,20 @@ returns-in-Err-clause-stands g c = λ text told. begun_short _ _ text told c.in-
 
 pub returns-then-count-lt-HEADER_LEN-clause-stands : goal.returns-then-count-lt-HEADER_LEN-clause-stands
 returns-then-count-lt-HEADER_LEN-clause-stands g c = λ text told.
-    begun_cut _ _ text _ told c.in-Ok.ensures.bytes (c.in-Ok.ensures.end (search rules)) (omega (arith, length-take c.in-Ok.count c.fill.new.buf))
+    begun_cut _ _ text _ told c.in-Ok.ensures.bytes (c.in-Ok.ensures.end (search rules)) (omega (arith, length-take c.in-Ok.count c.fill_buffer.new.buf))
 
-pub returns-in-Ok-judge-clause-stands : goal.returns-in-Ok-judge-clause-stands
-returns-in-Ok-judge-clause-stands g c = λ text told.
-    let octets = c.fill.new.buf in
+pub returns-in-Ok-parse_header-clause-stands : goal.returns-in-Ok-parse_header-clause-stands
+returns-in-Ok-parse_header-clause-stands g c = λ text told.
+    let octets = c.fill_buffer.new.buf in
     let full = subst (Consumes _ _) (take_all c.in-Ok.count octets (omega (arith, c.in-Ok.ensures.count))) c.in-Ok.ensures.bytes in
-    let shown = header_read _ _ text octets told full (search rules) ∙ sym c.in-Ok-judge.ensures.judged in
-    begun _ _ text octets c.in-Ok-judge.form told full (search rules) shown
+    let shown = header_read _ _ text octets told full (search rules) ∙ sym c.in-Ok-parse_header.ensures.judged in
+    begun _ _ text octets c.in-Ok-parse_header.form told full (search rules) shown
 
-pub returns-in-Err-judge-clause-stands : goal.returns-in-Err-judge-clause-stands
-returns-in-Err-judge-clause-stands g c = λ text told.
-    let octets = c.fill.new.buf in
+pub returns-in-Err-parse_header-clause-stands : goal.returns-in-Err-parse_header-clause-stands
+returns-in-Err-parse_header-clause-stands g c = λ text told.
+    let octets = c.fill_buffer.new.buf in
     let full = subst (Consumes _ _) (take_all c.in-Ok.count octets (omega (arith, c.in-Ok.ensures.count))) c.in-Ok.ensures.bytes in
-    begun_fault text (g.R.ByteSource.remaining c.fill.new.source) c.in-Err-judge.fault c.in-Err-judge.ensures.only (header_read _ _ text octets told full (search rules) ∙ sym c.in-Err-judge.ensures.judged)
+    begun_fault text (g.R.ByteSource.remaining c.fill_buffer.new.source) c.in-Err-parse_header.fault c.in-Err-parse_header.ensures.only (header_read _ _ text octets told full (search rules) ∙ sym c.in-Err-parse_header.ensures.judged)
 
 pub returns-in-Err-clause-taken : goal.returns-in-Err-clause-taken
 returns-in-Err-clause-taken g c = c.in-Err.ensures.part
@@ -67,44 +67,44 @@ returns-then-count-lt-HEADER_LEN-clause-no_write g c = λ e. apart e refl
 pub returns-then-count-lt-HEADER_LEN-clause-no_memory : goal.returns-then-count-lt-HEADER_LEN-clause-no_memory
 returns-then-count-lt-HEADER_LEN-clause-no_memory g c = λ e. apart e refl
 
-pub returns-in-Ok-judge-clause-read : goal.returns-in-Ok-judge-clause-read
-returns-in-Ok-judge-clause-read g c = λ e. absurd (apart e refl)
+pub returns-in-Ok-parse_header-clause-read : goal.returns-in-Ok-parse_header-clause-read
+returns-in-Ok-parse_header-clause-read g c = λ e. absurd (apart e refl)
 
-pub returns-in-Ok-judge-clause-sure : goal.returns-in-Ok-judge-clause-sure
-returns-in-Ok-judge-clause-sure g c = λ sure e. apart e refl
+pub returns-in-Ok-parse_header-clause-sure : goal.returns-in-Ok-parse_header-clause-sure
+returns-in-Ok-parse_header-clause-sure g c = λ sure e. apart e refl
 
-pub returns-in-Ok-judge-clause-lasts : goal.returns-in-Ok-judge-clause-lasts
-returns-in-Ok-judge-clause-lasts g c = λ sure. (c.in-Ok.ensures.sure sure).1
+pub returns-in-Ok-parse_header-clause-lasts : goal.returns-in-Ok-parse_header-clause-lasts
+returns-in-Ok-parse_header-clause-lasts g c = λ sure. (c.in-Ok.ensures.sure sure).1
 
-pub returns-in-Ok-judge-clause-broken : goal.returns-in-Ok-judge-clause-broken
-returns-in-Ok-judge-clause-broken g c = λ broken. absurd (true≢false (sym (c.in-Ok.ensures.stays broken (omega arith))))
+pub returns-in-Ok-parse_header-clause-broken : goal.returns-in-Ok-parse_header-clause-broken
+returns-in-Ok-parse_header-clause-broken g c = λ broken. absurd (true≢false (sym (c.in-Ok.ensures.stays broken (omega arith))))
 
-pub returns-in-Ok-judge-clause-no_write : goal.returns-in-Ok-judge-clause-no_write
-returns-in-Ok-judge-clause-no_write g c = λ e. apart e refl
+pub returns-in-Ok-parse_header-clause-no_write : goal.returns-in-Ok-parse_header-clause-no_write
+returns-in-Ok-parse_header-clause-no_write g c = λ e. apart e refl
 
-pub returns-in-Ok-judge-clause-no_memory : goal.returns-in-Ok-judge-clause-no_memory
-returns-in-Ok-judge-clause-no_memory g c = λ e. apart e refl
+pub returns-in-Ok-parse_header-clause-no_memory : goal.returns-in-Ok-parse_header-clause-no_memory
+returns-in-Ok-parse_header-clause-no_memory g c = λ e. apart e refl
 
-pub returns-in-Err-judge-clause-read : goal.returns-in-Err-judge-clause-read
-returns-in-Err-judge-clause-read g c = λ e. absurd (of_kind IsOfHeader c.in-Err-judge.fault faults.Read c.in-Err-judge.ensures.only (λ x. x) e)
+pub returns-in-Err-parse_header-clause-read : goal.returns-in-Err-parse_header-clause-read
+returns-in-Err-parse_header-clause-read g c = λ e. absurd (of_kind IsHeaderFault c.in-Err-parse_header.fault faults.Read c.in-Err-parse_header.ensures.only (λ x. x) e)
 
-pub returns-in-Err-judge-clause-sure : goal.returns-in-Err-judge-clause-sure
-returns-in-Err-judge-clause-sure g c = λ sure. of_kind IsOfHeader c.in-Err-judge.fault faults.Read c.in-Err-judge.ensures.only (λ x. x)
+pub returns-in-Err-parse_header-clause-sure : goal.returns-in-Err-parse_header-clause-sure
+returns-in-Err-parse_header-clause-sure g c = λ sure. of_kind IsHeaderFault c.in-Err-parse_header.fault faults.Read c.in-Err-parse_header.ensures.only (λ x. x)
 
-pub returns-in-Err-judge-clause-no_write : goal.returns-in-Err-judge-clause-no_write
-returns-in-Err-judge-clause-no_write g c = of_kind IsOfHeader c.in-Err-judge.fault faults.Write c.in-Err-judge.ensures.only (λ x. x)
+pub returns-in-Err-parse_header-clause-no_write : goal.returns-in-Err-parse_header-clause-no_write
+returns-in-Err-parse_header-clause-no_write g c = of_kind IsHeaderFault c.in-Err-parse_header.fault faults.Write c.in-Err-parse_header.ensures.only (λ x. x)
 
-pub returns-in-Err-judge-clause-no_memory : goal.returns-in-Err-judge-clause-no_memory
-returns-in-Err-judge-clause-no_memory g c = of_kind IsOfHeader c.in-Err-judge.fault faults.NoMemory c.in-Err-judge.ensures.only (λ x. x)
+pub returns-in-Err-parse_header-clause-no_memory : goal.returns-in-Err-parse_header-clause-no_memory
+returns-in-Err-parse_header-clause-no_memory g c = of_kind IsHeaderFault c.in-Err-parse_header.fault faults.NoMemory c.in-Err-parse_header.ensures.only (λ x. x)
 
-pub returns-in-Err-judge-clause-lasts : goal.returns-in-Err-judge-clause-lasts
-returns-in-Err-judge-clause-lasts g c = λ sure. (c.in-Ok.ensures.sure sure).1
+pub returns-in-Err-parse_header-clause-lasts : goal.returns-in-Err-parse_header-clause-lasts
+returns-in-Err-parse_header-clause-lasts g c = λ sure. (c.in-Ok.ensures.sure sure).1
 
-pub returns-in-Err-judge-clause-broken : goal.returns-in-Err-judge-clause-broken
-returns-in-Err-judge-clause-broken g c = λ broken. absurd (true≢false (sym (c.in-Ok.ensures.stays broken (omega arith))))
+pub returns-in-Err-parse_header-clause-broken : goal.returns-in-Err-parse_header-clause-broken
+returns-in-Err-parse_header-clause-broken g c = λ broken. absurd (true≢false (sym (c.in-Ok.ensures.stays broken (omega arith))))
 
-pub returns-in-Err-judge-clause-taken : goal.returns-in-Err-judge-clause-taken
-returns-in-Err-judge-clause-taken g c =
-    let octets = c.fill.new.buf in
+pub returns-in-Err-parse_header-clause-taken : goal.returns-in-Err-parse_header-clause-taken
+returns-in-Err-parse_header-clause-taken g c =
+    let octets = c.fill_buffer.new.buf in
     let full = subst (Consumes _ _) (take_all c.in-Ok.count octets (omega (arith, c.in-Ok.ensures.count))) c.in-Ok.ensures.bytes in
-    header_taken _ _ octets c.in-Err-judge.fault c.in-Err-judge.ensures.only (search rules) full
+    header_taken _ _ octets c.in-Err-parse_header.fault c.in-Err-parse_header.ensures.only (search rules) full

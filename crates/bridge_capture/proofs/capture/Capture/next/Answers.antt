@@ -3,7 +3,7 @@ use Rattle.bridge_capture.proofs.Answered.{apart, err_ok, told_on}
 use Rattle.bridge_capture.proofs.capture.Capture.next.Goals as goal
 
 pub returns-in-Ok-Some-clause-untouched : goal.returns-in-Ok-Some-clause-untouched
-returns-in-Ok-Some-clause-untouched g c = c.read_into.ensures.untouched
+returns-in-Ok-Some-clause-untouched g c = c.read_packet.ensures.untouched
 
 pub returns-in-Ok-Some-clause-read : goal.returns-in-Ok-Some-clause-read
 returns-in-Ok-Some-clause-read g c = λ e. absurd (apart e refl)
@@ -15,7 +15,7 @@ pub returns-in-Ok-Some-clause-no_write : goal.returns-in-Ok-Some-clause-no_write
 returns-in-Ok-Some-clause-no_write g c = λ e. apart e refl
 
 pub returns-in-Ok-Some-clause-lasts : goal.returns-in-Ok-Some-clause-lasts
-returns-in-Ok-Some-clause-lasts g c = c.read_into.ensures.lasts
+returns-in-Ok-Some-clause-lasts g c = c.read_packet.ensures.lasts
 
 pub returns-in-Ok-Some-clause-broken : goal.returns-in-Ok-Some-clause-broken
 returns-in-Ok-Some-clause-broken g c = λ broken is. absurd (apart (c.in-Ok-Some.ensures.broken broken is) refl)
@@ -24,7 +24,7 @@ pub returns-in-Ok-Some-clause-again : goal.returns-in-Ok-Some-clause-again
 returns-in-Ok-Some-clause-again g c = λ fault was. absurd (err_ok (sym (c.in-Ok-Some.ensures.again fault was)))
 
 pub returns-in-Ok-None-clause-untouched : goal.returns-in-Ok-None-clause-untouched
-returns-in-Ok-None-clause-untouched g c = c.read_into.ensures.untouched
+returns-in-Ok-None-clause-untouched g c = c.read_packet.ensures.untouched
 
 pub returns-in-Ok-None-clause-read : goal.returns-in-Ok-None-clause-read
 returns-in-Ok-None-clause-read g c = λ e. absurd (apart e refl)
@@ -36,7 +36,7 @@ pub returns-in-Ok-None-clause-no_write : goal.returns-in-Ok-None-clause-no_write
 returns-in-Ok-None-clause-no_write g c = λ e. apart e refl
 
 pub returns-in-Ok-None-clause-lasts : goal.returns-in-Ok-None-clause-lasts
-returns-in-Ok-None-clause-lasts g c = c.read_into.ensures.lasts
+returns-in-Ok-None-clause-lasts g c = c.read_packet.ensures.lasts
 
 pub returns-in-Ok-None-clause-broken : goal.returns-in-Ok-None-clause-broken
 returns-in-Ok-None-clause-broken g c = λ broken is. absurd (apart (c.in-Ok-None.ensures.broken broken is) refl)
@@ -90,7 +90,7 @@ pub returns-in-Err-clause-refuses : goal.returns-in-Err-clause-refuses
 returns-in-Err-clause-refuses g c = c.in-Err.ensures.refuses
 
 pub returns-in-Err-clause-lasts : goal.returns-in-Err-clause-lasts
-returns-in-Err-clause-lasts g c = c.read_into.ensures.lasts
+returns-in-Err-clause-lasts g c = c.read_packet.ensures.lasts
 
 pub returns-in-Err-clause-ends : goal.returns-in-Err-clause-ends
 returns-in-Err-clause-ends g c = λ e. absurd (err_ok e)

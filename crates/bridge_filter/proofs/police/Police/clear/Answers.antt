@@ -1,9 +1,9 @@
 use Rattle.std.proofs.Common.{sym, subst, refl}
 use Rattle.std.specs.Prelude.{IsTrue}
 use Rattle.bridge_filter.specs.Plans.{KeepsNumbers}
-use Rattle.bridge_filter.specs.Verdicts.{told}
-use Rattle.bridge_filter.specs.Standing.{PoliceState, Stands, has_instance}
-use Rattle.bridge_filter.specs.Steps.{plans_in}
+use Rattle.bridge_filter.specs.Verdicts.{filter_steps}
+use Rattle.bridge_filter.specs.StandsFor.{PoliceState, StandsFor, has_instance}
+use Rattle.bridge_filter.specs.Steps.{filter_plans}
 use Rattle.bridge_filter.proofs.Numbered.{keeps_numbers}
 use Rattle.bridge_filter.proofs.Cleared.{sound_filters, sound_gates, sound_meters, filter_there, gate_there_rx, gate_there_octets, meter_there_red, stands_blocked, stands_rx, stands_octets, stands_red}
 use Rattle.bridge_filter.proofs.police.Police.clear.Goals as goal
@@ -47,25 +47,25 @@ invariant_of-self-in-Red g c =
 pub returns-in-Blocked-clause-stands : goal.returns-in-Blocked-clause-stands
 returns-in-Blocked-clause-stands g c = λ p es stands.
     let r = c.clear_blocked in
-    let st = subst (λ (z : PoliceState _). Stands p z es) (sym c.self.view_is) stands in
-    stands_blocked p _ es c.args.clear c.args.number (plans_in r.new.filters.entries) r.new.filters.entries c.in-Blocked.is r.ensures.plans st (r.ensures.kept (told p es))
+    let st = subst (λ (z : PoliceState _). StandsFor p z es) (sym c.self.view_is) stands in
+    stands_blocked p _ es c.args.clear c.args.number (filter_plans r.new.filters.entries) r.new.filters.entries c.in-Blocked.is r.ensures.plans st (r.ensures.kept (filter_steps p es))
 
 pub returns-in-Rx-clause-stands : goal.returns-in-Rx-clause-stands
 returns-in-Rx-clause-stands g c = λ p es stands.
     let r = c.clear_rx in
-    let st = subst (λ (z : PoliceState _). Stands p z es) (sym c.self.view_is) stands in
+    let st = subst (λ (z : PoliceState _). StandsFor p z es) (sym c.self.view_is) stands in
     stands_rx p _ es c.args.clear c.args.number r.new.gates.entries c.in-Rx.is st r.ensures.stand
 
 pub returns-in-Octets-clause-stands : goal.returns-in-Octets-clause-stands
 returns-in-Octets-clause-stands g c = λ p es stands.
     let r = c.clear_octets in
-    let st = subst (λ (z : PoliceState _). Stands p z es) (sym c.self.view_is) stands in
+    let st = subst (λ (z : PoliceState _). StandsFor p z es) (sym c.self.view_is) stands in
     stands_octets p _ es c.args.clear c.args.number r.new.gates.entries c.in-Octets.is st r.ensures.stand
 
 pub returns-in-Red-clause-stands : goal.returns-in-Red-clause-stands
 returns-in-Red-clause-stands g c = λ p es stands.
     let r = c.clear_red in
-    let st = subst (λ (z : PoliceState _). Stands p z es) (sym c.self.view_is) stands in
+    let st = subst (λ (z : PoliceState _). StandsFor p z es) (sym c.self.view_is) stands in
     stands_red p _ es c.args.clear c.args.number r.new.meters.entries c.in-Red.is st r.ensures.stand
 
 pub returns-in-Rx-clause-gates : goal.returns-in-Rx-clause-gates

@@ -1,6 +1,6 @@
 use Rattle.std.proofs.Common.{◌<◌, ◌∙◌, ℕ, ap, sym, subst}
-use Rattle.bridge_relay.specs.Counting.{counts_to}
-use Rattle.bridge_relay.specs.Ports.{PortsState, AreKept}
+use Rattle.bridge_relay.specs.Counting.{port_counts}
+use Rattle.bridge_relay.specs.Ports.{PortsState, ArePortsSound}
 use Rattle.bridge_relay.proofs.Rooms.{in_octet, in_word, is_end, room_left}
 use Rattle.bridge_relay.proofs.ports.Ports.counts.Goals as goal
 
@@ -21,7 +21,7 @@ index-requires g c = subst (λ (n : ℕ). c.loop-place.place < n) (sym (c.self.i
 pub returns-clause-counts : goal.returns-clause-counts
 returns-clause-counts g c =
     let all = is_end c.loop-place.place 16 c.loop-place.auto.place-end c.loop-place-test.false in
-    c.loop-place.invariant.counts ∙ (ap (counts_to c.self.inside.slots.items) all ∙ ap (λ (p : PortsState _ _). counts_to p.slots 16) c.self.view_is)
+    c.loop-place.invariant.counts ∙ (ap (port_counts c.self.inside.slots.items) all ∙ ap (λ (p : PortsState _ _). port_counts p.slots 16) c.self.view_is)
 
 pub returns-clause-kept : goal.returns-clause-kept
-returns-clause-kept g c = subst (λ (p : PortsState _ _). AreKept g.G.Agenda.held p.slots p.agenda) c.self.view_is c.self.invariant
+returns-clause-kept g c = subst (λ (p : PortsState _ _). ArePortsSound g.G.Agenda.held p.slots p.agenda) c.self.view_is c.self.invariant

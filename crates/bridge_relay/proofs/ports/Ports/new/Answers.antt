@@ -16,7 +16,7 @@ loop-place-preserved g c =
     let was = c.loop-place.invariant in
     let is = c.push_reserved.ensures in
     record {
-      first = first_next c.args.plan.now.ports c.loop-place.slots.items c.push_reserved.new.self.items c.loop-place.place c.in-Ok-slot_of.slot was.first c.in-Ok-slot_of.ensures is.items;
+      first = first_next c.args.plan.now.ports c.loop-place.slots.items c.push_reserved.new.self.items c.loop-place.place c.in-Ok-make_port_state.slot was.first c.in-Ok-make_port_state.ensures is.items;
       few = few_more _ _ c.loop-place.place was.few is.len;
       room = room_kept 16 _ _ was.room is.capacity;
     }

@@ -1,7 +1,7 @@
 use Rattle.std.proofs.Common.{◌≡◌, ℕ, ◌-◌, ◌<◌, arith, sym, subst, ap, Some, length}
-use Rattle.bridge_relay.specs.declared.slot.Slot.{Slot}
-use Rattle.bridge_relay.specs.Ports.{PortsState, AreKept}
-use Rattle.bridge_port.specs.Standing.{IsDue}
+use Rattle.bridge_relay.specs.declared.port_state.PortState.{PortState}
+use Rattle.bridge_relay.specs.Ports.{PortsState, ArePortsSound}
+use Rattle.bridge_port.specs.StandsFor.{IsNextStartTime}
 use Rattle.bridge_events.specs.Least.{IsLeast}
 use Rattle.bridge_relay.proofs.Porting.{below, here, kept_set, is_after, slot_started, has_started, none_held, not_none}
 use Rattle.bridge_relay.proofs.ports.Ports.start.Goals as goal
@@ -20,12 +20,12 @@ start-begun-requires g c =
     let o = c.self.invariant.others q c.in-Some.start c.in-Some.ensures.0 in
     let at = here slots q c.index_mut.result.now slot (below slots q o.1.0 o.1.1) c.index_mut.ensures.value c.in-Some-index_mut.is in
     record {
-      due = subst (IsDue slot.port) c.in-Some.ensures.0 (c.self.invariant.due q slot o.0 at);
+      due = subst (IsNextStartTime slot.port) c.in-Some.ensures.0 (c.self.invariant.due q slot o.0 at);
       speed = (c.self.invariant.each q slot o.0 at).pace;
     }
 
-pub renew-requires : goal.renew-requires
-renew-requires g c =
+pub set_next_start-requires : goal.set_next_start-requires
+set_next_start-requires g c =
     let slots = c.self.inside.slots.items in
     let o = c.self.invariant.others c.in-Some.number c.in-Some.start c.in-Some.ensures.0 in
     let low = below slots c.in-Some.number o.1.0 o.1.1 in
@@ -41,7 +41,7 @@ invariant_of-self g c =
     let o = c.self.invariant.others q c.in-Some.start c.in-Some.ensures.0 in
     let low = below slots q o.1.0 o.1.1 in
     let at = here slots q c.index_mut.result.now slot low c.index_mut.ensures.value c.in-Some-index_mut.is in
-    kept_set g.G.Agenda.held slots c.self.inside.agenda c.renew.new.agenda q c.start-begun.new.self c.next_start-due.result c.self.invariant o.0 low c.renew.ensures c.next_start-due.ensures.due
+    kept_set g.G.Agenda.held slots c.self.inside.agenda c.set_next_start.new.agenda q c.start-begun.new.self c.next_start-due.result c.self.invariant o.0 low c.set_next_start.ensures c.next_start-due.ensures.due
     (slot_started slot c.start-begun.new.self c.in-Some.start c.start-begun.result.class c.start-begun.result.item c.start-begun.ensures.moved (c.self.invariant.each q slot o.0 at))
 
 pub overflow_sub-number : goal.overflow_sub-number
@@ -66,15 +66,15 @@ returns-clause-started g c =
     let o = c.self.invariant.others q c.in-Some.start c.in-Some.ensures.0 in
     let at = here slots q c.index_mut.result.now slot (below slots q o.1.0 o.1.1) c.index_mut.ensures.value c.in-Some-index_mut.is in
     let f = c.start-begun.ensures in
-    (slot, has_started c.args.self.now slots c.self.inside.agenda c.renew.new.agenda q slot c.start-begun.new.self c.in-Some.start c.start-begun.result c.self.view_is o.0 at f.moved f.next (λ xs st. f.stands xs st) (λ t. f.counts t) f.done f.bounded f.early f.length)
+    (slot, has_started c.args.self.now slots c.self.inside.agenda c.set_next_start.new.agenda q slot c.start-begun.new.self c.in-Some.start c.start-begun.result c.self.view_is o.0 at f.moved f.next (λ xs st. f.stands xs st) (λ t. f.counts t) f.done f.bounded f.early f.length)
 
 pub returns-clause-later : goal.returns-clause-later
 returns-clause-later g c =
     let z = subst (IsLeast (g.G.Agenda.held c.self.inside.agenda)) c.in-Some.is c.least.ensures in
-    is_after g.G.Agenda.held c.self.inside.agenda c.renew.new.agenda c.in-Some.number c.in-Some.start c.start-begun.new.self.port c.next_start-due.result c.renew.ensures c.next_start-due.ensures.due (ap (λ (s : Slot _). s.port.earliest) c.start-begun.ensures.moved) z
+    is_after g.G.Agenda.held c.self.inside.agenda c.set_next_start.new.agenda c.in-Some.number c.in-Some.start c.start-begun.new.self.port c.next_start-due.result c.set_next_start.ensures c.next_start-due.ensures.due (ap (λ (s : PortState _). s.port.earliest) c.start-begun.ensures.moved) z
 
 pub returns-clause-kept : goal.returns-clause-kept
-returns-clause-kept g c = subst (λ (v : PortsState _ _). AreKept g.G.Agenda.held v.slots v.agenda) c.self.view_is c.self.invariant
+returns-clause-kept g c = subst (λ (v : PortsState _ _). ArePortsSound g.G.Agenda.held v.slots v.agenda) c.self.view_is c.self.invariant
 
 pub returns-clause-keeps : goal.returns-clause-keeps
 returns-clause-keeps g c =
@@ -84,7 +84,7 @@ returns-clause-keeps g c =
     let o = c.self.invariant.others q c.in-Some.start c.in-Some.ensures.0 in
     let low = below slots q o.1.0 o.1.1 in
     let at = here slots q c.index_mut.result.now slot low c.index_mut.ensures.value c.in-Some-index_mut.is in
-    kept_set g.G.Agenda.held slots c.self.inside.agenda c.renew.new.agenda q c.start-begun.new.self c.next_start-due.result c.self.invariant o.0 low c.renew.ensures c.next_start-due.ensures.due
+    kept_set g.G.Agenda.held slots c.self.inside.agenda c.set_next_start.new.agenda q c.start-begun.new.self c.next_start-due.result c.self.invariant o.0 low c.set_next_start.ensures c.next_start-due.ensures.due
     (slot_started slot c.start-begun.new.self c.in-Some.start c.start-begun.result.class c.start-begun.result.item c.start-begun.ensures.moved (c.self.invariant.each q slot o.0 at))
 
 pub unreachable-unreachable : goal.unreachable-unreachable

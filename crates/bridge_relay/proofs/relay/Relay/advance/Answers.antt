@@ -1,7 +1,7 @@
 use Rattle.bridge_events.specs.Least.{IsLeast}
 use Rattle.std.proofs.Common.{◌≡◌, ℕ, [], ◌∷◌, ◌++◌, ◌+◌, arith, sym, subst, ap, ◌∙◌, refl, Some, true}
 use Rattle.std.specs.Prelude.{nat_eq, if◌then◌else◌}
-use Rattle.bridge_relay.specs.Relays.{RelayState, count_all, one_more, waiting, IsSent, Stands}
+use Rattle.bridge_relay.specs.RelayState.{RelayState, count_all_items, with_sent_frame, count_waiting_copies, IsSent, RelayStandsFor}
 use Rattle.bridge_relay.specs.declared.relay.Sent.{Sent}
 use Rattle.bridge_relay.proofs.Advancing.{count_started, right_item, short_item, owes_by, is_sent}
 use Rattle.bridge_semantics.specs.declared.outcome.Departure.{Departure}
@@ -10,8 +10,8 @@ use Rattle.bridge_relay.proofs.Standing.{stands_started}
 use Rattle.bridge_relay.proofs.Nexts.{made_after, made_at, reaches_start, sends_head}
 use Rattle.bridge_relay.proofs.relay.Relay.advance.Goals as goal
 
-pub depart-requires : goal.depart-requires
-depart-requires g c =
+pub record_departure-requires : goal.record_departure-requires
+record_departure-requires g c =
     let s = c.start-port.ensures.started in
     let b = c.self.inside in
     let old : RelayState _ _ = record { plan = b.plan.now; streams = b.ident; police = b.police; ports = b.ports; tables = b.tables.entries; arrived = b.arrived; earliest = b.earliest } in
@@ -25,7 +25,7 @@ invariant_of-self g c =
     let old : RelayState _ _ = record { plan = b.plan.now; streams = b.ident; police = b.police; ports = b.ports; tables = b.tables.entries; arrived = b.arrived; earliest = b.earliest } in
     let r = c.start-port.result in
     let d : Departure = record { own = r.2.item.load.own; port = r.0; start = r.1; done = r.2.done } in
-    sound_started g.G.Agenda.held old c.start-port.new.self c.depart.new.tables.entries c.max-self-inside.result r.0 r.1 s.0 r.2 d c.saturating_sub.result c.self.invariant s.1 s.1.from c.start-port.ensures.which.0 c.start-port.ensures.later refl refl c.depart.ensures c.max-self-inside.ensures
+    sound_started g.G.Agenda.held old c.start-port.new.self c.record_departure.new.tables.entries c.max-self-inside.result r.0 r.1 s.0 r.2 d c.saturating_sub.result c.self.invariant s.1 s.1.from c.start-port.ensures.which.0 c.start-port.ensures.later refl refl c.record_departure.ensures c.max-self-inside.ensures
 
 pub returns-clause-stands : goal.returns-clause-stands
 returns-clause-stands g c = λ p es left st.
@@ -35,8 +35,8 @@ returns-clause-stands g c = λ p es left st.
     let r = c.start-port.result in
     let d : Departure = record { own = r.2.item.load.own; port = r.0; start = r.1; done = r.2.done } in
     let sent : Sent _ = record { port = r.0; class = r.2.class; start = r.1; done = r.2.done; len = r.2.item.len; octets = r.2.item.load.octets } in
-    let sound = sound_started g.G.Agenda.held old c.start-port.new.self c.depart.new.tables.entries c.max-self-inside.result r.0 r.1 s.0 r.2 d c.saturating_sub.result c.self.invariant s.1 s.1.from c.start-port.ensures.which.0 c.start-port.ensures.later refl refl c.depart.ensures c.max-self-inside.ensures in
-    stands_started g.G.Agenda.held old c.start-port.new.self c.depart.new.tables.entries c.max-self-inside.result r.0 r.1 s.0 r.2 d c.saturating_sub.result c.self.invariant sound s.1 refl refl refl refl c.saturating_sub.ensures c.depart.ensures p es left (one_more left sent) (λ q. ap (λ (t : ℕ). if nat_eq q r.0 then left q ++ (record { time = t; len = r.2.item.len; octets = r.2.item.load.octets.items }) ∷ [] else left q) s.1.done) (subst (λ (v : RelayState _ _). Stands p v es left) (sym c.self.view_is) st)
+    let sound = sound_started g.G.Agenda.held old c.start-port.new.self c.record_departure.new.tables.entries c.max-self-inside.result r.0 r.1 s.0 r.2 d c.saturating_sub.result c.self.invariant s.1 s.1.from c.start-port.ensures.which.0 c.start-port.ensures.later refl refl c.record_departure.ensures c.max-self-inside.ensures in
+    stands_started g.G.Agenda.held old c.start-port.new.self c.record_departure.new.tables.entries c.max-self-inside.result r.0 r.1 s.0 r.2 d c.saturating_sub.result c.self.invariant sound s.1 refl refl refl refl c.saturating_sub.ensures c.record_departure.ensures p es left (with_sent_frame left sent) (λ q. ap (λ (t : ℕ). if nat_eq q r.0 then left q ++ (record { time = t; len = r.2.item.len; octets = r.2.item.load.octets.items }) ∷ [] else left q) s.1.done) (subst (λ (v : RelayState _ _). RelayStandsFor p v es left) (sym c.self.view_is) st)
 
 pub returns-clause-reaches : goal.returns-clause-reaches
 returns-clause-reaches g c = λ p es left st.
@@ -46,10 +46,10 @@ returns-clause-reaches g c = λ p es left st.
     let r = c.start-port.result in
     let d : Departure = record { own = r.2.item.load.own; port = r.0; start = r.1; done = r.2.done } in
     let sent : Sent _ = record { port = r.0; class = r.2.class; start = r.1; done = r.2.done; len = r.2.item.len; octets = r.2.item.load.octets } in
-    let sound = sound_started g.G.Agenda.held old c.start-port.new.self c.depart.new.tables.entries c.max-self-inside.result r.0 r.1 s.0 r.2 d c.saturating_sub.result c.self.invariant s.1 s.1.from c.start-port.ensures.which.0 c.start-port.ensures.later refl refl c.depart.ensures c.max-self-inside.ensures in
-    let stood = stands_started g.G.Agenda.held old c.start-port.new.self c.depart.new.tables.entries c.max-self-inside.result r.0 r.1 s.0 r.2 d c.saturating_sub.result c.self.invariant sound s.1 refl refl refl refl c.saturating_sub.ensures c.depart.ensures p es left (one_more left sent) (λ q. ap (λ (t : ℕ). if nat_eq q r.0 then left q ++ (record { time = t; len = r.2.item.len; octets = r.2.item.load.octets.items }) ∷ [] else left q) s.1.done) (subst (λ (v : RelayState _ _). Stands p v es left) (sym c.self.view_is) st) in
-    let new : RelayState _ _ = record old { ports = c.start-port.new.self; tables = c.depart.new.tables.entries; earliest = c.max-self-inside.result } in
-    reaches_start g.G.Agenda.held p new es (one_more left sent) r.0 r.1 stood sound c.start-port.ensures.keeps (made_after g.G.Agenda.held old c.start-port.new.self c.depart.new.tables.entries c.max-self-inside.result r.0 r.1 s.0 r.2 c.self.invariant s.1 s.1.from c.start-port.ensures.which.0 c.start-port.ensures.later)
+    let sound = sound_started g.G.Agenda.held old c.start-port.new.self c.record_departure.new.tables.entries c.max-self-inside.result r.0 r.1 s.0 r.2 d c.saturating_sub.result c.self.invariant s.1 s.1.from c.start-port.ensures.which.0 c.start-port.ensures.later refl refl c.record_departure.ensures c.max-self-inside.ensures in
+    let stood = stands_started g.G.Agenda.held old c.start-port.new.self c.record_departure.new.tables.entries c.max-self-inside.result r.0 r.1 s.0 r.2 d c.saturating_sub.result c.self.invariant sound s.1 refl refl refl refl c.saturating_sub.ensures c.record_departure.ensures p es left (with_sent_frame left sent) (λ q. ap (λ (t : ℕ). if nat_eq q r.0 then left q ++ (record { time = t; len = r.2.item.len; octets = r.2.item.load.octets.items }) ∷ [] else left q) s.1.done) (subst (λ (v : RelayState _ _). RelayStandsFor p v es left) (sym c.self.view_is) st) in
+    let new : RelayState _ _ = record old { ports = c.start-port.new.self; tables = c.record_departure.new.tables.entries; earliest = c.max-self-inside.result } in
+    reaches_start g.G.Agenda.held p new es (with_sent_frame left sent) r.0 r.1 stood sound c.start-port.ensures.keeps (made_after g.G.Agenda.held old c.start-port.new.self c.record_departure.new.tables.entries c.max-self-inside.result r.0 r.1 s.0 r.2 c.self.invariant s.1 s.1.from c.start-port.ensures.which.0 c.start-port.ensures.later)
 
 pub returns-clause-sends : goal.returns-clause-sends
 returns-clause-sends g c = λ p es left st.
@@ -57,14 +57,14 @@ returns-clause-sends g c = λ p es left st.
     let b = c.self.inside in
     let old : RelayState _ _ = record { plan = b.plan.now; streams = b.ident; police = b.police; ports = b.ports; tables = b.tables.entries; arrived = b.arrived; earliest = b.earliest } in
     let r = c.start-port.result in
-    sends_head g.G.Agenda.held p old es left r.0 r.1 r.2.class r.2.done s.0 r.2.item (subst (λ (v : RelayState _ _). Stands p v es left) (sym c.self.view_is) st) c.self.invariant c.start-port.ensures.kept (made_at g.G.Agenda.held old (r.0, r.1) c.self.invariant c.start-port.ensures.which) s.1.from s.1.there s.1.next s.1.done
+    sends_head g.G.Agenda.held p old es left r.0 r.1 r.2.class r.2.done s.0 r.2.item (subst (λ (v : RelayState _ _). RelayStandsFor p v es left) (sym c.self.view_is) st) c.self.invariant c.start-port.ensures.kept (made_at g.G.Agenda.held old (r.0, r.1) c.self.invariant c.start-port.ensures.which) s.1.from s.1.there s.1.next s.1.done
 
 pub returns-clause-sent : goal.returns-clause-sent
 returns-clause-sent g c =
     let s = c.start-port.ensures.started in
     let b = c.self.inside in
     let old : RelayState _ _ = record { plan = b.plan.now; streams = b.ident; police = b.police; ports = b.ports; tables = b.tables.entries; arrived = b.arrived; earliest = b.earliest } in
-    let new : RelayState _ _ = record { plan = b.plan.now; streams = b.ident; police = b.police; ports = c.start-port.new.self; tables = c.depart.new.tables.entries; arrived = b.arrived; earliest = c.max-self-inside.result } in
+    let new : RelayState _ _ = record { plan = b.plan.now; streams = b.ident; police = b.police; ports = c.start-port.new.self; tables = c.record_departure.new.tables.entries; arrived = b.arrived; earliest = c.max-self-inside.result } in
     let r = c.start-port.result in
     let sent : Sent _ = record { port = r.0; class = r.2.class; start = r.1; done = r.2.done; len = r.2.item.len; octets = r.2.item.load.octets } in
     subst (λ (v : RelayState _ _). IsSent v new sent) c.self.view_is (is_sent old new sent s.0 r.2 s.1 refl refl refl refl c.max-self-inside.ensures)
@@ -73,7 +73,7 @@ pub returns-clause-fewer : goal.returns-clause-fewer
 returns-clause-fewer g c =
     let s = c.start-port.ensures.started in
     let z = count_started c.self.inside.ports c.start-port.new.self c.start-port.result.0 s.0 c.start-port.result.1 c.start-port.result.2 s.1 (λ x. true) in
-    subst (λ (v : RelayState _ _). count_all (λ x. true) c.start-port.new.self + 1 ≡ waiting v) c.self.view_is (let y = z in omega arith)
+    subst (λ (v : RelayState _ _). count_all_items (λ x. true) c.start-port.new.self + 1 ≡ count_waiting_copies v) c.self.view_is (let y = z in omega arith)
 
 pub returns-clause-writable : goal.returns-clause-writable
 returns-clause-writable g c =

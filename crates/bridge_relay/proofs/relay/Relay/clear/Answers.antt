@@ -1,7 +1,7 @@
 use Rattle.std.proofs.Common.{◌≤◌, sym, subst}
 use Rattle.std.specs.Prelude.{IsTrue}
 use Rattle.bridge_config.specs.Commands.{has_instance}
-use Rattle.bridge_relay.specs.Relays.{RelayState, Stands}
+use Rattle.bridge_relay.specs.RelayState.{RelayState, RelayStandsFor}
 use Rattle.bridge_relay.proofs.Clearing.{instance_there, sound_cleared, stands_cleared}
 use Rattle.bridge_relay.proofs.relay.Relay.clear.Goals as goal
 
@@ -22,4 +22,4 @@ pub returns-clause-stands : goal.returns-clause-stands
 returns-clause-stands g c = λ p es left st.
     let b = c.self.inside in
     let old : RelayState _ _ = record { plan = b.plan.now; streams = b.ident; police = b.police; ports = b.ports; tables = b.tables.entries; arrived = b.arrived; earliest = b.earliest } in
-    stands_cleared old c.clear.new.self c.args.t c.args.clear c.args.number p es left c.clear.ensures.stands (subst (λ (v : RelayState _ _). Stands p v es left) (sym c.self.view_is) st)
+    stands_cleared old c.clear.new.self c.args.t c.args.clear c.args.number p es left c.clear.ensures.stands (subst (λ (v : RelayState _ _). RelayStandsFor p v es left) (sym c.self.view_is) st)

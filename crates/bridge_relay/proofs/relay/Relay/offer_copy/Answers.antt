@@ -1,34 +1,34 @@
 use Rattle.std.proofs.Common.{◌≡◌, ℕ, ◌≤◌, List, length, arith, sym, subst, ap, ◌∙◌}
-use Rattle.bridge_forward.specs.Ports.{has}
+use Rattle.bridge_forward.specs.Ports.{has_port}
 use Rattle.bridge_port.specs.declared.item.Item.{Item}
-use Rattle.bridge_semantics.specs.declared.load.Load.{Load}
-use Rattle.bridge_semantics.specs.Offers.{carried}
+use Rattle.bridge_semantics.specs.declared.queued_frame.QueuedFrame.{QueuedFrame}
+use Rattle.bridge_semantics.specs.Offers.{carried_frame}
 use Rattle.bridge_config.specs.Model as config
-use Rattle.bridge_relay.specs.Ports.{slot_at, is_there}
-use Rattle.bridge_relay.specs.Relays.{is_flow_stray}
-use Rattle.bridge_relay.specs.Relaying.{leaves}
+use Rattle.bridge_relay.specs.Ports.{port_state, is_present}
+use Rattle.bridge_relay.specs.RelayState.{is_filter_unknown}
+use Rattle.bridge_relay.specs.RelayedFrames.{leaving_frame}
 use Rattle.bridge_relay.proofs.Offering.{offering_more, left_some, goes_first, awaited_by, and_right, some_there}
 use Rattle.bridge_relay.proofs.relay.Relay.offer_copy.Goals as goal
 
-pub offer_to-requires : goal.offer_to-requires
-offer_to-requires g c =
+pub offer_queued_frame-requires : goal.offer_queued_frame-requires
+offer_queued_frame-requires g c =
     let b = c.requires.along.0 in
     let may = c.requires.along.1 in
     let a = c.requires.along.2 in
     let k = c.args.number in
     let now = c.args.self.now in
-    let x = leaves c.args.load c.args.len c.args.eligible in
+    let x = leaving_frame c.args.load c.args.len c.args.eligible in
     let goes = sym (goes_first g.G.Agenda.held b now c.args.set c.args.priority x k a c.requires.from) ∙ c.requires.goes in
     let some = left_some g.G.Agenda.held b now c.args.set c.args.priority x k a c.requires.from c.requires.to goes in
-    let there = some_there (slot_at now.ports k) (and_right (has c.args.set k) (is_there (slot_at now.ports k)) c.requires.goes) in
-    let marked = c.leave-octets.ensures.marked in
+    let there = some_there (port_state now.ports k) (and_right (has_port c.args.set k) (is_present (port_state now.ports k)) c.requires.goes) in
+    let marked = c.mark_if_eligible-octets.ensures.marked in
     record {
       from = c.requires.from;
       there = there;
       time = (a.early, may.range);
       due = a.due;
       awaited = awaited_by now c.args.load.flow c.args.load.own k a.left some a.pending;
-      right = ap (λ (v : config.Plan _). is_flow_stray v.filters c.args.load.flow) a.plan ∙ may.right;
+      right = ap (λ (v : config.Plan _). is_filter_unknown v.filters c.args.load.flow) a.plan ∙ may.right;
       fresh = λ s at. let f = may.fresh k s c.requires.from (sym (a.ahead k (omega arith)) ∙ at) in let e = a.arrived in omega arith;
       length = (may.short.0, subst (λ (v : List ℕ). length v ≤ c.args.len) (sym marked) may.short.1);
       priority = c.requires.priority;
@@ -40,9 +40,9 @@ returns g c = record {
   next = λ b a.
       let k = c.args.number in
       let now = c.args.self.now in
-      let x = leaves c.args.load c.args.len c.args.eligible in
-      let there = some_there (slot_at now.ports k) (and_right (has c.args.set k) (is_there (slot_at now.ports k)) c.requires.goes) in
-      let item : Item (Load _) = record { len = c.args.len; load = record { at = c.args.load.at; flow = c.args.load.flow; own = c.args.load.own; octets = c.leave-octets.result } } in
-      let same : carried item ≡ x = ap (λ (v : List ℕ). record { at = c.args.load.at; flow = c.args.load.flow; own = c.args.load.own; len = c.args.len; octets = v }) c.leave-octets.ensures.marked in
-      offering_more g.G.Agenda.held b now c.offer_to.new.self c.args.set c.args.priority x k there.0 item a c.requires.from c.requires.to c.requires.goes there.1 same (c.offer_to.ensures.offered there.0 there.1) c.offer_to.ensures.sound c.offer_to.ensures.due;
+      let x = leaving_frame c.args.load c.args.len c.args.eligible in
+      let there = some_there (port_state now.ports k) (and_right (has_port c.args.set k) (is_present (port_state now.ports k)) c.requires.goes) in
+      let item : Item (QueuedFrame _) = record { len = c.args.len; load = record { at = c.args.load.at; flow = c.args.load.flow; own = c.args.load.own; octets = c.mark_if_eligible-octets.result } } in
+      let same : carried_frame item ≡ x = ap (λ (v : List ℕ). record { at = c.args.load.at; flow = c.args.load.flow; own = c.args.load.own; len = c.args.len; octets = v }) c.mark_if_eligible-octets.ensures.marked in
+      offering_more g.G.Agenda.held b now c.offer_queued_frame.new.self c.args.set c.args.priority x k there.0 item a c.requires.from c.requires.to c.requires.goes there.1 same (c.offer_queued_frame.ensures.offered there.0 there.1) c.offer_queued_frame.ensures.sound c.offer_queued_frame.ensures.due;
 }

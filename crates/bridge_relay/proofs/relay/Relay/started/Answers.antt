@@ -1,8 +1,8 @@
 use Rattle.std.proofs.Common.{◌≡◌, ◌≤◌, ◌∙◌, Some, ap, arith, subst, sym}
-use Rattle.bridge_relay.specs.declared.slot.Slot.{Slot}
-use Rattle.bridge_config.specs.Rules.{port_at}
-use Rattle.bridge_relay.specs.Ports.{slot_at}
-use Rattle.bridge_relay.specs.Relays.{IsSound}
+use Rattle.bridge_relay.specs.declared.port_state.PortState.{PortState}
+use Rattle.bridge_config.specs.Rules.{find_port}
+use Rattle.bridge_relay.specs.Ports.{port_state}
+use Rattle.bridge_relay.specs.RelayState.{IsSound}
 use Rattle.bridge_relay.proofs.Relayed.{port_is}
 use Rattle.bridge_relay.proofs.Ways.{slot_of}
 use Rattle.bridge_relay.proofs.relay.Relay.started.Goals as goal
@@ -24,8 +24,8 @@ started-requires-clause-there g c =
     let from = is.0.number_from in
     let number = is.1 in
     let low : 1 ≤ c.args.port = omega (arith, from, number) in
-    let there = slot_of (port_at now.plan.ports c.args.port) (slot_at now.ports c.args.port) c.requires.known.0 (sound.alike c.args.port low) c.requires.known.1 in
-    subst (λ b. (s : Slot _) × (slot_at b.ports c.args.port ≡ Some s)) (sym c.self.view_is) there
+    let there = slot_of (find_port now.plan.ports c.args.port) (port_state now.ports c.args.port) c.requires.known.0 (sound.alike c.args.port low) c.requires.known.1 in
+    subst (λ b. (s : PortState _) × (port_state b.ports c.args.port ≡ Some s)) (sym c.self.view_is) there
 
 pub returns : goal.returns
 returns g c = λ p es left stands.
@@ -35,6 +35,6 @@ returns g c = λ p es left stands.
     let from = is.0.number_from in
     let number = is.1 in
     let low : 1 ≤ c.args.port = omega (arith, from, number) in
-    let slot = slot_of (port_at now.plan.ports c.args.port) (slot_at now.ports c.args.port) c.requires.known.0 (sound.alike c.args.port low) c.requires.known.1 in
-    let at = ap (λ b. slot_at b.ports c.args.port) c.self.view_is ∙ slot.1 in
+    let slot = slot_of (find_port now.plan.ports c.args.port) (port_state now.ports c.args.port) c.requires.known.0 (sound.alike c.args.port low) c.requires.known.1 in
+    let at = ap (λ b. port_state b.ports c.args.port) c.self.view_is ∙ slot.1 in
     c.started.ensures slot.0 at ∙ (stands.leaves c.args.port slot.0 low slot.1).many

@@ -1,7 +1,7 @@
 use Rattle.std.proofs.Common.{◌≡◌, ◌≤◌, ◌∙◌, ◌++◌, List, ℕ, Option, Some, ap, arith, get_or, length, string_bytes, subst, sym}
 use Rattle.std.specs.Prelude.{slice_get}
 use Rattle.std.proofs.lemmas.Option.{slice_get-get_or}
-use Rattle.net_loops.specs.Steps.{all_below}
+use Rattle.net_loops.specs.Steps.{collect_below}
 use Rattle.net_loops.proofs.Stepping.{next_below}
 use Rattle.net_model.specs.declared.links.StreamHop.{StreamHop}
 use Rattle.net_check.specs.Warnings.{place_text}
@@ -25,4 +25,4 @@ returns g c =
     let least = c.loop-k-test.false in
     let all : c.loop-k.k ≡ length c.args.hops.now = omega (arith, most, least) in
     c.loop-k.invariant
-    ∙ ap (λ n. string_bytes c.args.text.now ++ all_below n (λ (k : ℕ). place_text c.args.self.now.file.now c.args.self.now.network.now c.args.bounds.now c.args.i c.args.periodic k (slice_get c.args.hops.now k))) all
+    ∙ ap (λ n. string_bytes c.args.text.now ++ collect_below n (λ (k : ℕ). place_text c.args.self.now.file.now c.args.self.now.network.now c.args.bounds.now c.args.i c.args.periodic k (slice_get c.args.hops.now k))) all

@@ -1,6 +1,0 @@
-use Rattle.std.proofs.Common.{subst}
-use Rattle.std.specs.Io.KnownBytes.{Appends}
-use Rattle.app_commands.proofs.picturing.put_picture.Goals as goal
-
-pub returns-in-Ok-write_file-clause-written : goal.returns-in-Ok-write_file-clause-written
-returns-in-Ok-write_file-clause-written g c = (c.in-Ok.output, subst (Appends _ _) c.as_bytes.ensures.value c.in-Ok-write_file.ensures.written)

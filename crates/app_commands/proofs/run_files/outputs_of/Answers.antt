@@ -1,5 +1,0 @@
-use Rattle.std.proofs.Common.{inl, inr}
-use Rattle.app_commands.proofs.run_files.outputs_of.Goals as goal
-
-pub returns-in-Err-clause-only : goal.returns-in-Err-clause-only
-returns-in-Err-clause-only g c = inl (c.file_failure.ensures.captures c.args.folder.now c.args.ports.now c.in-Err.ensures.fails)

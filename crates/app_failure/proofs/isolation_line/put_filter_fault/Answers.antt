@@ -1,0 +1,7 @@
+use Rattle.std.proofs.Common.{refl}
+use Rattle.bridge_text.proofs.Puts.{put_as, put_piece}
+use Rattle.app_failure.proofs.isolation_line.put_filter_fault.Goals as goal
+
+pub returns : goal.returns
+returns g c = put_as _ _ _ _ (put_piece _ _ _ _ _ c.put.ensures (put_piece _ _ _ _ _ c.put-2.ensures (put_piece _ _ _ _ _ c.put-3.ensures c.put_number.ensures)))
+    (rw c.from.ensures refl)

@@ -1,7 +1,0 @@
-use Rattle.std.proofs.Common.{refl}
-use Rattle.bridge_text.proofs.Puts.{put_as, put_piece}
-use Rattle.app_failure.proofs.isolation_line.put_queue.Goals as goal
-
-pub returns : goal.returns
-returns g c = put_as _ _ _ _ (put_piece _ _ _ _ _ c.put.ensures (put_piece _ _ _ _ _ c.put-2.ensures (put_piece _ _ _ _ _ c.put-3.ensures (put_piece _ _ _ _ _ c.put_number.ensures (put_piece _ _ _ _ _ c.put-4.ensures (put_piece _ _ _ _ _ c.put_number-2.ensures (put_piece _ _ _ _ _ c.put-5.ensures c.put_number-3.ensures)))))))
-    (rw (c.from.ensures, c.from-2.ensures, c.from-3.ensures) refl)

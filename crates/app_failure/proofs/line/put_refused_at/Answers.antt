@@ -1,7 +1,0 @@
-use Rattle.std.proofs.Common.{refl}
-use Rattle.bridge_text.proofs.Puts.{put_as, put_piece}
-use Rattle.app_failure.proofs.line.put_refused_at.Goals as goal
-
-pub returns : goal.returns
-returns g c = put_as _ _ _ _ (put_piece _ _ _ _ _ c.put.ensures (put_piece _ _ _ _ _ c.put_number.ensures (put_piece _ _ _ _ _ c.put-2.ensures (put_piece _ _ _ _ _ c.put-3.ensures (put_piece _ _ _ _ _ c.put-4.ensures c.put_number-2.ensures)))))
-    (rw (c.from.ensures, c.from-2.ensures) refl)

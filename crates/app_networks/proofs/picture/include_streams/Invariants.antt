@@ -1,0 +1,4 @@
+use Rattle.app_networks.proofs.picture.include_streams.Given as goal
+
+abbrev pub invariant-loop-stream : goal.invariant-loop-stream
+invariant-loop-stream l = Unit {0}

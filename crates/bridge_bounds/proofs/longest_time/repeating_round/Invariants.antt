@@ -1,0 +1,14 @@
+use Rattle.std.proofs.Common.{◌+◌, ◌*◌, ◌≤◌}
+use Rattle.bridge_cycle.specs.declared.cyclic_list.TheConstants.{LONGEST_CYCLE}
+use Rattle.bridge_port.specs.GateSchedule.{list_opens}
+use Rattle.bridge_bounds.specs.Bounds.{FramesEnd}
+use Rattle.bridge_bounds.proofs.longest_time.repeating_round.Given as goal
+
+abbrev pub invariant-loop-done : goal.invariant-loop-done
+invariant-loop-done g l = record {
+  ends : FramesEnd (list_opens l.list l.class) l.occ l.done l.from l.end;
+  begun : l.first ≤ l.end;
+  some : 1 ≤ l.done;
+  few : l.done ≤ l.room;
+  soon : l.end ≤ l.from + l.done * (2 * LONGEST_CYCLE);
+}

@@ -1,0 +1,225 @@
+//! Longest time in which a full queue leaves, by the transmission gates of its port.
+ghost use Rattle.std.specs.Prelude.{◌≡◌, ◌↔◌, ◌+◌, ◌-◌, ◌*◌, ◌<◌, ◌≤◌, true, Some};
+ghost use Rattle.bridge_cycle.specs.Cyclic.{IsLawful};
+ghost use Rattle.bridge_cycle.specs.Fits.{IsFirstFit};
+ghost use Rattle.bridge_port.specs.GateSchedule.{can_fit, list_can_fit, list_opens, gate_schedule, opens};
+ghost use Rattle.bridge_bounds.specs.Bounds.{FramesEnd, IsTimeAttained, IsEdge, IsLeastTime, IsLongestTime};
+
+use bridge_cycle::{CyclicList, Egress, LONGEST_CYCLE, Timeline, first_fit};
+use std::alloc::Allocator;
+
+/// Returns the first time in ns, from `from` on, at which a frame with transmission time `occ` ns fits.
+fn list_first_fit<A: Allocator + Copy>(
+    list: &CyclicList<u8, A>,
+    class: u8,
+    occ: u64,
+    from: u64,
+) -> u64
+    requires class { class < 8 }
+    requires occ { occ ≤ LONGEST_CYCLE }
+    requires from { from ≤ 8_999_999_999_999_999_999 }
+    requires lawful { IsLawful list.now }
+    requires ever { list_can_fit list.now class occ ≡ true }
+    ensures first { IsFirstFit (list_opens list.now class) occ from result }
+    ensures soon { result ≤ from + LONGEST_CYCLE }
+{
+    first_fit(list, class, occ, from)
+}
+
+/// Returns the time in ns at which `count` frames that wait from `from` on have left, one after another.
+fn frames_end<A: Allocator + Copy>(
+    list: &CyclicList<u8, A>,
+    class: u8,
+    occ: u64,
+    count: u16,
+    from: u64,
+) -> u64
+    requires class { class < 8 }
+    requires occ { occ ≤ LONGEST_CYCLE }
+    requires from { from ≤ 8_000_000_000_000_000_000 }
+    requires lawful { IsLawful list.now }
+    requires ever { list_can_fit list.now class occ ≡ true }
+    ensures ends { FramesEnd (list_opens list.now class) occ count from result }
+    ensures begun { from ≤ result }
+    ensures soon { result ≤ from + count * (2 * LONGEST_CYCLE) }
+{
+    let mut end = from;
+    for _done in 0..count {
+        end = list_first_fit(list, class, occ, end) + occ;
+    }
+    end
+}
+
+/// Follows frames that wait from `from` on, until one starts whole cycles after the first or `room` frames have left. Returns their number
+/// and their end in ns.
+fn repeating_round<A: Allocator + Copy>(
+    list: &CyclicList<u8, A>,
+    class: u8,
+    occ: u64,
+    room: u16,
+    from: u64,
+) -> (u16, u64)
+    requires class { class < 8 }
+    requires occ { occ ≤ LONGEST_CYCLE }
+    requires some_room { 1 ≤ room }
+    requires from { from ≤ 4 * LONGEST_CYCLE }
+    requires lawful { IsLawful list.now }
+    requires ever { list_can_fit list.now class occ ≡ true }
+    ensures some { 1 ≤ result.0 }
+    ensures within { result.0 ≤ room }
+    ensures ends { FramesEnd (list_opens list.now class) occ result.0 from result.1 }
+{
+    let cycle = list.cycle();
+    let first = list_first_fit(list, class, occ, from);
+    let mut end = first + occ;
+    for done in 1..room {
+        let start = list_first_fit(list, class, occ, end);
+        if (start - first) % cycle == 0 {
+            return (done, end);
+        }
+        end = start + occ;
+    }
+    (room, end)
+}
+
+/// Returns the time in ns at which `room` frames have left, if the first `done` have left at `end`. If the next frame starts whole cycles
+/// after the first, the calculation skips whole rounds.
+fn end_after_rounds<A: Allocator + Copy>(
+    list: &CyclicList<u8, A>,
+    class: u8,
+    occ: u64,
+    room: u16,
+    from: u64,
+    done: u16,
+    end: u64,
+) -> u64
+    requires class { class < 8 }
+    requires occ { occ ≤ LONGEST_CYCLE }
+    requires from { from ≤ 4 * LONGEST_CYCLE }
+    requires lawful { IsLawful list.now }
+    requires ever { list_can_fit list.now class occ ≡ true }
+    requires some { 1 ≤ done }
+    requires within { done ≤ room }
+    requires ends { FramesEnd (list_opens list.now class) occ done from end }
+    ensures { FramesEnd (list_opens list.now class) occ room from result }
+{
+    let cycle = list.cycle();
+    let left = room - done;
+    let round = list_first_fit(list, class, occ, end) - list_first_fit(list, class, occ, from);
+    if round % cycle != 0 {
+        return frames_end(list, class, occ, left, end);
+    }
+    let rounds = left / done;
+    frames_end(list, class, occ, left % done, end + rounds as u64 * round)
+}
+
+/// Returns the time in ns that `room` frames take if they wait from `from` on and leave one after another.
+fn frames_duration<A: Allocator + Copy>(
+    list: &CyclicList<u8, A>,
+    class: u8,
+    occ: u64,
+    room: u16,
+    from: u64,
+) -> u64
+    requires class { class < 8 }
+    requires occ { occ ≤ LONGEST_CYCLE }
+    requires from { from ≤ 4 * LONGEST_CYCLE }
+    requires lawful { IsLawful list.now }
+    requires ever { list_can_fit list.now class occ ≡ true }
+    ensures ends { FramesEnd (list_opens list.now class) occ room from (from + result) }
+    ensures bounded { result ≤ room * (2 * LONGEST_CYCLE) }
+{
+    if room == 0 {
+        return 0;
+    }
+    let (done, end) = repeating_round(list, class, occ, room, from);
+    end_after_rounds(list, class, occ, room, from, done, end) - from
+}
+
+/// Whether a frame fits at time `moment` in ns, and doesn't fit 1 ns later.
+fn is_edge<A: Allocator + Copy>(list: &CyclicList<u8, A>, class: u8, occ: u64, moment: u64) -> bool
+    requires class { class < 8 }
+    requires occ { occ ≤ LONGEST_CYCLE }
+    requires moment { moment ≤ 4 * LONGEST_CYCLE }
+    requires lawful { IsLawful list.now }
+    requires ever { list_can_fit list.now class occ ≡ true }
+    ensures { (result ≡ true) ↔ IsEdge (list_opens list.now class) occ moment }
+{
+    list_first_fit(list, class, occ, moment) == moment
+        && list_first_fit(list, class, occ, moment + 1) != moment + 1
+}
+
+/// Returns the longest time in ns in which `room` waiting frames leave under one list. It is attained 1 ns after a window's last fit, or
+/// always if the class is always open.
+fn list_longest_time<A: Allocator + Copy>(
+    list: &CyclicList<u8, A>,
+    class: u8,
+    occ: u64,
+    room: u16,
+) -> u64
+    requires class { class < 8 }
+    requires some { 1 ≤ occ }
+    requires occ { occ ≤ LONGEST_CYCLE }
+    requires lawful { IsLawful list.now }
+    requires ever { list_can_fit list.now class occ ≡ true }
+    ensures longest { IsLongestTime (list_opens list.now class) occ room result }
+    ensures attained { IsTimeAttained (list_opens list.now class) occ room result }
+    ensures bounded { result ≤ room * (2 * LONGEST_CYCLE) }
+{
+    let end = occ + list.cycle();
+    let mut longest = frames_duration(list, class, occ, room, 0);
+    let mut seen = occ;
+    while seen < end {
+        seen = list.turn(seen).end;
+        if is_edge(list, class, occ, seen - occ) {
+            let time = frames_duration(list, class, occ, room, seen - occ + 1);
+            longest = time.max(longest);
+        }
+    }
+    longest
+}
+
+/// Returns a longest time in ns in which `room` waiting frames leave under gate control lists. With a schedule change, this is the sum for
+/// both lists.
+fn lists_longest_time<A: Allocator + Copy>(lists: &Egress<A>, class: u8, occ: u64, room: u16) -> u64
+    requires class { class < 8 }
+    requires some { 1 ≤ occ }
+    requires occ { occ ≤ LONGEST_CYCLE }
+    requires ever { can_fit (gate_schedule (Some lists.now)) class occ ≡ true }
+    ensures longest { IsLongestTime (opens (gate_schedule (Some lists.now)) class) occ room result }
+    ensures least { IsLeastTime (gate_schedule (Some lists.now)) class occ room result }
+    ensures bounded { result ≤ room * (4 * LONGEST_CYCLE) }
+{
+    match lists {
+        Egress::Cyclic(list) => {
+            let _ = list.cycle();
+            list_longest_time(list, class, occ, room)
+        }
+        Egress::Joined(joined) => {
+            let (old, new) = joined.lists();
+            list_longest_time(old, class, occ, room) + list_longest_time(new, class, occ, room)
+        }
+    }
+}
+
+/// Returns a longest time in ns in which `room` waiting frames leave, each with transmission time `occ`. Without a schedule change, this
+/// time is attained.
+pub(crate) fn port_longest_time<A: Allocator + Copy>(
+    lists: &Option<Egress<A>>,
+    class: u8,
+    occ: u64,
+    room: u16,
+) -> u64
+    requires class { class < 8 }
+    requires some { 1 ≤ occ }
+    requires occ { occ ≤ LONGEST_CYCLE }
+    requires ever { can_fit (gate_schedule lists.now) class occ ≡ true }
+    ensures longest { IsLongestTime (opens (gate_schedule lists.now) class) occ room result }
+    ensures least { IsLeastTime (gate_schedule lists.now) class occ room result }
+    ensures bounded { result ≤ room * (4 * LONGEST_CYCLE) }
+{
+    match lists {
+        None => room as u64 * occ,
+        Some(lists) => lists_longest_time(lists, class, occ, room),
+    }
+}

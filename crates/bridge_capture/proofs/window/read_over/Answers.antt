@@ -1,6 +1,0 @@
-use Rattle.std.proofs.Common.{rules}
-use Rattle.std.proofs.lemmas.List.{with_items_is, places}
-use Rattle.bridge_capture.proofs.window.read_over.Goals as goal
-
-pub returns-clause-bytes : goal.returns-clause-bytes
-returns-clause-bytes g c = rw (with_items_is c.args.octets.now c.read.new.buf (search (rules, places))) (search rules)

@@ -1,5 +1,0 @@
-use Rattle.bridge_capture.proofs.Words.{pairs_are_words}
-use Rattle.bridge_capture.proofs.writer.word_pairs.Goals as goal
-
-pub returns : goal.returns
-returns c = pairs_are_words c.args.done c.args.captured c.args.len c.requires c.ranges.captured.fits c.ranges.len.fits

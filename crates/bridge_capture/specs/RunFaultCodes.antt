@@ -1,0 +1,10 @@
+-- Numbers of the faults of a run.
+use Rattle.std.specs.Prelude.{ℕ}
+use Rattle.bridge_capture.specs.declared.fault.RunFault.{RunFault}
+use Rattle.bridge_capture.specs.declared.fault.RunFault.TheVariants.{Capture, Write, NoMemory}
+
+-- Number of a fault.
+abbrev pub fault_code : RunFault → ℕ
+fault_code (Capture port fault) = 1
+fault_code (Write port) = 2
+fault_code NoMemory = 3

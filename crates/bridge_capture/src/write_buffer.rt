@@ -1,0 +1,127 @@
+//! Octets held back from a writer.
+ghost use Rattle.std.specs.Prelude.{◌≡◌, ◌≤◌, ◌<◌, ◌+◌, vec_len};
+ghost use Rattle.bridge_capture.specs.declared.write_buffer.TheConstants.{MAX_BLOCK, MAX_RECORD_OCTETS};
+
+use bridge_limits::NoMemory;
+use std::alloc::Allocator;
+
+/// Largest block: whole pages of a file.
+pub const MAX_BLOCK: usize = 131_072;
+
+/// Length of the longest written record in octets. An incomplete block always has room for one more record.
+const MAX_RECORD_OCTETS: usize = 65_552;
+
+/// Octets held back until they make a block: the first `count` of a buffer.
+#[derive(Drop)]
+pub struct WriteBuffer<A: Allocator> {
+    octets: Vec<u8, A>,
+    count: usize,
+    block: usize,
+    ghost wide: { vec_len octets ≡ block + MAX_RECORD_OCTETS },
+    ghost within: { count ≤ vec_len octets },
+    ghost some: { 0 < block },
+    ghost most: { block ≤ MAX_BLOCK },
+}
+
+impl<A: Allocator> WriteBuffer<A> {
+    ghost use Rattle.std.specs.Prelude.{◌-◌, ◌++◌, [], true, length, drop, IfOk};
+    ghost use Rattle.std.specs.Int.{w64, to_le_bytes};
+    ghost use Rattle.bridge_capture.specs.Buffers.{held_octets};
+
+    /// Makes an empty buffer with blocks of `block` octets. Allocates memory once.
+    pub fn new(alloc: A, block: usize) -> Result<WriteBuffer<A>, NoMemory>
+        requires some { 0 < block }
+        requires most { block ≤ MAX_BLOCK }
+        ensures none { IfOk result (λ held. held_octets held ≡ []) }
+        ensures block { IfOk result (λ held. held.block ≡ block) }
+    {
+        match Vec::from_elem(alloc, 0u8, block + MAX_RECORD_OCTETS) {
+            Ok(octets) => Ok(WriteBuffer {
+                octets,
+                count: 0,
+                block,
+            }),
+            Err(_) => Err(NoMemory),
+        }
+    }
+
+    /// Returns the number of octets of a block.
+    pub fn block_len(&self) -> usize
+        ensures block { result ≡ self.now.block }
+        ensures rest { self.now.count - result ≤ MAX_RECORD_OCTETS }
+    {
+        let _octets = &self.octets;
+        self.block
+    }
+
+    /// Returns the number of octets held back.
+    #[inline(always)]
+    pub fn len(&self) -> usize
+        ensures count { result ≡ self.now.count }
+        ensures most { result ≤ MAX_BLOCK + MAX_RECORD_OCTETS }
+    {
+        self.count
+    }
+
+    /// Returns the number of octets that the buffer can still accept.
+    pub fn room(&self) -> usize
+        ensures room { result ≡ vec_len self.now.octets - self.now.count }
+        ensures some { self.now.count ≤ MAX_RECORD_OCTETS → 0 < result }
+    {
+        self.octets.len() - self.count
+    }
+
+    /// Whether `more` octets fit before a block must be written: the buffer has no whole block yet.
+    #[inline(always)]
+    pub fn has_room(&self, more: usize) -> bool
+        ensures { result ≡ true → more ≤ vec_len self.now.octets - self.now.count }
+    {
+        self.count < self.block && more <= MAX_RECORD_OCTETS
+    }
+
+    /// Returns the octets held back.
+    pub fn octets(&self) -> &[u8]
+        ensures { result.now ≡ held_octets self.now }
+    {
+        &self.octets[..self.count]
+    }
+
+    /// Adds octets. They must fit.
+    #[inline(always)]
+    pub fn put(&mut self, octets: &[u8])
+        requires { length octets.now ≤ vec_len self.old.octets - self.old.count }
+        ensures octets { held_octets self.new ≡ held_octets self.old ++ octets.now }
+        ensures width { vec_len self.new.octets ≡ vec_len self.old.octets }
+        ensures count { self.new.count ≡ self.old.count + length octets.now }
+    {
+        let from = self.count;
+        let to = from + octets.len();
+        self.octets.as_mut_slice()[from..to].copy_from_slice(octets);
+        self.count = to;
+    }
+
+    /// Adds the octets of two numbers, little-endian. They must fit.
+    #[inline(always)]
+    pub fn put_words(&mut self, first: u64, second: u64)
+        requires { 16 ≤ vec_len self.old.octets - self.old.count }
+        ensures octets { held_octets self.new ≡ held_octets self.old
+            ++ (to_le_bytes w64 first ++ to_le_bytes w64 second) }
+        ensures width { vec_len self.new.octets ≡ vec_len self.old.octets }
+        ensures count { self.new.count ≡ self.old.count + 16 }
+    {
+        self.put(&first.to_le_bytes());
+        self.put(&second.to_le_bytes());
+    }
+
+    /// Drops the first `count` octets.
+    pub fn skip(&mut self, count: usize)
+        requires { count ≤ self.old.count }
+        ensures octets { held_octets self.new ≡ drop count (held_octets self.old) }
+        ensures width { vec_len self.new.octets ≡ vec_len self.old.octets }
+        ensures count { self.new.count ≡ self.old.count - count }
+    {
+        let from = self.count;
+        self.octets.as_mut_slice().copy_within(count..from, 0);
+        self.count = from - count;
+    }
+}

@@ -1,9 +1,0 @@
-use Rattle.std.proofs.Common.{◌∙◌, sym}
-use Rattle.bridge_check.proofs.Least.{acceptable}
-use Rattle.bridge_check.proofs.accepted.check.Goals as goal
-
-pub invariant_of-result : goal.invariant_of-result
-invariant_of-result g c = (c.ports.ensures.rules, acceptable c.args.plan (sym c.in-Ok-None.ensures ∙ c.in-Ok-None.field-0-is))
-
-pub returns-in-Ok-None-clause-acceptable : goal.returns-in-Ok-None-clause-acceptable
-returns-in-Ok-None-clause-acceptable g c = acceptable c.args.plan (sym c.in-Ok-None.ensures ∙ c.in-Ok-None.field-0-is)

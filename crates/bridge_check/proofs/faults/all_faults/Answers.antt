@@ -1,0 +1,8 @@
+use Rattle.std.proofs.Common.{All}
+use Rattle.bridge_config.specs.Rules.{IsFilter}
+use Rattle.bridge_check.proofs.faults.all_faults.Goals as goal
+
+pub push_filter_faults-requires-clause-sdu : goal.push_filter_faults-requires-clause-sdu
+push_filter_faults-requires-clause-sdu g c =
+    let all : All IsFilter c.filters-number-items.result.now = rw c.filters-number-items.ensures.filters c.filters-number-items.ensures.rules.filters.each in
+    (all c.loop-number.number-index _ c.loop-number-test.true).max_sdu

@@ -1,5 +1,0 @@
-use Rattle.std.proofs.Common.{rules}
-use Rattle.bridge_check.proofs.windows.shared_at.Goals as goal
-
-pub returns-in-Some-Joined : goal.returns-in-Some-Joined
-returns-in-Some-Joined g c = search rules

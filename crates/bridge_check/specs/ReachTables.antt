@@ -1,0 +1,58 @@
+-- Tables of a filter's reach, computed once for many questions about queues.
+use Rattle.std.specs.Prelude.{◌≡◌, ◌≤◌, ℕ, zero, suc, Bool, false, ◌+◌, ◌-◌, ◌&&◌, List, [], ◌∷◌, ◌++◌, map, not, Option, Some, None, option_map, nat_eq, slice_index, slice_index_or, if◌then◌else◌}
+use Rattle.std.specs.Option.{ForSome}
+use Rattle.bridge_filter.specs.declared.FilterPlan.{FilterPlan}
+use Rattle.bridge_filter.specs.Routes.{lesser_number}
+use Rattle.bridge_config.specs.Model.{Plan}
+use Rattle.bridge_config.specs.Rules.{find_port}
+use Rattle.bridge_check.specs.declared.check_fault.CheckFault.{CheckFault}
+use Rattle.bridge_check.specs.declared.check_fault.CheckFault.TheVariants as fault
+use Rattle.bridge_check.specs.declared.reach.Reach.{Reach}
+use Rattle.bridge_check.specs.declared.filter_tests.QueueTest.{QueueTest}
+use Rattle.bridge_check.specs.declared.filter_tests.QueueTest.TheVariants as test
+use Rattle.bridge_check.specs.declared.filter_tests.FilterCase.{FilterCase}
+use Rattle.bridge_check.specs.Reach.{reaches_port, reaches_priority, reaches_queue, some_number_passes}
+use Rattle.bridge_check.specs.Faults.{has_catch_all, other_in_queue, shared_phase_if_port, can_never_fit, fault_unless}
+
+-- The results of `test` for the numbers 0 to `n` - 1, in rising order.
+abbrev pub test_results : ℕ → (ℕ → Bool) → List Bool
+test_results zero test = []
+test_results (suc n) test = test_results n test ++ test n ∷ []
+
+-- The reach of filter `f`: a flag for each port from 1 to 16, and a flag for each priority from 0 to 7.
+abbrev pub filter_reach : {A : Type 0} → Plan A → FilterPlan → Reach
+filter_reach p f = record { ports = test_results 16 (λ i. reaches_port p f.handle (i + 1)); priorities = test_results 8 (reaches_priority p f) }
+
+-- True if some priority whose flag is set has class `c`. The list `classes` gives the class of each priority.
+abbrev pub has_class : List Bool → List ℕ → ℕ → Bool
+has_class priorities classes c = some_number_passes 8 (λ k. slice_index_or priorities k false && nat_eq (slice_index classes k) c)
+
+-- True if reach `r` has port `q` and a priority with class `c`. The list `classes` gives the class of each priority.
+abbrev pub has_queue : Reach → ℕ → List ℕ → ℕ → Bool
+has_queue r q classes c = slice_index_or r.ports (q - 1) false && has_class r.priorities classes c
+
+-- Each filter's number with its reach, in list order.
+abbrev pub all_reaches : {A : Type 0} → Plan A → List (ℕ × FilterPlan) → List (ℕ × Reach)
+all_reaches p filters = map (λ f. (f.0, filter_reach p f.1)) filters
+
+-- The lowest number of a filter other than `n` whose reach has class `c` at port `q`, or `None`.
+abbrev pub least_other_filter : List (ℕ × Reach) → ℕ → ℕ → List ℕ → ℕ → Option ℕ
+least_other_filter [] n q classes c = None
+least_other_filter (r ∷ rs) n q classes c = if not (nat_eq r.0 n) && has_queue r.1 q classes c then lesser_number (Some r.0) (least_other_filter rs n q classes c) else least_other_filter rs n q classes c
+
+-- The fault of filter `f` if class `c` at port `q` fails the given test of queues: shared queue, shared window or size.
+abbrev pub queue_test_fault : {A : Type 0} → Plan A → ℕ → FilterPlan → QueueTest → ℕ → ℕ → Option CheckFault
+queue_test_fault p n f test.Shared q c = option_map (fault.QueueShared n q c) (other_in_queue p p.filters n q c)
+queue_test_fault p n f test.Window q c = option_map (fault.WindowShared n q c) (shared_phase_if_port (find_port p.ports q) c)
+queue_test_fault p n f test.Size q c = fault_unless (not (can_never_fit (find_port p.ports q) c f.max_sdu)) (fault.MaxSduNeverFits n q c)
+
+-- The fault of filter `f` if class `c` at port `q` is reachable and fails test `t`.
+abbrev pub reached_queue_fault : {A : Type 0} → Plan A → ℕ → FilterPlan → QueueTest → ℕ → ℕ → Option CheckFault
+reached_queue_fault p n f t q c = if reaches_queue p f q c then queue_test_fault p n f t q c else None
+
+-- Holds if a case's tables are correct: every filter's reach, the filter's own reach, and the catch-all flag. A size limit is at most 65,535 octets.
+pub record IsCase {A : Type 0} (case : FilterCase A) : Type 0 where
+  pub reaches : case.reaches.now ≡ all_reaches case.plan.now case.plan.now.filters
+  pub reach : case.reach ≡ filter_reach case.plan.now case.filter
+  pub catches : case.catches ≡ has_catch_all case.plan.now.filters
+  pub sdu : ForSome case.filter.max_sdu (λ n. n ≤ 65535)

@@ -1,0 +1,144 @@
+//! Accepts a plan, or refuses it with its first fault.
+ghost use Rattle.std.specs.Prelude.{◌≡◌, ◌≤◌, ◌⊎◌, Some, None, IfOk, IfErr};
+ghost use Rattle.std.specs.Option.{ForSome};
+ghost use Rattle.bridge_config.specs.Rules.{IsPlan};
+ghost use Rattle.bridge_check.specs.declared.check_fault.CheckFault.TheVariants as the_fault;
+ghost use Rattle.bridge_check.specs.Faults as faults;
+ghost use Rattle.bridge_check.specs.Faults.{first_fault};
+ghost use Rattle.bridge_check.specs.ReachTables.{all_reaches};
+ghost use Rattle.bridge_check.specs.Acceptable.{IsAcceptable};
+
+use crate::check_fault::CheckFault;
+use crate::filter_tests::{first_test_fault, has_catch_all, test_filter};
+use crate::reach::Reach;
+use crate::reaches::all_reaches;
+use bridge_config::Plan;
+use bridge_filter::FilterPlan;
+use std::alloc::{AllocError, Allocator};
+use std::marker::Model;
+
+/// Plan that isolates each of its protected filters. Only `check` creates a value of this type.
+#[derive(Drop)]
+pub struct Accepted<A: Allocator + Copy> {
+    plan: Plan<A>,
+}
+
+impl<A: Allocator + Copy> Model for Accepted<A> {
+    ghost use Rattle.bridge_config.specs.Model.{Plan};
+    ghost use Rattle.bridge_config.specs.Rules.{IsPlan};
+    ghost use Rattle.bridge_check.specs.Acceptable.{IsAcceptable};
+
+    ghost Value = { Plan A };
+
+    ghost view = { λ a. a.plan };
+
+    ghost invariant = { λ a. IsPlan a.plan × IsAcceptable a.plan };
+}
+
+impl<A: Allocator + Copy> Accepted<A> {
+    /// Returns the plan.
+    pub fn plan(&self) -> &Plan<A>
+        ensures plan { result.now ≡ self.now }
+        ensures acceptable { IsAcceptable self.now }
+        ensures rules { IsPlan self.now }
+    {
+        &self.plan
+    }
+}
+
+/// Refused plan, with its first fault.
+#[derive(Drop)]
+pub struct Refused<A: Allocator + Copy> {
+    /// The plan, unchanged.
+    pub plan: Plan<A>,
+    /// The first fault.
+    pub fault: CheckFault,
+}
+
+/// Returns the fault with the lower filter number, or `a` if the numbers are equal.
+fn lesser_fault(
+    a: Option<(u32, CheckFault)>,
+    b: Option<(u32, CheckFault)>,
+) -> Option<(u32, CheckFault)>
+    ensures { result ≡ faults.lesser_fault a b }
+{
+    match (a, b) {
+        (None, b) => b,
+        (Some(a), None) => Some(a),
+        (Some(a), Some(b)) => { if b.0 < a.0 { Some(b) } else { Some(a) } }
+    }
+}
+
+/// Returns the number and the first fault of `filter`; `None` if the filter is unprotected or passes every test.
+fn numbered_fault<A: Allocator + Copy>(
+    plan: &Plan<A>,
+    reaches: &[(u32, Reach)],
+    catches: bool,
+    number: u32,
+    filter: FilterPlan,
+) -> Option<(u32, CheckFault)>
+    requires reaches { reaches.now ≡ all_reaches plan.now plan.now.filters }
+    requires catches { catches ≡ faults.has_catch_all plan.now.filters }
+    requires sdu { ForSome filter.max_sdu (λ n. n ≤ 65535) }
+    ensures { result ≡ faults.numbered_fault plan.now (number, filter) }
+{
+    if !filter.protected {
+        return None;
+    }
+    match first_test_fault(&test_filter(plan, reaches, catches, number, filter)) {
+        Some(fault) => Some((number, fault)),
+        None => None,
+    }
+}
+
+/// Returns the first fault of the lowest-numbered faulty protected filter, with the filter's number.
+fn least_fault<A: Allocator + Copy>(
+    plan: &Plan<A>,
+    reaches: &[(u32, Reach)],
+) -> Option<(u32, CheckFault)>
+    requires { reaches.now ≡ all_reaches plan.now plan.now.filters }
+    ensures { result ≡ faults.least_fault plan.now plan.now.filters }
+{
+    let catches = has_catch_all(plan.filters());
+    let mut least = None;
+    for (number, filter) in plan.filters() {
+        let fault = numbered_fault(plan, reaches, catches, *number, *filter);
+        least = lesser_fault(least, fault);
+    }
+    least
+}
+
+/// Returns the fault that `check` reports.
+fn first_fault<A: Allocator + Copy>(
+    alloc: A,
+    plan: &Plan<A>,
+) -> Result<Option<CheckFault>, AllocError>
+    ensures { IfOk result (λ f. f ≡ first_fault plan.now) }
+{
+    let Ok(reaches) = all_reaches(alloc, plan) else {
+        return Err(AllocError);
+    };
+    match least_fault(plan, &reaches) {
+        Some((_, fault)) => Ok(Some(fault)),
+        None => Ok(None),
+    }
+}
+
+/// Accepts a plan that isolates each of its protected filters. Otherwise refuses it with the first fault, by rising filter number, then in
+/// test order, then by rising port and class.
+pub fn check<A: Allocator + Copy>(alloc: A, plan: Plan<A>) -> Result<Accepted<A>, Refused<A>>
+    ensures accepted { IfOk result (λ a. (a ≡ plan) × (first_fault plan ≡ None)) }
+    ensures acceptable { IfOk result IsAcceptable }
+    ensures refused { IfErr result (λ r. (r.plan ≡ plan)
+        × ((r.fault ≡ the_fault.NoMemory) ⊎ (first_fault plan ≡ Some r.fault))) }
+{
+    let _ = plan.ports();
+    match first_fault(alloc, &plan) {
+        Ok(None) => Ok(Accepted { plan }),
+        Ok(Some(fault)) => Err(Refused { plan, fault }),
+        Err(_) => Err(Refused {
+            plan,
+            fault: CheckFault::NoMemory,
+        }),
+    }
+}

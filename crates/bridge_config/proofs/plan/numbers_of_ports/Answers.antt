@@ -1,5 +1,0 @@
-use Rattle.bridge_config.proofs.InTurn.{one_more}
-use Rattle.bridge_config.proofs.plan.numbers_of_ports.Goals as goal
-
-pub loop-port-preserved : goal.loop-port-preserved
-loop-port-preserved g c = one_more _ _ _ _ _ c.loop-port-test.true c.port-item.is c.loop-port.invariant c.in-Ok.ensures.items

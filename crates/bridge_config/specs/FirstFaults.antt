@@ -1,0 +1,54 @@
+-- First fault of a table whose keys are read one after another. No public clause uses it.
+use Rattle.std.specs.Prelude.{◌≡◌, Bool, Option, Some, None, Result, Ok, Err, if◌then◌else◌}
+use Rattle.bridge_schema.specs.declared.plan_fault.Field.{Field}
+use Rattle.bridge_schema.specs.declared.plan_fault.KeyLocation.{KeyLocation}
+use Rattle.bridge_schema.specs.declared.plan_fault.PlanFault.{PlanFault}
+use Rattle.bridge_schema.specs.declared.instance_table.InstanceTable.{InstanceTable}
+use Rattle.bridge_schema.specs.Readers.{IsReadFault}
+
+-- Location of a key in a table.
+abbrev pub key_location : InstanceTable → Field → KeyLocation
+key_location row key = record { section = row.section; index = row.index; field = key }
+
+-- Fault of a result, if there is one.
+abbrev pub read_fault : {A : Type 0} → Result A PlanFault → Option PlanFault
+read_fault (Ok x) = None
+read_fault (Err e) = Some e
+
+-- Value of a result, or `other` after a fault.
+abbrev pub value_or : {A : Type 0} → A → Result A PlanFault → A
+value_or other (Ok x) = x
+value_or other (Err e) = other
+
+-- Earlier fault if there is one, otherwise the next fault.
+abbrev pub first_fault : Option PlanFault → Option PlanFault → Option PlanFault
+first_fault None next = next
+first_fault (Some e) next = Some e
+
+-- Value, or the fault if there is one.
+abbrev pub unless_fault : {A : Type 0} → Option PlanFault → A → Result A PlanFault
+unless_fault None x = Ok x
+unless_fault (Some e) x = Err e
+
+-- Statement: The new fault is the earlier fault or the fault of this read. The value is the read value, or `other` after a fault of this read.
+pub record TakesRead {A : Type 0} (old : Option PlanFault) (other : A) (read : Result A PlanFault) (new : Option PlanFault) (x : A) : Type 0 where
+  pub fault : new ≡ first_fault old (read_fault read)
+  pub value : x ≡ value_or other read
+
+-- Statement: The new fault is the earlier fault, or the fault `e` if the test fails.
+pub record Expects (old : Option PlanFault) (holds : Bool) (e : PlanFault) (new : Option PlanFault) : Type 0 where
+  pub fault : new ≡ first_fault old (if holds then None else Some e)
+
+-- Statement: The final result is the first fault, or the value.
+pub record EndsReading {A : Type 0} (fault : Option PlanFault) (x : A) (r : Result A PlanFault) : Type 0 where
+  pub is : r ≡ unless_fault fault x
+
+-- Statement: After an earlier fault, nothing is read. Otherwise the value is read, or the read has this fault, unless memory ran out.
+abbrev pub ReadsUnlessFault : {A : Type 0} → Option PlanFault → Result A PlanFault → Option PlanFault → A → Type 0
+ReadsUnlessFault (Some e) read new x = new ≡ Some e
+ReadsUnlessFault None read None x = read ≡ Ok x
+ReadsUnlessFault None read (Some e) x = IsReadFault e read
+
+-- `ReadsUnlessFault` as a record, for contracts.
+pub record ReadsLists {A : Type 0} (old : Option PlanFault) (read : Result A PlanFault) (new : Option PlanFault) (x : A) : Type 0 where
+  pub reads : ReadsUnlessFault old read new x

@@ -1,5 +1,0 @@
-use Rattle.std.proofs.Common.{rules}
-use Rattle.bridge_cycle.proofs.joined.Joined.copy.Goals as goal
-
-pub returns : goal.returns
-returns g c = search rules

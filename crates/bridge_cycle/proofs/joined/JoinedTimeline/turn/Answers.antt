@@ -1,5 +1,0 @@
-use Rattle.std.proofs.Common.{rules}
-use Rattle.bridge_cycle.proofs.joined.JoinedTimeline.turn.Goals as goal
-
-pub returns-then-t-self-clause-turn : goal.returns-then-t-self-clause-turn
-returns-then-t-self-clause-turn g c = search rules

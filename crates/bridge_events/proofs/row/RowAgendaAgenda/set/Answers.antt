@@ -1,5 +1,0 @@
-use Rattle.std.proofs.Common.{rules}
-use Rattle.bridge_events.proofs.row.RowAgendaAgenda.set.Goals as goal
-
-pub returns : goal.returns
-returns c = search rules

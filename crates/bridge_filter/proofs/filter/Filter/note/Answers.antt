@@ -1,5 +1,0 @@
-use Rattle.std.proofs.Common.{rules}
-use Rattle.bridge_filter.proofs.filter.Filter.note.Goals as goal
-
-pub returns-in-Blocked : goal.returns-in-Blocked
-returns-in-Blocked c = search rules

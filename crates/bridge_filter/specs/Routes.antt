@@ -1,0 +1,101 @@
+-- How a frame's filter is found: each stream handle has a row with the least filter number for each priority.
+use Rattle.std.specs.Prelude.{◌≡◌, ℕ, ◌<◌, Bool, false, ◌&&◌, nat_eq, nat_lt, min, Option, Some, None, is_none, IfSome, List, [], ◌∷◌, if◌then◌else◌, slice_index_or, slice_get}
+use Rattle.std.specs.Option.{option_map, unwrap_or}
+use Rattle.std.specs.Map.{lookup, keys_of}
+use Rattle.bridge_filter.specs.declared.FilterPlan.{FilterPlan}
+use Rattle.bridge_filter.specs.declared.route.Route.{Route}
+use Rattle.bridge_filter.specs.Verdicts.{is_handle_match, is_priority_match, frame_filter, filter_input}
+use Rattle.bridge_filter.specs.StandsFor.{PoliceState}
+
+-- Smaller of two filter numbers, or the only number if one argument is `None`; `None` if both are `None`.
+abbrev pub lesser_number : Option ℕ → Option ℕ → Option ℕ
+lesser_number None n = n
+lesser_number (Some m) None = Some m
+lesser_number (Some m) (Some n) = Some (min m n)
+
+-- Least number of the filters that pass a test.
+abbrev pub least_passing : (FilterPlan → Bool) → List (ℕ × FilterPlan) → Option ℕ
+least_passing test [] = None
+least_passing test (f ∷ fs) = if test f.1 then lesser_number (Some f.0) (least_passing test fs) else least_passing test fs
+
+-- Least number of the filters that match this handle and priority.
+abbrev pub least_match : Option ℕ → ℕ → List (ℕ × FilterPlan) → Option ℕ
+least_match handle priority fs = least_passing (λ f. is_handle_match f.handle handle && is_priority_match f.priority priority) fs
+
+-- Least number of the filters without a handle that match this priority.
+abbrev pub least_unnamed : ℕ → List (ℕ × FilterPlan) → Option ℕ
+least_unnamed priority fs = least_passing (λ f. is_none f.handle && is_priority_match f.priority priority) fs
+
+-- True if the filter has exactly this handle.
+abbrev pub is_named_handle : ℕ → Option ℕ → Bool
+is_named_handle h None = false
+is_named_handle h (Some m) = nat_eq m h
+
+-- Least number of the filters with exactly this handle that match this priority.
+abbrev pub least_named : ℕ → ℕ → List (ℕ × FilterPlan) → Option ℕ
+least_named h priority fs = least_passing (λ f. is_named_handle h f.handle && is_priority_match f.priority priority) fs
+
+-- Route in a row for a priority.
+abbrev pub slot : List (Option Route) → ℕ → Option Route
+slot row priority = slice_index_or row priority None
+
+-- Filter number in a row for a priority.
+abbrev pub slot_number : List (Option Route) → ℕ → Option ℕ
+slot_number row priority = option_map (λ r. r.number) (slot row priority)
+
+-- Route with the lesser number.
+abbrev pub lesser_route : Route → Option Route → Option Route
+lesser_route r None = Some r
+lesser_route r (Some q) = if nat_lt q.number r.number then Some q else Some r
+
+-- Slot of a row, extended by a filter that asks for the priority `asked` or for any (`None`).
+abbrev pub add_to_slot : Option Route → Option ℕ → Route → ℕ → Option Route
+add_to_slot o asked r priority = if is_priority_match asked priority then lesser_route r o else o
+
+-- Row of a frame's handle: the row of this handle, or the default row.
+abbrev pub find_row : List (ℕ × List (Option Route)) → List (Option Route) → Option ℕ → List (Option Route)
+find_row rows any None = any
+find_row rows any (Some h) = unwrap_or (lookup (nat_eq h) rows) any
+
+-- Statement: The default row has the least numbers of the filters without a handle.
+abbrev pub IsDefaultRow : List (Option Route) → List (ℕ × FilterPlan) → Type 0
+IsDefaultRow any fs = (k : ℕ) → k < 8 → slot_number any k ≡ least_unnamed k fs
+
+-- Statement: The row of each handle has the lesser number of the default row and of the filters with exactly this handle.
+abbrev pub AreHandleRows : List (ℕ × List (Option Route)) → List (Option Route) → List (ℕ × FilterPlan) → Type 0
+AreHandleRows rows any fs = (h k : ℕ) → k < 8 → slot_number (find_row rows any (Some h)) k ≡ lesser_number (least_named h k fs) (slot_number any k)
+
+-- Statement: For each handle and priority, the row has the least number of the matching filters.
+abbrev pub AreRouteRows : List (ℕ × List (Option Route)) → List (Option Route) → List (ℕ × FilterPlan) → Type 0
+AreRouteRows rows any fs = (handle : Option ℕ) (k : ℕ) → k < 8 → slot_number (find_row rows any handle) k ≡ least_match handle k fs
+
+-- Statement: The optional index is the index of the optional number, and `None` exactly if there is no number.
+abbrev pub IsOptionalIndex : List ℕ → Option ℕ → Option ℕ → Type 0
+IsOptionalIndex numbers None None = Unit {0}
+IsOptionalIndex numbers None (Some i) = ⊥
+IsOptionalIndex numbers (Some n) None = ⊥
+IsOptionalIndex numbers (Some n) (Some i) = slice_get numbers i ≡ Some n
+
+-- Statement: The route has the indexes of the filter's gate and meter.
+pub record HasInstanceIndices (f : FilterPlan) (gates meters : List ℕ) (r : Route) : Type 0 where
+  pub gate : slice_get gates r.gate ≡ Some f.gate
+  pub meter : IsOptionalIndex meters f.meter r.meter
+
+-- Statement: The route has the number and index of a filter, and the indexes of its gate and meter.
+pub record IsRoute (fs : List (ℕ × FilterPlan)) (gates meters : List ℕ) (r : Route) : Type 0 where
+  pub plan : FilterPlan
+  pub filter : slice_get fs r.filter ≡ Some (r.number, plan)
+  pub served : HasInstanceIndices plan gates meters r
+
+-- Statement: Each route of the row obeys `IsRoute`.
+abbrev pub HasRoutes : List (Option Route) → List (ℕ × FilterPlan) → List ℕ → List ℕ → Type 0
+HasRoutes row fs gates meters = (k : ℕ) → k < 8 → IfSome (slot row k) (IsRoute fs gates meters)
+
+-- Statement: Each route of all rows obeys `IsRoute`.
+abbrev pub HaveRoutes : List (ℕ × List (Option Route)) → List (Option Route) → List (ℕ × FilterPlan) → List ℕ → List ℕ → Type 0
+HaveRoutes rows any fs gates meters = (handle : Option ℕ) → HasRoutes (find_row rows any handle) fs gates meters
+
+-- Statement: The optional route is the route of frames with this handle and priority: it names their filter, and is `None` if no filter matches.
+pub record IsFoundRoute {A : Type 0} (s : PoliceState A) (handle : Option ℕ) (priority : ℕ) (o : Option Route) : Type 0 where
+  pub number : (at sdu octets : ℕ) (dei : Bool) → option_map (λ r. r.number) o ≡ option_map (λ f. f.0) (frame_filter s.filters (filter_input at handle priority dei sdu octets))
+  pub route : IfSome o (IsRoute s.filters (keys_of s.gates) (keys_of s.meters))

@@ -1,0 +1,238 @@
+//! Routes: the filter of a frame, found without reading the other filters.
+
+ghost use Rattle.std.specs.Prelude.{◌≡◌, ℕ, ◌<◌, Bool, Some, IsSome, IfSome, ◌&&◌, nat_eq, length, slice_get, if◌then◌else◌};
+ghost use Rattle.std.specs.Option.{option_map};
+ghost use Rattle.bridge_filter.specs.Routes as finding;
+ghost use Rattle.std.specs.Map.{keys_of, lookup};
+ghost use Rattle.bridge_filter.specs.Steps.{filter_plans, HasMeter, HaveGates, HaveMeters};
+ghost use Rattle.bridge_filter.specs.Verdicts as verdicts;
+
+use crate::FilterPlan;
+use crate::filter_state::FilterState;
+use crate::gates_and_meters::ByNumber;
+use bridge_gate::StreamGate;
+use bridge_meter::Meter;
+use std::alloc::Allocator;
+
+/// Filter of a frame: its number, its index, and the indexes of its gate and meter.
+#[derive(Clone, Copy)]
+pub struct Route {
+    /// Number of the filter.
+    pub number: u32,
+    /// Index of the filter in the given order.
+    pub filter: usize,
+    pub(crate) gate: usize,
+    pub(crate) meter: Option<usize>,
+}
+
+/// Route of a frame for each priority, if a filter matches.
+pub(crate) type PriorityRow = [Option<Route>; 8];
+
+/// Rows of the stream handles in filters.
+pub(crate) type HandleRows<A> = ByNumber<PriorityRow, A>;
+
+/// Returns the route with the lesser number.
+pub(crate) fn lesser_route(route: Route, other: Option<Route>) -> Option<Route>
+    ensures { result ≡ finding.lesser_route route other }
+{
+    match other {
+        Some(other) if other.number < route.number => Some(other),
+        _ => Some(route),
+    }
+}
+
+/// Whether a filter with the handle `asked`, or with `None` for any, accepts a frame with `handle`.
+pub fn is_handle_match(asked: Option<u32>, handle: Option<u32>) -> bool
+    ensures { result ≡ verdicts.is_handle_match asked handle }
+{
+    match (asked, handle) {
+        (None, _) => true,
+        (Some(_), None) => false,
+        (Some(asked), Some(handle)) => asked == handle,
+    }
+}
+
+/// Whether a filter with the priority `asked`, or with `None` for any, accepts a frame with `priority`.
+pub fn is_priority_match(asked: Option<u8>, priority: u8) -> bool
+    ensures { result ≡ verdicts.is_priority_match asked priority }
+{
+    match asked {
+        None => true,
+        Some(asked) => asked == priority,
+    }
+}
+
+/// Returns the row of `handle` if it is at the guessed index. The guess succeeds if handles of consecutive filters are consecutive.
+#[inline(always)]
+fn row_by_guess<'a, A: Allocator + Copy>(
+    rows: &'a HandleRows<A>,
+    handle: u32,
+) -> Option<&'a PriorityRow>
+    ensures { IfSome result (λ row. lookup (nat_eq handle) rows.now.entries ≡ Some row.now) }
+{
+    let _rows = rows.len();
+    let (first, _) = rows.get_index(0)?;
+    match rows.get_index(handle.saturating_sub(*first) as usize) {
+        Some((own, row)) if *own == handle => Some(row),
+        _ => None,
+    }
+}
+
+/// Returns the row of `handle` by its hash, or the default row.
+#[inline(never)]
+fn row_by_hash<'a, A: Allocator + Copy>(
+    rows: &'a HandleRows<A>,
+    any: &'a PriorityRow,
+    handle: u32,
+) -> &'a PriorityRow
+    ensures { result.now ≡ finding.find_row rows.now.entries any.now (Some handle) }
+{
+    match rows.get(&handle) {
+        Some(row) => row,
+        None => any,
+    }
+}
+
+/// Returns the row of `handle`, or the default row if it has none.
+#[inline(always)]
+pub(crate) fn find_row<'a, A: Allocator + Copy>(
+    rows: &'a HandleRows<A>,
+    any: &'a PriorityRow,
+    handle: Option<u32>,
+) -> &'a PriorityRow
+    ensures { result.now ≡ finding.find_row rows.now.entries any.now handle }
+{
+    match handle {
+        None => any,
+        Some(handle) => match row_by_guess(rows, handle) {
+            Some(row) => row,
+            None => row_by_hash(rows, any, handle),
+        },
+    }
+}
+
+/// Returns the index of the instance `number`.
+fn instance_index<T, A: Allocator + Copy>(instances: &ByNumber<T, A>, number: u32) -> usize
+    requires { IsSome (lookup (nat_eq number) instances.now.entries) }
+    ensures { slice_get (keys_of instances.now.entries) result ≡ Some number }
+{
+    match instances.get_index_of(&number) {
+        Some(place) => place,
+        None => unreachable!(),
+    }
+}
+
+/// Returns the index of the instance `number`, if there is a number.
+fn optional_index<T, A: Allocator + Copy>(
+    instances: &ByNumber<T, A>,
+    number: Option<u32>,
+) -> Option<usize>
+    requires { HasMeter number instances.now.entries }
+    ensures { finding.IsOptionalIndex (keys_of instances.now.entries) number result }
+{
+    match number {
+        Some(number) => Some(instance_index(instances, number)),
+        None => None,
+    }
+}
+
+/// Returns the plan of the filter at index `place`, and its route.
+pub(crate) fn plan_and_route<A: Allocator + Copy>(
+    filters: &ByNumber<FilterState, A>,
+    gates: &ByNumber<StreamGate<A>, A>,
+    meters: &ByNumber<Meter, A>,
+    place: usize,
+) -> (FilterPlan, Route)
+    requires within { place < length filters.now.entries }
+    requires gates { HaveGates filters.now.entries gates.now.entries }
+    requires meters { HaveMeters filters.now.entries meters.now.entries }
+    ensures plan { slice_get (filter_plans filters.now.entries) place ≡ Some (result.1.number, result.0) }
+    ensures route { finding.IsRoute (filter_plans filters.now.entries) (keys_of gates.now.entries)
+        (keys_of meters.now.entries) result.1 }
+{
+    let Some((number, filter)) = filters.get_index(place) else {
+        unreachable!()
+    };
+    let plan = filter.plan;
+    let route = Route {
+        number: *number,
+        filter: place,
+        gate: instance_index(gates, plan.gate),
+        meter: optional_index(meters, plan.meter),
+    };
+    (plan, route)
+}
+
+/// Returns the lesser of two routes if the filter of `route` matches; otherwise returns `least`.
+fn lesser_match(
+    least: Option<Route>,
+    plan: &FilterPlan,
+    route: Route,
+    handle: Option<u32>,
+    priority: u8,
+) -> Option<Route>
+    ensures { result ≡ (if verdicts.is_handle_match plan.now.handle handle
+        && verdicts.is_priority_match plan.now.priority
+        priority then finding.lesser_route route least else least) }
+{
+    if is_handle_match(plan.handle, handle) && is_priority_match(plan.priority, priority) {
+        lesser_route(route, least)
+    } else {
+        least
+    }
+}
+
+/// Returns the route for this handle and priority by a search through all filters. Only a priority above 7 needs it.
+#[cold]
+#[inline(never)]
+fn search_route<A: Allocator + Copy>(
+    filters: &ByNumber<FilterState, A>,
+    gates: &ByNumber<StreamGate<A>, A>,
+    meters: &ByNumber<Meter, A>,
+    handle: Option<u32>,
+    priority: u8,
+) -> Option<Route>
+    requires gates { HaveGates filters.now.entries gates.now.entries }
+    requires meters { HaveMeters filters.now.entries meters.now.entries }
+    ensures number { option_map (λ r. r.number) result
+        ≡ finding.least_match handle priority (filter_plans filters.now.entries) }
+    ensures route { IfSome result (finding.IsRoute (filter_plans filters.now.entries) (keys_of gates.now.entries)
+        (keys_of meters.now.entries)) }
+{
+    let mut least = None;
+    for place in 0..filters.len() {
+        let (plan, route) = plan_and_route(filters, gates, meters, place);
+        least = lesser_match(least, &plan, route, handle, priority);
+    }
+    least
+}
+
+/// Returns the route for this handle and priority: the matching filter with the least number.
+#[inline(always)]
+pub(crate) fn look_up_route<A: Allocator + Copy>(
+    filters: &ByNumber<FilterState, A>,
+    gates: &ByNumber<StreamGate<A>, A>,
+    meters: &ByNumber<Meter, A>,
+    rows: &HandleRows<A>,
+    any: &PriorityRow,
+    handle: Option<u32>,
+    priority: u8,
+) -> Option<Route>
+    requires rows { finding.AreRouteRows rows.now.entries any.now (filter_plans filters.now.entries) }
+    requires routes { finding.HaveRoutes rows.now.entries any.now (filter_plans filters.now.entries)
+        (keys_of gates.now.entries) (keys_of meters.now.entries) }
+    requires gates { HaveGates filters.now.entries gates.now.entries }
+    requires meters { HaveMeters filters.now.entries meters.now.entries }
+    ensures number { (at sdu octets : ℕ) (dei : Bool)
+        → option_map (λ r. r.number) result ≡ option_map (λ f. f.0)
+        (verdicts.frame_filter (filter_plans filters.now.entries)
+        (verdicts.filter_input at handle priority dei sdu octets)) }
+    ensures route { IfSome result (finding.IsRoute (filter_plans filters.now.entries) (keys_of gates.now.entries)
+        (keys_of meters.now.entries)) }
+{
+    if priority < 8 {
+        find_row(rows, any, handle)[priority as usize]
+    } else {
+        search_route(filters, gates, meters, handle, priority)
+    }
+}

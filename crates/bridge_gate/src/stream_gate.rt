@@ -1,0 +1,223 @@
+ghost use Rattle.std.specs.Prelude.{◌≡◌, ℕ, ◌<◌, ◌≤◌, ◌^◌, ◌+◌, ◌&&◌, List, [], ◌∷◌, Some, true, false, Option, IsSome};
+ghost use Rattle.bridge_gate.specs.declared.stream_gate.GateAnswer.TheVariants as gate;
+ghost use Rattle.bridge_gate.specs.Gates.{GateRules, GateEvent, Asked, ClearedRx, ClearedOctets, answer, gate_steps, is_shut_by_rx, is_shut_by_octets, last_frame_time};
+ghost use Rattle.bridge_gate.specs.Schedules.{gate_rules, has_valid_priorities, turn_by_time, IsLawful};
+ghost use Rattle.bridge_gate.specs.StandsFor.{StandsFor, state_answer, gate_after_answer, counted_octets};
+
+use crate::schedule::{GateEntry, GatePlan};
+use bridge_cycle::Turn;
+use bridge_limits::END_OF_TIME;
+use std::alloc::Allocator;
+use std::marker::Model;
+
+/// Answer of a stream gate to a frame: it passes, or the reason of a refusal.
+#[derive(Clone, Copy, Debug, PartialEq, Eq)]
+pub enum GateAnswer {
+    /// The frame passes, with this internal priority value.
+    Through(Option<u8>),
+    /// The gate is closed.
+    Closed,
+    /// An earlier frame at the closed gate shut the gate.
+    ShutByRx,
+    /// An earlier frame over the octet limit shut the gate.
+    ShutByOctets,
+    /// The frame exceeds the octet limit of the interval.
+    OctetsExceeded,
+}
+
+/// Stream gate (IEEE 802.1Q-2018, 8.6.5.1.2) with its two flags and the octets passed in the interval.
+#[derive(Drop)]
+pub struct StreamGate<A: Allocator + Copy> {
+    plan: GatePlan<A>,
+    rx: bool,
+    octets: bool,
+    start: i64,
+    count: u64,
+    earliest: u64,
+    /// Interval of the last search. Later frames in this interval need no search.
+    turn: Turn<GateEntry>,
+}
+
+impl<A: Allocator + Copy> Model for StreamGate<A> {
+    ghost use Rattle.std.specs.Prelude.{◌≡◌, ◌<◌, ◌^◌, true};
+    ghost use Rattle.bridge_gate.specs.Schedules.{has_valid_priorities, IsScheduleTurn};
+    ghost use Rattle.bridge_gate.specs.StandsFor.{GateState};
+
+    ghost Value = { GateState A };
+
+    ghost view = { λ g. record {
+      plan = g.plan;
+      rx = g.rx;
+      octets = g.octets;
+      start = g.start;
+      count = g.count;
+      earliest = g.earliest;
+    } };
+
+    ghost invariant = { λ g. record {
+      priorities : has_valid_priorities g.plan.schedule ≡ true;
+      few : g.count < 2 ^ 32;
+      kept : IsScheduleTurn g.plan.schedule g.turn;
+    } };
+}
+
+impl<A: Allocator + Copy> StreamGate<A> {
+    /// Makes a gate without events.
+    pub fn new(plan: GatePlan<A>) -> StreamGate<A>
+        requires { has_valid_priorities plan.schedule ≡ true }
+        ensures stands { StandsFor (gate_rules plan) result [] }
+        ensures plan { result.plan ≡ plan }
+        ensures earliest { result.earliest ≡ 0 }
+    {
+        let turn = plan.schedule.turn(0);
+        StreamGate {
+            plan,
+            rx: false,
+            octets: false,
+            start: 0,
+            count: 0,
+            earliest: 0,
+            turn,
+        }
+    }
+
+    /// Answers a frame of `sdu` SDU octets that arrives at `t` ns.
+    pub fn ask(&mut self, t: u64, sdu: u32) -> GateAnswer
+        requires time { self.old.earliest ≤ t }
+        requires range { t < END_OF_TIME }
+        ensures stands { (r : GateRules) (es : List GateEvent)
+            → StandsFor r self.old es
+            → StandsFor r self.new (Asked t sdu ∷ es) }
+        ensures answer { (r : GateRules) (es : List GateEvent)
+            → StandsFor r self.old es
+            → result ≡ answer r (gate_steps r es) t sdu }
+        ensures priority { (ipv : ℕ) → result ≡ gate.Through (Some ipv) → ipv ≤ 7 }
+        ensures plan { self.new.plan ≡ self.old.plan }
+        ensures earliest { self.new.earliest ≡ t }
+    {
+        let turn = self.find_turn(t);
+        self.answer_frame(t, turn, sdu)
+    }
+
+    /// Returns the interval that contains time `t`: the kept interval, or an interval from the schedule, which the gate then keeps.
+    #[inline(always)]
+    fn find_turn(&mut self, t: u64) -> Turn<GateEntry>
+        requires range { t < END_OF_TIME }
+        ensures turn { turn_by_time self.old.plan.schedule t ≡ Some result }
+        ensures lawful { IsLawful self.old.plan.schedule }
+        ensures priorities { has_valid_priorities self.old.plan.schedule ≡ true }
+        ensures same { self.new ≡ self.old }
+    {
+        if self.turn.start <= t as i64 && t < self.turn.end {
+            return self.turn;
+        }
+        let turn = self.plan.schedule.turn(t);
+        self.turn = turn;
+        turn
+    }
+
+    /// Clears the receive flag.
+    pub fn clear_rx(&mut self)
+        ensures stands { (r : GateRules) (es : List GateEvent)
+            → StandsFor r self.old es
+            → StandsFor r self.new (ClearedRx ∷ es) }
+        ensures cleared { self.new ≡ record self.old { rx = false } }
+        ensures plan { self.new.plan ≡ self.old.plan }
+        ensures earliest { self.new.earliest ≡ self.old.earliest }
+    {
+        self.rx = false;
+    }
+
+    /// Clears the octets flag. The octets of the interval still count.
+    pub fn clear_octets(&mut self)
+        ensures stands { (r : GateRules) (es : List GateEvent)
+            → StandsFor r self.old es
+            → StandsFor r self.new (ClearedOctets ∷ es) }
+        ensures cleared { self.new ≡ record self.old { octets = false } }
+        ensures plan { self.new.plan ≡ self.old.plan }
+        ensures earliest { self.new.earliest ≡ self.old.earliest }
+    {
+        self.octets = false;
+    }
+
+    /// Returns the receive flag and the octets flag.
+    pub fn flags(&self) -> (bool, bool)
+        ensures shows_rx { result.0 ≡ self.now.rx }
+        ensures shows_octets { result.1 ≡ self.now.octets }
+        ensures rx { (r : GateRules) (es : List GateEvent)
+            → StandsFor r self.now es
+            → result.0 ≡ r.shut_on_rx && is_shut_by_rx (gate_steps r es) }
+        ensures octets { (r : GateRules) (es : List GateEvent)
+            → StandsFor r self.now es
+            → result.1 ≡ r.shut_on_octets && is_shut_by_octets (gate_steps r es) }
+    {
+        (self.rx, self.octets)
+    }
+
+    /// Arrival time in ns of the last frame, or 0. Later frames arrive at this time or later.
+    pub fn earliest(&self) -> u64
+        ensures earliest { result ≡ self.now.earliest }
+        ensures last { (r : GateRules) (es : List GateEvent)
+            → StandsFor r self.now es
+            → result ≡ last_frame_time es }
+    {
+        self.earliest
+    }
+
+    /// Answers a frame in the interval `turn`, and updates flags and count.
+    fn answer_frame(&mut self, t: u64, turn: Turn<GateEntry>, sdu: u32) -> GateAnswer
+        ensures reply { result ≡ state_answer self.old turn sdu }
+        ensures after { self.new ≡ gate_after_answer self.old t turn sdu result }
+    {
+        let total = self.turn_octets(turn.start) + sdu as u64;
+        let answer = self.decide_answer(&turn, total);
+        self.earliest = t;
+        match answer {
+            GateAnswer::Through(_) => {
+                if turn.state.octets.is_some() {
+                    self.start = turn.start;
+                    self.count = total;
+                }
+            }
+            GateAnswer::Closed => self.rx = self.plan.shut_on_rx,
+            GateAnswer::OctetsExceeded => self.octets = self.plan.shut_on_octets,
+            GateAnswer::ShutByRx | GateAnswer::ShutByOctets => {}
+        }
+        answer
+    }
+
+    /// Returns the octets that passed in the interval that starts at `start`.
+    fn turn_octets(&self, start: i64) -> u64
+        ensures used { result ≡ counted_octets self.now start }
+        ensures few { result < 2 ^ 32 }
+    {
+        if self.start == start { self.count } else { 0 }
+    }
+
+    /// Returns the answer in the interval `turn`. `total` octets pass in it, including this frame.
+    fn decide_answer(&self, turn: &Turn<GateEntry>, total: u64) -> GateAnswer
+        ensures reply { (sdu : ℕ)
+            → total ≡ counted_octets self.now turn.now.start + sdu
+            → result ≡ state_answer self.now turn.now sdu }
+        ensures few { (ipv : Option ℕ)
+            → result ≡ gate.Through ipv
+            → IsSome turn.now.state.octets
+            → total < 2 ^ 32 }
+    {
+        if self.rx {
+            return GateAnswer::ShutByRx;
+        }
+        if self.octets {
+            return GateAnswer::ShutByOctets;
+        }
+        if !turn.state.lets {
+            return GateAnswer::Closed;
+        }
+        if let Some(limit) = turn.state.octets {
+            if total > limit as u64 {
+                return GateAnswer::OctetsExceeded;
+            }
+        }
+        GateAnswer::Through(turn.state.ipv)
+    }
+}

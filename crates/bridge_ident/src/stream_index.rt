@@ -1,0 +1,388 @@
+//! Index of a stream identity table: look-ups of the first matching entry.
+
+ghost use Rattle.std.specs.Prelude.{◌≡◌, ℕ, Bool, ◌<◌, ◌%◌, List, [], ◌∷◌, IfOk, IfSome, OnOk, Some, None, true, false, nat_eq, if◌then◌else◌};
+ghost use Rattle.std.specs.Option.{option_map, option_or};
+ghost use Rattle.indexmap.specs.IndexMap.{get};
+ghost use Rattle.bridge_frame.specs.Addresses.{IsKey};
+ghost use Rattle.bridge_ident.specs.declared.Kind.TheVariants.{Null, Source};
+ghost use Rattle.bridge_ident.specs.declared.StreamEntry.{StreamEntry};
+ghost use Rattle.bridge_ident.specs.StreamIndex.{HasAddressEntries, HasFirstEntries, HasMarks, first_entry, is_of_kind, entry_key, earlier_entry};
+ghost use Rattle.bridge_ident.specs.Identification.{first_handle, has_vlan_tag};
+
+use crate::{Kind, StreamEntry, TagKind, has_vlan_tag};
+use bridge_frame::{Head, address_key};
+use indexmap::IndexMap;
+use std::alloc::{AllocError, Allocator};
+use std::hash::{BuildHasherDefault, FoldHasher};
+
+/// Index of an entry in the list, and its handle.
+#[derive(Clone, Copy)]
+pub(crate) struct FirstEntry {
+    pub place: usize,
+    pub handle: u32,
+}
+
+/// First entries of one kind, by the key of port, VLAN identifier and address.
+type FirstEntries<A> = IndexMap<u128, FirstEntry, BuildHasherDefault<FoldHasher>, A>;
+
+/// For each octet, whether an entry's address ends in this octet.
+type OctetMarks = [bool; 256];
+
+/// First entries for frames with a VLAN tag, or for other frames, by compared address.
+#[derive(Drop)]
+struct AddressIndex<A: Allocator + Copy> {
+    destinations: FirstEntries<A>,
+    destination_marks: OctetMarks,
+    sources: FirstEntries<A>,
+    source_marks: OctetMarks,
+    /// Hints: the index among `destinations` at which a key may stand. Look-ups test each hint.
+    index_hints: Vec<u16, A>,
+}
+
+/// First entries of a table.
+#[derive(Drop)]
+pub(crate) struct StreamIndex<A: Allocator + Copy> {
+    /// Entries for frames with a tag whose VLAN identifier isn't 0.
+    tagged: AddressIndex<A>,
+    /// Entries for all other frames.
+    others: AddressIndex<A>,
+}
+
+impl StreamEntry {
+    /// Whether the entry compares addresses of this kind and accepts frames with a VLAN tag (`tagged`) or other frames.
+    fn is_of_kind(&self, kind: Kind, tagged: bool) -> bool
+        ensures { result ≡ is_of_kind kind tagged self.now }
+    {
+        let same = match (self.kind, kind) {
+            (Kind::Null, Kind::Null) | (Kind::Source, Kind::Source) => true,
+            _ => false,
+        };
+        let takes = match self.tag {
+            TagKind::Tagged => tagged,
+            TagKind::Priority => !tagged,
+            TagKind::All => true,
+        };
+        same && takes
+    }
+}
+
+/// Number of values of 64 bits.
+const TWO_POW_64: u128 = 1 << 64;
+
+/// Key of the entries of a port, a VLAN identifier and an address.
+#[tactic(auto, unfolding(crate::specs::StreamIndex::entry_key))]
+fn entry_key(port: u8, vid: u16, address: [u8; 6]) -> u128
+    ensures number { result ≡ entry_key port vid address }
+    ensures is_key { IsKey vid address }
+{
+    port as u128 * TWO_POW_64 + address_key(vid, address) as u128
+}
+
+/// Last octet of the address in a key.
+#[inline(always)]
+fn last_octet(key: u128) -> usize
+    ensures octet { result ≡ key % 256 }
+    ensures few { result < 256 }
+{
+    (key % 256) as usize
+}
+
+/// Adds an entry at `key` and marks the key's last octet, unless `key` has an entry.
+fn insert_if_new<A: Allocator + Copy>(
+    firsts: &mut FirstEntries<A>,
+    marks: &mut OctetMarks,
+    key: u128,
+    first: FirstEntry,
+) -> Result<(), AllocError>
+    ensures found { OnOk result ((k : ℕ)
+        → get nat_eq firsts.new k ≡ option_or (get nat_eq firsts.old k) (if nat_eq key k then Some first else None)) }
+    ensures marked { OnOk result (HasMarks firsts.old marks.old → HasMarks firsts.new marks.new) }
+{
+    if firsts.get(&key).is_none() {
+        let Ok(_) = firsts.insert(key, first) else {
+            return Err(AllocError);
+        };
+        marks[last_octet(key)] = true;
+    }
+    Ok(())
+}
+
+/// Adds the entry if it is of this kind and accepts these frames, unless its key has an entry.
+fn index_entry<A: Allocator + Copy>(
+    firsts: &mut FirstEntries<A>,
+    marks: &mut OctetMarks,
+    entry: &StreamEntry,
+    place: usize,
+    kind: Kind,
+    tagged: bool,
+) -> Result<(), AllocError>
+    ensures found { OnOk result ((port vid : ℕ) (address : List ℕ)
+        → IsKey vid address
+        → get nat_eq firsts.new (entry_key port vid address)
+        ≡ option_or (get nat_eq firsts.old (entry_key port vid address))
+        (first_entry kind tagged place (entry.now ∷ []) port vid address)) }
+    ensures marked { OnOk result (HasMarks firsts.old marks.old → HasMarks firsts.new marks.new) }
+{
+    if entry.is_of_kind(kind, tagged) {
+        let key = entry_key(entry.port, entry.vid, entry.address);
+        let handle = entry.handle;
+        insert_if_new(firsts, marks, key, FirstEntry { place, handle })?;
+    }
+    Ok(())
+}
+
+/// Counts the entries of this kind that accept these frames.
+fn count_entries(entries: &[StreamEntry], kind: Kind, tagged: bool) -> usize {
+    let mut count: usize = 0;
+    for entry in entries {
+        if entry.is_of_kind(kind, tagged) {
+            count = count.saturating_add(1);
+        }
+    }
+    count
+}
+
+/// Returns the first entries of one kind for frames with a VLAN tag or for other frames, and their marks.
+fn first_entries<A: Allocator + Copy>(
+    alloc: A,
+    entries: &[StreamEntry],
+    kind: Kind,
+    tagged: bool,
+) -> Result<(FirstEntries<A>, OctetMarks), AllocError>
+    ensures found { IfOk result (λ r. HasFirstEntries kind tagged entries.now r.0) }
+    ensures marked { IfOk result (λ r. HasMarks r.0 r.1) }
+{
+    let mut marks = [false; 256];
+    let Ok(mut firsts) = IndexMap::with_capacity(alloc, count_entries(entries, kind, tagged)) else {
+        return Err(AllocError);
+    };
+    for (place, entry) in entries.iter().enumerate() {
+        let Ok(()) = index_entry(&mut firsts, &mut marks, entry, place, kind, tagged) else {
+            return Err(AllocError);
+        };
+    }
+    Ok((firsts, marks))
+}
+
+/// Number of hints for each destination.
+const HINTS_PER_ENTRY: usize = 4;
+
+/// Slot of `key` among `hints` hints.
+#[inline(always)]
+fn hint_slot(key: u128, hints: usize) -> usize {
+    let folded = ((key >> 64) ^ key) % TWO_POW_64;
+    let mixed = (folded as u64).wrapping_mul(0x9E37_79B9_7F4A_7C15) >> 32;
+    (mixed.wrapping_mul(hints as u64) >> 32) as usize
+}
+
+/// Index at which `key` may stand.
+#[inline(always)]
+fn hinted_index(hints: &[u16], key: u128) -> usize {
+    match hints.get(hint_slot(key, hints.len())) {
+        Some(place) => *place as usize,
+        None => 0,
+    }
+}
+
+/// Makes hints of the entries' indexes. If several keys share a slot, the last one fills it.
+fn make_hints<A: Allocator + Copy>(
+    alloc: A,
+    firsts: &FirstEntries<A>,
+) -> Result<Vec<u16, A>, AllocError> {
+    let count = firsts.len().saturating_mul(HINTS_PER_ENTRY);
+    let Ok(mut hints) = Vec::from_elem(alloc, 0, count) else {
+        return Err(AllocError);
+    };
+    for place in 0..firsts.len() {
+        if let Some((key, _)) = firsts.get_index(place)
+            && let Some(hint) = hints.get_mut(hint_slot(*key, count))
+        {
+            *hint = (place % 65_536) as u16;
+        }
+    }
+    Ok(hints)
+}
+
+/// First entries of one kind, with their marks.
+type MarkedEntries<A> = (FirstEntries<A>, OctetMarks);
+
+/// Joins the first entries of both kinds, and adds hints for the destinations.
+fn with_hints<A: Allocator + Copy>(
+    alloc: A,
+    destinations: MarkedEntries<A>,
+    sources: MarkedEntries<A>,
+) -> Result<AddressIndex<A>, AllocError>
+    ensures { IfOk result (λ found. (tagged : Bool) (entries : List StreamEntry)
+        → HasFirstEntries Null tagged entries destinations.0 → HasMarks destinations.0 destinations.1
+        → HasFirstEntries Source tagged entries sources.0 → HasMarks sources.0 sources.1
+        → HasAddressEntries tagged entries found.destinations found.destination_marks found.sources
+        found.source_marks) }
+{
+    match make_hints(alloc, &destinations.0) {
+        Ok(hints) => Ok(AddressIndex {
+            destinations: destinations.0,
+            destination_marks: destinations.1,
+            sources: sources.0,
+            source_marks: sources.1,
+            index_hints: hints,
+        }),
+        Err(fault) => Err(fault),
+    }
+}
+
+/// Adds the first entries for source addresses to those for destinations.
+fn with_sources<A: Allocator + Copy>(
+    alloc: A,
+    entries: &[StreamEntry],
+    tagged: bool,
+    destinations: MarkedEntries<A>,
+) -> Result<AddressIndex<A>, AllocError>
+    requires found { HasFirstEntries Null tagged entries.now destinations.0 }
+    requires marked { HasMarks destinations.0 destinations.1 }
+    ensures { IfOk result (λ found. HasAddressEntries tagged entries.now found.destinations found.destination_marks
+        found.sources found.source_marks) }
+{
+    match first_entries(alloc, entries, Kind::Source, tagged) {
+        Ok(sources) => with_hints(alloc, destinations, sources),
+        Err(fault) => Err(fault),
+    }
+}
+
+/// Returns the first entries of both kinds.
+fn make_address_index<A: Allocator + Copy>(
+    alloc: A,
+    entries: &[StreamEntry],
+    tagged: bool,
+) -> Result<AddressIndex<A>, AllocError>
+    ensures { IfOk result (λ found. HasAddressEntries tagged entries.now found.destinations found.destination_marks
+        found.sources found.source_marks) }
+{
+    match first_entries(alloc, entries, Kind::Null, tagged) {
+        Ok(destinations) => with_sources(alloc, entries, tagged, destinations),
+        Err(fault) => Err(fault),
+    }
+}
+
+/// Returns the first entry at index `place` if it has this key.
+#[inline(always)]
+fn entry_by_index<A: Allocator + Copy>(
+    firsts: &FirstEntries<A>,
+    place: usize,
+    key: u128,
+) -> Option<FirstEntry>
+    ensures { IfSome result (λ first. get nat_eq firsts.now key ≡ Some first) }
+{
+    let _firsts = firsts.len();
+    match firsts.get_index(place) {
+        Some((own, first)) if *own == key => Some(*first),
+        _ => None,
+    }
+}
+
+/// Returns the first entry for `key` by its hash. Looks only if an address ends in the key's last octet.
+#[inline(always)]
+fn entry_by_hash<A: Allocator + Copy>(
+    firsts: &FirstEntries<A>,
+    marks: &OctetMarks,
+    key: u128,
+) -> Option<FirstEntry>
+    ensures { HasMarks firsts.now marks.now → result ≡ get nat_eq firsts.now key }
+{
+    if marks[last_octet(key)] {
+        firsts.get(&key).copied()
+    } else {
+        None
+    }
+}
+
+/// Returns the first entry for `key`, by its hint first.
+#[inline(always)]
+fn find_first_entry<A: Allocator + Copy>(
+    firsts: &FirstEntries<A>,
+    marks: &OctetMarks,
+    hints: &[u16],
+    key: u128,
+) -> Option<FirstEntry>
+    ensures { HasMarks firsts.now marks.now → result ≡ get nat_eq firsts.now key }
+{
+    match entry_by_index(firsts, hinted_index(hints, key), key) {
+        Some(first) => Some(first),
+        None => entry_by_hash(firsts, marks, key),
+    }
+}
+
+/// Returns the entry with the lower index.
+#[inline(always)]
+fn earlier_entry(destination: Option<FirstEntry>, source: Option<FirstEntry>) -> Option<FirstEntry>
+    ensures { result ≡ earlier_entry destination source }
+{
+    match (destination, source) {
+        (None, source) => source,
+        (Some(destination), Some(source)) if source.place < destination.place => Some(source),
+        (Some(destination), _) => Some(destination),
+    }
+}
+
+/// Returns the handle of an entry, if there is one.
+fn entry_handle(first: Option<FirstEntry>) -> Option<u32>
+    ensures { result ≡ option_map (λ f. f.handle) first }
+{
+    first.map(|first| first.handle)
+}
+
+impl<A: Allocator + Copy> AddressIndex<A> {
+    /// Returns the handle of the first entry for either address of a frame.
+    #[inline(always)]
+    fn find_handle(&self, port: u8, head: &Head, vid: u16) -> Option<u32>
+        ensures { (entries : List StreamEntry)
+            → HasAddressEntries (has_vlan_tag head.now.tag) entries self.now.destinations self.now.destination_marks
+            self.now.sources self.now.source_marks
+            → result ≡ first_handle entries port head.now vid }
+    {
+        let da = entry_key(port, vid, head.da);
+        let sa = entry_key(port, vid, head.sa);
+        let destination = find_first_entry(
+            &self.destinations,
+            &self.destination_marks,
+            &self.index_hints,
+            da,
+        );
+        let source = entry_by_hash(&self.sources, &self.source_marks, sa);
+        entry_handle(earlier_entry(destination, source))
+    }
+}
+
+impl<A: Allocator + Copy> StreamIndex<A> {
+    /// Makes the index of a list of entries.
+    pub(crate) fn new(alloc: A, entries: &[StreamEntry]) -> Result<StreamIndex<A>, AllocError>
+        ensures tagged { IfOk result (λ index. HasAddressEntries true entries.now index.tagged.destinations
+            index.tagged.destination_marks index.tagged.sources index.tagged.source_marks) }
+        ensures others { IfOk result (λ index. HasAddressEntries false entries.now index.others.destinations
+            index.others.destination_marks index.others.sources index.others.source_marks) }
+    {
+        let Ok(tagged) = make_address_index(alloc, entries, true) else {
+            return Err(AllocError);
+        };
+        let Ok(others) = make_address_index(alloc, entries, false) else {
+            drop(tagged);
+            return Err(AllocError);
+        };
+        Ok(StreamIndex { tagged, others })
+    }
+
+    /// Returns the handle of the first matching entry.
+    pub(crate) fn find_handle(&self, port: u8, head: &Head, vid: u16) -> Option<u32>
+        ensures { (entries : List StreamEntry)
+            → HasAddressEntries true entries self.now.tagged.destinations self.now.tagged.destination_marks
+            self.now.tagged.sources self.now.tagged.source_marks
+            → HasAddressEntries false entries self.now.others.destinations self.now.others.destination_marks
+            self.now.others.sources self.now.others.source_marks
+            → result ≡ first_handle entries port head.now vid }
+    {
+        if has_vlan_tag(head.tag) {
+            self.tagged.find_handle(port, head, vid)
+        } else {
+            self.others.find_handle(port, head, vid)
+        }
+    }
+}

@@ -1,5 +1,0 @@
-use Rattle.bridge_port.proofs.Opening.{turn_kept}
-use Rattle.bridge_port.proofs.gates.turn_of.Goals as goal
-
-pub returns-clause-kept : goal.returns-clause-kept
-returns-clause-kept g c = turn_kept c.args.list.now c.args.t c.turn-turn.result c.requires.lawful c.turn-turn.ensures.turn

@@ -1,5 +1,0 @@
-use Rattle.bridge_port.proofs.Opening.{ever_soon}
-use Rattle.bridge_port.proofs.law.ever_fits_soon.Goals as goal
-
-pub returns : goal.returns
-returns c = ever_soon

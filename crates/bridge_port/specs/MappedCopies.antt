@@ -1,0 +1,21 @@
+-- Schedules of mapped items.
+use Rattle.std.specs.Prelude.{◌≡◌, ℕ, List, [], ◌∷◌}
+use Rattle.bridge_port.specs.Schedule.{Copy, PortRules}
+
+-- Copy with its item mapped by `g`.
+abbrev pub map_copy : {X Y : Type 0} → (X → Y) → Copy X → Copy Y
+map_copy g x = record { at = x.at; class = x.class; item = g x.item; fate = x.fate }
+
+-- Copies with their items mapped by `g`.
+abbrev pub map_copies : {X Y : Type 0} → (X → Y) → List (Copy X) → List (Copy Y)
+map_copies g [] = []
+map_copies g (x ∷ xs) = map_copy g x ∷ map_copies g xs
+
+-- Rules for mapped items, with the given transmission times and queue capacities.
+abbrev pub map_rules : {X Y : Type 0} → PortRules X → (Y → ℕ) → (ℕ → ℕ) → PortRules Y
+map_rules r occ room = record { opens = r.opens; ever = r.ever; room = room; occ = occ }
+
+-- Statement: Both capacities are equal for the classes of these copies.
+abbrev pub SameRooms : {X : Type 0} → (ℕ → ℕ) → (ℕ → ℕ) → List (Copy X) → Type 0
+SameRooms room other [] = Unit {0}
+SameRooms room other (x ∷ xs) = (room x.class ≡ other x.class) × SameRooms room other xs

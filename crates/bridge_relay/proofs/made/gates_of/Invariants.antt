@@ -1,9 +1,0 @@
-use Rattle.std.proofs.Common.{◌≡◌, ◌≤◌, length, take, vec_capacity, vec_len}
-use Rattle.bridge_relay.proofs.made.gates_of.Given as goal
-
-abbrev pub invariant-loop-gate : goal.invariant-loop-gate
-invariant-loop-gate g l = record {
-  copies : l.copies.items ≡ take l.gate-index l.gates;
-  few : vec_len l.copies ≤ l.gate-index;
-  room : length l.gates ≤ vec_capacity l.copies;
-}

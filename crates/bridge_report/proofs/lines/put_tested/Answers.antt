@@ -1,5 +1,0 @@
-use Rattle.bridge_report.proofs.Puts.{puts}
-use Rattle.bridge_report.proofs.lines.put_tested.Goals as goal
-
-pub returns : goal.returns
-returns g c = search puts

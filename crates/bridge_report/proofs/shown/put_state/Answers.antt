@@ -1,7 +1,0 @@
-use Rattle.bridge_report.specs.Section.{state_of}
-use Rattle.bridge_report.proofs.Puts.{put_piece}
-use Rattle.bridge_report.proofs.shown.put_state.Goals as goal
-
-pub returns : goal.returns
-unfolding state_of
-returns g c = put_piece _ _ _ _ _ _ c.put_header.ensures (put_piece _ _ _ _ _ _ c.put_counters.ensures (put_piece _ _ _ _ _ _ c.put_flags.ensures c.put_bucket.ensures))

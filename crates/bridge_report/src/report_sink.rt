@@ -1,0 +1,53 @@
+//! Outputs of a report, written piece by piece.
+ghost use Rattle.std.specs.Prelude.{ℕ, ◌++◌, List, Option, Some, decimal, option_map};
+ghost use Rattle.bridge_report.specs.Growth.{HasGrown};
+
+use crate::report_line::ReportLine;
+use bridge_text::TextBuilder;
+use itoa::{Buffer, Integer};
+use std::alloc::Allocator;
+
+/// Text that grows at its end. After a failure it ignores all calls.
+pub trait ReportSink {
+    /// Octets of the text: `None` after a failure, `Some (None)` if they are unknown.
+    ghost contents: { Self → Option (Option (List ℕ)) };
+
+    /// Appends `piece`.
+    fn put(&mut self, piece: &str)
+        ensures { HasGrown contents self.old piece.now self.new };
+
+    /// Appends `piece` and the digits of `number`.
+    fn put_number(&mut self, piece: &str, number: u64)
+        ensures { HasGrown contents self.old (piece.now ++ decimal number) self.new };
+
+    /// Appends `line`.
+    fn put_line(&mut self, line: &ReportLine)
+        ensures { HasGrown contents self.old line.now self.new };
+}
+
+/// Appends `piece` and the digits of `number`, which may have more than 64 bits.
+#[tactic(auto, using(crate::proofs::Puts::puts))]
+pub fn put_wide_number<T: ReportSink, I: Integer>(text: &mut T, piece: &str, number: I)
+    ensures { HasGrown T.contents text.old (piece.now ++ I.text number) text.new }
+{
+    let mut digits = Buffer::new();
+    text.put(piece);
+    text.put(digits.format(number));
+}
+
+impl<A: Allocator> ReportSink for TextBuilder<A> {
+    ghost contents = { λ s. option_map Some s };
+
+    fn put(&mut self, piece: &str) {
+        self.put(piece);
+    }
+
+    fn put_number(&mut self, piece: &str, number: u64) {
+        self.put(piece);
+        self.put_number(number);
+    }
+
+    fn put_line(&mut self, line: &ReportLine) {
+        self.put(line.text());
+    }
+}

@@ -1,0 +1,151 @@
+//! Kinds of values.
+ghost use Rattle.std.specs.Prelude.{◌≡◌, ◌≤◌, ℕ, Bool, true, Result, Ok, IfOk, ⊤};
+ghost use Rattle.toml.specs.Data.{Data};
+ghost use Rattle.toml.specs.View.{view};
+ghost use Rattle.bridge_schema.specs.declared.plan_fault.Flaw.{Flaw};
+ghost use Rattle.bridge_schema.specs.Readers as spec;
+
+use crate::plan_fault::Flaw;
+use bridge_frame::Speed;
+use toml::Value;
+
+/// Kind of value.
+pub trait ValueKind {
+    /// Parsed value.
+    type Out;
+
+    /// Parsed value, or the flaw of the data.
+    ghost reading: { Self → Data → Result Self.Out Flaw };
+
+    /// Property of each parsed value.
+    ghost Fits: { Self → Self.Out → Type 0 };
+
+    /// Parses a value, or returns its flaw. Allocates no memory.
+    fn read(&self, value: &Value) -> Result<Self::Out, Flaw>
+        ensures reads { result ≡ reading self.now (view value.now) }
+        ensures fits { IfOk result (Fits self.now) };
+}
+
+/// Integer from `low` to `high`.
+#[derive(Clone, Copy)]
+pub struct NumberRange {
+    /// Least number.
+    pub low: u64,
+    /// Greatest number.
+    pub high: u64,
+}
+
+impl ValueKind for NumberRange {
+    type Out = u64;
+
+    ghost reading = { λ k. spec.number_in_range k.low k.high };
+
+    ghost Fits = { λ k n. (k.low ≤ n) × (n ≤ k.high) };
+
+    #[tactic(auto, unfolding(crate::specs::Readers::number_in_range))]
+    fn read(&self, value: &Value) -> Result<u64, Flaw> {
+        match value {
+            Value::Integer(number) => {
+                if *number < 0 {
+                    return Err(Flaw::OutOfRange);
+                }
+                let number = *number as u64;
+                if self.low <= number && number <= self.high {
+                    Ok(number)
+                } else {
+                    Err(Flaw::OutOfRange)
+                }
+            }
+            _ => Err(Flaw::WrongKind),
+        }
+    }
+}
+
+/// Boolean.
+#[derive(Clone, Copy)]
+pub struct Switch;
+
+impl ValueKind for Switch {
+    type Out = bool;
+
+    ghost reading = { λ _. spec.switch };
+
+    ghost Fits = { λ _ _. ⊤ };
+
+    #[tactic(auto, unfolding(crate::specs::Readers::switch))]
+    fn read(&self, value: &Value) -> Result<bool, Flaw> {
+        match value {
+            Value::Boolean(on) => Ok(*on),
+            _ => Err(Flaw::WrongKind),
+        }
+    }
+}
+
+/// Speed in Mb/s: 10, 100, 1000, 2500 or 10000.
+#[derive(Clone, Copy)]
+pub struct Mbps;
+
+impl ValueKind for Mbps {
+    type Out = Speed;
+
+    ghost reading = { λ _. spec.speed };
+
+    ghost Fits = { λ _ _. ⊤ };
+
+    #[tactic(auto, unfolding(crate::specs::Readers::speed))]
+    fn read(&self, value: &Value) -> Result<Speed, Flaw> {
+        match value {
+            Value::Integer(number) if *number < 0 || *number > 10_000 => Err(Flaw::OutOfRange),
+            Value::Integer(number) => match Speed::of(*number as u32) {
+                Some(speed) => Ok(speed),
+                None => Err(Flaw::OutOfRange),
+            },
+            _ => Err(Flaw::WrongKind),
+        }
+    }
+}
+
+/// Finds the number of an existing instance.
+pub trait NumberLookup {
+    /// Whether a number exists.
+    ghost among: { Self → ℕ → Bool };
+
+    /// Whether `number` exists.
+    fn has(&self, number: u64) -> bool
+        ensures among { result ≡ among self.now number };
+}
+
+/// Number of an existing instance. Each other integer is `Unresolved`, even outside the range.
+#[derive(Clone, Copy)]
+pub struct KnownNumber<F> {
+    /// Existing numbers.
+    pub among: F,
+    /// Range of the numbers.
+    pub range: NumberRange,
+}
+
+impl<F: NumberLookup> ValueKind for KnownNumber<F> {
+    type Out = u64;
+
+    ghost reading = { λ k. spec.known_number (F.among k.among) k.range.low k.range.high };
+
+    ghost Fits = { λ k n. (k.range.low ≤ n) × (n ≤ k.range.high) × (F.among k.among n ≡ true) };
+
+    #[tactic(auto, unfolding(crate::specs::Readers::known_number))]
+    fn read(&self, value: &Value) -> Result<u64, Flaw> {
+        match value {
+            Value::Integer(number) => {
+                if *number < 0 {
+                    return Err(Flaw::Unresolved);
+                }
+                let number = *number as u64;
+                if self.range.low <= number && number <= self.range.high && self.among.has(number) {
+                    Ok(number)
+                } else {
+                    Err(Flaw::Unresolved)
+                }
+            }
+            _ => Err(Flaw::WrongKind),
+        }
+    }
+}

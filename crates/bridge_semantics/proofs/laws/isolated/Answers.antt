@@ -1,5 +1,0 @@
-use Rattle.bridge_semantics.proofs.Headline.{protected_alone}
-use Rattle.bridge_semantics.proofs.laws.isolated.Goals as goal
-
-pub returns : goal.returns
-returns g c = protected_alone

@@ -1,5 +1,0 @@
-use Rattle.bridge_semantics.proofs.Merging.{one_merged}
-use Rattle.bridge_semantics.proofs.laws.merged_one.Goals as goal
-
-pub returns : goal.returns
-returns c = one_merged

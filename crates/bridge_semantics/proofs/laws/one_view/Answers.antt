@@ -1,5 +1,0 @@
-use Rattle.bridge_semantics.proofs.Views.{told_once}
-use Rattle.bridge_semantics.proofs.laws.one_view.Goals as goal
-
-pub returns : goal.returns
-returns g c = told_once

@@ -1,5 +1,0 @@
-use Rattle.bridge_text.specs.Growth.{IsLonger}
-use Rattle.bridge_text.proofs.text.Text.fill.Given as goal
-
-abbrev pub invariant-loop-piece : goal.invariant-loop-piece
-invariant-loop-piece g l = IsLonger l.fn.self l.self

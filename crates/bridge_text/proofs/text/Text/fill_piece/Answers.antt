@@ -1,5 +1,0 @@
-use Rattle.bridge_text.proofs.Longer.{grown, twice}
-use Rattle.bridge_text.proofs.text.Text.fill_piece.Goals as goal
-
-pub returns-in-Some : goal.returns-in-Some
-returns-in-Some g c = twice _ _ _ c.put_place.ensures (grown _ _ _ c.put.ensures)

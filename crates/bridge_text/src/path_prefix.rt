@@ -1,0 +1,36 @@
+//! Texts that begin with the name of a file, and texts escaped to one line.
+ghost use Rattle.std.specs.Prelude.{◌≡◌, IfOk, string_bytes};
+ghost use Rattle.bridge_text.specs.Escaped.{escaped};
+ghost use Rattle.bridge_text.specs.PathPrefix.{StartsWithName};
+
+use crate::text_builder::TextBuilder;
+use bridge_limits::NoMemory;
+use std::alloc::{Allocator, Global};
+
+/// Returns `path` followed by `body`.
+pub fn text_with_path(alloc: Global, path: &str, body: &str) -> Result<String, NoMemory>
+    ensures { IfOk result (λ said. StartsWithName path.now (string_bytes said)) }
+{
+    Ok(format!(in alloc; "{path}{body}")?)
+}
+
+/// Returns `path` followed by the finished text of `body`.
+pub fn finish_with_path(
+    alloc: Global,
+    path: &str,
+    body: TextBuilder<Global>,
+) -> Result<String, NoMemory>
+    ensures { IfOk result (λ said. StartsWithName path.now (string_bytes said)) }
+{
+    let body = body.finish()?;
+    text_with_path(alloc, path, body.as_str())
+}
+
+/// Returns a text that stays on one line: control characters are escaped as by `TextBuilder::put_escaped`.
+pub fn escape_text<A: Allocator>(alloc: A, text: &str) -> Result<String<A>, NoMemory>
+    ensures { IfOk result (λ line. string_bytes line ≡ escaped text.now) }
+{
+    let mut line = TextBuilder::new(alloc);
+    line.put_escaped(text);
+    line.finish()
+}

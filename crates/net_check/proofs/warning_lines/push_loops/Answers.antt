@@ -1,0 +1,10 @@
+use Rattle.std.proofs.Common.{[], string_bytes}
+use Rattle.net_check.specs.Telling.{loop_line}
+use Rattle.net_latency.proofs.Lined.{all_pieces, piece_more}
+use Rattle.net_check.proofs.warning_lines.push_loops.Goals as goal
+
+pub loop-row-preserved : goal.loop-row-preserved
+loop-row-preserved g c = piece_more (loop_line c.args.bridges.now) (string_bytes c.args.text.now) c.args.rows.now c.loop-row.row-index _ (string_bytes c.loop-row.text) (string_bytes c.push_loop.new.text) c.loop-row-test.true c.loop-row.invariant c.in-Ok.ensures
+
+pub returns : goal.returns
+returns g c = all_pieces (loop_line c.args.bridges.now) (string_bytes c.args.text.now) c.args.rows.now c.loop-row.row-index (string_bytes c.loop-row.text) c.loop-row-test.false c.loop-row.invariant

@@ -1,0 +1,7 @@
+use Rattle.std.proofs.Common.{◌≡◌, drop}
+use Rattle.toml.specs.View.{items_view}
+use Rattle.net_file.specs.Sections.{are_numbered_names}
+use Rattle.net_file.proofs.stream_row.are_numbered_names.Given as goal
+
+abbrev pub invariant-items : goal.invariant-items
+invariant-items l = are_numbered_names (items_view (drop l.item-index l.items)) ≡ are_numbered_names (items_view l.items)

@@ -1,0 +1,133 @@
+//! Fault lines of refused network and traffic files.
+ghost use Rattle.std.specs.Prelude.{◌≡◌, IfOk, codes, string_bytes};
+ghost use Rattle.net_file.specs.Lines.{instance_text, key_text, refusal_line, fault_line, refusal_text, refusal_with_detail};
+
+use crate::fault::{NetFault, NetKeyLocation, NetSection};
+use bridge_limits::NoMemory;
+use std::alloc::Allocator;
+
+/// Returns the fault line of a network without line feed, for example `network refused: OutOfRange link 2 delay` or `no memory`.
+pub fn fault_line<A: Allocator + Copy>(alloc: A, fault: &NetFault) -> Result<String<A>, NoMemory>
+    ensures { IfOk result (λ line. string_bytes line ≡ fault_line fault.now) }
+{
+    refusal_line(alloc, "network", fault)
+}
+
+/// Returns the fault line of a file of the kind `kind` without line feed, for example `traffic refused: OutOfRange traffic 2 period` or `no
+/// memory`.
+pub fn refusal_line<A: Allocator + Copy>(
+    alloc: A,
+    kind: &str,
+    fault: &NetFault,
+) -> Result<String<A>, NoMemory>
+    ensures { IfOk result (λ line. string_bytes line ≡ refusal_line kind.now fault.now) }
+{
+    match fault {
+        NetFault::Syntax => refusal_text(alloc, kind, "Syntax"),
+        NetFault::TooLong => refusal_text(alloc, kind, "TooLong"),
+        NetFault::UnknownKey(section, index) => {
+            instance_refusal(alloc, kind, "UnknownKey", *section, *index)
+        }
+        NetFault::NotAList(section) => refusal_with_detail(alloc, kind, "NotAList", section.name()),
+        NetFault::Missing(place) => key_refusal(alloc, kind, "Missing", place),
+        NetFault::WrongKind(place) => key_refusal(alloc, kind, "WrongKind", place),
+        NetFault::OutOfRange(place) => key_refusal(alloc, kind, "OutOfRange", place),
+        NetFault::Duplicate(section, index) => {
+            instance_refusal(alloc, kind, "Duplicate", *section, *index)
+        }
+        NetFault::Unresolved(place) => key_refusal(alloc, kind, "Unresolved", place),
+        NetFault::TooMany(section) => refusal_with_detail(alloc, kind, "TooMany", section.name()),
+        NetFault::NoMemory => no_memory_line(alloc),
+    }
+}
+
+/// Returns the line `no memory`, which has no file kind. Fails with `NoMemory` if memory runs out for the line.
+fn no_memory_line<A: Allocator + Copy>(alloc: A) -> Result<String<A>, NoMemory>
+    ensures { IfOk result (λ line. string_bytes line ≡ codes "no memory") }
+{
+    match String::from_str(alloc, "no memory") {
+        Ok(line) => Ok(line),
+        Err(_) => Err(NoMemory),
+    }
+}
+
+/// Returns the line `KIND refused: NAME` of a fault without location, such as `network refused: Syntax`.
+fn refusal_text<A: Allocator + Copy>(
+    alloc: A,
+    kind: &str,
+    name: &str,
+) -> Result<String<A>, NoMemory>
+    ensures { IfOk result (λ line. string_bytes line ≡ refusal_text kind.now name.now) }
+{
+    match format!(in alloc; "{kind} refused: {name}") {
+        Ok(line) => Ok(line),
+        Err(_) => Err(NoMemory),
+    }
+}
+
+/// Returns the line `KIND refused: NAME PLACE`. `place` is the location in words, such as `link 2 delay`.
+fn refusal_with_detail<A: Allocator + Copy>(
+    alloc: A,
+    kind: &str,
+    name: &str,
+    place: &str,
+) -> Result<String<A>, NoMemory>
+    ensures { IfOk result (λ line. string_bytes line ≡ refusal_with_detail kind.now name.now place.now) }
+{
+    match format!(in alloc; "{kind} refused: {name} {place}") {
+        Ok(line) => Ok(line),
+        Err(_) => Err(NoMemory),
+    }
+}
+
+/// Returns the fault line of an instance or a section, such as `network refused: Duplicate bridge 3`. If the number is 0, only the section
+/// is named.
+fn instance_refusal<A: Allocator + Copy>(
+    alloc: A,
+    kind: &str,
+    name: &str,
+    section: NetSection,
+    index: u32,
+) -> Result<String<A>, NoMemory>
+    ensures { IfOk result (λ line. string_bytes line
+        ≡ refusal_with_detail kind.now name.now (instance_text section index)) }
+{
+    let Ok(words) = instance_words(alloc, section, index) else {
+        return Err(NoMemory);
+    };
+    refusal_with_detail(alloc, kind, name, words.as_str())
+}
+
+/// Returns the fault line of an instance's key, such as `network refused: OutOfRange link 2 delay`.
+fn key_refusal<A: Allocator + Copy>(
+    alloc: A,
+    kind: &str,
+    name: &str,
+    place: &NetKeyLocation,
+) -> Result<String<A>, NoMemory>
+    ensures { IfOk result (λ line. string_bytes line ≡ refusal_with_detail kind.now name.now (key_text place.now)) }
+{
+    let Ok(words) = instance_words(alloc, place.section, place.index) else {
+        return Err(NoMemory);
+    };
+    let key = place.field.key();
+    let Ok(key_words) = format!(in alloc; "{words} {key}") else {
+        return Err(NoMemory);
+    };
+    refusal_with_detail(alloc, kind, name, key_words.as_str())
+}
+
+/// Returns the section's name and the instance's number from 1, such as `link 2`. If the number is 0, returns only the name.
+fn instance_words<A: Allocator + Copy>(
+    alloc: A,
+    section: NetSection,
+    index: u32,
+) -> Result<String<A>, NoMemory>
+    ensures { IfOk result (λ words. string_bytes words ≡ instance_text section index) }
+{
+    let name = section.name();
+    if index == 0 {
+        return Ok(String::from_str(alloc, name)?);
+    }
+    Ok(format!(in alloc; "{name} {index}")?)
+}

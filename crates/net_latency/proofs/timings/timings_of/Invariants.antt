@@ -1,9 +1,0 @@
-use Rattle.std.proofs.Common.{◌≡◌, ◌+◌, take}
-use Rattle.net_latency.specs.Traffic.{AreTimingsFrom}
-use Rattle.net_latency.proofs.timings.timings_of.Given as goal
-
-abbrev pub invariant-loop-row : goal.invariant-loop-row
-invariant-loop-row g l = record {
-  index : l.index ≡ l.row-index + 1;
-  timings : AreTimingsFrom l.accepted l.bounds.items 1 (take l.row-index l.rows) l.made.items;
-}

@@ -1,0 +1,210 @@
+//! Delays of a stream's frames over all their routes.
+ghost use Rattle.std.specs.Prelude.{◌≡◌, ◌+◌, ◌≤◌, All, length};
+ghost use Rattle.net_periods.specs.Traffic.{IsTraffic};
+ghost use Rattle.net_latency.specs.StreamLatency as spec;
+ghost use Rattle.net_latency.specs.StreamLatency.{AddsQueueLatency, HasHeadroom, IsStreamLatency, IsQueue, IsQueueLatency, IsHopLatency, stream_model};
+
+use crate::queue_exit::{HopArrival, QueueExit, StreamContext, hop_passes, queue_exit};
+use crate::tree::{HopQueue, is_tree};
+use bridge_check::Accepted;
+use net_model::{Link, StreamHop};
+use net_periods::{Phases, Traffic};
+use std::alloc::Allocator;
+
+/// Delays in ns of a periodic talker's frames, from arrival at the first hop to the end of transmission at a last hop.
+#[derive(Clone, Copy)]
+pub struct StreamLatency {
+    /// Whether each frame passes the filters of all hops; if false, a frame may be refused.
+    pub passes: bool,
+    /// Worst delay in ns.
+    pub worst: u128,
+    /// Best delay in ns.
+    pub best: u128,
+    /// Phases of the ends of transmission at a last hop, in a period there.
+    pub phases: Phases,
+}
+
+/// Delays of the queues of one hop, gathered queue by queue.
+#[derive(Clone, Copy)]
+pub(crate) enum CombinedLatency {
+    /// No queue was added.
+    NoQueue,
+    /// Delays of all queues together. `None` if the delays of a queue are unknown.
+    Latency(Option<StreamLatency>),
+}
+
+/// Returns the range of phases that has the phases of both routes.
+fn both_phases(a: Phases, b: Phases) -> Phases
+    ensures { result ≡ spec.both_phases a b }
+{
+    Phases {
+        from: a.from.min(b.from),
+        to: a.to.max(b.to),
+    }
+}
+
+/// Returns delays that hold for both routes: the greater worst and the lesser best delay.
+fn combine(a: StreamLatency, b: StreamLatency) -> StreamLatency
+    ensures { result ≡ spec.combine a b }
+{
+    StreamLatency {
+        passes: a.passes && b.passes,
+        worst: a.worst.max(b.worst),
+        best: a.best.min(b.best),
+        phases: both_phases(a.phases, b.phases),
+    }
+}
+
+/// Returns delays that hold for both routes, or `None` if the delays of one are unknown.
+fn combine_if_both(a: Option<StreamLatency>, b: Option<StreamLatency>) -> Option<StreamLatency>
+    ensures { result ≡ spec.combine_if_both a b }
+{
+    match (a, b) {
+        (Some(a), Some(b)) => Some(combine(a, b)),
+        _ => None,
+    }
+}
+
+/// Returns `gathered` with the delays `more` of one more queue. Unknown delays (`None`) make the result unknown.
+fn add_latency(gathered: CombinedLatency, more: Option<StreamLatency>) -> CombinedLatency
+    ensures { result ≡ spec.add_latency gathered more }
+{
+    match gathered {
+        CombinedLatency::NoQueue => CombinedLatency::Latency(more),
+        CombinedLatency::Latency(figures) => CombinedLatency::Latency(combine_if_both(
+            figures, more,
+        )),
+    }
+}
+
+/// Returns the delays of all added queues. Returns `None` if no queue was added or a queue's delays are unknown.
+fn known_latency(gathered: CombinedLatency) -> Option<StreamLatency>
+    ensures { result ≡ spec.known_latency gathered }
+{
+    match gathered {
+        CombinedLatency::NoQueue => None,
+        CombinedLatency::Latency(figures) => figures,
+    }
+}
+
+/// Whether a queue belongs to a hop. Comparing bridges is enough, because each hop of a tree has its own bridge.
+fn is_queue_of_hop(hop: StreamHop, queue: &HopQueue) -> bool
+    ensures { result ≡ spec.is_queue_of_hop hop queue.now }
+{
+    queue.hop.bridge == hop.bridge
+}
+
+/// Returns the delays of the routes from a queue on, through at most `depth` more hops. Returns `None` if they are unknown.
+#[cycle(hop_latency)]
+fn queue_latency<A: Allocator + Copy>(
+    case: &StreamContext<'_, A>,
+    depth: usize,
+    queue: &HopQueue,
+    came: &HopArrival,
+    passes: bool,
+) -> Option<StreamLatency>
+    requires queues { All IsQueue case.now.queues.now }
+    requires queue { IsQueue queue.now }
+    requires traffic { IsTraffic came.now.traffic }
+    requires room { HasHeadroom (depth + 1) came.now }
+    ensures { IsQueueLatency (IsHopLatency (stream_model case.now) depth) (stream_model case.now) came.now passes
+        queue.now result }
+{
+    let stop = queue_exit(case, queue, came, passes)?;
+    match stop {
+        QueueExit::Last(course) => Some(course),
+        QueueExit::Next(next, coming) => hop_latency(case, depth, next, &coming),
+    }
+}
+
+/// Returns `gathered` with the delays of the queue if it belongs to the hop, otherwise `gathered`.
+#[cycle(hop_latency)]
+fn add_queue_latency<A: Allocator + Copy>(
+    case: &StreamContext<'_, A>,
+    depth: usize,
+    hop: StreamHop,
+    came: &HopArrival,
+    passes: bool,
+    queue: &HopQueue,
+    gathered: CombinedLatency,
+) -> CombinedLatency
+    requires queues { All IsQueue case.now.queues.now }
+    requires queue { IsQueue queue.now }
+    requires traffic { IsTraffic came.now.traffic }
+    requires room { HasHeadroom (depth + 1) came.now }
+    ensures { AddsQueueLatency (IsHopLatency (stream_model case.now) depth)
+        (stream_model case.now) hop came.now passes queue.now gathered result }
+{
+    if !is_queue_of_hop(hop, queue) {
+        return gathered;
+    }
+    let told = queue_latency(case, depth, queue, came, passes);
+    add_latency(gathered, told)
+}
+
+/// Returns the delays of all routes from a hop on, through at most `depth` hops. `depth` ends the recursion. Returns `None` if the delays
+/// are unknown.
+#[cycle(hop_latency)]
+fn hop_latency<A: Allocator + Copy>(
+    case: &StreamContext<'_, A>,
+    depth: usize,
+    hop: StreamHop,
+    came: &HopArrival,
+) -> Option<StreamLatency>
+    requires queues { All IsQueue case.now.queues.now }
+    requires traffic { IsTraffic came.now.traffic }
+    requires room { HasHeadroom depth came.now }
+    ensures { IsHopLatency (stream_model case.now) depth hop came.now result }
+{
+    if depth == 0 {
+        return None;
+    }
+    let passes = hop_passes(case.plans, hop, &came.traffic);
+    let queues = case.queues;
+    let mut gathered = CombinedLatency::NoQueue;
+    for queue in queues {
+        gathered = add_queue_latency(case, depth - 1, hop, came, passes, queue, gathered);
+    }
+    known_latency(gathered)
+}
+
+/// Returns the arrival of a talker's frames at the first hop: no delay yet, and all frames passed.
+fn first_hop_arrival(traffic: &Traffic) -> HopArrival
+    ensures { result ≡ spec.first_hop_arrival traffic.now }
+{
+    HopArrival {
+        traffic: *traffic,
+        later: 0,
+        worst: 0,
+        best: 0,
+        passes: true,
+    }
+}
+
+/// Returns the delays of a stream with a periodic talker at its first hop. Returns `None` if the hops are no tree, phases are unknown or
+/// lie in two periods, or a queue is missing.
+pub fn stream_latency<A: Allocator + Copy>(
+    plans: &[Accepted<A>],
+    links: &[Link],
+    hops: &[StreamHop],
+    queues: &[HopQueue],
+    traffic: &Traffic,
+) -> Option<StreamLatency>
+    requires few { length hops.now ≤ 64 }
+    requires queues { All IsQueue queues.now }
+    requires traffic { IsTraffic traffic.now }
+    ensures { IsStreamLatency plans.now links.now hops.now queues.now traffic.now result }
+{
+    let first = *hops.first()?;
+    if !is_tree(links, hops, queues, first) {
+        return None;
+    }
+    let case = StreamContext {
+        plans,
+        links,
+        hops,
+        queues,
+        from: traffic.from,
+    };
+    hop_latency(&case, hops.len(), first, &first_hop_arrival(traffic))
+}

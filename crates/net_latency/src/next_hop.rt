@@ -1,0 +1,70 @@
+//! The hops to which the ports of a network lead.
+ghost use Rattle.std.specs.Prelude.{◌≡◌, map, option_map};
+ghost use Rattle.net_model.specs.Networks.{sender};
+ghost use Rattle.net_model.specs.NetworkParts.{link_value};
+ghost use Rattle.net_latency.specs.NextHop.{sender_of_far_end, hop_at_bridge, next_hop};
+
+use net_model::{BridgePort, Link, StreamHop, is_bridge_port};
+
+/// Bridge port at the other end of a port's link, and the link's delay.
+#[derive(Clone, Copy)]
+pub(crate) struct FarEnd {
+    /// Bridge port at the other end.
+    pub end: BridgePort,
+    /// Delay of the link in ns.
+    pub delay: u64,
+}
+
+/// Next hop on a frame's route, and the delay of the link that leads there.
+#[derive(Clone, Copy)]
+pub(crate) struct NextHop {
+    /// Hop of the stream.
+    pub hop: StreamHop,
+    /// Delay of the link to the hop, in ns.
+    pub delay: u64,
+}
+
+/// Returns the other end of the port's first link. Returns `None` for an open port.
+pub(crate) fn far_end(links: &[Link], bridge: u16, port: u8) -> Option<FarEnd>
+    ensures { option_map sender_of_far_end result ≡ sender (map link_value links.now) bridge port }
+{
+    for link in links {
+        if is_bridge_port(link.one, bridge, port) {
+            return Some(FarEnd {
+                end: link.other,
+                delay: link.delay,
+            });
+        }
+        if is_bridge_port(link.other, bridge, port) {
+            return Some(FarEnd {
+                end: link.one,
+                delay: link.delay,
+            });
+        }
+    }
+    None
+}
+
+/// Returns the first of these hops at a bridge, or `None` if the stream has no hop there.
+pub(crate) fn hop_at_bridge(hops: &[StreamHop], bridge: u16) -> Option<StreamHop>
+    ensures { result ≡ hop_at_bridge hops.now bridge }
+{
+    for hop in hops {
+        if hop.bridge == bridge {
+            return Some(*hop);
+        }
+    }
+    None
+}
+
+/// Returns the hop of the stream at the other end of the port's link. Returns `None` if the port is open or the stream has no hop there.
+pub(crate) fn next_hop(links: &[Link], hops: &[StreamHop], bridge: u16, port: u8) -> Option<NextHop>
+    ensures { result ≡ next_hop links.now hops.now bridge port }
+{
+    let far = far_end(links, bridge, port)?;
+    let hop = hop_at_bridge(hops, far.end.bridge)?;
+    Some(NextHop {
+        hop,
+        delay: far.delay,
+    })
+}

@@ -1,0 +1,184 @@
+//! Frames that leave a queue of a hop: they leave the stream's hops, or they continue to another hop.
+ghost use Rattle.std.specs.Prelude.{◌≡◌, ◌+◌, ◌↔◌, IfSome, option_map, slice_get, true, ℕ};
+ghost use Rattle.net_periods.specs.Traffic.{IsTraffic};
+ghost use Rattle.net_latency.specs.StreamLatency as spec;
+ghost use Rattle.net_latency.specs.StreamLatency.{HasHeadroom, HopPasses, IsQueue, IsQueueExit, KeepsHeadroom, stream_model};
+
+use crate::latency::StreamLatency;
+use crate::next_hop::{NextHop, next_hop};
+use crate::tree::HopQueue;
+use bridge_bounds::find_filter;
+use bridge_check::Accepted;
+use net_model::{Link, StreamHop};
+use net_periods::{Phases, Timing, Traffic, passes, queue_timing};
+use std::alloc::Allocator;
+
+/// Everything that the delays of one stream depend on: plans and links, its hops, their reachable queues, and its talker's first phase.
+#[derive(Clone, Copy)]
+pub(crate) struct StreamContext<'a, A: Allocator + Copy> {
+    pub plans: &'a [Accepted<A>],
+    pub links: &'a [Link],
+    pub hops: &'a [StreamHop],
+    pub queues: &'a [HopQueue],
+    pub from: u64,
+}
+
+/// Arrival of a talker's frames at a hop, with their delays up to this hop.
+#[derive(Clone, Copy)]
+pub struct HopArrival {
+    /// The frames, with their phases of arrival at the hop.
+    pub traffic: Traffic,
+    /// Time in ns from the talker's period to the period of these phases.
+    pub later: u128,
+    /// Worst delay up to this hop, in ns.
+    pub worst: u128,
+    /// Best delay up to this hop, in ns.
+    pub best: u128,
+    /// Whether each frame passed all earlier hops.
+    pub passes: bool,
+}
+
+/// Next step of frames that have left a queue. Phases of the arrival decide how long they wait at the next hop.
+#[derive(Clone, Copy)]
+pub(crate) enum QueueExit {
+    /// The frames leave the stream's hops.
+    Last(StreamLatency),
+    /// The frames continue to another hop.
+    Next(StreamHop, HopArrival),
+}
+
+/// Returns the plan of the bridge with index `bridge`, or `None` if the bridge is missing.
+fn accepted_plan<'a, A: Allocator + Copy>(
+    plans: &'a [Accepted<A>],
+    bridge: u16,
+) -> Option<&'a Accepted<A>>
+    ensures { option_map (λ p. p.now) result ≡ slice_get plans.now bridge }
+{
+    plans.get(bridge as usize)
+}
+
+/// Whether each frame of the traffic passes the filter of a hop. Returns false if the bridge or the filter is missing.
+pub(crate) fn hop_passes<A: Allocator + Copy>(
+    plans: &[Accepted<A>],
+    hop: StreamHop,
+    traffic: &Traffic,
+) -> bool
+    requires { IsTraffic traffic.now }
+    ensures { (result ≡ true) ↔ HopPasses (slice_get plans.now hop.bridge) hop.filter traffic.now }
+{
+    let Some(accepted) = accepted_plan(plans, hop.bridge) else {
+        return false;
+    };
+    let plan = accepted.plan();
+    match find_filter(plan.filters(), hop.filter) {
+        None => false,
+        Some(filter) => passes(plan, &filter, traffic),
+    }
+}
+
+/// Returns the delays of a route that ends at a queue: the sums of the delays of its hops and links. The phases can lower the worst delay.
+fn latency_at_last_queue(
+    from: u64,
+    came: &HopArrival,
+    x: &Timing,
+    done: Phases,
+    passes: bool,
+) -> StreamLatency
+    requires { HasHeadroom 1 came.now }
+    ensures { result ≡ spec.latency_at_last_queue from came.now x.now done passes }
+{
+    let end = (came.later + done.to as u128).saturating_sub(from as u128);
+    StreamLatency {
+        passes: came.passes && passes,
+        worst: end.min(came.worst + x.worst as u128),
+        best: came.best + x.best as u128,
+        phases: done,
+    }
+}
+
+/// Returns the arrival at the next hop. Returns `None` if its phases lie in two periods.
+fn next_hop_arrival(
+    came: &HopArrival,
+    x: &Timing,
+    done: Phases,
+    delay: u64,
+    passes: bool,
+) -> Option<HopArrival>
+    requires traffic { IsTraffic came.now.traffic }
+    requires room { HasHeadroom 1 came.now }
+    ensures coming { result ≡ spec.next_hop_arrival came.now x.now done delay passes }
+    ensures traffic { IfSome result (λ a. IsTraffic a.traffic) }
+    ensures room { (k : ℕ) → HasHeadroom (k + 1) came.now → IfSome result (HasHeadroom k) }
+{
+    let period = came.traffic.period as u128;
+    let start = done.from as u128 + delay as u128;
+    let end = done.to as u128 + delay as u128;
+    let from = start % period;
+    let whole = start - from;
+    let to = end.saturating_sub(whole);
+    if to < from || period <= to {
+        return None;
+    }
+    Some(HopArrival {
+        traffic: Traffic {
+            period: came.traffic.period,
+            from: from as u64,
+            to: to as u64,
+            least: came.traffic.least,
+            longest: came.traffic.longest,
+        },
+        later: came.later + whole,
+        worst: came.worst + x.worst as u128 + delay as u128,
+        best: came.best + x.best as u128 + delay as u128,
+        passes: came.passes && passes,
+    })
+}
+
+/// Returns the next step of frames that leave a queue between the phases `done`. Without a next hop (`None`), the route ends here.
+fn exit_over_link(
+    from: u64,
+    came: &HopArrival,
+    x: &Timing,
+    done: Phases,
+    passes: bool,
+    onward: Option<NextHop>,
+) -> Option<QueueExit>
+    requires traffic { IsTraffic came.now.traffic }
+    requires room { HasHeadroom 1 came.now }
+    ensures goes { result ≡ spec.exit_over_link from came.now x.now done passes onward }
+    ensures keeps { (k : ℕ) → HasHeadroom (k + 1) came.now → IfSome result (KeepsHeadroom k) }
+{
+    match onward {
+        None => Some(QueueExit::Last(latency_at_last_queue(from, came, x, done, passes))),
+        Some(onward) => {
+            let next = next_hop_arrival(came, x, done, onward.delay, passes)?;
+            Some(QueueExit::Next(onward.hop, next))
+        }
+    }
+}
+
+/// Returns the next step of frames at a queue. Returns `None` if the bridge is missing or the phases are unknown.
+pub(crate) fn queue_exit<A: Allocator + Copy>(
+    case: &StreamContext<'_, A>,
+    queue: &HopQueue,
+    came: &HopArrival,
+    passes: bool,
+) -> Option<QueueExit>
+    requires queue { IsQueue queue.now }
+    requires traffic { IsTraffic came.now.traffic }
+    requires room { HasHeadroom 1 came.now }
+    ensures stop { IsQueueExit (stream_model case.now) queue.now came.now passes result }
+    ensures keeps { (k : ℕ) → HasHeadroom (k + 1) came.now → IfSome result (KeepsHeadroom k) }
+{
+    let accepted = accepted_plan(case.plans, queue.hop.bridge)?;
+    let x = queue_timing(
+        accepted,
+        queue.hop.filter,
+        queue.port,
+        queue.class,
+        &came.traffic,
+    )?;
+    let done = x.phases?;
+    let onward = next_hop(case.links, case.hops, queue.hop.bridge, queue.port);
+    exit_over_link(case.from, came, &x, done, passes, onward)
+}

@@ -1,0 +1,85 @@
+//! The test whether the hops of a stream are a tree.
+ghost use Rattle.std.specs.Prelude.{◌≡◌, ◌&&◌};
+ghost use Rattle.net_latency.specs.Trees as spec;
+
+use crate::next_hop::{far_end, hop_at_bridge};
+use net_model::{Link, StreamHop};
+
+/// A reachable queue of a stream's hop: frames leave the hop's bridge by it.
+#[derive(Clone, Copy)]
+pub struct HopQueue {
+    /// The hop.
+    pub hop: StreamHop,
+    /// Port number, 1 to 16.
+    pub port: u8,
+    /// Class of the queue, 0 to 7.
+    pub class: u8,
+}
+
+/// Whether the port of a queue has a link to the bridge.
+fn is_feeder(links: &[Link], bridge: u16, queue: &HopQueue) -> bool
+    ensures { result ≡ spec.is_feeder links.now bridge queue.now }
+{
+    match far_end(links, queue.hop.bridge, queue.port) {
+        None => false,
+        Some(far) => far.end.bridge == bridge,
+    }
+}
+
+/// Returns how many of these queues lead to a bridge. A tree allows one, and none for its root.
+fn count_feeders(links: &[Link], queues: &[HopQueue], bridge: u16) -> usize
+    ensures { result ≡ spec.count_feeders links.now queues.now bridge }
+{
+    queues
+        .iter()
+        .filter(|x| is_feeder(links, bridge, x))
+        .count()
+}
+
+/// Whether a hop is the first of these hops at its bridge. Otherwise the stream crosses the bridge twice.
+fn is_first_at_bridge(hops: &[StreamHop], hop: &StreamHop) -> bool
+    ensures { result ≡ spec.is_first_at_bridge hops.now hop.now }
+{
+    match hop_at_bridge(hops, hop.bridge) {
+        None => false,
+        Some(first) => first.filter == hop.filter,
+    }
+}
+
+/// Whether each hop is the first at its bridge.
+fn have_distinct_bridges(hops: &[StreamHop]) -> bool
+    ensures { result ≡ spec.have_distinct_bridges hops.now }
+{
+    hops.iter().all(|h| is_first_at_bridge(hops, h))
+}
+
+/// Whether at most one queue leads to each hop.
+fn have_single_feeders(links: &[Link], hops: &[StreamHop], queues: &[HopQueue]) -> bool
+    ensures { result ≡ spec.have_single_feeders links.now hops.now queues.now }
+{
+    hops.iter()
+        .all(|h| count_feeders(links, queues, h.bridge) <= 1)
+}
+
+/// Whether all three values are true: the three tests of `is_tree`, which are evaluated before.
+fn all_three(a: bool, b: bool, c: bool) -> bool
+    ensures { result ≡ (a && b && c) }
+{
+    a && b && c
+}
+
+/// Whether the hops are a tree with root `first`: different bridges, at most one queue leads to each hop, and none to the root. Delays are
+/// known only for trees.
+pub(crate) fn is_tree(
+    links: &[Link],
+    hops: &[StreamHop],
+    queues: &[HopQueue],
+    first: StreamHop,
+) -> bool
+    ensures { result ≡ spec.is_tree links.now hops.now queues.now first }
+{
+    let own = have_distinct_bridges(hops);
+    let once = have_single_feeders(links, hops, queues);
+    let feeders = count_feeders(links, queues, first.bridge);
+    all_three(own, once, feeders == 0)
+}

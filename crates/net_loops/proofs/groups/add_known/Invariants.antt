@@ -1,6 +1,0 @@
-use Rattle.std.proofs.Common.{◌≡◌, take, fold}
-use Rattle.net_loops.specs.Groups.{with_known}
-use Rattle.net_loops.proofs.groups.add_known.Given as goal
-
-abbrev pub invariant-loop-entry : goal.invariant-loop-entry
-invariant-loop-entry g l = l.groups.items ≡ fold with_known l.initial.groups.items (take l.entry-index l.statics)

@@ -1,5 +1,0 @@
-use Rattle.net_model.proofs.Settling.{settled_is_run}
-use Rattle.net_model.proofs.laws.settled_is_run.Goals as goal
-
-pub returns : goal.returns
-returns g c = settled_is_run

@@ -1,5 +1,0 @@
-use Rattle.net_model.proofs.Straying.{found_exactly}
-use Rattle.net_model.proofs.laws.stray_where_test_fails.Goals as goal
-
-pub returns : goal.returns
-returns g c = found_exactly

@@ -1,0 +1,10 @@
+use Rattle.std.proofs.Common.{◌≡◌, ◌≤◌, length}
+use Rattle.std.specs.Prelude.{slice_get, Vec}
+use Rattle.bridge_check.specs.Faults.{first_among_numbers}
+use Rattle.net_model.specs.declared.links.StreamHop.{StreamHop}
+use Rattle.net_model.specs.Faults.{if_some, stream_test_fault}
+use Rattle.net_model.specs.TestedNetwork.{tested_parts}
+use Rattle.net_model.proofs.network_tests.TestedNetwork.hop_fault.Given as goal
+
+abbrev pub invariant-loop-i : goal.invariant-loop-i
+invariant-loop-i g l = (l.i ≤ length l.self.streams.now) × (l.first ≡ first_among_numbers l.i (λ i. if_some (λ (s : Vec StreamHop _). stream_test_fault (tested_parts l.self) l.test i s.items) (slice_get l.self.streams.now i)))

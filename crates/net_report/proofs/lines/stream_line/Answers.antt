@@ -1,9 +1,0 @@
-use Rattle.std.specs.Prelude.{codes, string_bytes}
-use Rattle.net_report.specs.Streams.{stream_line}
-use Rattle.bridge_text.proofs.Puts.{put_count, put_piece, whole_if}
-use Rattle.net_report.proofs.lines.stream_line.Goals as goal
-
-pub returns : goal.returns
-unfolding stream_line
-returns g c = whole_if string_bytes c.done.result _ _ _ c.new-text.ensures
-    (put_piece _ _ _ _ _ c.put_stream_start.ensures (put_piece _ _ _ _ _ c.put_figures.ensures (put_count _ _ _ _ (codes ",") _ c.put_wide.ensures (put_piece _ _ _ _ _ c.put_deadline.ensures c.put.ensures)))) c.done.ensures.text

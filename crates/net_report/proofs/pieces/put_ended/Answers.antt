@@ -1,5 +1,0 @@
-use Rattle.bridge_text.proofs.Puts.{put_piece}
-use Rattle.net_report.proofs.pieces.put_ended.Goals as goal
-
-pub returns : goal.returns
-returns g c = put_piece _ _ _ _ _ c.put_number.ensures c.put.ensures

@@ -1,0 +1,76 @@
+-- Rows of the table of frames, each with its line feed.
+use Rattle.std.specs.Prelude.{◌≡◌, ℕ, ◌+◌, ◌-◌, Bool, true, false, Option, Some, None, List, [], ◌∷◌, ◌++◌, flat_map, codes, decimal, if◌then◌else◌}
+use Rattle.bridge_filter.specs.declared.Verdict.{Verdict}
+use Rattle.bridge_semantics.specs.declared.outcome.Departure.{Departure}
+use Rattle.bridge_semantics.specs.declared.outcome.Dropped.{Dropped}
+use Rattle.bridge_semantics.specs.declared.outcome.Origin.{Origin}
+use Rattle.bridge_report.specs.Figures.{at_of}
+use Rattle.bridge_report.specs.Words.{verdict_word, refusal_word}
+use Rattle.bridge_semantics.specs.declared.outcome.View.{View}
+use Rattle.net_model.specs.declared.links.Link.{Link}
+use Rattle.net_report.specs.declared.copy_counting.HopRun.{HopRun}
+use Rattle.net_report.specs.declared.sources.SourceFrame.{SourceFrame}
+use Rattle.net_report.specs.Hops.{AreOnwardPorts, is_onward}
+use Rattle.net_report.specs.HopCounts.{is_pass}
+use Rattle.net_report.specs.SourceFrames.{source_frame}
+
+-- The number of the source frame and its arrival time at the first hop, or empty fields.
+abbrev pub source_frame_words : Option SourceFrame → List ℕ
+source_frame_words None = codes ",,"
+source_frame_words (Some r) = decimal r.number ++ (codes "," ++ (decimal r.came ++ codes ","))
+
+-- The beginning of a row: stream, hop, source frame and arrival time at this hop.
+unfoldable pub line_start : List ℕ → List ℕ → Option SourceFrame → ℕ → List ℕ
+line_start stream hop root at = stream ++ (codes "," ++ (hop ++ (codes "," ++ (source_frame_words root ++ (decimal at ++ codes ",")))))
+
+-- The row of a refused frame, with the verdict as its fate.
+unfoldable pub refused_line : List ℕ → List ℕ → Option SourceFrame → ℕ → Verdict → List ℕ
+refused_line stream hop root at v = line_start stream hop root at ++ (verdict_word v ++ codes ",,,,\n")
+
+-- The row of a dropped copy, with the reason of the drop as its fate.
+unfoldable pub drop_line : List ℕ → List ℕ → Option SourceFrame → ℕ → Dropped → List ℕ
+drop_line stream hop root at d = line_start stream hop root at ++ (refusal_word d.refusal ++ (codes "," ++ (decimal d.port ++ codes ",,,\n")))
+
+-- The word for a copy that left to a hop or was delivered.
+abbrev pub departure_word : Bool → List ℕ
+departure_word true = codes "sent"
+departure_word false = codes "delivered"
+
+-- The delay of a copy since its arrival at the first hop; empty if its source is unknown.
+abbrev pub delay_word : ℕ → Option SourceFrame → List ℕ
+delay_word done None = []
+delay_word done (Some r) = decimal (done - r.came)
+
+-- The row of a copy that left: `sent` if its port leads to a hop, otherwise `delivered`.
+unfoldable pub departure_line : List ℕ → List ℕ → Option SourceFrame → ℕ → Departure → Bool → List ℕ
+departure_line stream hop root at d on = line_start stream hop root at ++ (departure_word on ++ (codes "," ++ (decimal d.port ++ (codes ","
+    ++ (decimal d.start ++ (codes "," ++ (decimal d.done ++ (codes "," ++ (delay_word d.done root ++ codes "\n")))))))))
+
+-- THE LINES OF A HOP
+
+-- The row of a frame that was refused; empty if it passed.
+abbrev pub verdict_line : List ℕ → List ℕ → Option SourceFrame → ℕ → Verdict → List ℕ
+verdict_line stream hop root at v = if is_pass v then [] else refused_line stream hop root at v
+
+-- The rows of the frames that a hop refused, by their numbers from `n` on.
+abbrev pub verdict_lines : List ℕ → List ℕ → List (Option SourceFrame) → List Origin → ℕ → List Verdict → List ℕ
+verdict_lines stream hop roots origins n [] = []
+verdict_lines stream hop roots origins n (v ∷ vs) = verdict_line stream hop (source_frame roots n) (at_of origins n) v ++ verdict_lines stream hop roots origins (n + 1) vs
+
+-- The rows of the copies that a hop dropped.
+abbrev pub drop_lines : List ℕ → List ℕ → List (Option SourceFrame) → List Origin → List Dropped → List ℕ
+drop_lines stream hop roots origins ds = flat_map (λ (d : Dropped). drop_line stream hop (source_frame roots d.own) (at_of origins d.own) d) ds
+
+-- The rows of the copies that left a hop.
+abbrev pub departure_lines : List ℕ → List ℕ → List (Option SourceFrame) → List Origin → List Bool → List Departure → List ℕ
+departure_lines stream hop roots origins ways ds = flat_map (λ (d : Departure). departure_line stream hop (source_frame roots d.own) (at_of origins d.own) d (is_onward ways d.port)) ds
+
+-- The rows of a hop's record: refused frames, dropped copies, then copies that left, each in the order of the run.
+abbrev pub view_lines : {A : Type 0} → List ℕ → List ℕ → List (Option SourceFrame) → List Bool → View A → List ℕ
+view_lines stream hop roots ways v =
+    verdict_lines stream hop roots v.origins.items 1 v.verdicts.items
+    ++ (drop_lines stream hop roots v.origins.items v.drops.items ++ departure_lines stream hop roots v.origins.items ways v.departures.items)
+
+-- Holds if `lines` has the rows of a hop at bridge `b`.
+abbrev pub AreFrameLines : {A : Type 0} → List Link → List (HopRun A) → ℕ → List (Option SourceFrame) → List ℕ → List ℕ → View A → List ℕ → Type 0
+AreFrameLines links hops b roots stream hop v lines = (ways : List Bool) × AreOnwardPorts links hops b ways × (lines ≡ view_lines stream hop roots ways v)

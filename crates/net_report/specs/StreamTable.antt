@@ -1,0 +1,63 @@
+-- Rows of the table of streams, each with its line feed.
+use Rattle.std.specs.Prelude.{ℕ, ◌+◌, ◌-◌, Bool, true, false, ◌&&◌, nat_eq, nat_le, Option, Some, None, List, ◌++◌, count_by, length, sum_by, codes, decimal}
+use Rattle.net_report.specs.declared.statistics.DelayStatistics.{DelayStatistics}
+use Rattle.net_report.specs.declared.hop_counting.HopCounts.{HopCounts}
+use Rattle.net_report.specs.declared.copy_counting.CopyCounts.{CopyCounts}
+use Rattle.net_report.specs.CopyCounts.{astray, is_delivered}
+
+-- The fields of delay statistics; empty fields without a delay.
+abbrev pub statistics_words : Option DelayStatistics → List ℕ
+statistics_words None = codes ",,,,"
+statistics_words (Some f) = decimal f.least ++ (codes "," ++ (decimal f.mean ++ (codes "," ++ (decimal f.greatest ++ (codes "," ++ (decimal f.jitter ++ codes ","))))))
+
+-- Number of frames and copies that a hop lost.
+abbrev pub lost_copies : HopCounts → ℕ
+lost_copies c = c.blocked + c.oversize + c.gate_closed + (c.shut_rx + c.shut_octets) + (c.octets_exceeded + c.red) + (c.yellow_dropped + c.full + c.never)
+
+-- Number of losses at a hop for each cause.
+unfoldable pub reason_words : HopCounts → List ℕ
+reason_words c = decimal c.blocked ++ (codes "," ++ (decimal c.oversize ++ (codes "," ++ (decimal c.gate_closed ++ (codes "," ++ (decimal c.shut_rx
+    ++ (codes "," ++ (decimal c.shut_octets ++ (codes "," ++ (decimal c.octets_exceeded ++ (codes "," ++ (decimal c.red ++ (codes ","
+    ++ (decimal c.yellow_dropped ++ (codes "," ++ (decimal c.full ++ (codes "," ++ (decimal c.never ++ codes ","))))))))))))))))))
+
+-- The beginning of a hop's row, up to the number of its losses.
+unfoldable pub hop_start : List ℕ → List ℕ → HopCounts → List ℕ
+hop_start stream hop c = stream ++ (codes "," ++ (hop ++ (codes "," ++ (decimal c.frames ++ (codes "," ++ (decimal c.delivered ++ (codes "," ++ (decimal (lost_copies c) ++ codes ","))))))))
+
+-- The row of a hop: counts, losses by cause, and delays.
+unfoldable pub hop_line : List ℕ → List ℕ → HopCounts → Option DelayStatistics → List ℕ
+hop_line stream hop c figures = hop_start stream hop c ++ (reason_words c ++ (codes "," ++ (statistics_words figures ++ codes ",,\n")))
+
+-- Number of delivered frames: a copy was delivered, and none was lost.
+abbrev pub delivered_frames : List CopyCounts → ℕ
+delivered_frames tallies = count_by is_delivered tallies
+
+-- The beginning of a stream's row: frames, delivered and lost frames, and astray copies.
+unfoldable pub stream_start : List ℕ → List CopyCounts → List ℕ
+stream_start stream tallies = stream ++ (codes ",all," ++ (decimal (length tallies) ++ (codes "," ++ (decimal (delivered_frames tallies) ++ (codes ","
+    ++ (decimal (length tallies - delivered_frames tallies) ++ (codes ",,,,,,,,,,," ++ (decimal (sum_by astray tallies) ++ codes ","))))))))
+
+-- True if no copy's delay exceeds a deadline.
+abbrev pub is_below_deadline : Option DelayStatistics → ℕ → Bool
+is_below_deadline None deadline = true
+is_below_deadline (Some f) deadline = nat_le f.greatest deadline
+
+-- True if all frames of a stream were delivered, and no copy's delay exceeds a deadline.
+abbrev pub is_deadline_met : List CopyCounts → Option DelayStatistics → ℕ → Bool
+is_deadline_met tallies figures deadline = nat_eq (delivered_frames tallies) (length tallies) && is_below_deadline figures deadline
+
+-- The word, after a comma, for a stream without frames, or whose deadline was met or missed.
+abbrev pub met_word : Bool → Bool → List ℕ
+met_word true met = codes ",none"
+met_word false true = codes ",met"
+met_word false false = codes ",missed"
+
+-- A deadline and whether it was met, or empty fields.
+abbrev pub deadline_words : List CopyCounts → Option DelayStatistics → Option ℕ → List ℕ
+deadline_words tallies figures None = codes ","
+deadline_words tallies figures (Some d) = decimal d ++ met_word (nat_eq (length tallies) 0) (is_deadline_met tallies figures d)
+
+-- The row of a whole stream: counts, delays, bound, and deadline.
+unfoldable pub stream_line : List ℕ → List CopyCounts → Option DelayStatistics → ℕ → Option ℕ → List ℕ
+stream_line stream tallies figures bound deadline = stream_start stream tallies ++ (statistics_words figures ++ (decimal bound ++ (codes ","
+    ++ (deadline_words tallies figures deadline ++ codes "\n"))))

@@ -1,0 +1,259 @@
+//! The table of frames: the fate of each frame of a stream at each hop.
+ghost use Rattle.std.specs.Prelude.{◌≡◌, ◌++◌, IfOk, codes, string_bytes};
+ghost use Rattle.bridge_text.specs.Growth.{HasGrown};
+ghost use Rattle.net_report.specs.FrameTable as spec;
+
+use crate::copy_counting::HopRun;
+use crate::hop_counting::is_pass;
+use crate::hops::{is_onward, onward_ports};
+use crate::sources::{SourceFrame, source_frame};
+use crate::stream_table::put_number_with_suffix;
+use bridge_filter::Verdict;
+use bridge_limits::NoMemory;
+use bridge_report::{arrival_time, refusal_word, verdict_word};
+use bridge_semantics::{Departure, Dropped, Origin, View};
+use bridge_text::TextBuilder;
+use net_model::Link;
+use std::alloc::Allocator;
+
+/// First line of the table `frames.csv`. The columns `frame` and `came` have the number and the arrival time at the first hop, `at` the
+/// arrival time at this hop. Times and delays are in ns.
+pub const FRAMES_HEADER: &str = "stream,hop,frame,came,at,fate,port,start,done,delay\n";
+
+/// Writes the number of the source frame and its arrival time at the first hop, or empty fields.
+fn put_source_frame<A: Allocator>(text: &mut TextBuilder<A>, root: Option<SourceFrame>)
+    ensures { HasGrown text.old (spec.source_frame_words root) text.new }
+{
+    match root {
+        Some(SourceFrame { number, came }) => {
+            put_number_with_suffix(text, number, ",");
+            put_number_with_suffix(text, came, ",");
+        }
+        None => text.put(",,"),
+    }
+}
+
+/// Writes the beginning of a row of `frames.csv`, up to the column `at`: stream, hop, source frame and arrival time at this hop.
+fn put_line_start<A: Allocator>(
+    text: &mut TextBuilder<A>,
+    stream: &str,
+    hop: &str,
+    root: Option<SourceFrame>,
+    at: u64,
+)
+    ensures { HasGrown text.old (spec.line_start stream.now hop.now root at) text.new }
+{
+    text.put(stream);
+    text.put(",");
+    text.put(hop);
+    text.put(",");
+    put_source_frame(text, root);
+    put_number_with_suffix(text, at, ",");
+}
+
+/// Writes the `frames.csv` row of a refused frame, with the verdict as its fate.
+fn put_refused<A: Allocator>(
+    text: &mut TextBuilder<A>,
+    stream: &str,
+    hop: &str,
+    root: Option<SourceFrame>,
+    at: u64,
+    verdict: Verdict,
+)
+    ensures { HasGrown text.old (spec.refused_line stream.now hop.now root at verdict) text.new }
+{
+    put_line_start(text, stream, hop, root, at);
+    text.put(verdict_word(verdict));
+    text.put(",,,,\n");
+}
+
+/// Writes the `frames.csv` row of a dropped copy, with the reason of the drop as its fate.
+fn put_drop<A: Allocator>(
+    text: &mut TextBuilder<A>,
+    stream: &str,
+    hop: &str,
+    root: Option<SourceFrame>,
+    at: u64,
+    dropped: &Dropped,
+)
+    ensures { HasGrown text.old (spec.drop_line stream.now hop.now root at dropped.now) text.new }
+{
+    put_line_start(text, stream, hop, root, at);
+    text.put(refusal_word(dropped.refusal));
+    text.put(",");
+    put_number_with_suffix(text, dropped.port as u64, ",,,\n");
+}
+
+/// Writes the delay of a copy since its arrival at the first hop, and the end of the row. The field is empty if the source frame is
+/// unknown.
+fn put_delay<A: Allocator>(text: &mut TextBuilder<A>, done: u64, root: Option<SourceFrame>)
+    ensures { HasGrown text.old (spec.delay_word done root ++ codes "\n") text.new }
+{
+    match root {
+        Some(root) => put_number_with_suffix(text, done.saturating_sub(root.came), "\n"),
+        None => text.put("\n"),
+    }
+}
+
+/// Returns the fate of a copy that left: `sent` if its port leads to a hop (`on`), otherwise `delivered`.
+fn departure_word(on: bool) -> &'static str
+    ensures { result.now ≡ spec.departure_word on }
+{
+    if on { "sent" } else { "delivered" }
+}
+
+/// Writes the `frames.csv` row of a copy that left. `on` is true if its port leads to a hop.
+fn put_departure<A: Allocator>(
+    text: &mut TextBuilder<A>,
+    stream: &str,
+    hop: &str,
+    root: Option<SourceFrame>,
+    at: u64,
+    departure: &Departure,
+    on: bool,
+)
+    ensures { HasGrown text.old (spec.departure_line stream.now hop.now root at departure.now on) text.new }
+{
+    put_line_start(text, stream, hop, root, at);
+    text.put(departure_word(on));
+    text.put(",");
+    put_number_with_suffix(text, departure.port as u64, ",");
+    put_number_with_suffix(text, departure.start, ",");
+    put_number_with_suffix(text, departure.done, ",");
+    put_delay(text, departure.done, root);
+}
+
+/// Writes the `frames.csv` row of a frame if it was refused.
+fn put_verdict<A: Allocator>(
+    text: &mut TextBuilder<A>,
+    stream: &str,
+    hop: &str,
+    root: Option<SourceFrame>,
+    at: u64,
+    verdict: Verdict,
+)
+    ensures { HasGrown text.old (spec.verdict_line stream.now hop.now root at verdict) text.new }
+{
+    if !is_pass(verdict) {
+        put_refused(text, stream, hop, root, at, verdict);
+    }
+}
+
+/// Writes the rows of the frames that a hop refused. Frames are numbered from 1.
+fn put_verdicts<A: Allocator>(
+    text: &mut TextBuilder<A>,
+    stream: &str,
+    hop: &str,
+    roots: &[Option<SourceFrame>],
+    origins: &[Origin],
+    verdicts: &[Verdict],
+)
+    ensures { HasGrown text.old (spec.verdict_lines stream.now hop.now roots.now origins.now 1 verdicts.now) text.new }
+{
+    let mut left = verdicts;
+    let mut own = 1u64;
+    while let Some((first, rest)) = left.split_first() {
+        put_verdict(
+            text,
+            stream,
+            hop,
+            source_frame(roots, own),
+            arrival_time(origins, own),
+            *first,
+        );
+        own += 1;
+        left = rest;
+    }
+}
+
+/// Writes the rows of the copies that a hop dropped.
+fn put_drops<A: Allocator>(
+    text: &mut TextBuilder<A>,
+    stream: &str,
+    hop: &str,
+    roots: &[Option<SourceFrame>],
+    origins: &[Origin],
+    drops: &[Dropped],
+)
+    ensures { HasGrown text.old (spec.drop_lines stream.now hop.now roots.now origins.now drops.now) text.new }
+{
+    for dropped in drops {
+        put_drop(
+            text,
+            stream,
+            hop,
+            source_frame(roots, dropped.own),
+            arrival_time(origins, dropped.own),
+            dropped,
+        );
+    }
+}
+
+/// Writes the rows of the copies that left a hop.
+fn put_departures<A: Allocator>(
+    text: &mut TextBuilder<A>,
+    stream: &str,
+    hop: &str,
+    roots: &[Option<SourceFrame>],
+    origins: &[Origin],
+    departures: &[Departure],
+    ways: &[bool],
+)
+    ensures { HasGrown text.old (spec.departure_lines stream.now hop.now roots.now origins.now ways.now departures.now)
+        text.new }
+{
+    for departure in departures {
+        put_departure(
+            text,
+            stream,
+            hop,
+            source_frame(roots, departure.own),
+            arrival_time(origins, departure.own),
+            departure,
+            is_onward(ways, departure.port),
+        );
+    }
+}
+
+/// Writes the rows of a hop's record to `frames.csv`: refused frames, dropped copies, then copies that left.
+pub(crate) fn put_hop_lines<A: Allocator + Copy>(
+    text: &mut TextBuilder<A>,
+    stream: &str,
+    hop: &str,
+    roots: &[Option<SourceFrame>],
+    ways: &[bool],
+    view: &View<A>,
+)
+    ensures { HasGrown text.old (spec.view_lines stream.now hop.now roots.now ways.now view.now) text.new }
+{
+    put_verdicts(text, stream, hop, roots, &view.origins, &view.verdicts);
+    put_drops(text, stream, hop, roots, &view.origins, &view.drops);
+    put_departures(
+        text,
+        stream,
+        hop,
+        roots,
+        &view.origins,
+        &view.departures,
+        ways,
+    );
+}
+
+/// Returns the rows of a hop: refused frames, dropped copies, then copies that left, each in the order of the run.
+pub fn frame_lines<A: Allocator + Copy>(
+    alloc: A,
+    links: &[Link],
+    hops: &[HopRun<'_, A>],
+    run: &HopRun<'_, A>,
+    roots: &[Option<SourceFrame>],
+    stream: &str,
+    hop: &str,
+) -> Result<String<A>, NoMemory>
+    ensures { IfOk result (λ text. spec.AreFrameLines links.now hops.now run.now.bridge roots.now stream.now hop.now
+        run.now.view.now (string_bytes text)) }
+{
+    let ways = onward_ports(alloc, links, hops, run.bridge)?;
+    let mut text = TextBuilder::new(alloc);
+    put_hop_lines(&mut text, stream, hop, roots, &ways, run.view);
+    text.finish()
+}

@@ -1,0 +1,260 @@
+//! Counts and delays of a stream's copies at one hop.
+ghost use Rattle.std.specs.Prelude.{◌≡◌, ◌++◌, Bool, List, count_by, IfOk, OnOk};
+ghost use Rattle.net_report.specs.Hops.{AreOnwardPorts};
+ghost use Rattle.net_report.specs.HopCounts as spec;
+
+use crate::copy_counting::HopRun;
+use crate::hops::{is_onward, onward_ports};
+use crate::sources::{SourceFrame, source_frame};
+use bridge_filter::Verdict;
+use bridge_limits::NoMemory;
+use bridge_port::Refusal;
+use bridge_semantics::{Departure, Dropped, View};
+use net_model::Link;
+use std::alloc::Allocator;
+
+/// Whether a verdict is `Pass`: the filter accepted the frame.
+pub(crate) fn is_pass(verdict: Verdict) -> bool
+    ensures { result ≡ spec.is_pass verdict }
+{
+    matches!(verdict, Verdict::Pass { .. })
+}
+
+/// Counts of a hop: frames, delivered copies, and lost frames and copies by cause. The row of the hop in `streams.csv` has them.
+#[derive(Clone, Copy)]
+pub struct HopCounts {
+    pub frames: u64,
+    pub delivered: u64,
+    pub blocked: u64,
+    pub oversize: u64,
+    pub gate_closed: u64,
+    pub shut_rx: u64,
+    pub shut_octets: u64,
+    pub octets_exceeded: u64,
+    pub red: u64,
+    pub yellow_dropped: u64,
+    pub full: u64,
+    pub never: u64,
+}
+
+/// Whether a frame was refused as `Blocked`. Each of the next functions tests another cause of a refusal.
+fn is_blocked(verdict: &Verdict) -> bool
+    ensures { result ≡ spec.is_blocked verdict.now }
+{
+    matches!(*verdict, Verdict::Blocked)
+}
+
+/// Whether a frame was refused as `Oversize`.
+fn is_oversize(verdict: &Verdict) -> bool
+    ensures { result ≡ spec.is_oversize verdict.now }
+{
+    matches!(*verdict, Verdict::Oversize)
+}
+
+/// Whether a frame was refused as `GateClosed`.
+fn is_gate_closed(verdict: &Verdict) -> bool
+    ensures { result ≡ spec.is_gate_closed verdict.now }
+{
+    matches!(*verdict, Verdict::GateClosed)
+}
+
+/// Whether a frame was refused as `ShutByRx`.
+fn is_shut_rx(verdict: &Verdict) -> bool
+    ensures { result ≡ spec.is_shut_rx verdict.now }
+{
+    matches!(*verdict, Verdict::ShutByRx)
+}
+
+/// Whether a frame was refused as `ShutByOctets`.
+fn is_shut_octets(verdict: &Verdict) -> bool
+    ensures { result ≡ spec.is_shut_octets verdict.now }
+{
+    matches!(*verdict, Verdict::ShutByOctets)
+}
+
+/// Whether a frame was refused as `OctetsExceeded`.
+fn is_octets_exceeded(verdict: &Verdict) -> bool
+    ensures { result ≡ spec.is_octets_exceeded verdict.now }
+{
+    matches!(*verdict, Verdict::OctetsExceeded)
+}
+
+/// Whether a frame was refused as `Red`.
+fn is_red(verdict: &Verdict) -> bool
+    ensures { result ≡ spec.is_red verdict.now }
+{
+    matches!(*verdict, Verdict::Red)
+}
+
+/// Whether a frame was refused as `YellowDropped`.
+fn is_yellow_dropped(verdict: &Verdict) -> bool
+    ensures { result ≡ spec.is_yellow_dropped verdict.now }
+{
+    matches!(*verdict, Verdict::YellowDropped)
+}
+
+/// Whether a copy was dropped because its queue was full; the next function tests the other cause.
+fn is_full(dropped: &Dropped) -> bool
+    ensures { result ≡ spec.is_full dropped.now }
+{
+    matches!(dropped.refusal, Refusal::Full)
+}
+
+/// Whether a copy was dropped because it fits at no time.
+fn never_fits(dropped: &Dropped) -> bool
+    ensures { result ≡ spec.never_fits dropped.now }
+{
+    !is_full(dropped)
+}
+
+/// Returns the number of frames refused as `Blocked`: an oversize frame before had blocked the filter.
+fn count_blocked(verdicts: &[Verdict]) -> usize
+    ensures { result ≡ count_by spec.is_blocked verdicts.now }
+{
+    verdicts.iter().filter(|v| is_blocked(*v)).count()
+}
+
+/// Returns the number of frames refused because their SDU was above the filter's maximum.
+fn count_oversize(verdicts: &[Verdict]) -> usize
+    ensures { result ≡ count_by spec.is_oversize verdicts.now }
+{
+    verdicts.iter().filter(|v| is_oversize(*v)).count()
+}
+
+/// Returns the number of frames that arrived while the stream gate was closed.
+fn count_gate_closed(verdicts: &[Verdict]) -> usize
+    ensures { result ≡ count_by spec.is_gate_closed verdicts.now }
+{
+    verdicts.iter().filter(|v| is_gate_closed(*v)).count()
+}
+
+/// Returns the number of frames that arrived after a frame had shut the stream gate (`ShutByRx`).
+fn count_shut_rx(verdicts: &[Verdict]) -> usize
+    ensures { result ≡ count_by spec.is_shut_rx verdicts.now }
+{
+    verdicts.iter().filter(|v| is_shut_rx(*v)).count()
+}
+
+/// Returns the number of frames that arrived after octets had shut the stream gate (`ShutByOctets`).
+fn count_shut_octets(verdicts: &[Verdict]) -> usize
+    ensures { result ≡ count_by spec.is_shut_octets verdicts.now }
+{
+    verdicts.iter().filter(|v| is_shut_octets(*v)).count()
+}
+
+/// Returns the number of frames that exceeded an interval's octets.
+fn count_octets_exceeded(verdicts: &[Verdict]) -> usize
+    ensures { result ≡ count_by spec.is_octets_exceeded verdicts.now }
+{
+    verdicts.iter().filter(|v| is_octets_exceeded(*v)).count()
+}
+
+/// Returns the number of frames refused because the meter coloured them red.
+fn count_red(verdicts: &[Verdict]) -> usize
+    ensures { result ≡ count_by spec.is_red verdicts.now }
+{
+    verdicts.iter().filter(|v| is_red(*v)).count()
+}
+
+/// Returns the number of yellow frames that the meter refused.
+fn count_yellow_dropped(verdicts: &[Verdict]) -> usize
+    ensures { result ≡ count_by spec.is_yellow_dropped verdicts.now }
+{
+    verdicts.iter().filter(|v| is_yellow_dropped(*v)).count()
+}
+
+/// Returns the number of copies that found their queue full.
+fn count_full(drops: &[Dropped]) -> usize
+    ensures { result ≡ count_by spec.is_full drops.now }
+{
+    drops.iter().filter(|d| is_full(*d)).count()
+}
+
+/// Returns the number of copies dropped because they fit at no time.
+fn count_never_fits(drops: &[Dropped]) -> usize
+    ensures { result ≡ count_by spec.never_fits drops.now }
+{
+    drops.iter().filter(|d| never_fits(*d)).count()
+}
+
+/// Returns the number of copies that left by ports without next hop: the hop delivered them.
+fn count_delivered(ways: &[bool], departures: &[Departure]) -> usize
+    ensures { result ≡ count_by (spec.is_delivery ways.now) departures.now }
+{
+    departures
+        .iter()
+        .filter(|d| !is_onward(ways, d.port))
+        .count()
+}
+
+/// Returns the counts of a hop from its record. `ways` has for each port whether it leads to a hop; callers with `ways` save its
+/// computation.
+pub(crate) fn counts_by_ports<A: Allocator>(ways: &[bool], view: &View<A>) -> HopCounts
+    ensures { result ≡ spec.counts_by_ports ways.now view.now }
+{
+    let verdicts = &view.verdicts;
+    let drops = &view.drops;
+    let departures = &view.departures;
+    HopCounts {
+        frames: view.origins.len() as u64,
+        delivered: count_delivered(ways, departures) as u64,
+        blocked: count_blocked(verdicts) as u64,
+        oversize: count_oversize(verdicts) as u64,
+        gate_closed: count_gate_closed(verdicts) as u64,
+        shut_rx: count_shut_rx(verdicts) as u64,
+        shut_octets: count_shut_octets(verdicts) as u64,
+        octets_exceeded: count_octets_exceeded(verdicts) as u64,
+        red: count_red(verdicts) as u64,
+        yellow_dropped: count_yellow_dropped(verdicts) as u64,
+        full: count_full(drops) as u64,
+        never: count_never_fits(drops) as u64,
+    }
+}
+
+/// Returns the counts of a hop of the stream with these hops. The links decide which ports lead to a next hop.
+pub fn hop_counts<A: Allocator + Copy>(
+    alloc: A,
+    links: &[Link],
+    hops: &[HopRun<'_, A>],
+    hop: &HopRun<'_, A>,
+) -> Result<HopCounts, NoMemory>
+    ensures { IfOk result (λ counts. (ways : List Bool) × AreOnwardPorts links.now hops.now hop.now.bridge ways
+        × (counts ≡ spec.counts_by_ports ways hop.now.view.now)) }
+{
+    let ways = onward_ports(alloc, links, hops, hop.bridge)?;
+    Ok(counts_by_ports(&ways, hop.view))
+}
+
+/// Appends the delay of a copy to `delays` if it was delivered and its source frame is known.
+fn push_delay<A: Allocator>(
+    delays: &mut Vec<u64, A>,
+    ways: &[bool],
+    roots: &[Option<SourceFrame>],
+    departure: &Departure,
+) -> Result<(), NoMemory>
+    ensures { OnOk result (delays.new.items ≡ delays.old.items ++ spec.delay_of ways.now roots.now departure.now) }
+{
+    if is_onward(ways, departure.port) {
+        return Ok(());
+    }
+    if let Some(root) = source_frame(roots, departure.own) {
+        delays.push(departure.done.saturating_sub(root.came))?;
+    }
+    Ok(())
+}
+
+/// Returns the delays in ns of the copies that left by ports without next hop, in the order of leaving.
+pub(crate) fn departure_delays<A: Allocator + Copy>(
+    alloc: A,
+    ways: &[bool],
+    roots: &[Option<SourceFrame>],
+    departures: &[Departure],
+) -> Result<Vec<u64, A>, NoMemory>
+    ensures { IfOk result (λ delays. delays.items ≡ spec.departure_delays ways.now roots.now departures.now) }
+{
+    let mut delays = Vec::new(alloc);
+    for departure in departures {
+        push_delay(&mut delays, ways, roots, departure)?;
+    }
+    Ok(delays)
+}

@@ -1,0 +1,432 @@
+//! Source frames: the first-hop frame from which each frame of each hop stems.
+ghost use Rattle.std.specs.Prelude.{◌≡◌, ◌<◌, ◌≤◌, ℕ, List, false, length, IfOk, OnOk};
+ghost use Rattle.net_model.specs.declared.links.Link.{Link};
+ghost use Rattle.net_model.specs.NetworkParts.{sender_value};
+ghost use Rattle.net_report.specs.Passes as passes;
+ghost use Rattle.net_report.specs.SourceFrames as spec;
+
+use crate::copy_counting::HopRun;
+use bridge_limits::NoMemory;
+use bridge_semantics::{Departure, Origin};
+use net_model::{Link, Sender, find_sender};
+use std::alloc::Allocator;
+
+/// A frame of a stream's first hop: its number there, from 1, and its arrival time in ns.
+#[derive(Clone, Copy)]
+pub struct SourceFrame {
+    pub number: u64,
+    pub came: u64,
+}
+
+/// Returns the sources of the first hop's frames: each frame is its own source.
+fn first_hop_sources<A: Allocator + Copy>(
+    alloc: A,
+    origins: &[Origin],
+) -> Result<Vec<Option<SourceFrame>, A>, NoMemory>
+    ensures { IfOk result (λ roots. spec.AreFirstHopSources origins.now roots.items) }
+{
+    let mut roots = Vec::with_capacity(alloc, origins.len())?;
+    for origin in origins {
+        let number = roots.len() as u64 + 1;
+        roots.push(Some(SourceFrame {
+            number,
+            came: origin.at,
+        }))?;
+    }
+    Ok(roots)
+}
+
+/// Returns one unknown source (`None`) for each of a hop's frames. Tracing replaces them.
+fn unknown_sources<A: Allocator + Copy>(
+    alloc: A,
+    origins: &[Origin],
+) -> Result<Vec<Option<SourceFrame>, A>, NoMemory>
+    ensures { IfOk result (λ roots. spec.AreOpen origins.now roots.items) }
+{
+    let mut roots = Vec::with_capacity(alloc, origins.len())?;
+    for origin in origins {
+        let _origin = origin;
+        roots.push(None)?;
+    }
+    Ok(roots)
+}
+
+/// Returns the initial sources of a hop's frames. Frames of the first hop are their own sources; for other hops all are `None`, unknown.
+fn initial_sources_of_hop<A: Allocator + Copy>(
+    alloc: A,
+    is_first: bool,
+    origins: &[Origin],
+) -> Result<Vec<Option<SourceFrame>, A>, NoMemory>
+    ensures { IfOk result (λ roots. spec.AreInitialSourcesOfHop is_first origins.now roots.items) }
+{
+    if is_first {
+        first_hop_sources(alloc, origins)
+    } else {
+        unknown_sources(alloc, origins)
+    }
+}
+
+/// Returns the initial sources of all hops' frames: only frames of the first hop have one. Tracing finds the others.
+fn initial_sources<A: Allocator + Copy>(
+    alloc: A,
+    hops: &[HopRun<'_, A>],
+) -> Result<Vec<Vec<Option<SourceFrame>, A>, A>, NoMemory>
+    ensures many { IfOk result (λ all. length all.items ≡ length hops.now) }
+    ensures begun { IfOk result (λ all. spec.AreInitialSources hops.now all.items) }
+    ensures first { IfOk result (λ all. spec.AreFirstHopFramesKnown hops.now all.items) }
+    ensures each { IfOk result (λ all. spec.HaveEach hops.now all.items) }
+{
+    let mut all = Vec::with_capacity(alloc, hops.len())?;
+    for place in 0..hops.len() {
+        let view = hops[place].view;
+        let roots = initial_sources_of_hop(alloc, place == 0, &view.origins)?;
+        all.push(roots)?;
+    }
+    Ok(all)
+}
+
+/// Whether a copy left by this port and arrives over its link, `delay` ns after its end, at time `at` or later.
+fn is_due(departure: &Departure, port: u8, delay: u64, at: u64) -> bool
+    ensures { result ≡ spec.is_due port delay at departure.now }
+{
+    departure.port == port && at as u128 <= departure.done as u128 + delay as u128
+}
+
+/// Returns the copies from the first one on that left by this port and arrives over its link at time `at` or later. Earlier copies are
+/// skipped.
+fn due_departures(departures: &[Departure], port: u8, delay: u64, at: u64) -> &[Departure]
+    ensures { result.now ≡ spec.due_departures port delay at departures.entry.now }
+{
+    let mut left = departures;
+    while let Some((first, rest)) = left.split_first() {
+        if is_due(first, port, delay, at) {
+            return left;
+        }
+        left = rest;
+    }
+    left
+}
+
+/// Returns the source of a hop's frame with number `own`, from 1. Returns `None` if the frame is missing or its source unknown.
+pub fn source_frame(roots: &[Option<SourceFrame>], own: u64) -> Option<SourceFrame>
+    ensures { result ≡ spec.source_frame roots.now own }
+{
+    if own == 0 {
+        return None;
+    }
+    match roots.get((own - 1) as usize) {
+        Some(root) => *root,
+        None => None,
+    }
+}
+
+/// Returns the source of the first copy if it arrives over the link exactly at time `at`, otherwise `None`.
+fn source_over_link(
+    roots: &[Option<SourceFrame>],
+    departures: &[Departure],
+    delay: u64,
+    at: u64,
+) -> Option<SourceFrame>
+    ensures { result ≡ spec.source_over_link roots.now delay at departures.now }
+{
+    match departures.first() {
+        None => None,
+        Some(first) => {
+            if first.done as u128 + delay as u128 == at as u128 {
+                source_frame(roots, first.own)
+            } else {
+                None
+            }
+        }
+    }
+}
+
+/// Returns the copies from the first one that arrives at time `at` or later. Continues in `left` if `at` isn't before `since`, otherwise
+/// searches all copies again.
+fn resume_due_departures<'a>(
+    sender: Sender,
+    sent: &'a [Departure],
+    left: &'a [Departure],
+    since: u64,
+    at: u64,
+) -> &'a [Departure]
+    requires { spec.IsRestEnough (sender_value sender) sent.now left.now since }
+    ensures { result.now ≡ spec.due_departures sender.from.port sender.delay at sent.entry.now }
+{
+    if at < since {
+        return due_departures(sent, sender.from.port, sender.delay, at);
+    }
+    due_departures(left, sender.from.port, sender.delay, at)
+}
+
+/// Returns a frame's source after tracing, the copies left for later frames, and the time from which they are enough. Later frames of the
+/// port then don't search all copies again.
+fn trace_frame<'a>(
+    sender: Sender,
+    sent: &'a [Departure],
+    left: &'a [Departure],
+    since: u64,
+    sent_roots: &[Option<SourceFrame>],
+    port: u8,
+    origin: &Origin,
+    root: Option<SourceFrame>,
+) -> (Option<SourceFrame>, &'a [Departure], u64)
+    requires { spec.IsRestEnough (sender_value sender) sent.now left.now since }
+    ensures root { result.0 ≡ spec.source_after_tracing (sender_value sender) sent.entry.now sent_roots.now port
+        origin.now root }
+    ensures left { spec.IsRestEnough (sender_value sender) sent.entry.now result.1.now result.2 }
+{
+    if origin.port != port {
+        return (root, left, since);
+    }
+    let due = resume_due_departures(sender, sent, left, since, origin.at);
+    if root.is_some() {
+        return (root, due, origin.at);
+    }
+    (
+        source_over_link(sent_roots, due, sender.delay, origin.at),
+        due,
+        origin.at,
+    )
+}
+
+/// Returns the sources of a hop's frames after tracing the frames from another hop on this port.
+fn trace_from_sender<A: Allocator + Copy>(
+    alloc: A,
+    sender: Sender,
+    sent: &[Departure],
+    sent_roots: &[Option<SourceFrame>],
+    port: u8,
+    origins: &[Origin],
+    roots: &[Option<SourceFrame>],
+) -> Result<Vec<Option<SourceFrame>, A>, NoMemory>
+    ensures { IfOk result (λ made. spec.AreTraced
+        (sender_value sender) sent.now sent_roots.now port origins.now roots.now made.items) }
+{
+    let mut made = Vec::with_capacity(alloc, roots.len())?;
+    let mut left = sent;
+    let mut since = 0u64;
+    for place in 0..roots.len() {
+        if place >= origins.len() {
+            return Ok(made);
+        }
+        let (root, due, at) = trace_frame(
+            sender,
+            sent,
+            left,
+            since,
+            sent_roots,
+            port,
+            &origins[place],
+            roots[place],
+        );
+        left = due;
+        since = at;
+        made.push(root)?;
+    }
+    Ok(made)
+}
+
+/// Whether a source is known in `new` that was unknown in `old`.
+fn has_new_source(old: &[Option<SourceFrame>], new: &[Option<SourceFrame>]) -> bool
+    ensures { result ≡ false → spec.AddsNoSource old.now new.now }
+{
+    for place in 0..new.len() {
+        if place < old.len() && old[place].is_none() && new[place].is_some() {
+            return true;
+        }
+    }
+    false
+}
+
+/// Traces the frames that arrived at a port of hop `place` from hop `other`, and updates `all`. Returns whether more sources are known.
+fn trace_pair<A: Allocator + Copy>(
+    alloc: A,
+    hops: &[HopRun<'_, A>],
+    all: &mut Vec<Vec<Option<SourceFrame>, A>, A>,
+    place: usize,
+    other: usize,
+    port: u8,
+    sender: Sender,
+) -> Result<bool, NoMemory>
+    requires place { place < length hops.now }
+    requires other { other < length hops.now }
+    requires many { length all.old.items ≡ length hops.now }
+    ensures many { OnOk result (length all.new.items ≡ length hops.now) }
+    ensures sound { OnOk result ((links : List Link)
+        → spec.IsSenderOfPort links hops.now place port (sender_value sender)
+        → spec.AreSound links hops.now all.old.items → spec.AreSound links hops.now all.new.items) }
+    ensures same { IfOk result (λ more. more ≡ false → all.new ≡ all.old) }
+    ensures exhausted { IfOk result (λ more. more ≡ false
+        → spec.IsPairExhausted hops.now all.old.items (sender_value sender) place port other) }
+    ensures traced { OnOk result ((links : List Link)
+        → spec.IsSenderOfPort links hops.now place port (sender_value sender)
+        → spec.AreSound links hops.now all.old.items → passes.contents all.new.items
+        ≡ passes.pair_step (passes.traces hops.now) (sender_value sender) place port other
+        (passes.contents all.old.items)) }
+{
+    if hops[other].bridge != sender.from.bridge as usize {
+        return Ok(false);
+    }
+    let sent = hops[other].view;
+    let came = hops[place].view;
+    let made = trace_from_sender(
+        alloc,
+        sender,
+        &sent.departures,
+        &all[other],
+        port,
+        &came.origins,
+        &all[place],
+    )?;
+    if !has_new_source(&all[place], &made) {
+        return Ok(false);
+    }
+    all[place] = made;
+    Ok(true)
+}
+
+/// Whether at least one of two values is true. Loops fold by it whether a pass found more sources.
+fn either(one: bool, other: bool) -> bool
+    ensures one { result ≡ false → one ≡ false }
+    ensures other { result ≡ false → other ≡ false }
+{
+    one || other
+}
+
+/// Traces the frames that arrived at a port of hop `place` from all hops of the sending bridge. Returns whether more sources are known.
+fn trace_sender<A: Allocator + Copy>(
+    alloc: A,
+    hops: &[HopRun<'_, A>],
+    all: &mut Vec<Vec<Option<SourceFrame>, A>, A>,
+    place: usize,
+    port: u8,
+    sender: Sender,
+) -> Result<bool, NoMemory>
+    requires place { place < length hops.now }
+    requires many { length all.old.items ≡ length hops.now }
+    ensures many { OnOk result (length all.new.items ≡ length hops.now) }
+    ensures sound { OnOk result ((links : List Link)
+        → spec.IsSenderOfPort links hops.now place port (sender_value sender)
+        → spec.AreSound links hops.now all.old.items → spec.AreSound links hops.now all.new.items) }
+    ensures same { IfOk result (λ more. more ≡ false → all.new ≡ all.old) }
+    ensures exhausted { IfOk result (λ more. more ≡ false → (j : ℕ) → j < length hops.now
+        → spec.IsPairExhausted hops.now all.old.items (sender_value sender) place port j) }
+    ensures traced { OnOk result ((links : List Link)
+        → spec.IsSenderOfPort links hops.now place port (sender_value sender)
+        → spec.AreSound links hops.now all.old.items → passes.contents all.new.items
+        ≡ passes.sender_step (passes.traces hops.now) (sender_value sender) place port
+        (passes.contents all.old.items)) }
+{
+    let mut more = false;
+    for other in 0..hops.len() {
+        let found = trace_pair(alloc, hops, all, place, other, port, sender)?;
+        more = either(more, found);
+    }
+    Ok(more)
+}
+
+/// Traces the frames that arrived at a port of hop `place` over its link. Returns whether more sources are known.
+fn trace_port<A: Allocator + Copy>(
+    alloc: A,
+    links: &[Link],
+    hops: &[HopRun<'_, A>],
+    all: &mut Vec<Vec<Option<SourceFrame>, A>, A>,
+    place: usize,
+    port: u8,
+) -> Result<bool, NoMemory>
+    requires place { place < length hops.now }
+    requires many { length all.old.items ≡ length hops.now }
+    ensures many { OnOk result (length all.new.items ≡ length hops.now) }
+    ensures sound { OnOk result (spec.AreSound links.now hops.now all.old.items
+        → spec.AreSound links.now hops.now all.new.items) }
+    ensures same { IfOk result (λ more. more ≡ false → all.new ≡ all.old) }
+    ensures exhausted { IfOk result (λ more. more ≡ false
+        → spec.IsPortExhausted links.now hops.now all.old.items place port) }
+    ensures traced { OnOk result (spec.AreSound links.now hops.now all.old.items → passes.contents all.new.items
+        ≡ passes.port_step links.now (passes.traces hops.now) place port (passes.contents all.old.items)) }
+{
+    match find_sender(links, hops[place].bridge, port) {
+        Some(sender) => {
+            let more = trace_sender(alloc, hops, all, place, port, sender)?;
+            Ok(more)
+        }
+        None => Ok(false),
+    }
+}
+
+/// Traces the frames that arrived at hop `place` over links. Returns whether more sources are known.
+fn trace_hop<A: Allocator + Copy>(
+    alloc: A,
+    links: &[Link],
+    hops: &[HopRun<'_, A>],
+    all: &mut Vec<Vec<Option<SourceFrame>, A>, A>,
+    place: usize,
+) -> Result<bool, NoMemory>
+    requires place { place < length hops.now }
+    requires many { length all.old.items ≡ length hops.now }
+    ensures many { OnOk result (length all.new.items ≡ length hops.now) }
+    ensures sound { OnOk result (spec.AreSound links.now hops.now all.old.items
+        → spec.AreSound links.now hops.now all.new.items) }
+    ensures same { IfOk result (λ more. more ≡ false → all.new ≡ all.old) }
+    ensures exhausted { IfOk result (λ more. more ≡ false → (q : ℕ) → 1 ≤ q → q < 17
+        → spec.IsPortExhausted links.now hops.now all.old.items place q) }
+    ensures traced { OnOk result (spec.AreSound links.now hops.now all.old.items → passes.contents all.new.items
+        ≡ passes.hop_step links.now (passes.traces hops.now) place (passes.contents all.old.items)) }
+{
+    let mut more = false;
+    for port in 1..17u8 {
+        let found = trace_port(alloc, links, hops, all, place, port)?;
+        more = either(more, found);
+    }
+    Ok(more)
+}
+
+/// Traces the frames that arrived at each hop over links: one pass. Returns whether more sources are known; then another pass may find
+/// more.
+fn trace_all<A: Allocator + Copy>(
+    alloc: A,
+    links: &[Link],
+    hops: &[HopRun<'_, A>],
+    all: &mut Vec<Vec<Option<SourceFrame>, A>, A>,
+) -> Result<bool, NoMemory>
+    requires many { length all.old.items ≡ length hops.now }
+    ensures many { OnOk result (length all.new.items ≡ length hops.now) }
+    ensures sound { OnOk result (spec.AreSound links.now hops.now all.old.items
+        → spec.AreSound links.now hops.now all.new.items) }
+    ensures same { IfOk result (λ more. more ≡ false → all.new ≡ all.old) }
+    ensures exhausted { IfOk result (λ more. more ≡ false → spec.AreExhausted links.now hops.now all.old.items) }
+    ensures traced { OnOk result (spec.AreSound links.now hops.now all.old.items → passes.contents all.new.items
+        ≡ passes.pass links.now (passes.traces hops.now) (passes.contents all.old.items)) }
+{
+    let mut more = false;
+    for place in 0..hops.len() {
+        let found = trace_hop(alloc, links, hops, all, place)?;
+        more = either(more, found);
+    }
+    Ok(more)
+}
+
+/// Returns the source of each frame of each hop. A frame that arrived over a link has the source of the copy that was sent one delay
+/// before. Only the first hop's index matters.
+pub fn trace_source_frames<A: Allocator + Copy>(
+    alloc: A,
+    links: &[Link],
+    hops: &[HopRun<'_, A>],
+) -> Result<Vec<Vec<Option<SourceFrame>, A>, A>, NoMemory>
+    ensures many { IfOk result (λ all. length all.items ≡ length hops.now) }
+    ensures from { IfOk result (λ all. spec.HaveSources links.now hops.now all.items) }
+    ensures first { IfOk result (λ all. spec.AreFirstHopFramesKnown hops.now all.items) }
+    ensures each { IfOk result (λ all. spec.HaveEach hops.now all.items) }
+    ensures exhausted { IfOk result (λ all. spec.AreExhausted links.now hops.now all.items) }
+    ensures traced { IfOk result (λ all. passes.IsTraced links.now (passes.traces hops.now)
+        (passes.contents all.items)) }
+{
+    let mut all = initial_sources(alloc, hops)?;
+    for _ in 0..u64::MAX {
+        if !trace_all(alloc, links, hops, &mut all)? {
+            return Ok(all);
+        }
+    }
+    Err(NoMemory)
+}

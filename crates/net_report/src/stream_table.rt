@@ -1,0 +1,219 @@
+//! The table of streams: counts and delays of each stream and each of its hops.
+ghost use Rattle.std.specs.Prelude.{◌≡◌, IfOk, string_bytes, sum_by, ◌++◌, decimal};
+ghost use Rattle.bridge_text.specs.Growth.{HasGrown};
+ghost use Rattle.net_report.specs.StreamTable as spec;
+ghost use Rattle.net_report.specs.CopyCounts.{astray};
+
+use crate::copy_counting::CopyCounts;
+use crate::hop_counting::HopCounts;
+use crate::statistics::DelayStatistics;
+use bridge_limits::NoMemory;
+use bridge_text::TextBuilder;
+use std::alloc::Allocator;
+
+/// First line of the table `streams.csv`. A row belongs to a stream (hop `all`) or to a hop. Delays, bounds and deadlines are in ns. The
+/// column `met` is `none` if no frame arrived.
+pub const STREAMS_HEADER: &str =
+    "stream,hop,frames,delivered,lost,blocked,oversize,gate-closed,shut-rx,shut-octets,octets-exceeded,red,yellow-dropped,full,never,astray,least,mean,greatest,jitter,bound,deadline,met\n";
+
+/// Writes least, mean and greatest delay and jitter in ns, or empty fields without a delay.
+fn put_statistics<A: Allocator>(text: &mut TextBuilder<A>, figures: Option<DelayStatistics>)
+    ensures { HasGrown text.old (spec.statistics_words figures) text.new }
+{
+    match figures {
+        Some(
+            DelayStatistics {
+                least,
+                mean,
+                greatest,
+                jitter,
+            },
+        ) => {
+            put_number_with_suffix(text, least, ",");
+            put_wide_with_suffix(text, mean, ",");
+            put_number_with_suffix(text, greatest, ",");
+            put_number_with_suffix(text, jitter, ",");
+        }
+        None => text.put(",,,,"),
+    }
+}
+
+/// Returns the number of frames and copies that a hop lost.
+fn lost_copies(counts: &HopCounts) -> u128
+    ensures { result ≡ spec.lost_copies counts.now }
+{
+    let refused = counts.blocked as u128 + counts.oversize as u128 + counts.gate_closed as u128;
+    let shut = counts.shut_rx as u128 + counts.shut_octets as u128;
+    let metered = counts.octets_exceeded as u128 + counts.red as u128;
+    let dropped = counts.yellow_dropped as u128 + counts.full as u128 + counts.never as u128;
+    refused + shut + metered + dropped
+}
+
+/// Writes the number of losses at a hop for each cause.
+fn put_loss_causes<A: Allocator>(text: &mut TextBuilder<A>, counts: &HopCounts)
+    ensures { HasGrown text.old (spec.reason_words counts.now) text.new }
+{
+    put_number_with_suffix(text, counts.blocked, ",");
+    put_number_with_suffix(text, counts.oversize, ",");
+    put_number_with_suffix(text, counts.gate_closed, ",");
+    put_number_with_suffix(text, counts.shut_rx, ",");
+    put_number_with_suffix(text, counts.shut_octets, ",");
+    put_number_with_suffix(text, counts.octets_exceeded, ",");
+    put_number_with_suffix(text, counts.red, ",");
+    put_number_with_suffix(text, counts.yellow_dropped, ",");
+    put_number_with_suffix(text, counts.full, ",");
+    put_number_with_suffix(text, counts.never, ",");
+}
+
+/// Writes the beginning of a hop's row, up to the number of its losses.
+fn put_hop_start<A: Allocator>(
+    text: &mut TextBuilder<A>,
+    stream: &str,
+    hop: &str,
+    counts: &HopCounts,
+)
+    ensures { HasGrown text.old (spec.hop_start stream.now hop.now counts.now) text.new }
+{
+    text.put(stream);
+    text.put(",");
+    text.put(hop);
+    text.put(",");
+    put_number_with_suffix(text, counts.frames, ",");
+    put_number_with_suffix(text, counts.delivered, ",");
+    put_wide_with_suffix(text, lost_copies(counts), ",");
+}
+
+/// Returns the row of a hop in `streams.csv`. `figures` is `None` if the hop delivered no copy.
+pub fn hop_line<A: Allocator + Copy>(
+    alloc: A,
+    stream: &str,
+    hop: &str,
+    counts: &HopCounts,
+    figures: Option<DelayStatistics>,
+) -> Result<String<A>, NoMemory>
+    ensures { IfOk result (λ text. string_bytes text ≡ spec.hop_line stream.now hop.now counts.now figures) }
+{
+    let mut text = TextBuilder::new(alloc);
+    put_hop_start(&mut text, stream, hop, counts);
+    put_loss_causes(&mut text, counts);
+    text.put(",");
+    put_statistics(&mut text, figures);
+    text.put(",,\n");
+    text.finish()
+}
+
+/// Returns the number of delivered frames: a copy was delivered, and none was lost.
+pub fn delivered_frames(tallies: &[CopyCounts]) -> usize
+    ensures { result ≡ spec.delivered_frames tallies.now }
+{
+    tallies.iter().filter(|tally| tally.is_delivered()).count()
+}
+
+/// Returns the number of astray copies of all frames of a stream.
+pub(crate) fn total_astray(tallies: &[CopyCounts]) -> u128
+    ensures { result ≡ sum_by astray tallies.now }
+{
+    tallies.iter().map(|tally| u128::from(tally.astray())).sum()
+}
+
+/// Writes the beginning of a stream's row, up to the fields that only hops have: these are empty, except astray copies.
+fn put_stream_start<A: Allocator>(text: &mut TextBuilder<A>, stream: &str, tallies: &[CopyCounts])
+    ensures { HasGrown text.old (spec.stream_start stream.now tallies.now) text.new }
+{
+    let frames = tallies.len();
+    let delivered = delivered_frames(tallies);
+    text.put(stream);
+    text.put(",all,");
+    put_number_with_suffix(text, frames as u64, ",");
+    put_number_with_suffix(text, delivered as u64, ",");
+    put_number_with_suffix(text, frames.saturating_sub(delivered) as u64, ",,,,,,,,,,,");
+    put_wide_with_suffix(text, total_astray(tallies), ",");
+}
+
+/// Whether no copy's delay exceeds a deadline. Returns true if no copy was delivered.
+fn is_below_deadline(figures: Option<DelayStatistics>, deadline: u64) -> bool
+    ensures { result ≡ spec.is_below_deadline figures deadline }
+{
+    match figures {
+        Some(figures) => figures.greatest <= deadline,
+        None => true,
+    }
+}
+
+/// Whether all frames of a stream were delivered, and no copy's delay exceeds a deadline.
+fn is_deadline_met(tallies: &[CopyCounts], figures: Option<DelayStatistics>, deadline: u64) -> bool
+    ensures { result ≡ spec.is_deadline_met tallies.now figures deadline }
+{
+    delivered_frames(tallies) == tallies.len() && is_below_deadline(figures, deadline)
+}
+
+/// Returns the word, after a comma, for a stream without frames, or whose deadline was met or missed.
+fn met_word(is_silent: bool, met: bool) -> &'static str
+    ensures { result.now ≡ spec.met_word is_silent met }
+{
+    if is_silent {
+        ",none"
+    } else if met {
+        ",met"
+    } else {
+        ",missed"
+    }
+}
+
+/// Writes a deadline and whether it was met, or empty fields.
+fn put_deadline<A: Allocator>(
+    text: &mut TextBuilder<A>,
+    tallies: &[CopyCounts],
+    figures: Option<DelayStatistics>,
+    deadline: Option<u64>,
+)
+    ensures { HasGrown text.old (spec.deadline_words tallies.now figures deadline) text.new }
+{
+    match deadline {
+        Some(deadline) => {
+            let met = is_deadline_met(tallies, figures, deadline);
+            put_number_with_suffix(text, deadline, met_word(tallies.len() == 0, met))
+        }
+        None => text.put(","),
+    }
+}
+
+/// Returns the row of a whole stream in `streams.csv`. `figures` is `None` if no copy was delivered.
+pub fn stream_line<A: Allocator + Copy>(
+    alloc: A,
+    stream: &str,
+    tallies: &[CopyCounts],
+    figures: Option<DelayStatistics>,
+    bound: u128,
+    deadline: Option<u64>,
+) -> Result<String<A>, NoMemory>
+    ensures { IfOk result (λ text. string_bytes text ≡ spec.stream_line stream.now tallies.now figures bound deadline) }
+{
+    let mut text = TextBuilder::new(alloc);
+    put_stream_start(&mut text, stream, tallies);
+    put_statistics(&mut text, figures);
+    put_wide_with_suffix(&mut text, bound, ",");
+    put_deadline(&mut text, tallies, figures, deadline);
+    text.put("\n");
+    text.finish()
+}
+
+/// Writes a number and a suffix, such as the comma after a field.
+pub(crate) fn put_number_with_suffix<A: Allocator>(
+    text: &mut TextBuilder<A>,
+    number: u64,
+    end: &str,
+)
+    ensures { HasGrown text.old (decimal number ++ end.now) text.new }
+{
+    text.put_number(number);
+    text.put(end);
+}
+
+/// Writes a number of 128 bits and a suffix, such as the comma after a field.
+pub(crate) fn put_wide_with_suffix<A: Allocator>(text: &mut TextBuilder<A>, number: u128, end: &str)
+    ensures { HasGrown text.old (decimal number ++ end.now) text.new }
+{
+    text.put_integer(number);
+    text.put(end);
+}

@@ -1,9 +1,0 @@
-use Rattle.std.proofs.Common.{length}
-use Rattle.net_run.proofs.Later.{IsAdding}
-use Rattle.net_run.proofs.delaying.add_all.Given as goal
-
-abbrev pub invariant-loop-rest : goal.invariant-loop-rest
-invariant-loop-rest g l = IsAdding l.delay l.initial.left l.initial.text.items l.left l.text.items
-
-abbrev pub decreases-loop-rest : goal.decreases-loop-rest
-decreases-loop-rest g l = length l.left

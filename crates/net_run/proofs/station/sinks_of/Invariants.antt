@@ -1,9 +1,0 @@
-use Rattle.std.proofs.Common.{◌≡◌, [], length}
-use Rattle.std.specs.Prelude.{All}
-use Rattle.net_run.proofs.station.sinks_of.Given as goal
-
-abbrev pub invariant-loop-place : goal.invariant-loop-place
-invariant-loop-place g l = record {
-  many : length l.sinks.items ≡ l.place;
-  empty : All (λ d. d.octets ≡ []) l.sinks.items;
-}

@@ -1,0 +1,374 @@
+//! A bridge in a network run: its inputs and its sent frames.
+ghost use Rattle.std.specs.Prelude.{◌≡◌, ◌≢◌, ◌+◌, ◌<◌, ℕ, All, List, [], Some, is_some, length, map, option_map, slice_get, slice_set, IfOk, IfErr, OnOk, Ok, true, false};
+ghost use Rattle.bridge_capture.specs.Memory.{is_unfailing_source};
+ghost use Rattle.bridge_config.specs.Commands.{AreCommands};
+ghost use Rattle.bridge_core.specs.WholeRuns.{ArePortNumbers};
+ghost use Rattle.net_model.specs.Networks as networks;
+ghost use Rattle.net_run.specs.BridgeRuns.{HasCompleteRun, HasRun, IsInitialRun, IsBridgeInput, IsBridgeRun, NoInput, NoInputBeforeIndex, RunsBridge, StopsBridge, constant_part, as_memory_fault, open_texts, sender_values, sink_octets, text_of_port, text_octets};
+ghost use Rattle.net_model.specs.NetworkParts.{link_value, sender_value};
+
+use bridge_capture::{RunFault, SliceSource, VecSink};
+use bridge_check::Accepted;
+use bridge_config::Command;
+use bridge_core::simulate;
+use bridge_limits::NoMemory;
+use bridge_semantics::Outcome;
+use net_model::{Link, Sender, find_sender};
+use std::alloc::Allocator;
+use std::marker::Model;
+
+/// Returns one source over each capture, by rising port number: `bridge_core` reads captures by sources.
+fn capture_sources<'a, A: Allocator + Copy>(
+    alloc: A,
+    texts: &'a [Vec<u8, A>],
+) -> Result<Vec<SliceSource<'a>, A>, NoMemory>
+    ensures texts { IfOk result (λ sources. sink_octets sources.items ≡ text_octets texts.entry.now) }
+    ensures sure { IfOk result (λ sources. All (λ d. is_unfailing_source d ≡ true) sources.items) }
+{
+    let mut sources = Vec::with_capacity(alloc, texts.len())?;
+    for text in texts {
+        sources.push(SliceSource::new(text))?;
+    }
+    Ok(sources)
+}
+
+/// Returns `count` empty sinks in memory, one for each port's sent frames.
+fn empty_sinks<A: Allocator + Copy>(alloc: A, count: usize) -> Result<Vec<VecSink<A>, A>, NoMemory>
+    ensures many { IfOk result (λ sinks. length sinks.items ≡ count) }
+    ensures empty { IfOk result (λ sinks. All (λ d. d.octets ≡ []) sinks.items) }
+{
+    let mut sinks = Vec::with_capacity(alloc, count)?;
+    for place in 0..count {
+        let _place = place;
+        sinks.push(VecSink::new(alloc))?;
+    }
+    Ok(sinks)
+}
+
+/// Everything that a bridge's run yields: its result, and the captures of the frames that its ports sent, by rising port number.
+#[derive(Drop)]
+pub(crate) struct RunOutput<A: Allocator + Copy> {
+    outcome: Outcome<A>,
+    taps: Vec<VecSink<A>, A>,
+}
+
+/// Runs the bridge of an accepted plan over these commands and captures, one for each port by rising number.
+pub(crate) fn run_bridge<A: Allocator + Copy>(
+    alloc: A,
+    accepted: &Accepted<A>,
+    ports: &[u8],
+    commands: &[Command],
+    texts: &[Vec<u8, A>],
+) -> Result<RunOutput<A>, RunFault>
+    requires numbers { ArePortNumbers accepted.now ports.now }
+    requires commands { AreCommands accepted.now commands.now }
+    requires texts { length texts.now ≡ length ports.now }
+    ensures runs { IfOk result (λ ran. RunsBridge accepted.now ports.now commands.now (text_octets texts.now)
+        (sink_octets ran.taps.items) ran.outcome) }
+    ensures many { IfOk result (λ ran. length ran.taps.items ≡ length ports.now) }
+    ensures stops { IfErr result (StopsBridge accepted.now ports.now commands.now (text_octets texts.now)) }
+{
+    let Ok(mut sources) = capture_sources(alloc, texts) else {
+        return Err(RunFault::NoMemory);
+    };
+    let Ok(mut sinks) = empty_sinks(alloc, ports.len()) else {
+        drop(sources);
+        return Err(RunFault::NoMemory);
+    };
+    let ran = simulate(alloc, accepted, commands, &mut sources, &mut sinks);
+    drop(sources);
+    match ran {
+        Ok(outcome) => Ok(RunOutput {
+            outcome,
+            taps: sinks,
+        }),
+        Err(fault) => {
+            drop(sinks);
+            Err(as_memory_fault(fault))
+        }
+    }
+}
+
+/// Returns `NoMemory` for a write fault: a sink in memory fails only if memory runs out. Returns every other fault unchanged.
+fn as_memory_fault(fault: RunFault) -> RunFault
+    ensures { result ≡ as_memory_fault fault }
+{
+    match fault {
+        RunFault::Write { .. } => RunFault::NoMemory,
+        fault => fault,
+    }
+}
+
+/// Returns the capture of the frames that a port sent. Returns no octets if the port is missing or the bridge hasn't run.
+fn find_port_capture<'a, A: Allocator + Copy>(
+    ports: &[u8],
+    taps: &'a [VecSink<A>],
+    port: u8,
+) -> &'a [u8]
+    ensures { result.now ≡ text_of_port ports.now (sink_octets taps.entry.now) port }
+{
+    for place in 0..ports.len() {
+        if place >= taps.len() {
+            return &[];
+        }
+        if ports[place] == port {
+            return taps[place].octets();
+        }
+    }
+    &[]
+}
+
+/// Input of one bridge of a network from outside: its commands, and a capture for each port.
+#[derive(Drop)]
+pub struct BridgeInput<A: Allocator> {
+    /// Commands by rising time.
+    pub commands: Vec<Command, A>,
+    /// Captures for each port by rising number. The run doesn't read the captures of linked ports.
+    pub captures: Vec<Vec<u8, A>, A>,
+}
+
+/// Whether a port of the bridge with index `bridge`, from 0, has a link.
+pub fn is_linked(links: &[Link], bridge: usize, port: u8) -> bool
+    ensures { result ≡ is_some (networks.sender (map link_value links.now) bridge port) }
+{
+    find_sender(links, bridge, port).is_some()
+}
+
+/// Returns for each port of a bridge the port that sends to it over a link, or `None` for an open port.
+fn port_senders<A: Allocator + Copy>(
+    alloc: A,
+    links: &[Link],
+    bridge: usize,
+    ports: &[u8],
+) -> Result<Vec<Option<Sender>, A>, NoMemory>
+    ensures { IfOk result (λ senders. sender_values senders.items
+        ≡ map (networks.sender (map link_value links.now) bridge) ports.now) }
+{
+    let mut senders = Vec::with_capacity(alloc, ports.len())?;
+    for port in ports {
+        senders.push(find_sender(links, bridge, *port))?;
+    }
+    Ok(senders)
+}
+
+/// Capture without frames: only the 24 octets of a header.
+const EMPTY_CAPTURE: [u8; 24] = [
+    0x4d, 0x3c, 0xb2, 0xa1, 2, 0, 4, 0, 0, 0, 0, 0, 0, 0, 0, 0, 0xff, 0xff, 0, 0, 1, 0, 0, 0,
+];
+
+/// Replaces the capture of the port with index `place` by a capture without frames if the port has a link. In the first round no frame has
+/// arrived over a link.
+fn clear_linked_port<A: Allocator + Copy>(
+    alloc: A,
+    senders: &[Option<Sender>],
+    place: usize,
+    texts: Vec<Vec<u8, A>, A>,
+) -> Result<Vec<Vec<u8, A>, A>, NoMemory>
+    requires place { place < length senders.now }
+    requires many { length texts.items ≡ length senders.now }
+    ensures many { IfOk result (λ new. length new.items ≡ length senders.now) }
+    ensures from_outside { IfOk result (λ new. open_texts (sender_values senders.now) (text_octets new.items)
+        ≡ open_texts (sender_values senders.now) (text_octets texts.items)) }
+    ensures empty { IfOk result (λ new. NoInputBeforeIndex place (sender_values senders.now) (text_octets texts.items)
+        → NoInputBeforeIndex (place + 1) (sender_values senders.now) (text_octets new.items)) }
+{
+    let Some(_) = senders[place] else {
+        return Ok(texts);
+    };
+    let mut texts = texts;
+    texts[place] = Vec::from_slice(alloc, &EMPTY_CAPTURE)?;
+    Ok(texts)
+}
+
+/// Replaces the captures of all linked ports by captures without frames.
+fn clear_linked_ports<A: Allocator + Copy>(
+    alloc: A,
+    senders: &[Option<Sender>],
+    texts: Vec<Vec<u8, A>, A>,
+) -> Result<Vec<Vec<u8, A>, A>, NoMemory>
+    requires { length texts.items ≡ length senders.now }
+    ensures many { IfOk result (λ new. length new.items ≡ length senders.now) }
+    ensures from_outside { IfOk result (λ new. open_texts (sender_values senders.now) (text_octets new.items)
+        ≡ open_texts (sender_values senders.now) (text_octets texts.items)) }
+    ensures empty { IfOk result (λ new. NoInput (sender_values senders.now) (text_octets new.items)) }
+{
+    let mut texts = texts;
+    for place in 0..senders.len() {
+        texts = clear_linked_port(alloc, senders, place, texts)?;
+    }
+    Ok(texts)
+}
+
+/// A bridge in a network run: its inputs (captures by port and commands), the captures of its sent frames, and its result. The result is
+/// `None` after an input has changed.
+#[derive(Drop)]
+pub(crate) struct BridgeRun<'a, A: Allocator + Copy> {
+    accepted: &'a Accepted<A>,
+    commands: Vec<Command, A>,
+    ports: Vec<u8, A>,
+    senders: Vec<Option<Sender>, A>,
+    texts: Vec<Vec<u8, A>, A>,
+    taps: Vec<VecSink<A>, A>,
+    outcome: Option<Outcome<A>>,
+}
+
+impl<'a, A: Allocator + Copy> Model for BridgeRun<'a, A> {
+    ghost use Rattle.net_run.specs.BridgeRuns.{IsBridgeRun, BridgeRunState, sender_values, sink_octets, text_octets};
+
+    ghost Value = { BridgeRunState A };
+
+    ghost view = { λ s. record {
+      plan = s.accepted.now;
+      commands = s.commands.items;
+      ports = s.ports.items;
+      senders = sender_values s.senders.items;
+      texts = text_octets s.texts.items;
+      taps = sink_octets s.taps.items;
+      outcome = s.outcome;
+    } };
+
+    ghost invariant = { λ s. IsBridgeRun {A = A} (record {
+      plan = s.accepted.now;
+      commands = s.commands.items;
+      ports = s.ports.items;
+      senders = sender_values s.senders.items;
+      texts = text_octets s.texts.items;
+      taps = sink_octets s.taps.items;
+      outcome = s.outcome;
+    }) };
+}
+
+impl<'a, A: Allocator + Copy> BridgeRun<'a, A> {
+    /// Returns a bridge before the first round. No frame has arrived over a link.
+    pub(crate) fn begin(
+        alloc: A,
+        accepted: &'a Accepted<A>,
+        links: &[Link],
+        bridge: usize,
+        came: BridgeInput<A>,
+    ) -> Result<BridgeRun<'a, A>, NoMemory>
+        requires { IsBridgeInput accepted.now came }
+        ensures { IfOk result (IsInitialRun accepted.entry.now links.now bridge came) }
+    {
+        let ports = accepted.plan().port_numbers(alloc)?;
+        let senders = port_senders(alloc, links, bridge, &ports)?;
+        let BridgeInput { commands, captures } = came;
+        let texts = clear_linked_ports(alloc, &senders, captures)?;
+        Ok(BridgeRun {
+            accepted,
+            commands,
+            ports,
+            senders,
+            texts,
+            taps: Vec::new(alloc),
+            outcome: None,
+        })
+    }
+
+    /// Returns the result of the run, and the captures of the frames that the ports sent. The bridge must have a result.
+    pub(crate) fn finish(self) -> (Outcome<A>, Vec<VecSink<A>, A>)
+        requires { HasRun self }
+        ensures { (self.entry.outcome ≡ Some result.0) × (self.entry.taps ≡ sink_octets result.1.items) }
+    {
+        let BridgeRun { outcome, taps, .. } = self;
+        match outcome {
+            Some(outcome) => (outcome, taps),
+            None => unreachable!(),
+        }
+    }
+
+    /// Whether the bridge has run over its current inputs. If not, it runs in the next round.
+    pub(crate) fn has_run(&self) -> bool {
+        self.outcome.is_some()
+    }
+
+    /// Returns the number of the bridge's ports: indexes of ports are less.
+    pub(crate) fn port_count(&self) -> usize
+        ensures size { result ≡ length self.now.ports }
+        ensures kept { IsBridgeRun self.now }
+    {
+        self.ports.len()
+    }
+
+    /// Returns the number of the port with index `place`.
+    pub(crate) fn port(&self, place: usize) -> u8
+        requires { place < length self.now.ports }
+        ensures { slice_get self.now.ports place ≡ Some result }
+    {
+        self.ports[place]
+    }
+
+    /// Returns the sender of the port with index `place`, or `None` for an open port.
+    pub(crate) fn sender(&self, place: usize) -> Option<Sender>
+        requires { place < length self.now.ports }
+        ensures { slice_get self.now.senders place ≡ Some (option_map sender_value result) }
+    {
+        self.senders[place]
+    }
+
+    /// Returns the input capture of the port with index `place`.
+    pub(crate) fn input_capture(&self, place: usize) -> &[u8]
+        requires { place < length self.now.ports }
+        ensures { slice_get self.now.texts place ≡ Some result.now }
+    {
+        &self.texts[place]
+    }
+
+    /// Returns the capture of the frames that a port sent, or no octets if the port is missing.
+    pub(crate) fn port_capture(&self, port: u8) -> &[u8]
+        ensures { result.now ≡ text_of_port self.now.ports self.now.taps port }
+    {
+        find_port_capture(&self.ports, &self.taps, port)
+    }
+
+    /// Sets the input capture of the linked port with index `place`. Drops the result of the last run, so that the next round runs the
+    /// bridge again.
+    pub(crate) fn set_input(&mut self, place: usize, text: Vec<u8, A>)
+        requires place { place < length self.old.ports }
+        requires linked { (s : networks.Sender) × (slice_get self.old.senders place ≡ Some (Some s)) }
+        ensures ground { constant_part self.new ≡ constant_part self.old }
+        ensures texts { self.new.texts ≡ slice_set self.old.texts place text.items }
+        ensures taps { self.new.taps ≡ self.old.taps }
+    {
+        self.outcome = None;
+        self.texts[place] = text;
+    }
+
+    /// Whether the port with index `place` has this input capture. If yes, the sender's last run changed nothing for this bridge.
+    pub(crate) fn has_input(&self, place: usize, text: &[u8]) -> bool
+        requires { place < length self.now.ports }
+        ensures same { result ≡ true → slice_get self.now.texts place ≡ Some text.now }
+        ensures other { result ≡ false → (here : List ℕ) × (slice_get self.now.texts place ≡ Some here)
+            × (here ≢ text.now) }
+    {
+        self.input_capture(place) == text
+    }
+
+    /// Runs the bridge over its inputs if it has no result. Returns whether it ran.
+    pub(crate) fn run(&mut self, alloc: A) -> Result<bool, RunFault>
+        ensures same { OnOk result ((constant_part self.new ≡ constant_part self.old)
+            × (self.new.texts ≡ self.old.texts)) }
+        ensures runs { OnOk result (HasRun self.new) }
+        ensures complete { OnOk result (HasCompleteRun self.old) }
+        ensures kept { result ≡ Ok false → self.new ≡ self.old }
+        ensures stops { IfErr result (StopsBridge self.old.plan self.old.ports self.old.commands self.old.texts) }
+    {
+        if self.outcome.is_some() {
+            return Ok(false);
+        }
+        let ran = match run_bridge(
+            alloc,
+            self.accepted,
+            &self.ports,
+            &self.commands,
+            &self.texts,
+        ) {
+            Ok(ran) => ran,
+            Err(fault) => return Err(fault),
+        };
+        let RunOutput { outcome, taps } = ran;
+        self.taps = taps;
+        self.outcome = Some(outcome);
+        Ok(true)
+    }
+}

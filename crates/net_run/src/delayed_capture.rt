@@ -1,0 +1,114 @@
+//! Captures with all frames delayed by a link.
+ghost use Rattle.std.specs.Prelude.{◌≡◌, ℕ, ◌≤◌, ◌<◌, ◌+◌, ◌*◌, ◌^◌, ◌++◌, All, List, Some, None, flat_map, length, map, option_map, IfOk};
+ghost use Rattle.std.specs.Int.{to_le_bytes};
+ghost use Rattle.bridge_capture.specs.Grammar.{CapturedFrame};
+ghost use Rattle.bridge_capture.specs.WrittenCapture.{written_frame, written_text};
+ghost use Rattle.bridge_core.specs.CaptureWriters.{FitsRecord};
+ghost use Rattle.net_run.specs.DelayedCapture.{AppendsDelayedRecord, IsWord, delayed, delayed_time, time_words};
+
+use bridge_limits::{END_OF_TIME, NoMemory};
+use std::alloc::Allocator;
+
+/// Length of a capture's header in octets.
+const HEADER_LENGTH: usize = 24;
+
+/// Length of a record's header in octets.
+const RECORD_HEADER_LENGTH: usize = 16;
+
+/// Returns the little-endian word of four octets at position `at`.
+fn read_word(octets: &[u8], at: usize) -> u64
+    requires { at + 4 ≤ length octets.now }
+    ensures word { IsWord octets.now at result }
+    ensures small { result < 2 ^ 32 }
+{
+    u32::from_le_bytes([octets[at], octets[at + 1], octets[at + 2], octets[at + 3]]) as u64
+}
+
+/// Returns `moment` plus `delay` in ns, but at most `END_OF_TIME`, because captures have no later times.
+fn delayed_time(moment: u64, delay: u64) -> u64
+    ensures { result ≡ delayed_time moment delay }
+{
+    moment.saturating_add(delay).min(END_OF_TIME)
+}
+
+/// Returns the words of a record that have its time, little-endian: four octets of seconds and four of nanoseconds.
+#[tactic(auto, unfolding(crate::specs::DelayedCapture::time_words))]
+fn time_words(moment: u64) -> [u8; 8]
+    requires { moment < 2 ^ 32 * 10 ^ 9 }
+    ensures { result ≡ time_words moment }
+{
+    let seconds = ((moment / 1_000_000_000) as u32).to_le_bytes();
+    let fraction = ((moment % 1_000_000_000) as u32).to_le_bytes();
+    [
+        seconds[0],
+        seconds[1],
+        seconds[2],
+        seconds[3],
+        fraction[0],
+        fraction[1],
+        fraction[2],
+        fraction[3],
+    ]
+}
+
+/// Appends the first record of `octets`, delayed by `delay`, to `text`. Returns the octets after this record, or `None` if no whole record
+/// is left.
+fn append_delayed_record<'a, A: Allocator>(
+    octets: &'a [u8],
+    delay: u64,
+    text: &mut Vec<u8, A>,
+) -> Result<Option<&'a [u8]>, NoMemory>
+    ensures adds { IfOk result (λ rest. AppendsDelayedRecord delay octets.entry.now text.old.items text.new.items
+        (option_map (λ s. s.now) rest)) }
+    ensures kept { IfOk result (λ rest. option_map (λ s. s.now) rest ≡ None → text.new ≡ text.old) }
+    ensures fewer { IfOk result (λ rest. (more : List ℕ) → option_map (λ s. s.now) rest ≡ Some more
+        → length more < length octets.entry.now) }
+{
+    if octets.len() < RECORD_HEADER_LENGTH {
+        return Ok(None);
+    }
+    let end = RECORD_HEADER_LENGTH + read_word(octets, 8) as usize;
+    if octets.len() < end {
+        return Ok(None);
+    }
+    let moment = read_word(octets, 0) * 1_000_000_000 + read_word(octets, 4);
+    text.extend_from_slice(&time_words(delayed_time(moment, delay)))?;
+    text.extend_from_slice(&octets[8..end])?;
+    Ok(Some(&octets[end..]))
+}
+
+/// Appends each record of `octets`, delayed by `delay`, to `text`.
+fn append_delayed_records<A: Allocator>(
+    octets: &[u8],
+    delay: u64,
+    text: &mut Vec<u8, A>,
+) -> Result<(), NoMemory>
+    ensures { (frames : List CapturedFrame) → octets.now ≡ flat_map written_frame frames → All FitsRecord frames →
+        IfOk result (λ _. text.new.items ≡ text.old.items ++ flat_map written_frame (map (delayed delay) frames)) }
+{
+    let mut left = octets;
+    while let Some(rest) = append_delayed_record(left, delay, text)? {
+        left = rest;
+    }
+    Ok(())
+}
+
+/// Returns a capture with each frame delayed by `delay` ns, at most to the end of time. The contract holds only for captures that this
+/// program wrote.
+pub fn delay_capture<A: Allocator>(
+    alloc: A,
+    text: &[u8],
+    delay: u64,
+) -> Result<Vec<u8, A>, NoMemory>
+    ensures { (frames : List CapturedFrame) → text.now ≡ written_text frames → All FitsRecord frames →
+        IfOk result (λ later. later.items ≡ written_text (map (delayed delay) frames)) }
+{
+    let mut later = Vec::with_capacity(alloc, text.len())?;
+    if text.len() < HEADER_LENGTH {
+        return Ok(later);
+    }
+    let (header, records) = text.split_at(HEADER_LENGTH);
+    later.extend_from_slice(header)?;
+    append_delayed_records(records, delay, &mut later)?;
+    Ok(later)
+}

@@ -1,0 +1,370 @@
+//! Complete runs of networks in rounds.
+ghost use Rattle.std.specs.Prelude.{◌≡◌, ◌<◌, ℕ, All, Some, None, false, true, length, map, option_map, slice_get, IfOk, IfErr, OnErr, OnOk, Ok, Err};
+ghost use Rattle.net_model.specs.Checked.{AreClosed};
+ghost use Rattle.net_model.specs.Networks.{IsNetwork};
+ghost use Rattle.net_model.specs.NetworkParts.{network_value, sender_value};
+ghost use Rattle.net_run.specs.BridgeRuns.{AreUpToDate, NeedsRound, HasRun, HaveRun, IsDelayedCapture, IsBridgeRun, BridgeRunState, constant_part, sent_capture, run_texts};
+ghost use Rattle.net_run.specs.Delivery.{AreBridgesFed, AreOthersFed, AreRunsFed, IsBridgeFed, AreUnchanged, IsPortFed};
+ghost use Rattle.net_run.specs.Rounds.{AreInitialRuns, AreBridgeInputs, AreBridgeResults, HaveTaps, IsFaultAt, IsolatesStreams, OthersChangeNothing, RunsNetwork, SettlesIn, StopsRound, StopsNetworkRun};
+
+use crate::bridge_run::{BridgeInput, BridgeRun};
+use crate::delayed_capture::delay_capture;
+use bridge_capture::{RunFault, VecSink};
+use bridge_limits::NoMemory;
+use bridge_semantics::Outcome;
+use net_model::{Network, Sender};
+use std::alloc::Allocator;
+
+/// Observer of a network run's progress.
+pub trait RoundObserver {
+    /// Reports that `bridge` begins to run in `round`. Both are counted from 0. `net` shows the progress of a long run by these reports.
+    fn bridge_starts(&mut self, round: u32, bridge: usize);
+}
+
+/// Observer that ignores all reports. Tests use it.
+#[derive(Clone, Copy)]
+pub struct NoObserver;
+
+impl RoundObserver for NoObserver {
+    fn bridge_starts(&mut self, _round: u32, _bridge: usize) {}
+}
+
+/// Why a network run ends without result.
+#[derive(Clone, Copy, Debug, PartialEq, Eq)]
+pub enum RoundsFault {
+    /// A bridge refuses a capture. It is the round's first bridge with a fault, by its index from 0. The fault is never `Write`, nor a
+    /// capture's `Read`.
+    Bridge { bridge: usize, fault: RunFault },
+    /// After the last round, this linked port still received other frames than in the round before.
+    NotSettled { bridge: usize, port: u8 },
+    /// Memory ran out.
+    NoMemory,
+}
+
+/// Result of one bridge of a network, and the captures of the frames that its ports sent.
+#[derive(Drop)]
+pub struct BridgeResult<A: Allocator + Copy> {
+    /// Everything that the bridge's run reports.
+    pub outcome: Outcome<A>,
+    /// Captures of the sent frames, one for each port by rising number.
+    pub taps: Vec<VecSink<A>, A>,
+}
+
+/// Results of a complete network run: after the last round, each link delivers exactly the frames that its sender sent.
+#[derive(Drop)]
+pub struct SettledNetwork<A: Allocator + Copy> {
+    /// Results of the bridges, in the order of the network.
+    pub bridges: Vec<BridgeResult<A>, A>,
+    /// Number of rounds, from 1. Only in the last round did each link carry the same frames as in the round before.
+    pub rounds: u32,
+}
+
+/// Returns the capture that a link delivers: the sender's capture, delayed by the link. Returns no octets if the sending bridge is missing.
+fn capture_over_link<A: Allocator + Copy>(
+    alloc: A,
+    stations: &[BridgeRun<'_, A>],
+    sender: Sender,
+) -> Result<Vec<u8, A>, NoMemory>
+    ensures { IfOk result (λ text. IsDelayedCapture sender.delay
+        (sent_capture (slice_get stations.now sender.from.bridge) sender.from.port) text.items) }
+{
+    let Some(station) = stations.get(sender.from.bridge as usize) else {
+        return delay_capture(alloc, &[], sender.delay);
+    };
+    delay_capture(alloc, station.port_capture(sender.from.port), sender.delay)
+}
+
+/// Whether `bridge` skipped this round, because its inputs hadn't changed. `ran` says for each bridge whether it ran; a missing bridge
+/// didn't skip.
+fn has_skipped_round(ran: &[bool], bridge: u16) -> bool
+    ensures { result ≡ true → slice_get ran.now bridge ≡ Some false }
+{
+    match ran.get(bridge as usize) {
+        Some(ran) => !*ran,
+        None => false,
+    }
+}
+
+/// Delivers to the linked port with index `place` the frames that its sender sent. Returns the port's number if its input changed,
+/// otherwise `None`.
+fn deliver_capture<A: Allocator + Copy>(
+    alloc: A,
+    stations: &mut [BridgeRun<'_, A>],
+    bridge: usize,
+    place: usize,
+    sender: Sender,
+) -> Result<Option<u8>, NoMemory>
+    requires bridge { bridge < length stations.old }
+    requires place { (x : BridgeRunState A) → slice_get stations.old bridge ≡ Some x → place < length x.ports }
+    requires linked { (x : BridgeRunState A) → slice_get stations.old bridge ≡ Some x
+        → slice_get x.senders place ≡ Some (Some (sender_value sender)) }
+    ensures { IfOk result (λ found. IsPortFed stations.old stations.new bridge place found) }
+{
+    let text = capture_over_link(alloc, stations, sender)?;
+    let station = &mut stations[bridge];
+    if station.has_input(place, &text) {
+        return Ok(None);
+    }
+    let port = station.port(place);
+    station.set_input(place, text);
+    Ok(Some(port))
+}
+
+/// Delivers to the port with index `place` the frames sent to it, if its sender ran in this round. Returns the port's number if its input
+/// changed, otherwise `None`.
+fn feed_port<A: Allocator + Copy>(
+    alloc: A,
+    stations: &mut [BridgeRun<'_, A>],
+    ran: &[bool],
+    bridge: usize,
+    place: usize,
+) -> Result<Option<u8>, NoMemory>
+    requires bridge { bridge < length stations.old }
+    requires place { (x : BridgeRunState A) → slice_get stations.old bridge ≡ Some x → place < length x.ports }
+    requires fed { AreOthersFed ran.now stations.old }
+    ensures { IfOk result (λ found. IsPortFed stations.old stations.new bridge place found) }
+{
+    let Some(sender) = stations[bridge].sender(place) else {
+        return Ok(None);
+    };
+    if has_skipped_round(ran, sender.from.bridge) {
+        return Ok(None);
+    }
+    deliver_capture(alloc, stations, bridge, place, sender)
+}
+
+/// Delivers to each linked port of a bridge the frames sent to it. Returns the number of the first port whose input changed, or `None`.
+fn feed_bridge<A: Allocator + Copy>(
+    alloc: A,
+    stations: &mut [BridgeRun<'_, A>],
+    ran: &[bool],
+    bridge: usize,
+) -> Result<Option<u8>, NoMemory>
+    requires bridge { bridge < length stations.old }
+    requires fed { AreOthersFed ran.now stations.old }
+    ensures { IfOk result (λ found. IsBridgeFed stations.old stations.new bridge found) }
+{
+    let mut first = None;
+    for place in 0..stations[bridge].port_count() {
+        let found = feed_port(alloc, stations, ran, bridge, place)?;
+        first = first.or(found);
+    }
+    Ok(first)
+}
+
+/// Returns the bridge's index with the optional port, or `None` without a port. `NotSettled` names both.
+fn with_bridge(bridge: usize, port: Option<u8>) -> Option<(usize, u8)>
+    ensures { result ≡ option_map (λ q. (bridge, q)) port }
+{
+    match port {
+        Some(port) => Some((bridge, port)),
+        None => None,
+    }
+}
+
+/// Delivers to every linked port the frames sent to it in the last round. Returns the first bridge and port whose input changed, or `None`.
+fn feed_bridges<A: Allocator + Copy>(
+    alloc: A,
+    stations: &mut [BridgeRun<'_, A>],
+    ran: &[bool],
+) -> Result<Option<(usize, u8)>, NoMemory>
+    requires { AreOthersFed ran.now stations.old }
+    ensures { IfOk result (λ found. AreBridgesFed stations.old stations.new found) }
+{
+    let mut first = None;
+    for bridge in 0..stations.len() {
+        let found = feed_bridge(alloc, stations, ran, bridge)?;
+        first = first.or(with_bridge(bridge, found));
+    }
+    Ok(first)
+}
+
+/// Reports to the observer that a bridge begins to run, if it has no result. A bridge with a result skips the round.
+fn announce_start<A: Allocator + Copy, W: RoundObserver>(
+    stations: &[BridgeRun<'_, A>],
+    bridge: usize,
+    turn: u32,
+    watch: &mut W,
+) {
+    if let Some(station) = stations.get(bridge) {
+        if !station.has_run() {
+            watch.bridge_starts(turn, bridge);
+        }
+    }
+}
+
+/// Returns the fault of a network run in which this bridge stopped: the bridge with its fault, or `NoMemory`.
+fn bridge_fault(bridge: usize, fault: RunFault) -> RoundsFault
+    ensures { IsFaultAt bridge fault result }
+{
+    match fault {
+        RunFault::NoMemory => RoundsFault::NoMemory,
+        fault => RoundsFault::Bridge { bridge, fault },
+    }
+}
+
+/// Runs each bridge without result over its inputs. Returns for each bridge whether it ran.
+fn run_bridges<A: Allocator + Copy, W: RoundObserver>(
+    alloc: A,
+    stations: &mut [BridgeRun<'_, A>],
+    turn: u32,
+    watch: &mut W,
+) -> Result<Vec<bool, A>, RoundsFault>
+    ensures ground { OnOk result (map constant_part stations.new ≡ map constant_part stations.old) }
+    ensures texts { OnOk result (map run_texts stations.new ≡ map run_texts stations.old) }
+    ensures runs { OnOk result (All HasRun stations.new) }
+    ensures kept { IfOk result (λ ran. AreUnchanged ran.items stations.old stations.new) }
+    ensures stops { IfErr result (StopsRound stations.old) }
+{
+    let Ok(mut all) = Vec::with_capacity(alloc, stations.len()) else {
+        return Err(RoundsFault::NoMemory);
+    };
+    for bridge in 0..stations.len() {
+        announce_start(stations, bridge, turn, watch);
+        let ran = match stations[bridge].run(alloc) {
+            Ok(ran) => ran,
+            Err(fault) => return Err(bridge_fault(bridge, fault)),
+        };
+        let Ok(()) = all.push(ran) else {
+            return Err(RoundsFault::NoMemory);
+        };
+    }
+    Ok(all)
+}
+
+/// Returns the results and sent captures of bridges that have run, in the order of the network.
+fn bridge_results<A: Allocator + Copy>(
+    alloc: A,
+    stations: Vec<BridgeRun<'_, A>, A>,
+) -> Result<Vec<BridgeResult<A>, A>, NoMemory>
+    requires { All HasRun stations.items }
+    ensures { IfOk result (λ all. AreBridgeResults stations.entry.items all.items) }
+{
+    let mut all = Vec::with_capacity(alloc, stations.len())?;
+    for station in stations {
+        let (outcome, taps) = station.finish();
+        all.push(BridgeResult { outcome, taps })?;
+    }
+    Ok(all)
+}
+
+/// Returns the bridges of a network before the first round. No frame has arrived over a link.
+fn initial_bridge_runs<'a, A: Allocator + Copy>(
+    alloc: A,
+    network: &'a Network<A>,
+    incoming: Vec<BridgeInput<A>, A>,
+) -> Result<Vec<BridgeRun<'a, A>, A>, NoMemory>
+    requires { AreBridgeInputs network.now.plans incoming.items }
+    ensures { IfOk result (λ stations. AreInitialRuns network.entry.now incoming.items stations.items) }
+{
+    let mut stations = Vec::with_capacity(alloc, incoming.len())?;
+    let mut bridge = 0usize;
+    for came in incoming {
+        let station = BridgeRun::begin(
+            alloc,
+            &network.plans()[bridge],
+            network.links(),
+            bridge,
+            came,
+        )?;
+        stations.push(station)?;
+        bridge += 1;
+    }
+    Ok(stations)
+}
+
+/// Gives the prover the properties of each bridge: reading a bridge shows them.
+fn assert_bridge_runs<A: Allocator + Copy>(stations: &[BridgeRun<'_, A>])
+    ensures { All IsBridgeRun stations.now }
+{
+    for station in stations {
+        let _size = station.port_count();
+    }
+}
+
+/// Runs one round: each bridge with a changed input runs, and each linked port gets the frames sent to it. Returns the first bridge and
+/// port whose input changed; `None` ends the run.
+fn run_round<A: Allocator + Copy, W: RoundObserver>(
+    alloc: A,
+    stations: &mut [BridgeRun<'_, A>],
+    turn: u32,
+    watch: &mut W,
+) -> Result<Option<(usize, u8)>, RoundsFault>
+    requires { AreRunsFed stations.old }
+    ensures ground { OnOk result (map constant_part stations.new ≡ map constant_part stations.old) }
+    ensures fed { OnOk result (AreUpToDate stations.new) }
+    ensures runs { result ≡ Ok None → HaveRun stations.old stations.new }
+    ensures goes_on { (b q : ℕ) → result ≡ Ok (Some (b, q)) → NeedsRound stations.old stations.new b q }
+    ensures stops { IfErr result (StopsRound stations.old) }
+{
+    let ran = run_bridges(alloc, stations, turn, watch)?;
+    assert_bridge_runs(stations);
+    match feed_bridges(alloc, stations, &ran) {
+        Ok(first) => Ok(first),
+        Err(_) => Err(RoundsFault::NoMemory),
+    }
+}
+
+/// Gives the prover the properties of a network: reading the network shows them.
+fn assert_network<A: Allocator + Copy>(network: &Network<A>)
+    ensures network { IsNetwork (network_value network.now) }
+    ensures closed { AreClosed network.now }
+{
+    let _plans = network.plans();
+    let _streams = network.streams();
+}
+
+/// Runs a network in at most `rounds` rounds, until each link delivers exactly the frames that its sender sent. Bridges with unchanged
+/// inputs don't run again. `watch` gets a report before each bridge's run.
+pub fn run_network<A: Allocator + Copy, W: RoundObserver>(
+    alloc: A,
+    network: &Network<A>,
+    incoming: Vec<BridgeInput<A>, A>,
+    rounds: u32,
+    watch: &mut W,
+) -> Result<SettledNetwork<A>, RoundsFault>
+    requires { AreBridgeInputs network.now.plans incoming.items }
+    ensures ok { IfOk result (λ settled. RunsNetwork network.now incoming.items settled.bridges.items) }
+    ensures alone { IfOk result (λ settled. IsolatesStreams network.now incoming.items settled.bridges.items) }
+    ensures others_change_nothing { IfOk result (λ settled. OthersChangeNothing network.now incoming.items
+        settled.bridges.items) }
+    ensures taps { IfOk result (λ settled. HaveTaps network.now.plans settled.bridges.items) }
+    ensures rounds { IfOk result (λ settled. SettlesIn network.now incoming.items settled.rounds) }
+    ensures stops { IfErr result (StopsNetworkRun network.now incoming.items rounds) }
+{
+    assert_network(network);
+    let Ok(mut stations) = initial_bridge_runs(alloc, network, incoming) else {
+        return Err(RoundsFault::NoMemory);
+    };
+    let mut last = (0usize, 0u8);
+    for turn in 0..rounds {
+        match run_round(alloc, &mut stations, turn, watch) {
+            Ok(None) => return finish_bridges(alloc, stations, turn + 1),
+            Ok(Some(port)) => last = port,
+            Err(fault) => {
+                drop(stations);
+                return Err(fault);
+            }
+        }
+    }
+    drop(stations);
+    let (bridge, port) = last;
+    Err(RoundsFault::NotSettled { bridge, port })
+}
+
+/// Returns the results of the bridges after the last round, with the number of rounds.
+fn finish_bridges<A: Allocator + Copy>(
+    alloc: A,
+    stations: Vec<BridgeRun<'_, A>, A>,
+    rounds: u32,
+) -> Result<SettledNetwork<A>, RoundsFault>
+    requires { All HasRun stations.items }
+    ensures settled { IfOk result (λ all. AreBridgeResults stations.entry.items all.bridges.items) }
+    ensures rounds { IfOk result (λ all. all.rounds ≡ rounds) }
+    ensures memory { OnErr result (result ≡ Err RoundsFault.NoMemory) }
+{
+    match bridge_results(alloc, stations) {
+        Ok(bridges) => Ok(SettledNetwork { bridges, rounds }),
+        Err(_) => Err(RoundsFault::NoMemory),
+    }
+}

@@ -1,0 +1,75 @@
+-- Filters compared with other filters.
+use Rattle.std.specs.Prelude.{ℕ, Bool, true, false, not, ◌&&◌, ◌||◌, List, [], ◌∷◌, Option, Some, None, nat_eq, nat_lt, if◌then◌else◌}
+use Rattle.bridge_filter.specs.declared.FilterPlan.{FilterPlan}
+use Rattle.bridge_filter.specs.Verdicts.{is_priority_match}
+
+-- True if a key of filter `one` matches every frame that the key of filter `other` matches: it is absent, or both are equal.
+abbrev pub covers : Option ℕ → Option ℕ → Bool
+covers None other = true
+covers (Some one) None = false
+covers (Some one) (Some other) = nat_eq one other
+
+-- True if filter `one` matches every frame that filter `other` matches.
+abbrev pub covers_filter : FilterPlan → FilterPlan → Bool
+covers_filter one other = covers one.handle other.handle && covers one.priority other.priority
+
+-- The number of the first filter below `n` that matches every frame of `filter`, or `None`.
+abbrev pub first_hiding_filter : FilterPlan → ℕ → List (ℕ × FilterPlan) → Option ℕ
+first_hiding_filter filter n [] = None
+first_hiding_filter filter n (f ∷ fs) = if nat_lt f.0 n && covers_filter f.1 filter then Some f.0 else first_hiding_filter filter n fs
+
+-- The number of the first filter other than `n` for which `test` is true, or `None`.
+abbrev pub first_other_filter : (FilterPlan → Bool) → ℕ → List (ℕ × FilterPlan) → Option ℕ
+first_other_filter test n [] = None
+first_other_filter test n (f ∷ fs) = if not (nat_eq f.0 n) && test f.1 then Some f.0 else first_other_filter test n fs
+
+-- True if an optional meter number is `m`.
+abbrev pub is_meter : ℕ → Option ℕ → Bool
+is_meter m None = false
+is_meter m (Some own) = nat_eq own m
+
+-- True if filter `f` uses meter `m`.
+abbrev pub has_meter : ℕ → FilterPlan → Bool
+has_meter m f = is_meter m f.meter
+
+-- True if filter `one` matches every frame with priority `k` that filter `other` matches.
+abbrev pub takes_at : ℕ → FilterPlan → FilterPlan → Bool
+takes_at k one other = covers one.handle other.handle && is_priority_match one.priority k
+
+-- The number of the first filter below `n` that matches every frame of `filter` with priority `k`, or `None`.
+abbrev pub taker_at : FilterPlan → ℕ → ℕ → List (ℕ × FilterPlan) → Option ℕ
+taker_at filter n k [] = None
+taker_at filter n k (f ∷ fs) = if nat_lt f.0 n && takes_at k f.1 filter then Some f.0 else taker_at filter n k fs
+
+-- True if an optional number is present.
+abbrev pub is_number : Option ℕ → Bool
+is_number None = false
+is_number (Some n) = true
+
+-- True if a filter below `n` matches every frame of `filter` with priority `k`.
+abbrev pub is_taken_at : FilterPlan → ℕ → ℕ → List (ℕ × FilterPlan) → Bool
+is_taken_at filter n k fs = is_number (taker_at filter n k fs)
+
+-- True if filters below `n` together match every frame of `filter`, a filter without a priority.
+abbrev pub are_all_taken : FilterPlan → ℕ → List (ℕ × FilterPlan) → Bool
+are_all_taken filter n fs = is_taken_at filter n 0 fs && is_taken_at filter n 1 fs && is_taken_at filter n 2 fs && is_taken_at filter n 3 fs
+    && is_taken_at filter n 4 fs && is_taken_at filter n 5 fs && is_taken_at filter n 6 fs && is_taken_at filter n 7 fs
+
+-- The number of the first protected filter that uses stream gate `gate`, or `None`.
+abbrev pub protected_with : ℕ → List (ℕ × FilterPlan) → Option ℕ
+protected_with gate [] = None
+protected_with gate (f ∷ fs) = if nat_eq f.1.gate gate && f.1.protected then Some f.0 else protected_with gate fs
+
+-- True if a filter uses stream gate `gate`.
+abbrev pub is_used : ℕ → List (ℕ × FilterPlan) → Bool
+is_used gate [] = false
+is_used gate (f ∷ fs) = nat_eq f.1.gate gate || is_used gate fs
+
+-- True if some filter uses stream gate `gate`, and no protected filter does.
+abbrev pub is_decision : ℕ → List (ℕ × FilterPlan) → Bool
+is_decision gate fs = is_used gate fs && not (is_number (protected_with gate fs))
+
+-- True if a filter is protected.
+abbrev pub has_protected : List (ℕ × FilterPlan) → Bool
+has_protected [] = false
+has_protected (f ∷ fs) = f.1.protected || has_protected fs

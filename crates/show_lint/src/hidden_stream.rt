@@ -1,0 +1,202 @@
+//! Finds streams that match no frame, because earlier streams match all their frames or their port gives another VLAN.
+ghost use Rattle.std.specs.Prelude.{◌≡◌, true};
+ghost use Rattle.show_lint.specs.Streams as spec;
+
+use crate::lint::push_warning;
+use crate::warning::{HiddenStream, HiddenTogether, OtherVlan, Warning};
+use bridge_config::Plan;
+use bridge_ident::{Kind, StreamEntry, TagKind};
+use std::alloc::{AllocError, Allocator};
+
+/// Whether tag kind `one` accepts each frame that `other` accepts.
+fn covers_tag(one: TagKind, other: TagKind) -> bool
+    ensures { result ≡ spec.covers_tag one other }
+{
+    match (one, other) {
+        (TagKind::All, _) => true,
+        (TagKind::Tagged, TagKind::Tagged) => true,
+        (TagKind::Priority, TagKind::Priority) => true,
+        _ => false,
+    }
+}
+
+/// Whether both kinds compare the destination address, or both compare the source address.
+fn is_same_kind(one: Kind, other: Kind) -> bool
+    ensures { result ≡ spec.is_same_kind one other }
+{
+    match (one, other) {
+        (Kind::Null, Kind::Null) => true,
+        (Kind::Source, Kind::Source) => true,
+        _ => false,
+    }
+}
+
+/// Whether stream entry `one` matches each frame that `other` matches: equal port, VLAN and address, and a tag kind that covers the other.
+#[tactic(auto, using(crate::proofs::Hiding::hides_frames))]
+pub fn hides(one: &StreamEntry, other: &StreamEntry) -> bool
+    ensures asks { result ≡ spec.hides one.now other.now }
+    ensures frames { result ≡ true → spec.Hides one.now other.now }
+{
+    one.port == other.port
+        && one.vid == other.vid
+        && one.address == other.address
+        && is_same_kind(one.kind, other.kind)
+        && covers_tag(one.tag, other.tag)
+}
+
+/// Whether both entries have equal port, VLAN and address, and compare the same address of a frame. Their tags may differ.
+fn is_place(one: &StreamEntry, other: &StreamEntry) -> bool
+    ensures { result ≡ spec.is_place one.now other.now }
+{
+    one.port == other.port
+        && one.vid == other.vid
+        && one.address == other.address
+        && is_same_kind(one.kind, other.kind)
+}
+
+/// Whether tag kind `tag` accepts frames whose tag names a VLAN (`named` true), or other frames (`named` false).
+fn takes_named(tag: TagKind, named: bool) -> bool
+    ensures { result ≡ spec.takes_named tag named }
+{
+    match tag {
+        TagKind::All => true,
+        TagKind::Tagged => named,
+        TagKind::Priority => !named,
+    }
+}
+
+/// Whether an earlier entry matches each frame of `other` that names a VLAN (`named` true), or each other frame (`named` false).
+fn covers(earlier: &[StreamEntry], other: &StreamEntry, named: bool) -> bool
+    ensures { result ≡ spec.covers earlier.now other.now named }
+{
+    for one in earlier {
+        if is_place(one, other) && takes_named(one.tag, named) {
+            return true;
+        }
+    }
+    false
+}
+
+/// Whether earlier entries together match each frame that `other` matches.
+#[tactic(auto, using(crate::proofs::Hiding::cover_frames))]
+pub fn hide_together(earlier: &[StreamEntry], other: &StreamEntry) -> bool
+    ensures asks { result ≡ spec.cover earlier.now other.now }
+    ensures frames { result ≡ true → spec.HideTogether earlier.now other.now }
+{
+    covers(earlier, other, true) && covers(earlier, other, false)
+}
+
+/// Returns the tags of frames that an entry can match on a port with default VLAN `own`. Returns `None` if it can match no frame.
+fn port_tags(own: u16, stream: &StreamEntry) -> Option<TagKind>
+    ensures { result ≡ spec.tag_on own stream.now }
+{
+    if own == stream.vid {
+        return Some(stream.tag);
+    }
+    match stream.tag {
+        TagKind::All | TagKind::Tagged => Some(TagKind::Tagged),
+        TagKind::Priority => None,
+    }
+}
+
+/// Returns the position, from 1, and the handle of the first earlier entry that hides `stream`, or `None`.
+fn first_hiding_stream(earlier: &[StreamEntry], stream: &StreamEntry) -> Option<(usize, u32)> {
+    let mut place = 0usize;
+    for one in earlier {
+        place = place.saturating_add(1);
+        if hides(one, stream) {
+            return Some((place, one.handle));
+        }
+    }
+    None
+}
+
+/// Returns the position, from 1, of the first earlier entry that matches each frame of `stream` with a VLAN (`named`) or without. Returns 0
+/// if there is none.
+fn first_covering_entry(earlier: &[StreamEntry], stream: &StreamEntry, named: bool) -> usize {
+    let mut place = 0usize;
+    for one in earlier {
+        place = place.saturating_add(1);
+        if is_place(one, stream) && takes_named(one.tag, named) {
+            return place;
+        }
+    }
+    0
+}
+
+/// Adds a warning if earlier streams match all frames of the stream at position `place`, counted from 1.
+fn find_hiders(
+    found: &mut Vec<Warning>,
+    earlier: &[StreamEntry],
+    stream: &StreamEntry,
+    place: usize,
+) -> Result<(), AllocError> {
+    let handle = stream.handle;
+    if let Some((earlier, other)) = first_hiding_stream(earlier, stream) {
+        let hidden = HiddenStream {
+            place,
+            handle,
+            earlier,
+            other,
+        };
+        return push_warning(found, Warning::HiddenStream(hidden));
+    }
+    if !hide_together(earlier, stream) {
+        return Ok(());
+    }
+    let hidden = HiddenTogether {
+        place,
+        handle,
+        tagged: first_covering_entry(earlier, stream, true),
+        untagged: first_covering_entry(earlier, stream, false),
+    };
+    push_warning(found, Warning::HiddenTogether(hidden))
+}
+
+/// Adds a warning if the stream at position `place`, counted from 1, matches no frame: because of its port's VLAN, or because of earlier
+/// streams.
+fn find_unmatched(
+    found: &mut Vec<Warning>,
+    own: u16,
+    earlier: &[StreamEntry],
+    stream: &StreamEntry,
+    place: usize,
+) -> Result<(), AllocError> {
+    let Some(tag) = port_tags(own, stream) else {
+        let StreamEntry {
+            handle,
+            port,
+            vid,
+            ..
+        } = *stream;
+        let other = OtherVlan {
+            place,
+            handle,
+            port,
+            own,
+            vid,
+        };
+        return push_warning(found, Warning::OtherVlan(other));
+    };
+    let asked = StreamEntry { tag, ..*stream };
+    find_hiders(found, earlier, &asked, place)
+}
+
+/// Adds a warning for each stream that matches no frame, because of its port's VLAN or because earlier streams match all its frames.
+pub(crate) fn find_hidden_streams<A: Allocator + Copy>(
+    found: &mut Vec<Warning>,
+    plan: &Plan<A>,
+) -> Result<(), AllocError> {
+    let streams = plan.streams();
+    let mut before = 0usize;
+    for stream in streams {
+        let earlier = streams.get(..before).unwrap_or(&[]);
+        before = before.saturating_add(1);
+        let own = match plan.port(stream.port) {
+            Some(port) => port.vid,
+            None => stream.vid,
+        };
+        find_unmatched(found, own, earlier, stream, before)?;
+    }
+    Ok(())
+}

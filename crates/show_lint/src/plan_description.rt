@@ -1,0 +1,153 @@
+//! Describes an accepted plan.
+ghost use Rattle.std.specs.Prelude.{◌<◌, ◌≤◌};
+
+use crate::lint::find_warnings;
+use crate::sentence::{LintText, put_warning};
+use crate::warning::Warning;
+use crate::windows::{longest_frame_of_class, put_open_windows};
+use bridge_bounds::{queue_bound, tight_queue_bound};
+use bridge_check::{Accepted, can_wait};
+use bridge_config::PortPlan;
+use bridge_filter::FilterPlan;
+use bridge_frame::occupation;
+use bridge_limits::{LONGEST_FRAME, NoMemory};
+use bridge_text::TextBuilder;
+use std::alloc::{Allocator, Global};
+
+const BOUND: &str =
+    "Delay bound: {0} ns from arrival to the end of transmission (queue for {1} frames of up to {2} octets, {3} ns each).\n";
+
+const TIGHT: &str = "With the octet limit of its gate the bound is {0} ns.\n";
+
+/// Describes an accepted plan: for each protected filter its queues, their windows, the longest frame that fits and the delay bound; then
+/// all warnings. `idle` is the line of a schedule change without effect (`idle_change`).
+pub fn describe_plan<A: Allocator + Copy>(
+    alloc: Global,
+    accepted: &Accepted<A>,
+    idle: Option<usize>,
+) -> Result<String, NoMemory> {
+    let mut said = TextBuilder::new(alloc);
+    put_filters(&mut said, accepted);
+    put_warnings(alloc, &mut said, accepted, idle);
+    said.finish()
+}
+
+/// Returns the warnings of an accepted plan, one for each line. `idle` is the line of a schedule change without effect (`idle_change`).
+pub fn write_warnings<A: Allocator + Copy>(
+    alloc: Global,
+    accepted: &Accepted<A>,
+    idle: Option<usize>,
+) -> Result<String, NoMemory> {
+    let mut said = TextBuilder::new(alloc);
+    put_warnings(alloc, &mut said, accepted, idle);
+    said.finish()
+}
+
+/// Writes the warnings of a plan, one for each line. An idle schedule change comes first.
+fn put_warnings<A: Allocator + Copy>(
+    alloc: Global,
+    said: &mut LintText,
+    accepted: &Accepted<A>,
+    idle: Option<usize>,
+) {
+    if let Some(line) = idle {
+        put_warning(said, &Warning::IdleChange { line });
+    }
+    match find_warnings(alloc, accepted) {
+        Ok(found) => {
+            for advice in &found {
+                put_warning(said, advice);
+            }
+        }
+        Err(_) => said.discard(),
+    }
+}
+
+/// Writes the queues of each protected filter, with windows and bounds. Other filters have no bounds.
+fn put_filters<A: Allocator + Copy>(said: &mut LintText, accepted: &Accepted<A>) {
+    for (number, filter) in accepted.plan().filters() {
+        if filter.protected {
+            said.put_template("Filter {0} is protected.\n", &[u64::from(*number)], &[]);
+            put_ports(said, accepted, *number, filter);
+        }
+    }
+}
+
+/// Writes the queues of a filter at all ports.
+fn put_ports<A: Allocator + Copy>(
+    said: &mut LintText,
+    accepted: &Accepted<A>,
+    number: u32,
+    filter: &FilterPlan,
+) {
+    for port in 1..17u8 {
+        if let Some(found) = accepted.plan().port(port) {
+            put_classes(said, accepted, number, filter, port, found);
+        }
+    }
+}
+
+/// Writes the queues of a filter at one port.
+fn put_classes<A: Allocator + Copy>(
+    said: &mut LintText,
+    accepted: &Accepted<A>,
+    number: u32,
+    filter: &FilterPlan,
+    port: u8,
+    found: &PortPlan<A>,
+)
+    requires from { 1 ≤ port }
+    requires to { port ≤ 16 }
+{
+    for class in 0..8u8 {
+        if can_wait(accepted.plan(), filter, port, class) {
+            put_queue(said, port, found, class);
+            if let Some(bound) = queue_bound(accepted, number, port, class) {
+                let tight = tight_queue_bound(accepted, number, port, class).unwrap_or(bound);
+                put_bound(said, filter, found, class, bound, tight);
+            }
+        }
+    }
+}
+
+/// Writes the windows of a queue, and the longest frame that fits.
+fn put_queue<A: Allocator + Copy>(said: &mut LintText, number: u8, port: &PortPlan<A>, class: u8)
+    requires { class < 8 }
+{
+    said.put_template(
+        "Port {0}, class {1}: ",
+        &[u64::from(number), u64::from(class)],
+        &[],
+    );
+    put_open_windows(said, port, class);
+    match longest_frame_of_class(port, class) {
+        Some(longest) => said.put_template(
+            ". The longest frame that fits has {0} octets.\n",
+            &[u64::from(longest)],
+            &[],
+        ),
+        None => said.put(". No frame fits.\n"),
+    }
+}
+
+/// Writes the delay bound of a queue with its assumptions, and the tighter bound by the stream gate's octet limit if it is less.
+fn put_bound<A: Allocator + Copy>(
+    said: &mut LintText,
+    filter: &FilterPlan,
+    port: &PortPlan<A>,
+    class: u8,
+    bound: u64,
+    tight: u64,
+)
+    requires { class < 8 }
+{
+    if let Some(sdu) = filter.max_sdu {
+        let length = sdu.saturating_add(16).min(LONGEST_FRAME);
+        let room = u64::from(port.rooms[class as usize]);
+        let occupied = occupation(length, port.speed);
+        said.put_template(BOUND, &[bound, room, u64::from(length), occupied], &[]);
+    }
+    if tight < bound {
+        said.put_template(TIGHT, &[tight], &[]);
+    }
+}

@@ -1,0 +1,156 @@
+//! Explains why frames of a filter can reach a port, for the explanations of refused plans.
+use crate::sentence::LintText;
+use bridge_config::Plan;
+use bridge_filter::FilterPlan;
+use bridge_forward::StaticEntry;
+use bridge_ident::{Kind, StreamEntry};
+use std::alloc::Allocator;
+
+/// Why frames can reach a port: the filter matches any stream, or a `stream` of the file leads there.
+#[derive(Clone, Copy)]
+enum RouteCause {
+    /// The filter names no stream.
+    Any,
+    /// The stream compares only source addresses, so its frames have any destination.
+    Source,
+    /// A `static` entry names the port.
+    Entry,
+    /// There is no `static` entry, and the port is a member of the VLAN.
+    Flood,
+}
+
+const ANY: &str = "Filter {0} matches every stream, so its frames can reach any port.\n";
+
+const SOURCE: &str =
+    "`stream` {1} identifies filter {0} by source address, so its frames can reach any port.\n";
+
+const ENTRY: &str = "`stream` {1} leads filter {0} to port {2} by a `static` entry.\n";
+
+const FLOOD: &str =
+    "`stream` {1} leads filter {0} to port {2}. VLAN {3} has no `static` entry for its address, so its frames go to all members.\n";
+
+/// Whether a VLAN has a static entry for an address.
+fn has_entry(statics: &[StaticEntry], vid: u16, address: [u8; 6]) -> bool {
+    statics
+        .iter()
+        .any(|entry| entry.vid == vid && entry.address == address)
+}
+
+/// Whether frames to the stream's address, from its port and VLAN, leave by port `port`.
+fn is_forwarded_to_port<A: Allocator + Copy>(
+    plan: &Plan<A>,
+    stream: &StreamEntry,
+    port: u8,
+) -> bool {
+    if stream.port < 1 || stream.port > 16 || port < 1 || port > 16 {
+        return false;
+    }
+    plan.forward(stream.port, stream.vid, &stream.address)
+        .has(port)
+}
+
+/// Returns how frames of a stream can reach a port, or `None` if they can't.
+fn route_cause<A: Allocator + Copy>(
+    plan: &Plan<A>,
+    stream: &StreamEntry,
+    port: u8,
+) -> Option<RouteCause> {
+    match stream.kind {
+        Kind::Source => Some(RouteCause::Source),
+        Kind::Null if !is_forwarded_to_port(plan, stream, port) => None,
+        Kind::Null if has_entry(plan.statics(), stream.vid, stream.address) => Some(
+            RouteCause::Entry,
+        ),
+        Kind::Null => Some(RouteCause::Flood),
+    }
+}
+
+/// Writes why frames of a filter can reach a port, by the first stream that leads there.
+pub(crate) fn put_route<A: Allocator + Copy>(
+    said: &mut LintText,
+    plan: &Plan<A>,
+    number: u32,
+    filter: &FilterPlan,
+    port: u8,
+) {
+    let Some(handle) = filter.handle else {
+        return put_route_sentence(said, RouteCause::Any, number, 0, port, 0);
+    };
+    let mut place = 0u64;
+    for stream in plan.streams() {
+        place = place.saturating_add(1);
+        if stream.handle == handle {
+            if let Some(way) = route_cause(plan, stream, port) {
+                return put_route_sentence(said, way, number, place, port, stream.vid);
+            }
+        }
+    }
+}
+
+const NEED_ENTRY: &str =
+    "Add a `static` entry for the address of `stream` {0} that names only its egress ports.\n";
+
+const NEED_KIND: &str =
+    "Identify `stream` {0} by its destination address (`kind = \"null\"`), and add a `static` entry for this address that names only its egress ports.\n";
+
+/// Returns the position, from 1, and the cause of the first stream that leads a handle's frames to a port. Returns `None` if a `static`
+/// entry leads there, because that is intended.
+fn other_way<A: Allocator + Copy>(
+    plan: &Plan<A>,
+    handle: u32,
+    port: u8,
+) -> Option<(u64, RouteCause)> {
+    let mut place = 0u64;
+    let mut first = None;
+    for stream in plan.streams() {
+        place = place.saturating_add(1);
+        if stream.handle == handle {
+            match route_cause(plan, stream, port) {
+                Some(RouteCause::Entry) => return None,
+                Some(way) => first = first.or(Some((place, way))),
+                None => {}
+            }
+        }
+    }
+    first
+}
+
+/// Writes how to keep a filter's frames from a port, and returns true. Returns false if a `static` entry leads the frames there.
+pub(crate) fn put_other_way<A: Allocator + Copy>(
+    said: &mut LintText,
+    plan: &Plan<A>,
+    filter: &FilterPlan,
+    port: u8,
+) -> bool {
+    let Some(handle) = filter.handle else {
+        return false;
+    };
+    let Some((place, way)) = other_way(plan, handle, port) else {
+        return false;
+    };
+    let template = match way {
+        RouteCause::Source => NEED_KIND,
+        _ => NEED_ENTRY,
+    };
+    said.put_template(template, &[place], &[]);
+    true
+}
+
+/// Writes the sentence of a cause: filter `number`, the stream's position `place`, port and VLAN.
+fn put_route_sentence(
+    said: &mut LintText,
+    way: RouteCause,
+    number: u32,
+    place: u64,
+    port: u8,
+    vid: u16,
+) {
+    let template = match way {
+        RouteCause::Any => ANY,
+        RouteCause::Source => SOURCE,
+        RouteCause::Entry => ENTRY,
+        RouteCause::Flood => FLOOD,
+    };
+    let numbers = [u64::from(number), place, u64::from(port), u64::from(vid)];
+    said.put_template(template, &numbers, &[]);
+}

@@ -1,0 +1,472 @@
+//! Finds parts of an accepted plan without effect.
+ghost use Rattle.std.specs.Prelude.{◌≡◌, ◌<◌, IfSome};
+ghost use Rattle.bridge_filter.specs.Verdicts.{is_priority_match};
+ghost use Rattle.show_lint.specs.Filters as spec;
+
+use crate::lint::push_warning;
+use crate::warning::{
+    ClosedFrom, HiddenFilter, LowOctetLimit, StaticToIngress, TakenTogether, Warning,
+};
+use bridge_config::Plan;
+use bridge_filter::FilterPlan;
+use bridge_forward::StaticEntry;
+use bridge_gate::{GateEntry, GatePlan, Schedule};
+use bridge_ident::{Kind, StreamEntry};
+use bridge_meter::MeterPlan;
+use std::alloc::{AllocError, Allocator};
+
+/// Octets that a meter counts for the shortest frame: 60, plus 4 for the frame check sequence.
+pub(crate) const SHORTEST: u64 = 64;
+
+/// SDU octets of the shortest frame: its EtherType.
+const LEAST_SDU: u32 = 2;
+
+/// Whether at least one filter is protected. Without one, the plan has no guarantee.
+fn has_protected(filters: &[(u32, FilterPlan)]) -> bool
+    ensures { result ≡ spec.has_protected filters.now }
+{
+    for filter in filters {
+        if filter.1.protected {
+            return true;
+        }
+    }
+    false
+}
+
+/// Adds a warning if no filter is protected: the plan then has no isolated filter and no bound.
+pub(crate) fn find_unprotected(
+    found: &mut Vec<Warning>,
+    filters: &[(u32, FilterPlan)],
+) -> Result<(), AllocError> {
+    if has_protected(filters) {
+        return Ok(());
+    }
+    push_warning(found, Warning::NoneProtected)
+}
+
+/// Adds the warnings about streams, stream gates, meters and filters without effect.
+pub(crate) fn find_unused_parts<A: Allocator + Copy>(
+    found: &mut Vec<Warning>,
+    plan: &Plan<A>,
+) -> Result<(), AllocError> {
+    find_streams(found, plan)?;
+    find_gates(found, plan.gates(), plan.filters())?;
+    find_meters(found, plan.meters())?;
+    find_filters(found, plan)
+}
+
+/// Whether `entry` has the stream's VLAN and address, and its egress ports include the stream's ingress port.
+fn is_entry_to_ingress(stream: &StreamEntry, entry: &StaticEntry) -> bool {
+    if stream.port == 0 || stream.port > 16 {
+        return false;
+    }
+    entry.vid == stream.vid && entry.address == stream.address && entry.ports.has(stream.port)
+}
+
+/// Whether a stream is identified by destination, and its static entry names its ingress port.
+fn is_sent_to_ingress(stream: &StreamEntry, statics: &[StaticEntry]) -> bool {
+    match stream.kind {
+        Kind::Null => statics
+            .iter()
+            .any(|entry| is_entry_to_ingress(stream, entry)),
+        Kind::Source => false,
+    }
+}
+
+/// Whether the stream gate with number `number` is always closed.
+fn is_gate_closed<A: Allocator + Copy>(gates: &[(u32, GatePlan<A>)], number: u32) -> bool {
+    for gate in gates {
+        if gate.0 == number {
+            return is_always_closed(&gate.1);
+        }
+    }
+    false
+}
+
+/// Whether all filters of a handle are unprotected and have closed stream gates: they only refuse stray frames. Returns false without a
+/// filter.
+fn are_strays<A: Allocator + Copy>(plan: &Plan<A>, handle: u32) -> bool {
+    let mut is_asked = false;
+    for filter in plan.filters() {
+        if filter.1.handle == Some(handle) {
+            if filter.1.protected || !is_gate_closed(plan.gates(), filter.1.gate) {
+                return false;
+            }
+            is_asked = true;
+        }
+    }
+    is_asked
+}
+
+/// Adds a warning for each stream whose egress ports include its ingress port, except for stray frames.
+fn find_streams<A: Allocator + Copy>(
+    found: &mut Vec<Warning>,
+    plan: &Plan<A>,
+) -> Result<(), AllocError> {
+    let mut place = 0usize;
+    for stream in plan.streams() {
+        place = place.saturating_add(1);
+        if is_sent_to_ingress(stream, plan.statics()) && !are_strays(plan, stream.handle) {
+            let StreamEntry { handle, port, .. } = *stream;
+            let own = StaticToIngress {
+                place,
+                handle,
+                port,
+            };
+            push_warning(found, Warning::OwnPort(own))?;
+        }
+    }
+    Ok(())
+}
+
+/// Whether a stream gate is closed in all these entries.
+fn are_all_closed(entries: &[(GateEntry, u64)]) -> bool {
+    entries.iter().all(|entry| !entry.0.lets)
+}
+
+/// Whether a stream gate is always closed, before and after a schedule change.
+fn is_always_closed<A: Allocator + Copy>(gate: &GatePlan<A>) -> bool {
+    match &gate.schedule {
+        Schedule::Fixed { lets, .. } => !*lets,
+        Schedule::Cyclic(list) => are_all_closed(list.entries()),
+        Schedule::Joined(joined) => {
+            let (old, new) = joined.lists();
+            are_all_closed(old.entries()) && are_all_closed(new.entries())
+        }
+    }
+}
+
+/// Returns the time in ns of the schedule change from which a stream gate is always closed. Returns `None` if it opens later or never
+/// opened.
+fn closing_time<A: Allocator + Copy>(gate: &GatePlan<A>) -> Option<u64> {
+    match &gate.schedule {
+        Schedule::Joined(joined) => {
+            let (old, new) = joined.lists();
+            if are_all_closed(new.entries()) && !are_all_closed(old.entries()) {
+                Some(joined.change_time())
+            } else {
+                None
+            }
+        }
+        _ => None,
+    }
+}
+
+/// Returns the number of the first protected filter that uses stream gate `gate`, or `None`.
+fn protected_filter_with_gate(filters: &[(u32, FilterPlan)], gate: u32) -> Option<u32>
+    ensures { result ≡ spec.protected_with gate filters.now }
+{
+    for filter in filters {
+        if filter.1.gate == gate && filter.1.protected {
+            return Some(filter.0);
+        }
+    }
+    None
+}
+
+/// Whether at least one filter uses stream gate `gate`.
+fn is_used(filters: &[(u32, FilterPlan)], gate: u32) -> bool
+    ensures { result ≡ spec.is_used gate filters.now }
+{
+    for filter in filters {
+        if filter.1.gate == gate {
+            return true;
+        }
+    }
+    false
+}
+
+/// Whether only unprotected filters use stream gate `gate`. They may use a closed stream gate to refuse stray frames.
+fn is_decision(filters: &[(u32, FilterPlan)], gate: u32) -> bool
+    ensures { result ≡ spec.is_decision gate filters.now }
+{
+    is_used(filters, gate) && protected_filter_with_gate(filters, gate).is_none()
+}
+
+/// Adds a warning for each stream gate that is always closed, unless only unprotected filters use it. Adds another for each protected
+/// filter's stream gate that a schedule change closes.
+fn find_gates<A: Allocator + Copy>(
+    found: &mut Vec<Warning>,
+    gates: &[(u32, GatePlan<A>)],
+    filters: &[(u32, FilterPlan)],
+) -> Result<(), AllocError> {
+    for (number, gate) in gates {
+        let gate_number = *number;
+        if is_always_closed(gate) {
+            if !is_decision(filters, gate_number) {
+                push_warning(found, Warning::ClosedGate { gate: gate_number })?;
+            }
+        } else if let (Some(at), Some(filter)) = (
+            closing_time(gate),
+            protected_filter_with_gate(filters, gate_number),
+        ) {
+            let closed = ClosedFrom {
+                gate: gate_number,
+                filter,
+                at,
+            };
+            push_warning(found, Warning::ClosedFrom(closed))?;
+        }
+    }
+    Ok(())
+}
+
+/// Adds a warning for each meter that never has enough tokens, or never refills.
+fn find_meters(found: &mut Vec<Warning>, meters: &[(u32, MeterPlan)]) -> Result<(), AllocError> {
+    for (number, meter) in meters {
+        if meter.cbs < SHORTEST && meter.ebs < SHORTEST {
+            push_warning(found, Warning::NoToken { meter: *number })?;
+        } else if meter.cir == 0 && meter.eir == 0 {
+            push_warning(found, Warning::NoTokenRefill { meter: *number })?;
+        }
+    }
+    Ok(())
+}
+
+/// Adds the warnings about each filter without effect: no stream, hidden by others, no possible length, or a low octet limit.
+fn find_filters<A: Allocator + Copy>(
+    found: &mut Vec<Warning>,
+    plan: &Plan<A>,
+) -> Result<(), AllocError> {
+    for (number, filter) in plan.filters() {
+        find_unused_handle(found, plan.streams(), *number, filter)?;
+        find_hidden_filter(found, plan.filters(), *number, filter)?;
+        find_no_length(found, *number, filter)?;
+        find_low_limit(found, plan.gates(), *number, filter)?;
+    }
+    Ok(())
+}
+
+/// Adds a warning if the filter names a handle that no stream has: it matches no frame.
+fn find_unused_handle(
+    found: &mut Vec<Warning>,
+    streams: &[StreamEntry],
+    number: u32,
+    filter: &FilterPlan,
+) -> Result<(), AllocError> {
+    let Some(handle) = filter.handle else {
+        return Ok(());
+    };
+    if streams.iter().any(|stream| stream.handle == handle) {
+        return Ok(());
+    }
+    let filter = number;
+    push_warning(found, Warning::NoStream { filter, handle })
+}
+
+/// Whether a filter with handle `one` matches each frame that a filter with handle `other` matches. `None` matches every handle.
+fn covers_handle(one: Option<u32>, other: Option<u32>) -> bool
+    ensures { result ≡ spec.covers one other }
+{
+    match (one, other) {
+        (None, _) => true,
+        (Some(one), Some(other)) => one == other,
+        (Some(_), None) => false,
+    }
+}
+
+/// Whether a filter with priority `one` matches each frame that a filter with priority `other` matches. `None` matches every priority.
+fn covers_priority(one: Option<u8>, other: Option<u8>) -> bool
+    ensures { result ≡ spec.covers one other }
+{
+    match (one, other) {
+        (None, _) => true,
+        (Some(one), Some(other)) => one == other,
+        (Some(_), None) => false,
+    }
+}
+
+/// Whether filter `one` matches each frame that `other` matches.
+fn covers_filter(one: &FilterPlan, other: &FilterPlan) -> bool
+    ensures { result ≡ spec.covers_filter one.now other.now }
+{
+    covers_handle(one.handle, other.handle) && covers_priority(one.priority, other.priority)
+}
+
+/// Returns the number of the first filter below `number` that matches each frame of `filter`, or `None`.
+fn first_hiding_filter(
+    filters: &[(u32, FilterPlan)],
+    number: u32,
+    filter: &FilterPlan,
+) -> Option<u32>
+    ensures { result ≡ spec.first_hiding_filter filter.now number filters.now }
+{
+    for (lower, one) in filters {
+        if *lower < number && covers_filter(one, filter) {
+            return Some(*lower);
+        }
+    }
+    None
+}
+
+/// Whether a filter with this optional priority matches frames of `priority`. `None` matches every priority.
+fn takes_value(own: Option<u8>, priority: u8) -> bool
+    ensures { result ≡ is_priority_match own priority }
+{
+    match own {
+        None => true,
+        Some(own) => own == priority,
+    }
+}
+
+/// Returns the number of the first filter below `number` that matches each frame of `filter` with priority `priority`, or `None`.
+fn taking_filter(
+    filters: &[(u32, FilterPlan)],
+    number: u32,
+    filter: &FilterPlan,
+    priority: u8,
+) -> Option<u32>
+    ensures { result ≡ spec.taker_at filter.now number priority filters.now }
+{
+    for (lower, one) in filters {
+        if *lower < number
+            && covers_handle(one.handle, filter.handle)
+            && takes_value(one.priority, priority)
+        {
+            return Some(*lower);
+        }
+    }
+    None
+}
+
+/// Whether a filter with a lower number matches each frame of `filter` with priority `priority`.
+fn is_priority_taken(
+    filters: &[(u32, FilterPlan)],
+    number: u32,
+    filter: &FilterPlan,
+    priority: u8,
+) -> bool
+    ensures { result ≡ spec.is_taken_at filter.now number priority filters.now }
+{
+    taking_filter(filters, number, filter, priority).is_some()
+}
+
+/// Whether filters with lower numbers match all frames of `filter`, for all priorities.
+fn are_all_taken(filters: &[(u32, FilterPlan)], number: u32, filter: &FilterPlan) -> bool
+    ensures { result ≡ spec.are_all_taken filter.now number filters.now }
+{
+    is_priority_taken(filters, number, filter, 0)
+        & is_priority_taken(filters, number, filter, 1)
+        & is_priority_taken(filters, number, filter, 2)
+        & is_priority_taken(filters, number, filter, 3)
+        & is_priority_taken(filters, number, filter, 4)
+        & is_priority_taken(filters, number, filter, 5)
+        & is_priority_taken(filters, number, filter, 6)
+        & is_priority_taken(filters, number, filter, 7)
+}
+
+/// Returns for each priority, from 0, the filter with a lower number that matches the frames of `filter`; 0 if there is none.
+fn taking_filters(filters: &[(u32, FilterPlan)], number: u32, filter: &FilterPlan) -> [u32; 8] {
+    let mut takers = [0u32; 8];
+    for priority in 0..8u8 {
+        takers[priority as usize] = taking_filter(filters, number, filter, priority).unwrap_or(0);
+    }
+    takers
+}
+
+/// Adds a warning if one filter with a lower number, or several together, match all frames of `filter`.
+fn find_hidden_filter(
+    found: &mut Vec<Warning>,
+    filters: &[(u32, FilterPlan)],
+    number: u32,
+    filter: &FilterPlan,
+) -> Result<(), AllocError> {
+    if let Some(lower) = first_hiding_filter(filters, number, filter) {
+        let taken = HiddenFilter {
+            filter: number,
+            lower,
+        };
+        return push_warning(found, Warning::HiddenFilter(taken));
+    }
+    if filter.priority.is_some() || !are_all_taken(filters, number, filter) {
+        return Ok(());
+    }
+    let taken = TakenTogether {
+        filter: number,
+        takers: taking_filters(filters, number, filter),
+    };
+    push_warning(found, Warning::TakenTogether(taken))
+}
+
+/// Adds a warning if every frame is longer than the filter's largest SDU, so that it refuses all.
+fn find_no_length(
+    found: &mut Vec<Warning>,
+    number: u32,
+    filter: &FilterPlan,
+) -> Result<(), AllocError> {
+    match filter.max_sdu {
+        Some(sdu) if sdu < LEAST_SDU => {
+            let filter = number;
+            push_warning(found, Warning::NoLength { filter, sdu })
+        }
+        _ => Ok(()),
+    }
+}
+
+/// Returns the first octet limit of an open entry that is less than `sdu`, or `None`.
+fn first_low_limit(entries: &[(GateEntry, u64)], sdu: u32) -> Option<u32>
+    ensures { IfSome result (λ octets. octets < sdu) }
+{
+    for entry in entries {
+        if entry.0.lets {
+            if let Some(octets) = entry.0.octets {
+                if octets < sdu {
+                    return Some(octets);
+                }
+            }
+        }
+    }
+    None
+}
+
+/// Returns the first octet limit of a stream gate's open entries that is less than `sdu`, or `None`. The old list comes before the new one.
+fn low_schedule_limit<A: Allocator + Copy>(schedule: &Schedule<A>, sdu: u32) -> Option<u32>
+    ensures { IfSome result (λ octets. octets < sdu) }
+{
+    match schedule {
+        Schedule::Fixed { .. } => None,
+        Schedule::Cyclic(list) => first_low_limit(list.entries(), sdu),
+        Schedule::Joined(joined) => {
+            let (old, new) = joined.lists();
+            first_low_limit(old.entries(), sdu).or(first_low_limit(new.entries(), sdu))
+        }
+    }
+}
+
+/// Returns the first octet limit of stream gate `number` that is less than `sdu`. Returns `None` without such a limit or gate.
+fn low_gate_limit<A: Allocator + Copy>(
+    gates: &[(u32, GatePlan<A>)],
+    number: u32,
+    sdu: u32,
+) -> Option<u32>
+    ensures { IfSome result (λ octets. octets < sdu) }
+{
+    for gate in gates {
+        if gate.0 == number {
+            return low_schedule_limit(&gate.1.schedule, sdu);
+        }
+    }
+    None
+}
+
+/// Adds a warning if an entry of the filter's stream gate passes fewer octets than its longest frame has.
+fn find_low_limit<A: Allocator + Copy>(
+    found: &mut Vec<Warning>,
+    gates: &[(u32, GatePlan<A>)],
+    number: u32,
+    filter: &FilterPlan,
+) -> Result<(), AllocError> {
+    let Some(sdu) = filter.max_sdu else {
+        return Ok(());
+    };
+    let Some(octets) = low_gate_limit(gates, filter.gate, sdu) else {
+        return Ok(());
+    };
+    let below = LowOctetLimit {
+        gate: filter.gate,
+        octets,
+        sdu,
+        filter: number,
+    };
+    push_warning(found, Warning::LowOctetLimit(below))
+}

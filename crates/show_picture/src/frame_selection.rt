@@ -1,0 +1,290 @@
+//! Selects the frames of a run that its picture draws: departures, and refused or dropped frames. Each port and each part of the time has a
+//! share of both.
+use crate::picture::Picture;
+use crate::selection::Selection;
+use bridge_filter::Verdict;
+use bridge_port::Refusal;
+use bridge_semantics::{Origin, Outcome, View};
+use show_svg::{AXIS_LEFT, AXIS_WIDTH, Span};
+use std::alloc::{Allocator, Global};
+
+/// Number of parts into which a port's time axis is divided. Each part has a share of the frames.
+const TIME_PARTS: usize = 100;
+
+/// Width of a part on the page.
+const PART_WIDTH: u64 = AXIS_WIDTH / TIME_PARTS as u64;
+
+/// Frame of a filter at a port: a frame that left, a refused frame, or a dropped copy.
+#[derive(Clone, Copy)]
+pub(crate) struct DrawnFrame {
+    /// Number of the filter.
+    pub filter: u32,
+    /// Number of the frame among the filter's frames, from 1.
+    pub own: u64,
+    /// Whether the filter is protected; then the frame is drawn larger.
+    pub is_protected: bool,
+    /// Colour number of its filter.
+    pub colour: u64,
+    /// Port that the frame left or that dropped it; the ingress port, if its filter refused it.
+    pub port: u8,
+    /// Whether the filter refused the frame.
+    pub is_stopped: bool,
+    /// Arrival time in ns.
+    pub arrival: u64,
+    /// Start of transmission in ns; the arrival time of a refused or dropped frame.
+    pub start: u64,
+    /// End of transmission in ns; for a refused or dropped frame, the ns after its arrival.
+    pub done: u64,
+    /// Reason of a refusal or drop; empty for a departure.
+    pub cause: &'static str,
+}
+
+/// Share of one part of a port's time axis: `left` counts its frames that aren't drawn, `room` how many more the picture may draw.
+#[derive(Clone, Copy)]
+struct Share {
+    left: u64,
+    room: u64,
+}
+
+/// Purpose of a pass over all frames: finding the time span, counting frames, or selecting the frames of protected filters (`true`) or
+/// others.
+#[derive(Clone, Copy)]
+enum Pass {
+    FindSpan,
+    Count,
+    Select(bool),
+}
+
+/// Selected frames of one kind (departures, or refused and dropped frames), with a share for each port's time parts, from port 0.
+/// `is_refused` is set if memory ran out.
+#[derive(Drop)]
+pub(crate) struct DrawnGroup {
+    pub frames: Vec<DrawnFrame>,
+    shares: Vec<Share>,
+    pub is_refused: bool,
+}
+
+/// Contents of a run's picture: its time span, the frames that left, and the marks of refused and dropped frames.
+#[derive(Drop)]
+pub(crate) struct FrameSelection {
+    pass: Pass,
+    pub span: Span,
+    pub left: DrawnGroup,
+    pub marks: DrawnGroup,
+}
+
+/// Returns why a filter refused a frame; the empty text if the frame passed.
+fn refusal_cause(verdict: Verdict) -> &'static str {
+    match verdict {
+        Verdict::Pass { .. } => "",
+        Verdict::Blocked => "blocked",
+        Verdict::Oversize => "longer than `max_sdu`",
+        Verdict::GateClosed => "gate closed",
+        Verdict::ShutByRx => "gate shut: an earlier frame arrived while it was closed",
+        Verdict::ShutByOctets => "gate shut: an earlier frame exceeded its octets",
+        Verdict::OctetsExceeded => "octets of the gate entry exceeded",
+        Verdict::Red => "red",
+        Verdict::YellowDropped => "yellow: the meter drops yellow frames",
+    }
+}
+
+impl DrawnGroup {
+    /// Returns a group without frames. If memory runs out, `is_refused` is set, and `draw_run` fails.
+    fn new(alloc: Global) -> DrawnGroup {
+        let none = Share { left: 0, room: 0 };
+        let (shares, is_refused) = match Vec::from_elem(alloc, none, 17 * TIME_PARTS) {
+            Ok(shares) => (shares, false),
+            Err(_) => (Vec::new(alloc), true),
+        };
+        DrawnGroup {
+            frames: Vec::new(alloc),
+            shares,
+            is_refused,
+        }
+    }
+
+    /// Counts a frame at position `x`, or selects it if its part's share isn't used up.
+    fn add_frame(&mut self, pass: Pass, frame: DrawnFrame, x: u64) {
+        let part = (x.saturating_sub(AXIS_LEFT) / PART_WIDTH) as usize;
+        let place = usize::from(frame.port) * TIME_PARTS + part.min(TIME_PARTS - 1);
+        let Some(share) = self.shares.get_mut(place) else {
+            return;
+        };
+        match pass {
+            Pass::Count => share.left = share.left.saturating_add(1),
+            Pass::Select(it) if it == frame.is_protected && share.room > 0 => {
+                share.room = share.room.saturating_sub(1);
+                share.left = share.left.saturating_sub(1);
+                self.is_refused |= self.frames.push(frame).is_err();
+            }
+            _ => {}
+        }
+    }
+
+    /// Returns how many frames are drawn if each time part may have `each` frames.
+    fn drawn_count(&self, each: u64) -> u64 {
+        let mut drawn: u64 = 0;
+        for share in &self.shares {
+            drawn = drawn.saturating_add(share.left.min(each));
+        }
+        drawn
+    }
+
+    /// Allots equal shares to all parts, so that at most `most` frames are drawn. The share grows by a quarter in each step; 128 steps
+    /// exceed any count.
+    fn allot_shares(&mut self, most: u64) {
+        let mut each: u64 = 1;
+        for _ in 0..128 {
+            let next = each.saturating_add((each / 4).max(1));
+            if self.drawn_count(next) > most {
+                break;
+            }
+            each = next;
+        }
+        for share in &mut self.shares {
+            share.room = each;
+        }
+    }
+
+    /// Returns two numbers for the note: the frames that aren't drawn, and all frames of the group.
+    pub(crate) fn left_out(&self) -> (u64, u64) {
+        let left_out = self.drawn_count(u64::MAX);
+        let frames = self.frames.len() as u64;
+        (left_out, left_out.saturating_add(frames))
+    }
+}
+
+impl Picture {
+    /// Hatches the parts of a port with frames that aren't drawn, from `by` below the page's lower end, `high` high.
+    pub(crate) fn put_hatches(&mut self, group: &DrawnGroup, port: u8, by: u64, high: u64) {
+        let (first, mut x) = (usize::from(port) * TIME_PARTS, AXIS_LEFT);
+        for place in 0..TIME_PARTS {
+            if let Some(share) = group.shares.get(first + place) {
+                if share.left > 0 {
+                    self.page.put_bar("hatch", x, by, PART_WIDTH, high);
+                }
+            }
+            x = x.saturating_add(PART_WIDTH);
+        }
+    }
+}
+
+impl FrameSelection {
+    /// Visits a frame: completes its arrival time, then extends the span, counts the frame or selects it, by the current pass. Ignores
+    /// frames outside the requested part.
+    fn visit_frame(&mut self, part: &Selection, origins: &[Origin], frame: DrawnFrame) {
+        let Some(origin) = origins.get(frame.own.saturating_sub(1) as usize) else {
+            return;
+        };
+        let mut seen = frame;
+        seen.arrival = origin.at;
+        if !frame.cause.is_empty() {
+            (seen.start, seen.done) = (origin.at, origin.at.saturating_add(1));
+        }
+        if frame.is_stopped {
+            seen.port = origin.port;
+        }
+        if !part.has_port(seen.port) {
+            return;
+        }
+        let (start, done) = (seen.start, seen.done);
+        if matches!(self.pass, Pass::FindSpan) {
+            let came = if seen.is_protected {
+                seen.arrival
+            } else {
+                start
+            };
+            self.span.from = self.span.from.min(start).min(came);
+            self.span.to = self.span.to.max(done);
+        } else if self.span.has_overlap(start, done) {
+            let x = self.span.page_x(start);
+            match frame.cause {
+                "" => self.left.add_frame(self.pass, seen, x),
+                _ => self.marks.add_frame(self.pass, seen, x),
+            }
+        }
+    }
+
+    /// Visits the frames of a filter: departures, refused frames and dropped copies. Each pass calls it for each filter.
+    fn visit_filter<B: Allocator>(
+        &mut self,
+        part: &Selection,
+        colour: u64,
+        filter: u32,
+        view: &View<B>,
+    ) {
+        let mut frame = DrawnFrame {
+            filter,
+            own: 0,
+            is_protected: view.protected,
+            colour,
+            port: 0,
+            is_stopped: false,
+            arrival: 0,
+            start: 0,
+            done: 0,
+            cause: "",
+        };
+        for it in &view.departures {
+            (frame.own, frame.port) = (it.own, it.port);
+            (frame.start, frame.done) = (it.start, it.done);
+            self.visit_frame(part, &view.origins, frame);
+        }
+        (frame.own, frame.is_stopped) = (0, true);
+        for verdict in &view.verdicts {
+            frame.own = frame.own.saturating_add(1);
+            frame.cause = refusal_cause(*verdict);
+            if !frame.cause.is_empty() {
+                self.visit_frame(part, &view.origins, frame);
+            }
+        }
+        frame.is_stopped = false;
+        for it in &view.drops {
+            (frame.own, frame.port) = (it.own, it.port);
+            frame.cause = match it.refusal {
+                Refusal::Full => "queue full",
+                Refusal::NeverFits => "longer than any window",
+            };
+            self.visit_frame(part, &view.origins, frame);
+        }
+    }
+
+    /// Visits all frames of the requested filters in a pass. Filters get colours 0 to 7 in turn.
+    fn visit_frames<B: Allocator>(&mut self, part: &Selection, outcome: &Outcome<B>, pass: Pass) {
+        let mut colour: u64 = 0;
+        self.pass = pass;
+        for (filter, view) in &outcome.filters {
+            if part.has_filter(*filter) {
+                self.visit_filter(part, colour, *filter, view);
+            }
+            colour = colour.saturating_add(1) % 8;
+        }
+    }
+}
+
+/// Selects what a run's picture draws: the requested span, by default all frames, and at most 2,400 departures and 1,600 refused or dropped
+/// frames.
+pub(crate) fn select_frames<B: Allocator>(
+    alloc: Global,
+    outcome: &Outcome<B>,
+    part: &Selection,
+) -> FrameSelection {
+    let (from, to) = (u64::MAX, 0);
+    let mut choice = FrameSelection {
+        pass: Pass::FindSpan,
+        span: Span { from, to },
+        left: DrawnGroup::new(alloc),
+        marks: DrawnGroup::new(alloc),
+    };
+    choice.visit_frames(part, outcome, Pass::FindSpan);
+    if choice.span.from > choice.span.to {
+        (choice.span.from, choice.span.to) = (0, 1_000_000);
+    }
+    choice.span = part.span(choice.span);
+    choice.visit_frames(part, outcome, Pass::Count);
+    choice.left.allot_shares(2_400);
+    choice.marks.allot_shares(1_600);
+    choice.visit_frames(part, outcome, Pass::Select(true));
+    choice.visit_frames(part, outcome, Pass::Select(false));
+    choice
+}

@@ -1,0 +1,50 @@
+//! The time span of a picture.
+
+use show_lint::Hypercycle;
+use show_svg::Span;
+
+/// Longest time in ns that a plan's picture shows before or after a schedule change. A longer hypercycle is cut.
+pub const LONGEST_HYPERCYCLE: u64 = 1_000_000_000;
+
+/// Requested part of a plan or run: its start and end in ns, its ports and its filters. Empty lists stand for all.
+#[derive(Clone, Copy)]
+pub struct Selection<'a> {
+    pub from: Option<u64>,
+    pub to: Option<u64>,
+    pub ports: &'a [u32],
+    pub filters: &'a [u32],
+}
+
+impl Selection<'_> {
+    /// Whether the picture shows port `port`: the arguments name it, or no port.
+    pub(crate) fn has_port(&self, port: u8) -> bool {
+        self.ports.is_empty() || self.ports.contains(&u32::from(port))
+    }
+
+    /// Whether the picture shows filter `filter`: the arguments name it, or no filter.
+    pub(crate) fn has_filter(&self, filter: u32) -> bool {
+        self.filters.is_empty() || self.filters.contains(&filter)
+    }
+
+    /// Returns the requested span, at least 1 ns long. A start or end that isn't given is taken from `whole`.
+    pub(crate) fn span(&self, whole: Span) -> Span {
+        let from = self.from.unwrap_or(whole.from);
+        let to = self.to.unwrap_or(whole.to).max(from.saturating_add(1));
+        Span { from, to }
+    }
+}
+
+/// Returns how much of a hypercycle a picture shows, in ns; 1 ms without a list.
+pub(crate) fn shown_length(times: Hypercycle) -> u64 {
+    match times.length {
+        0 => 1_000_000,
+        length => length.min(LONGEST_HYPERCYCLE),
+    }
+}
+
+/// Returns the span of a plan's picture: one hypercycle from 0, or one before and one after the schedule change.
+pub(crate) fn plan_span(times: Hypercycle) -> Span {
+    let (at, shown) = (times.change.unwrap_or(0), shown_length(times));
+    let (from, to) = (at.saturating_sub(shown), at.saturating_add(shown));
+    Span { from, to }
+}

@@ -1,7 +1,0 @@
-use Rattle.show_tables.specs.Frames.{lone_row}
-use Rattle.bridge_text.proofs.Puts.{put_piece}
-use Rattle.show_tables.proofs.rows.put_lone.Goals as goal
-
-pub returns : goal.returns
-unfolding lone_row
-returns g c = put_piece _ _ _ _ _ c.put_start.ensures c.put.ensures

@@ -1,0 +1,61 @@
+//! Delay bounds of the ports by which a filter's frames can leave.
+ghost use Rattle.std.specs.Prelude.{◌≡◌, ◌≤◌, IfOk};
+ghost use Rattle.show_tables.specs.PortBounds as spec;
+
+use bridge_bounds::tight_queue_bound;
+use bridge_check::Accepted;
+use bridge_limits::NoMemory;
+use std::alloc::Allocator;
+
+/// Returns the greater of two optional bounds; a missing bound (`None`) counts as less.
+fn greater_bound(one: Option<u64>, other: Option<u64>) -> Option<u64>
+    ensures { result ≡ spec.greater_bound one other }
+{
+    match (one, other) {
+        (Some(one), Some(other)) => Some(one.max(other)),
+        (Some(one), None) => Some(one),
+        (None, other) => other,
+    }
+}
+
+/// Returns the delay bound in ns of `port` for a filter: the greatest tight bound of its classes. Returns `None` if the filter is
+/// unprotected or can't reach the port.
+fn port_bound<A: Allocator + Copy>(accepted: &Accepted<A>, filter: u32, port: u8) -> Option<u64>
+    requires from { 1 ≤ port }
+    requires to { port ≤ 16 }
+    ensures { spec.IsPortBound accepted.now filter port result }
+{
+    let mut bound = None;
+    for class in 0..8u8 {
+        bound = greater_bound(bound, tight_queue_bound(accepted, filter, port, class));
+    }
+    bound
+}
+
+/// Returns the delay bounds in ns of ports 1 to 16 for a filter; `None` for a port that it can't reach.
+pub(crate) fn port_bounds<A: Allocator + Copy>(
+    alloc: A,
+    accepted: &Accepted<A>,
+    filter: u32,
+) -> Result<Vec<Option<u64>, A>, NoMemory>
+    ensures { IfOk result (λ bounds. spec.ArePortBounds accepted.now filter bounds.items) }
+{
+    let mut bounds = Vec::with_capacity(alloc, 16)?;
+    for port in 1..17u8 {
+        bounds.push(port_bound(accepted, filter, port))?;
+    }
+    Ok(bounds)
+}
+
+/// Returns the bound of `port`, from a list of bounds by port from 1. Returns `None` without a bound or for a number outside the list.
+pub(crate) fn bound_by_port(bounds: &[Option<u64>], port: u8) -> Option<u64>
+    ensures { result ≡ spec.bound_by_port bounds.now port }
+{
+    if port == 0 {
+        return None;
+    }
+    match bounds.get(port as usize - 1) {
+        Some(bound) => *bound,
+        None => None,
+    }
+}
