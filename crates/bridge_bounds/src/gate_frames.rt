@@ -20,7 +20,7 @@ fn max_entry_frames(entry: &GateEntry) -> Option<u32>
     Some(entry.octets? / 2)
 }
 
-/// Returns the largest number of frames that an entry passes in one interval. Returns `None` if an open entry has no limit.
+/// Returns the largest number of frames that any entry passes in one interval; `None` if an open entry has no octet limit.
 fn max_list_frames(entries: &[(GateEntry, u64)]) -> Option<u32>
     ensures { result ≡ spec.max_list_frames entries.now }
 {
@@ -31,7 +31,8 @@ fn max_list_frames(entries: &[(GateEntry, u64)]) -> Option<u32>
     Some(most)
 }
 
-/// Returns the largest number of frames in one interval if it is less than the queue's capacity `room`, otherwise `None`.
+/// Returns the largest number of frames in one interval if it is less than the queue's capacity `room`, otherwise `None`. Only a lesser
+/// number lowers the bound.
 pub(crate) fn frames_below_room(entries: &[(GateEntry, u64)], room: u16) -> Option<u16>
     ensures { result ≡ spec.frames_below_room room (spec.max_list_frames entries.now) }
 {
@@ -59,7 +60,8 @@ fn is_shut<A: Allocator + Copy>(list: &CyclicList<GateEntry, A>, from: u64, unti
     true
 }
 
-/// Whether the stream gate passes no frame for `apart` ns after the interval `turn`. Returns true for a closed interval.
+/// Whether the stream gate passes no frame for `apart` ns after the interval `turn`. Returns true for a closed interval, because no frame
+/// passes in it.
 fn is_shut_after_turn<A: Allocator + Copy>(
     list: &CyclicList<GateEntry, A>,
     turn: &Turn<GateEntry>,
@@ -77,7 +79,8 @@ fn is_shut_after_turn<A: Allocator + Copy>(
     is_shut(list, turn.end, (turn.end + apart).saturating_sub(1))
 }
 
-/// Whether the stream gate's open intervals are at least `apart` ns apart. Examines one cycle, and `apart` ns after each open interval.
+/// Whether the stream gate's open intervals are at least `apart` ns apart. If so, the frames of one interval have left before the next
+/// opens. Examines one cycle, and `apart` ns after each open interval.
 pub(crate) fn are_apart<A: Allocator + Copy>(list: &CyclicList<GateEntry, A>, apart: u64) -> bool
     requires apart { apart ≤ 1_000_000_000_000_000_000 }
     requires lawful { IsLawful list.now }

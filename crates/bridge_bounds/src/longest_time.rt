@@ -8,7 +8,8 @@ ghost use Rattle.bridge_bounds.specs.Bounds.{FramesEnd, IsTimeAttained, IsEdge, 
 use bridge_cycle::{CyclicList, Egress, LONGEST_CYCLE, Timeline, first_fit};
 use std::alloc::Allocator;
 
-/// Returns the first time in ns, from `from` on, at which a frame with transmission time `occ` ns fits.
+/// Returns the first time in ns, from `from` on, at which a frame with transmission time `occ` ns fits. Wraps `first_fit`, and bounds the
+/// wait by `LONGEST_CYCLE`.
 fn list_first_fit<A: Allocator + Copy>(
     list: &CyclicList<u8, A>,
     class: u8,
@@ -136,7 +137,7 @@ fn frames_duration<A: Allocator + Copy>(
     end_after_rounds(list, class, occ, room, from, done, end) - from
 }
 
-/// Whether a frame fits at time `moment` in ns, and doesn't fit 1 ns later.
+/// Whether a frame fits at time `moment` in ns, and doesn't fit 1 ns later. Frames that come just after such a time wait longest.
 fn is_edge<A: Allocator + Copy>(list: &CyclicList<u8, A>, class: u8, occ: u64, moment: u64) -> bool
     requires class { class < 8 }
     requires occ { occ ≤ LONGEST_CYCLE }

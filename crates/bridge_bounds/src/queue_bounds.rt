@@ -17,7 +17,7 @@ use bridge_frame::occupation;
 use bridge_limits::LONGEST_FRAME;
 use std::alloc::Allocator;
 
-/// Returns the stream filter with this number, or `None`.
+/// Returns the stream filter with this number; `None` if the list lacks it.
 pub fn find_filter(filters: &[(u32, FilterPlan)], number: u32) -> Option<FilterPlan>
     ensures { result ≡ lookup (nat_eq number) filters.now }
 {
@@ -29,7 +29,7 @@ pub fn find_filter(filters: &[(u32, FilterPlan)], number: u32) -> Option<FilterP
     None
 }
 
-/// Returns the delay bound in ns of a class of a port, for frames with a service data unit of at most `sdu` octets.
+/// Returns the delay bound in ns of a queue by its capacity, for frames with a service data unit of at most `sdu` octets.
 pub(crate) fn class_bound<A: Allocator + Copy>(port: &PortPlan<A>, class: u8, sdu: u32) -> u64
     requires class { class < 8 }
     requires sdu { sdu ≤ 65535 }
@@ -41,7 +41,8 @@ pub(crate) fn class_bound<A: Allocator + Copy>(port: &PortPlan<A>, class: u8, sd
     occupied - 1 + longest
 }
 
-/// Returns the delay bound in ns of a reachable queue of the filter.
+/// Returns the delay bound in ns of a queue that a protected filter reaches. The result is never `None`, because such a filter has a
+/// maximum SDU.
 fn reached_queue_bound<A: Allocator + Copy>(
     plan: &Plan<A>,
     number: u32,
@@ -62,8 +63,8 @@ fn reached_queue_bound<A: Allocator + Copy>(
     Some(class_bound(out, class, sdu))
 }
 
-/// Returns the delay bound in ns of a protected filter's queue, or `None` if the queue isn't reachable. Without a schedule change the bound
-/// is exact within one transmission time. Allocates no memory.
+/// Returns the delay bound in ns of a protected filter's reachable queue; `None` for any other queue or filter. Without a schedule change
+/// the bound is exact within one transmission time. Allocates no memory.
 pub fn queue_bound<A: Allocator + Copy>(
     accepted: &Accepted<A>,
     number: u32,

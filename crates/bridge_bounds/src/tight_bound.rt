@@ -46,7 +46,7 @@ fn lesser_bound<A: Allocator + Copy>(
     bound.min(occupied - 1 + longest)
 }
 
-/// Returns `bound`, or a lesser bound if the stream gate passes fewer frames per interval than the queue's capacity.
+/// Returns `bound`, or a lesser bound if the stream gate's only list passes fewer frames per interval than the queue's capacity.
 fn tighten_bound<A: Allocator + Copy>(
     schedule: &Schedule<A>,
     port: &PortPlan<A>,
@@ -72,7 +72,8 @@ fn tighten_bound<A: Allocator + Copy>(
     }
 }
 
-/// Returns the tight bound in ns of a reachable queue of the filter.
+/// Returns the tight bound in ns of a queue that a protected filter reaches. The result is never `None`, because the filter has a maximum
+/// SDU.
 fn tight_reached_queue_bound<A: Allocator + Copy>(
     plan: &Plan<A>,
     number: u32,
@@ -95,8 +96,8 @@ fn tight_reached_queue_bound<A: Allocator + Copy>(
     Some(tighten_bound(&gate.schedule, out, class, sdu, bound))
 }
 
-/// Returns the bound of `queue_bound`, or a lesser bound if octet limits of the filter's stream gate allow it. Holds for runs whose frames
-/// have at least their captured octets. Allocates no memory.
+/// Returns the bound of `queue_bound`, or a lesser bound if octet limits of the stream gate allow it. Frames must have at least their
+/// captured octets. Allocates no memory.
 pub fn tight_queue_bound<A: Allocator + Copy>(
     accepted: &Accepted<A>,
     number: u32,

@@ -3,7 +3,7 @@ use Rattle.std.specs.Prelude.{ℕ}
 use Rattle.bridge_capture.specs.declared.capture_fault.CaptureFault.{CaptureFault}
 use Rattle.bridge_capture.specs.declared.capture_fault.CaptureFault.TheVariants.{BadMagic, BadVersion, BadLinkType, HeaderCut, RecordCut, LengthsCross, RecordTooLarge, TimeBack, TimeTooLate, TooManyRecords, Read, Write, NoMemory}
 
--- Number of a fault.
+-- Number of a fault of a capture, in the order of the variants.
 abbrev pub fault_code : CaptureFault → ℕ
 fault_code BadMagic = 1
 fault_code BadVersion = 2

@@ -32,7 +32,7 @@ IsFaultOfFront faults.Read front = Unit {0}
 IsFaultOfFront faults.NoMemory front = Unit {0}
 IsFaultOfFront fault front = front ≡ Fault fault
 
--- Statement: The result agrees with the item at the front.
+-- Statement: The result agrees with the front of the octets: no packet at the end, a record's packet, or a fault.
 abbrev pub TakesFront : {A : Type 0} → FrontItem → Option (List ℕ) → Result (Option (Packet A)) CaptureFault → Type 0
 TakesFront front rest (Ok None) = front ≡ Nothing
 TakesFront front rest (Ok (Some p)) = (more : List ℕ) × (front ≡ Record (packet_frame p) more) × (rest ≡ Some more)
@@ -49,7 +49,7 @@ abbrev pub TakesOctets : ℕ → ℕ → Option (List ℕ) → Option (List ℕ)
 TakesOctets number count old new octets (Ok done) = (length octets ≡ count) × Consumes old new octets
 TakesOctets number count old new octets (Err fault) = CutsOctets number count old new fault
 
--- Statement: The fault belongs to a record's header.
+-- Statement: The fault is one that a record's header can have: too large, crossed lengths, or a time that is too late or too early.
 abbrev pub IsRecordHeaderFault : CaptureFault → Type 0
 IsRecordHeaderFault (faults.RecordTooLarge number) = Unit {0}
 IsRecordHeaderFault (faults.LengthsCross number) = Unit {0}

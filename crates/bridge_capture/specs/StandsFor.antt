@@ -22,15 +22,15 @@ pub record CaptureState : Type 0 where
 abbrev pub read_position : CaptureState → RecordPosition
 read_position capture = record { number = capture.records + 1; earliest = capture.latest }
 
--- Number of records that can still follow.
+-- Number of records that can still follow, up to the limit of a capture.
 abbrev pub records_left : CaptureState → ℕ
 records_left capture = MAX_RECORDS - capture.records
 
--- Statement: Records can follow.
+-- Statement: The capture has neither ended nor been refused, so records can follow.
 abbrev pub IsReading : CaptureState → Type 0
 IsReading capture = capture.progress ≡ Reading
 
--- Statement: The capture has ended.
+-- Statement: All records were returned, and the capture has ended without a fault.
 abbrev pub HasEnded : CaptureState → Type 0
 HasEnded capture = capture.progress ≡ Ended
 
@@ -74,7 +74,7 @@ BeginsCapture text remaining (Ok capture) = StandsFor capture remaining text []
 BeginsCapture text remaining (Err faults.Read) = TakesFewer 24 (Some text) remaining
 BeginsCapture text remaining (Err fault) = IsCapture text [] (AtFault fault)
 
--- Statement: The call's result, and the frames that the capture stands for afterwards.
+-- Statement: The call returned the next frame, the end or a fault, and the capture stands for the frames so far.
 abbrev pub AnswersNext : {A : Type 0} → CaptureState → Option (List ℕ) → List ℕ → List CapturedFrame → Result (Option (Packet A)) CaptureFault → Type 0
 AnswersNext capture remaining text given (Ok (Some packet)) = StandsFor capture remaining text (given ++ packet_frame packet ∷ []) × HasReadFrames text (given ++ packet_frame packet ∷ [])
 AnswersNext capture remaining text given (Ok None) = StandsFor capture remaining text given × IsCapture text given AtEnd

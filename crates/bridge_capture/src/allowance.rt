@@ -2,7 +2,7 @@
 ghost use Rattle.std.specs.Prelude.{◌≡◌, ◌≢◌, ◌≤◌, ◌<◌, ◌-◌, ◌⊎◌, Some, true, false, option_map};
 ghost use Rattle.std.specs.Option.{ForSome};
 
-/// Whether moving `count` octets fails: the device has failed, or its allowance is used up.
+/// Whether moving `count` octets fails: the device has failed, or its allowance is used up. `None` is an unlimited allowance.
 pub(crate) fn is_failing(is_broken: bool, allowance: Option<usize>, count: usize) -> bool
     ensures over { result ≡ true → (is_broken ≡ true) ⊎ (allowance ≡ Some 0) }
     ensures sound { result ≡ false → is_broken ≡ false }
@@ -26,7 +26,7 @@ pub(crate) fn allowed_octets(allowance: Option<usize>, count: usize) -> usize
     }
 }
 
-/// Returns the allowance after `count` octets.
+/// Returns the allowance after `count` octets; `None` stays unlimited.
 pub(crate) fn remaining_allowance(allowance: Option<usize>, count: usize) -> Option<usize>
     requires { ForSome allowance (λ left. count ≤ left) }
     ensures { result ≡ option_map (λ left. left - count) allowance }

@@ -11,7 +11,9 @@ const MAX_BUFFERS: usize = 4096;
 /// Pool of up to 4,096 buffers. Their contents are never read.
 #[derive(Drop)]
 pub struct BufferPool<A: Allocator + Copy> {
+    /// Allocator of new buffers.
     alloc: A,
+    /// Buffers that `take` returns.
     kept: Vec<Vec<u8, A>, A>,
 }
 
@@ -60,7 +62,7 @@ impl<A: Allocator + Copy> BufferPool<A> {
         }
     }
 
-    /// Adds a buffer to the pool, or drops it if the pool is full. Allocates no memory.
+    /// Adds a buffer to the pool, so that a later frame needs no allocation. Drops it if the pool is full. Allocates no memory.
     #[inline(always)]
     pub fn put(&mut self, octets: Vec<u8, A>)
         ensures kept { (self.old ≤ self.new) × (self.new ≤ self.old + 1) }

@@ -5,7 +5,7 @@ ghost use Rattle.std.specs.Io.KnownBytes.{WriteAppends, Appends};
 
 use crate::byte_source::Broken;
 
-/// Accepts octets, one after another.
+/// Sink of a capture's octets. Contracts can name the octets that it contains.
 pub trait ByteSink {
     /// Octets in the sink, if they are known.
     ghost contents: { Self → Option (List ℕ) };

@@ -9,7 +9,7 @@ use thiserror::Error;
 #[error("the device failed")]
 pub struct Broken;
 
-/// Gives octets, one after another.
+/// Source of a capture's octets. Contracts can name the octets that remain.
 pub trait ByteSource {
     /// Remaining octets, if they are known.
     ghost remaining: { Self → Option (List ℕ) };

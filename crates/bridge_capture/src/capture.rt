@@ -14,11 +14,13 @@ use std::marker::Model;
 /// Capture that is being read. It stores no source: each call needs the source of `begin`, unchanged in between.
 #[derive(Drop)]
 pub struct Capture {
+    /// Byte order and time unit.
     form: CaptureFormat,
     /// Number of records so far.
     records: u32,
     /// Time of the last record in ns; 0 before the first.
     latest: u64,
+    /// Whether more records can follow.
     progress: Progress,
 }
 

@@ -15,16 +15,19 @@ use crate::fault::RunFault;
 use crate::packet::Packet;
 use std::alloc::Allocator;
 
-/// Capture of a port, with the next frame, if there is one.
+/// Reader of a port's capture. It reads one frame ahead, so that a run can select the earliest frame of all ports.
 #[derive(Drop)]
 pub struct CaptureReader<A: Allocator + Copy> {
+    /// Port of the capture.
     pub number: u8,
+    /// Capture after the frame ahead.
     pub capture: Capture,
+    /// Next frame; `None` at the capture's end.
     pub ahead: Option<Packet<A>>,
 }
 
 impl<A: Allocator + Copy> CaptureReader<A> {
-    /// Reads the header and the first record of a capture.
+    /// Reads the header and the first record of a capture, or returns the first fault.
     pub fn begin<R: ByteSource>(
         alloc: A,
         number: u8,
@@ -103,7 +106,7 @@ pub fn run_fault(port: u8, fault: CaptureFault) -> RunFault
     }
 }
 
-/// Reads the header and the first record of each capture, in the order of the ports.
+/// Reads the header and the first record of each capture, in the order of the ports. Stops at the first fault.
 pub fn begin_readers<R: ByteSource, A: Allocator + Copy>(
     alloc: A,
     ports: &[u8],

@@ -7,12 +7,14 @@ use std::io::Read;
 /// Reader as a source. Each error of the reader is permanent, even an interrupted call.
 #[derive(Drop)]
 pub struct FromRead<R: Read> {
+    /// Reader that gives the octets.
     reader: R,
+    /// Whether the reader has failed.
     is_broken: bool,
 }
 
 impl<R: Read> FromRead<R> {
-    /// Makes a source of a reader.
+    /// Makes a source of a reader that hasn't failed.
     pub fn new(reader: R) -> FromRead<R>
         ensures remaining { ⟦<FromRead<R> as ByteSource>⟧.remaining result ≡ R.remaining reader }
         ensures sound { ⟦<FromRead<R> as ByteSource>⟧.has_failed result ≡ false }
@@ -23,7 +25,7 @@ impl<R: Read> FromRead<R> {
         }
     }
 
-    /// Returns the reader with its remaining octets.
+    /// Returns the reader with its remaining octets. It doesn't show whether the source has failed.
     pub fn into_inner(self) -> R
         ensures { R.remaining result ≡ ⟦<FromRead<R> as ByteSource>⟧.remaining self }
     {

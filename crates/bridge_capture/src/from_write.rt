@@ -8,12 +8,14 @@ use std::io::Write;
 /// Writer as a sink. Each error of the writer is permanent, even an interrupted call or a write of 0 octets.
 #[derive(Drop)]
 pub struct FromWrite<W: Write> {
+    /// Writer that accepts the octets.
     writer: W,
+    /// Whether the writer has failed.
     is_broken: bool,
 }
 
 impl<W: Write> FromWrite<W> {
-    /// Makes a sink of a writer.
+    /// Makes a sink of a writer that hasn't failed.
     pub fn new(writer: W) -> FromWrite<W>
         ensures contents { ⟦<FromWrite<W> as ByteSink>⟧.contents result ≡ W.contents writer }
         ensures sound { ⟦<FromWrite<W> as ByteSink>⟧.has_failed result ≡ false }
@@ -24,7 +26,7 @@ impl<W: Write> FromWrite<W> {
         }
     }
 
-    /// Returns the writer with its octets.
+    /// Returns the writer with its octets. It doesn't show whether the sink has failed.
     pub fn into_inner(self) -> W
         ensures { W.contents result ≡ ⟦<FromWrite<W> as ByteSink>⟧.contents self }
     {

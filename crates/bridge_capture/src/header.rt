@@ -10,7 +10,7 @@ use crate::format::{ByteOrder, CaptureFormat, FractionUnit};
 /// Length of a header in octets.
 pub const HEADER_LEN: usize = 24;
 
-/// Reads a 32-bit word.
+/// Reads a 32-bit number from the first four octets.
 pub fn read_word(order: ByteOrder, octets: &[u8]) -> u32
     requires { length octets.now ≡ 4 }
     ensures { result ≡ word32 order octets.now }
@@ -22,7 +22,7 @@ pub fn read_word(order: ByteOrder, octets: &[u8]) -> u32
     }
 }
 
-/// Reads a 16-bit word.
+/// Reads a 16-bit number from the first two octets.
 fn read_short_word(order: ByteOrder, octets: &[u8]) -> u16
     requires { length octets.now ≡ 2 }
     ensures { result ≡ word16 order octets.now }
@@ -34,7 +34,7 @@ fn read_short_word(order: ByteOrder, octets: &[u8]) -> u16
     }
 }
 
-/// Returns the format for a magic number that was read as little-endian.
+/// Returns the format for a magic number that was read as little-endian; `None` for an unknown number.
 fn format_by_magic(magic: u32) -> Option<CaptureFormat>
     ensures { result ≡ format_by_magic magic }
 {

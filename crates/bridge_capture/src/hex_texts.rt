@@ -15,7 +15,7 @@ const HEADER_LEN: usize = 24;
 /// Length of a record's header in octets.
 const WORDS_LEN: usize = 16;
 
-/// Returns the length of the first record.
+/// Returns the length in octets of the first record, with its header.
 fn record_len(octets: &[u8]) -> usize
     ensures words { 16 ≤ result }
     ensures whole { 16 ≤ length octets.now → result ≡ 16 + captured_length written_format octets.now }

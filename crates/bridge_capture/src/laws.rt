@@ -14,7 +14,7 @@ pub fn each_text_reads_one_way()
     ensures { (text : List ℕ) → ReadsOneWay text }
 {}
 
-/// Each limit as a number, for proofs that use its value.
+/// Gives proofs the limits of captures as numbers: 1,000,000 records, and 65,535 octets of a frame.
 pub fn the_limits()
     ensures records { MAX_RECORDS ≡ 1_000_000 }
     ensures octets { SNAP_LENGTH ≡ 65_535 }

@@ -17,7 +17,9 @@ const MAX_READ: usize = 131_072;
 /// interrupted call.
 #[derive(Drop)]
 pub struct ReadAhead<R: Read, A: Allocator> {
+    /// Reader, as a source without a buffer.
     source: FromRead<R>,
+    /// Octets that were read ahead.
     window: ReadBuffer<A>,
 }
 

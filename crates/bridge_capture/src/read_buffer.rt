@@ -9,8 +9,11 @@ use std::alloc::Allocator;
 /// Octets that were read ahead and aren't used yet: from `start` to `end`.
 #[derive(Drop)]
 pub struct ReadBuffer<A: Allocator> {
+    /// Buffer; only octets from `start` to `end` have a meaning.
     octets: Vec<u8, A>,
+    /// Index of the first unused octet.
     start: usize,
+    /// Index after the last unused octet.
     end: usize,
     ghost wide: { 0 < vec_len octets },
     ghost ordered: { start ≤ end },
@@ -34,7 +37,7 @@ impl<A: Allocator> ReadBuffer<A> {
         }
     }
 
-    /// Returns the capacity in octets.
+    /// Returns the capacity in octets: the number that one refill reads at most.
     pub fn width(&self) -> usize
         ensures positive { 0 < result }
     {
@@ -49,7 +52,7 @@ impl<A: Allocator> ReadBuffer<A> {
         self.end - self.start
     }
 
-    /// Fills `buf` with the next octets.
+    /// Fills `buf` with the next octets, which must be in the buffer.
     #[inline(always)]
     pub fn copy_front(&mut self, buf: &mut [u8])
         requires { length buf.old ≤ self.old.end - self.old.start }
@@ -71,7 +74,7 @@ impl<A: Allocator> ReadBuffer<A> {
         &self.octets[self.start..self.end]
     }
 
-    /// Drops the first `count` octets.
+    /// Drops the first `count` octets, which must be in the buffer.
     #[inline(always)]
     pub fn skip(&mut self, count: usize)
         requires { count ≤ self.old.end - self.old.start }
@@ -104,7 +107,7 @@ impl<A: Allocator> ReadBuffer<A> {
     }
 }
 
-/// Reads over the old octets.
+/// Reads octets of the source over the old ones, and returns their number; 0 at the source's end.
 fn overwrite_octets<R: ByteSource, A: Allocator>(
     source: &mut R,
     octets: &mut Vec<u8, A>,

@@ -24,11 +24,13 @@ pub const MAX_RECORDS: u32 = 1_000_000;
 struct RecordHeader {
     /// Time in ns.
     time: u64,
+    /// Number of captured octets.
     captured: u32,
+    /// Length on the link in octets.
     original: u32,
 }
 
-/// Reads the header of a record from sixteen octets.
+/// Reads time and lengths from the sixteen octets of a record's header, in the capture's format.
 #[inline(always)]
 fn parse_record_header(form: CaptureFormat, octets: &[u8]) -> RecordHeader
     requires { length octets.now ≡ 16 }
@@ -100,7 +102,8 @@ fn read_octets<R: ByteSource, A: Allocator>(
     Ok(())
 }
 
-/// Returns the header of record `number` if the whole record is in memory and its header has no fault.
+/// Returns the header of record `number` if the whole record is in memory and its header has no fault. For `None`, `read_unbuffered_record`
+/// reads the record.
 #[inline(always)]
 fn parse_buffered_header(
     form: CaptureFormat,
@@ -130,7 +133,7 @@ fn parse_buffered_header(
     }
 }
 
-/// Reads record `number` if octets remain. The previous record had the time `earliest`. The record's octets replace the vector's
+/// Reads record `number`; `None` if no octets remain. The previous record had the time `earliest`. The record's octets replace the vector's
 /// contents.
 #[inline(always)]
 pub fn read_next_record<R: ByteSource, A: Allocator>(

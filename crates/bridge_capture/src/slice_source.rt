@@ -7,14 +7,16 @@ use crate::allowance::{allowed_octets, is_failing, remaining_allowance};
 use crate::byte_source::{Broken, ByteSource};
 use std::marker::Model;
 
-/// Source of a slice's octets.
+/// Source of a slice's octets, for captures in memory.
 #[derive(Drop)]
 pub struct SliceSource<'a> {
+    /// Octets that remain.
     rest: &'a [u8],
     /// Number of octets until failure; `None` means unlimited.
     allowance: Option<usize>,
     /// Largest number of octets per call.
     step: usize,
+    /// Whether the source has failed.
     is_broken: bool,
 }
 
@@ -66,6 +68,7 @@ impl<'a> SliceSource<'a> {
         SliceSource::with_limits(octets, None, 1)
     }
 
+    /// Makes a source with this allowance, which gives at most `step` octets per call. All other makers call it.
     fn with_limits(octets: &'a [u8], allowance: Option<usize>, step: usize) -> SliceSource<'a>
         requires { 0 < step }
         ensures { result ≡ record {

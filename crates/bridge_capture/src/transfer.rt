@@ -34,7 +34,7 @@ pub fn fill_buffer<R: ByteSource>(source: &mut R, buf: &mut [u8]) -> Result<usiz
     }
 }
 
-/// Fills the buffer by as many reads as needed.
+/// Fills the rest of a buffer by as many reads as needed, and returns the number of octets. Needed if the first read gave too few.
 #[cold]
 #[inline(never)]
 fn fill_by_many_reads<R: ByteSource>(source: &mut R, buf: &mut [u8]) -> Result<usize, Broken>

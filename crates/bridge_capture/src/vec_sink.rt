@@ -9,14 +9,16 @@ use crate::byte_source::Broken;
 use std::alloc::Allocator;
 use std::marker::Model;
 
-/// Sink that stores its octets.
+/// Sink that stores its octets in memory.
 #[derive(Drop)]
 pub struct VecSink<A: Allocator> {
+    /// Octets so far.
     octets: Vec<u8, A>,
     /// Number of octets until failure; `None` means unlimited.
     allowance: Option<usize>,
     /// Largest number of octets per call.
     step: usize,
+    /// Whether the sink has failed.
     is_broken: bool,
     /// Whether memory ran out.
     ran_out: bool,
@@ -73,6 +75,7 @@ impl<A: Allocator> VecSink<A> {
         VecSink::with_limits(alloc, None, 1)
     }
 
+    /// Makes an empty sink with this allowance, which accepts at most `step` octets per call. All other makers call it.
     fn with_limits(alloc: A, allowance: Option<usize>, step: usize) -> VecSink<A>
         requires { 0 < step }
         ensures { result ≡ record {
@@ -99,7 +102,7 @@ impl<A: Allocator> VecSink<A> {
         &self.octets
     }
 
-    /// Whether memory ran out.
+    /// Whether memory ran out, the only reason why an unlimited sink fails.
     pub fn is_out_of_memory(&self) -> bool
         ensures { result ≡ self.now.ran_out }
     {

@@ -18,7 +18,9 @@ use std::io::Write;
 /// `finish` or dropping the sink writes the rest. Each error of the writer is permanent, even an interrupted call; a failed writer
 /// is never called again.
 pub struct WriteBehind<W: Write + Drop, A: Allocator> {
+    /// Writer, as a sink without a buffer.
     sink: FromWrite<W>,
+    /// Octets held back.
     held: WriteBuffer<A>,
 }
 

@@ -14,8 +14,11 @@ const MAX_RECORD_OCTETS: usize = 65_552;
 /// Octets held back until they make a block: the first `count` of a buffer.
 #[derive(Drop)]
 pub struct WriteBuffer<A: Allocator> {
+    /// Buffer; only its first `count` octets have a meaning.
     octets: Vec<u8, A>,
+    /// Number of octets held back.
     count: usize,
+    /// Number of octets that are written at once.
     block: usize,
     ghost wide: { vec_len octets ≡ block + MAX_RECORD_OCTETS },
     ghost within: { count ≤ vec_len octets },
@@ -45,7 +48,7 @@ impl<A: Allocator> WriteBuffer<A> {
         }
     }
 
-    /// Returns the number of octets of a block.
+    /// Returns the number of octets of a block, which the sink writes at once.
     pub fn block_len(&self) -> usize
         ensures block { result ≡ self.now.block }
         ensures rest { self.now.count - result ≤ MAX_RECORD_OCTETS }
@@ -86,7 +89,7 @@ impl<A: Allocator> WriteBuffer<A> {
         &self.octets[..self.count]
     }
 
-    /// Adds octets. They must fit.
+    /// Adds octets, for which the buffer must have capacity.
     #[inline(always)]
     pub fn put(&mut self, octets: &[u8])
         requires { length octets.now ≤ vec_len self.old.octets - self.old.count }
@@ -113,7 +116,7 @@ impl<A: Allocator> WriteBuffer<A> {
         self.put(&second.to_le_bytes());
     }
 
-    /// Drops the first `count` octets.
+    /// Drops the first `count` octets, after they were written.
     pub fn skip(&mut self, count: usize)
         requires { count ≤ self.old.count }
         ensures octets { held_octets self.new ≡ drop count (held_octets self.old) }

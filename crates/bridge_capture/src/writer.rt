@@ -14,6 +14,7 @@ use crate::transfer::write_all;
 /// in between.
 #[derive(Drop)]
 pub struct Writer {
+    /// Hidden, so that only `begin` makes a writer: the header is written first.
     begun: (),
 }
 
@@ -97,6 +98,7 @@ fn write_parts<W: ByteSink>(
 }
 
 /// Returns the four words of a record, two in each number: seconds and nanoseconds, captured length and original length.
+/// `ByteSink::write_words` takes them at once.
 #[inline(always)]
 fn record_word_pairs(done: u64, len: u32, captured: u32) -> (u64, u64)
     requires { done < 2 ^ 32 * 10 ^ 9 }
@@ -110,7 +112,7 @@ fn record_word_pairs(done: u64, len: u32, captured: u32) -> (u64, u64)
     )
 }
 
-/// Returns the four words of a record.
+/// Returns the four words of a record as octets, for a sink that doesn't take them as numbers.
 #[tactic(auto, unfolding(crate::specs::WrittenCapture::written_words))]
 fn record_words(done: u64, len: u32, captured: u32) -> [u8; 16]
     requires { done < 2 ^ 32 * 10 ^ 9 }

@@ -13,7 +13,7 @@ use bridge_filter::FilterPlan;
 use bridge_limits::NoMemory;
 use std::alloc::{AllocError, Allocator};
 
-/// Appends the fault of each failed test in `tests` to `faults`.
+/// Appends the fault of each failed test in `tests` to `faults`; `None` is a passed test. Fails only if memory runs out.
 fn push_failing<A: Allocator>(
     faults: &mut Vec<CheckFault, A>,
     tests: &[Option<CheckFault>],
@@ -30,7 +30,7 @@ fn push_failing<A: Allocator>(
     Ok(())
 }
 
-/// Appends the faults of `filter` to `faults`, if the filter is protected.
+/// Appends the faults of filter `number` to `faults`, if the filter is protected. `reaches` and `catches` were computed once for the plan.
 fn push_filter_faults<A: Allocator + Copy>(
     faults: &mut Vec<CheckFault, A>,
     plan: &Plan<A>,

@@ -14,28 +14,35 @@ use bridge_config::{Plan, PortPlan};
 use bridge_filter::FilterPlan;
 use std::alloc::Allocator;
 
-/// Test of a filter's reachable queues.
+/// Which of the three tests of a filter's reachable queues is made.
 #[derive(Clone, Copy)]
 pub(crate) enum QueueTest {
+    /// Test 6: can another filter reach the queue?
     Shared,
+    /// Test 7: does the port open another class together with the queue's class?
     Window,
+    /// Test 8: does some list lack a window for the filter's longest frame?
     Size,
 }
 
 /// Protected filter with the data that its tests use.
 #[derive(Drop)]
 struct FilterCase<'a, A: Allocator + Copy> {
+    /// Plan that has the filter.
     plan: &'a Plan<A>,
     /// Reach of every filter, with the filter's number.
     reaches: &'a [(u32, Reach)],
     /// Whether the plan has a catch-all filter.
     catches: bool,
+    /// Number of the filter.
     number: u32,
+    /// The filter.
     filter: FilterPlan,
+    /// Ports and priorities that the filter's frames can have.
     reach: Reach,
 }
 
-/// Whether another filter uses the stream gate of `filter`.
+/// Whether another filter uses the stream gate of `filter`. Its frames could then shut the gate, so test 3 fails.
 fn is_gate_shared(filters: &[(u32, FilterPlan)], number: u32, filter: &FilterPlan) -> bool
     ensures { result ≡ spec.is_gate_shared filters.now number filter.now }
 {
@@ -44,7 +51,7 @@ fn is_gate_shared(filters: &[(u32, FilterPlan)], number: u32, filter: &FilterPla
         .any(|g| g.0 != number && g.1.gate == filter.gate)
 }
 
-/// Whether both meter numbers are present and equal.
+/// Whether both meter numbers are present and equal. Two filters without a meter share none.
 fn is_same_meter(a: Option<u32>, b: Option<u32>) -> bool
     ensures { result ≡ spec.is_same_meter a b }
 {
@@ -54,14 +61,14 @@ fn is_same_meter(a: Option<u32>, b: Option<u32>) -> bool
     }
 }
 
-/// Whether another filter uses the meter of `filter`.
+/// Whether another filter uses the meter of `filter`. Its frames could then empty the buckets, so test 4 fails.
 fn is_meter_shared(filters: &[(u32, FilterPlan)], number: u32, filter: &FilterPlan) -> bool
     ensures { result ≡ spec.is_meter_shared filters.now number filter.now }
 {
     filters.iter().any(|g| g.0 != number && is_same_meter(g.1.meter, filter.meter))
 }
 
-/// Whether every filter number is at most `number`.
+/// Whether every filter number is at most `number`. A catch-all filter must have the greatest number, to match only what is left.
 fn is_greatest_number(filters: &[(u32, FilterPlan)], number: u32) -> bool
     ensures { result ≡ spec.is_greatest_number filters.now number }
 {
@@ -78,7 +85,8 @@ pub(crate) fn has_catch_all(filters: &[(u32, FilterPlan)]) -> bool
 }
 
 impl<'a, A: Allocator + Copy> FilterCase<'a, A> {
-    /// Returns the lowest number of another filter that can reach class `class` at `port`, which has number `q`.
+    /// Returns the lowest number of another filter that can reach class `class` at `port`, which has number `q`; `None` if no other filter
+    /// can.
     fn other_filter_in_queue(&self, port: &PortPlan<A>, q: u8, class: u8) -> Option<u32>
         requires port { find_port self.now.plan.now.ports q ≡ Some port.now }
         requires from { 1 ≤ q }
@@ -89,7 +97,7 @@ impl<'a, A: Allocator + Copy> FilterCase<'a, A> {
         least_other_filter(self.reaches, self.number, q, &port.classes, class)
     }
 
-    /// Returns the fault if class `class` at `port`, which has number `q`, fails `test`.
+    /// Returns the fault if class `class` at `port`, which has number `q`, fails `test`; otherwise `None`.
     fn queue_test_fault(
         &self,
         test: QueueTest,
@@ -150,7 +158,7 @@ impl<'a, A: Allocator + Copy> FilterCase<'a, A> {
         self.reach.has_queue(q, &port.classes, class)
     }
 
-    /// Returns the fault if class `class` at `port`, which has number `q`, is reachable and fails `test`.
+    /// Returns the fault if class `class` at `port`, which has number `q`, is reachable and fails `test`; otherwise `None`.
     fn reached_queue_fault(
         &self,
         test: QueueTest,
@@ -172,7 +180,8 @@ impl<'a, A: Allocator + Copy> FilterCase<'a, A> {
         }
     }
 
-    /// Returns `before` if it is a fault, otherwise the result of `test` for class `class` at `port`.
+    /// Returns `before` if it is a fault, otherwise the result of `test` for class `class` at `port`. `first_fault_on_port` calls it for
+    /// each class.
     fn first_or_queue_fault(
         &self,
         before: Option<CheckFault>,
@@ -196,7 +205,7 @@ impl<'a, A: Allocator + Copy> FilterCase<'a, A> {
         self.reached_queue_fault(test, port, q, class)
     }
 
-    /// Returns the first fault of `test` among the classes of `port`, which has number `q`.
+    /// Returns the first fault of `test` among the classes of `port`, which has number `q`; `None` if all pass.
     #[tactic(auto, using(crate::proofs::Told::first_none, crate::proofs::Told::first_more))]
     fn first_fault_on_port(&self, test: QueueTest, port: &PortPlan<A>, q: u8) -> Option<CheckFault>
         requires port { find_port self.now.plan.now.ports q ≡ Some port.now }
@@ -214,7 +223,7 @@ impl<'a, A: Allocator + Copy> FilterCase<'a, A> {
         first
     }
 
-    /// Returns the first fault of `test` among the classes of port `q`; `None` if the plan lacks the port.
+    /// Returns the first fault of `test` among the classes of port `q`; `None` if all pass or the plan lacks the port.
     fn first_fault_on_numbered_port(&self, test: QueueTest, q: u8) -> Option<CheckFault>
         requires from { 1 ≤ q }
         requires to { q ≤ 16 }
@@ -229,7 +238,7 @@ impl<'a, A: Allocator + Copy> FilterCase<'a, A> {
         }
     }
 
-    /// Returns `before` if it is a fault, otherwise the first fault of `test` among the classes of port `q`.
+    /// Returns `before` if it is a fault, otherwise the first fault of `test` at port `q`. `first_fault_in_reach` calls it for each port.
     fn first_or_port_fault(
         &self,
         before: Option<CheckFault>,
@@ -248,7 +257,7 @@ impl<'a, A: Allocator + Copy> FilterCase<'a, A> {
         self.first_fault_on_numbered_port(test, q)
     }
 
-    /// Returns the first fault of `test` among the filter's reachable queues, by rising port and class.
+    /// Returns the first fault of `test` among the filter's reachable queues, by rising port and class; `None` if all pass.
     #[tactic(auto, using(crate::proofs::Told::first_none, crate::proofs::Told::first_more))]
     fn first_fault_in_reach(&self, test: QueueTest) -> Option<CheckFault>
         requires { reached.IsCase self.now }
@@ -263,14 +272,14 @@ impl<'a, A: Allocator + Copy> FilterCase<'a, A> {
     }
 }
 
-/// Returns `fault` if a test fails.
+/// Returns `fault` if a test fails, otherwise `None`.
 fn fault_unless(passes: bool, fault: CheckFault) -> Option<CheckFault>
     ensures { result ≡ spec.fault_unless passes fault }
 {
     if passes { None } else { Some(fault) }
 }
 
-/// Returns the first fault in `tests`.
+/// Returns the first fault in the results of the tests; `None` if the filter passed them all.
 pub(crate) fn first_test_fault(tests: &[Option<CheckFault>]) -> Option<CheckFault>
     ensures { result ≡ spec.first_test_fault tests.now }
 {
@@ -283,7 +292,7 @@ pub(crate) fn first_test_fault(tests: &[Option<CheckFault>]) -> Option<CheckFaul
 }
 
 impl<'a, A: Allocator + Copy> FilterCase<'a, A> {
-    /// Returns the results of the eight tests, in order.
+    /// Returns the results of the eight tests, in order; `None` for a passed test.
     fn run_tests(&self) -> [Option<CheckFault>; 8]
         requires { reached.IsCase self.now }
         ensures { result ≡ spec.filter_tests self.now.plan.now self.now.number self.now.filter }
@@ -311,7 +320,8 @@ impl<'a, A: Allocator + Copy> FilterCase<'a, A> {
     }
 }
 
-/// Returns the results of the eight tests of `filter`, which has number `number`, in order.
+/// Returns the results of the eight tests of filter `number`, in order; `None` for a passed test. `reaches` and `catches` were computed
+/// once for the plan.
 pub(crate) fn test_filter<A: Allocator + Copy>(
     plan: &Plan<A>,
     reaches: &[(u32, Reach)],

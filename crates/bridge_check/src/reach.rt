@@ -13,7 +13,7 @@ use bridge_gate::{GateEntry, GatePlan, Schedule};
 use bridge_ident::{Kind, StreamEntry};
 use std::alloc::Allocator;
 
-/// Whether entries of kind `kind` compare the destination address.
+/// Whether entries of kind `kind` compare the destination address, which decides the egress ports of a frame.
 fn is_null_kind(kind: Kind) -> bool
     ensures { result ≡ spec.is_null_kind kind }
 {
@@ -23,7 +23,8 @@ fn is_null_kind(kind: Kind) -> bool
     }
 }
 
-/// Whether all stream entries with handle `handle` compare the destination address.
+/// Whether all stream entries with handle `handle` compare the destination address. Only then are the frames' destinations, and so their
+/// egress ports, known.
 fn are_null_kinds(handle: u32, streams: &[StreamEntry]) -> bool
     ensures { result ≡ spec.are_null_kinds handle streams.now }
 {
@@ -116,7 +117,7 @@ fn given_priorities<A: Allocator + Copy>(schedule: &Schedule<A>, priority: Optio
     priorities
 }
 
-/// Returns the stream gate with number `number`, or `None`.
+/// Returns the stream gate with number `number`; `None` if the list lacks it.
 pub fn find_gate<A: Allocator + Copy>(
     gates: &[(u32, GatePlan<A>)],
     number: u32,
@@ -218,7 +219,7 @@ impl Reach {
         self.ports[port as usize - 1] && self.has_class(classes, class)
     }
 
-    /// Whether some priority of the frames has class `class`.
+    /// Whether some priority that the frames can have has class `class`.
     fn has_class(&self, classes: &[u8; 8], class: u8) -> bool
         ensures { result ≡ reached.has_class self.now.priorities classes.now class }
     {

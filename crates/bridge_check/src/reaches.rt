@@ -7,7 +7,7 @@ use crate::reach::{Reach, filter_reach};
 use bridge_config::Plan;
 use std::alloc::{AllocError, Allocator};
 
-/// Returns every filter's number and reach, in plan order.
+/// Returns every filter's number and reach, in plan order. Computed once, because test 6 compares each filter with all others.
 pub(crate) fn all_reaches<A: Allocator + Copy>(
     alloc: A,
     plan: &Plan<A>,
@@ -25,7 +25,7 @@ pub(crate) fn all_reaches<A: Allocator + Copy>(
     Ok(reaches)
 }
 
-/// Returns the lower one of `number` and `least`, if `least` is present.
+/// Returns the lower one of `number` and `least`; `number` if `least` is `None`.
 fn lesser_number(least: Option<u32>, number: u32) -> u32
     ensures { Some result ≡ lesser_number least (Some number) }
 {

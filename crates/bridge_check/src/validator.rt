@@ -20,6 +20,7 @@ use std::marker::Model;
 /// Plan that isolates each of its protected filters. Only `check` creates a value of this type.
 #[derive(Drop)]
 pub struct Accepted<A: Allocator + Copy> {
+    /// Plan that passed `check`.
     plan: Plan<A>,
 }
 
@@ -36,7 +37,7 @@ impl<A: Allocator + Copy> Model for Accepted<A> {
 }
 
 impl<A: Allocator + Copy> Accepted<A> {
-    /// Returns the plan.
+    /// Returns the accepted plan. Runs, bounds and networks get it from here.
     pub fn plan(&self) -> &Plan<A>
         ensures plan { result.now ≡ self.now }
         ensures acceptable { IsAcceptable self.now }
@@ -46,7 +47,7 @@ impl<A: Allocator + Copy> Accepted<A> {
     }
 }
 
-/// Refused plan, with its first fault.
+/// Refused plan, with its first fault. Callers get the plan back, to explain the fault.
 #[derive(Drop)]
 pub struct Refused<A: Allocator + Copy> {
     /// The plan, unchanged.
@@ -55,7 +56,7 @@ pub struct Refused<A: Allocator + Copy> {
     pub fault: CheckFault,
 }
 
-/// Returns the fault with the lower filter number, or `a` if the numbers are equal.
+/// Returns the fault with the lower filter number, or `a` if the numbers are equal; `None` if both are absent.
 fn lesser_fault(
     a: Option<(u32, CheckFault)>,
     b: Option<(u32, CheckFault)>,
@@ -91,7 +92,8 @@ fn numbered_fault<A: Allocator + Copy>(
     }
 }
 
-/// Returns the first fault of the lowest-numbered faulty protected filter, with the filter's number.
+/// Returns the first fault of the lowest-numbered faulty protected filter, with the filter's number; `None` if no protected filter is
+/// faulty.
 fn least_fault<A: Allocator + Copy>(
     plan: &Plan<A>,
     reaches: &[(u32, Reach)],
@@ -108,7 +110,7 @@ fn least_fault<A: Allocator + Copy>(
     least
 }
 
-/// Returns the fault that `check` reports.
+/// Returns the fault that `check` reports; `None` if the plan isolates its protected filters. Fails only if memory runs out.
 fn first_fault<A: Allocator + Copy>(
     alloc: A,
     plan: &Plan<A>,

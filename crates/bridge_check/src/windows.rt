@@ -30,7 +30,7 @@ fn has_other_open_class(state: u8, class: u8) -> bool
     found
 }
 
-/// Returns the offset in ns of the first entry that opens class `class` together with another class.
+/// Returns the offset in ns of the first entry that opens class `class` together with another class; `None` if no entry does.
 fn shared_phase<A: Allocator + Copy>(list: &CyclicList<u8, A>, class: u8) -> Option<u64>
     requires { class < 8 }
     ensures { result ≡ spec.list_shared_phase list.now class }
@@ -45,8 +45,8 @@ fn shared_phase<A: Allocator + Copy>(list: &CyclicList<u8, A>, class: u8) -> Opt
     None
 }
 
-/// Returns the offset in ns at which the port first opens class `class` together with another class. The old list precedes the new list. A
-/// port without a list gives 0.
+/// Returns the offset in ns at which the port first opens class `class` with another class, if it does. The old list precedes the new list.
+/// A port without a list gives 0.
 pub(crate) fn port_shared_phase<A: Allocator + Copy>(port: &PortPlan<A>, class: u8) -> Option<u64>
     requires { class < 8 }
     ensures { result ≡ spec.port_shared_phase port.now.list class }
@@ -61,7 +61,8 @@ pub(crate) fn port_shared_phase<A: Allocator + Copy>(port: &PortPlan<A>, class: 
     }
 }
 
-/// Whether the longest frame with `sdu` SDU octets fits a window of class `class` in every list of the port.
+/// Whether the longest frame with `sdu` SDU octets fits a window of class `class` in every list of the port. A frame may wait under either
+/// list.
 pub(crate) fn can_ever_fit<A: Allocator + Copy>(port: &PortPlan<A>, class: u8, sdu: u32) -> bool
     requires class { class < 8 }
     requires sdu { sdu ≤ 65535 }

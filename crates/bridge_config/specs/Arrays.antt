@@ -5,7 +5,7 @@ use Rattle.bridge_schema.specs.Readers.{are_tables}
 use Rattle.bridge_config.specs.declared.section_arrays.SectionArrays.{SectionArrays}
 use Rattle.bridge_config.specs.Document as doc
 
--- Items of the arrays.
+-- Sections that the code has read, in the form of the definitions.
 abbrev pub array_items : SectionArrays → doc.SectionItems
 array_items a = record {
   changes = items_view a.changes.now;

@@ -14,19 +14,19 @@ use Rattle.bridge_config.specs.Rules.{port_set}
 use Rattle.bridge_config.specs.Sections.{provided, read_change_time, read_port, read_vlan, read_static, read_stream, read_gate, read_meter, read_filter}
 use Rattle.bridge_config.specs.Commands.{read_command}
 
--- Items of a section of a document.
+-- Items of a section of a document: an array of tables within the section's limit; no items if the section is absent.
 abbrev pub section_items : Section → Members → Result Items PlanFault
 section_items = reading.items_of (λ section. fault.NotAList section) (λ section. fault.TooMany section) limit_of section_name
 
--- Sections of a plan.
+-- Sections that a plan may have, in reading order.
 abbrev pub plan_sections : List Section
 plan_sections = section.Change ∷ section.Port ∷ section.Vlan ∷ section.Static ∷ section.Stream ∷ section.Gate ∷ section.Meter ∷ section.Filter ∷ []
 
--- True if the document has only these sections.
+-- True if the document's top level has only these sections.
 abbrev pub has_only_sections : List Section → Members → Bool
 has_only_sections = reading.are_known section_name
 
--- Items of all sections.
+-- Tables of all sections of a plan, before they are read as instances.
 pub record SectionItems : Type 0 where
   pub changes : Items
   pub ports : Items
@@ -52,12 +52,12 @@ read_arrays members = do
   filters ← section_items section.Filter members
   Ok (record { changes = changes; ports = ports; vlans = vlans; statics = statics; streams = streams; gates = gates; meters = meters; filters = filters })
 
--- First item, if there is one.
+-- First item; `None` without items.
 abbrev pub first_item : Items → Option Data
 first_item no_items = None
 first_item (item d _) = Some d
 
--- Time of the schedule change in a table, if there is one.
+-- Time of the schedule change in an item, or the item's fault; `None` if the item isn't a table or is absent.
 abbrev pub item_change : Option Data → Result (Option ℕ) PlanFault
 item_change (Some (table ms)) = read_change_time 1 ms >>= λ moment. Ok (Some moment)
 item_change _ = Ok None
@@ -85,7 +85,7 @@ read_plan arrays = do
   policing ← read_policing change arrays
   Ok (record { ports = ports; database = record { vlans = vlans; statics = statics }; streams = streams; gates = policing.gates; meters = policing.meters; filters = policing.filters })
 
--- Plan in a document.
+-- Plan in a document, or the first fault: sections first, then instances.
 abbrev pub document_plan : {A : Type 0} → Members → Result (Plan A) PlanFault
 document_plan members = read_arrays members >>= read_plan
 
@@ -93,7 +93,7 @@ document_plan members = read_arrays members >>= read_plan
 unfoldable pub read_document : List ℕ → Result Members PlanFault
 read_document = reading.document_of fault.TooLong fault.Syntax
 
--- Plan in a text.
+-- Plan in a text, or the first fault. Contracts of readers of plans state this result.
 abbrev pub text_plan : {A : Type 0} → List ℕ → Result (Plan A) PlanFault
 text_plan text = read_document text >>= document_plan
 
@@ -107,6 +107,6 @@ command_items members = do
 abbrev pub document_commands : {A : Type 0} → Plan A → Members → Result (List Command) PlanFault
 document_commands plan members = command_items members >>= instances (read_command plan)
 
--- Commands in a text for a plan.
+-- Commands in a text for the bridge of a plan, or the first fault.
 abbrev pub text_commands : {A : Type 0} → Plan A → List ℕ → Result (List Command) PlanFault
 text_commands plan text = read_document text >>= document_commands plan

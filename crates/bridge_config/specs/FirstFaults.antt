@@ -6,11 +6,11 @@ use Rattle.bridge_schema.specs.declared.plan_fault.PlanFault.{PlanFault}
 use Rattle.bridge_schema.specs.declared.instance_table.InstanceTable.{InstanceTable}
 use Rattle.bridge_schema.specs.Readers.{IsReadFault}
 
--- Location of a key in a table.
+-- Location of a key in an instance's table, for faults.
 abbrev pub key_location : InstanceTable → Field → KeyLocation
 key_location row key = record { section = row.section; index = row.index; field = key }
 
--- Fault of a result, if there is one.
+-- Fault of a result; `None` if the result has a value.
 abbrev pub read_fault : {A : Type 0} → Result A PlanFault → Option PlanFault
 read_fault (Ok x) = None
 read_fault (Err e) = Some e
@@ -25,7 +25,7 @@ abbrev pub first_fault : Option PlanFault → Option PlanFault → Option PlanFa
 first_fault None next = next
 first_fault (Some e) next = Some e
 
--- Value, or the fault if there is one.
+-- Result of reading a table: the first fault if there is one, otherwise the value.
 abbrev pub unless_fault : {A : Type 0} → Option PlanFault → A → Result A PlanFault
 unless_fault None x = Ok x
 unless_fault (Some e) x = Err e
@@ -35,7 +35,7 @@ pub record TakesRead {A : Type 0} (old : Option PlanFault) (other : A) (read : R
   pub fault : new ≡ first_fault old (read_fault read)
   pub value : x ≡ value_or other read
 
--- Statement: The new fault is the earlier fault, or the fault `e` if the test fails.
+-- Statement: The new first fault is the earlier fault if there is one, otherwise `e` if the test failed, otherwise `None`.
 pub record Expects (old : Option PlanFault) (holds : Bool) (e : PlanFault) (new : Option PlanFault) : Type 0 where
   pub fault : new ≡ first_fault old (if holds then None else Some e)
 
@@ -49,6 +49,6 @@ ReadsUnlessFault (Some e) read new x = new ≡ Some e
 ReadsUnlessFault None read None x = read ≡ Ok x
 ReadsUnlessFault None read (Some e) x = IsReadFault e read
 
--- `ReadsUnlessFault` as a record, for contracts.
+-- Statement: `ReadsUnlessFault` holds. Contracts of `take_port_lists` and `take_gate_lists` state it.
 pub record ReadsLists {A : Type 0} (old : Option PlanFault) (read : Result A PlanFault) (new : Option PlanFault) (x : A) : Type 0 where
   pub reads : ReadsUnlessFault old read new x

@@ -7,7 +7,7 @@ use Rattle.bridge_filter.specs.declared.FilterPlan.{FilterPlan}
 use Rattle.bridge_forward.specs.Database.{Database}
 use Rattle.bridge_config.specs.declared.ports.PortPlan.{PortPlan}
 
--- Gates, meters and filters, each with its number.
+-- Stream gates, meters and filters of a plan, each with its number.
 pub record Policing (A : Type 0) : Type 0 where
   pub gates : List (ℕ × GatePlan A)
   pub meters : List (ℕ × MeterPlan)

@@ -51,7 +51,7 @@ read_list_parts section index base_key cycle_key entries_key entry members =
       entries ← read_optional_list (at entries_key) entry (get_member (key_name entries_key) members)
       Ok (record { base = base; cycle = cycle; entries = entries })
 
--- List made from its parts, or its fault.
+-- List made from its parts; BadList if the parts break a rule of lists.
 abbrev pub checked_list : {S : Type 0} → Section → ℕ → ℕ → ℕ → List (S × ℕ) → Result (Cyclic S) PlanFault
 checked_list section index base cycle entries = elim (first_fault cycle entries) [ None ↦ Ok (record { base = base; cycle = cycle; entries = entries }) | Some e ↦ Err (fault.BadList section index e) ]
 
@@ -59,7 +59,7 @@ checked_list section index base cycle entries = elim (first_fault cycle entries)
 abbrev pub optional_list : {S : Type 0} → Section → ℕ → ListParts (S × ℕ) → Result (Option (Cyclic S)) PlanFault
 optional_list section index parts = elim parts.entries [ None ↦ Ok None | Some entries ↦ checked_list section index parts.base parts.cycle entries >>= λ l. Ok (Some l) ]
 
--- True if an instance has the number.
+-- True if an instance of the list has the number `n`.
 abbrev pub has_number : {X : Type 0} → List (ℕ × X) → ℕ → Bool
 has_number xs n = is_listed n xs
 
@@ -89,7 +89,7 @@ abbrev pub read_port_parts : ℕ → Field → Field → Field → Members → R
 read_port_parts index base_key cycle_key gates_key members =
     read_list_parts section.Port index base_key cycle_key gates_key (read_port_entry (record { section = section.Port; index = index; field = gates_key })) members
 
--- Keys of an entry of a port's list.
+-- Keys that an entry of a port's list may have.
 abbrev pub port_entry_keys : List Field
 port_entry_keys = field.Open ∷ field.Ns ∷ []
 
@@ -98,7 +98,7 @@ abbrev pub next_port_keys : Option ℕ → Members → List Field
 next_port_keys None _ = []
 next_port_keys (Some _) ms = field.NextGates ∷ keys_if_present field.NextGates (field.NextBase ∷ field.NextCycle ∷ []) ms
 
--- Keys that a port may have.
+-- Keys that a port may have. Keys of lists depend on other keys, and on a schedule change.
 abbrev pub port_keys : Option ℕ → Members → List Field
 port_keys change members =
     field.Number ∷ field.Mbps ∷ field.Vid ∷ field.Priority ∷ field.Classes ∷ field.Rooms ∷ field.Gates
@@ -141,7 +141,7 @@ read_port_by_lookup change is_port index members =
       own ← no_duplicate section.Port index (is_port number)
       Ok (record { number = number; speed = speed; vid = vid; priority = priority; classes = classes; rooms = rooms; list = list })
 
--- Reads a port after the earlier ports.
+-- Reads a port, whose number none of the ports before it may have.
 abbrev pub read_port : {A : Type 0} → Option ℕ → List (PortPlan A) → ℕ → Members → Result (PortPlan A) PlanFault
 read_port change ports index members = read_port_by_lookup change (has_port ports) index members
 
@@ -197,7 +197,7 @@ read_stream_by_lookup is_port index members =
       tag ← read_required (at field.Tag) field.Tag (text_value parse_tag_kind) members
       Ok (record { handle = handle; port = port; kind = kind; address = address; vid = vid; tag = tag })
 
--- Reads a stream identification for these ports.
+-- Reads a stream identification, whose port must be one of these ports.
 abbrev pub read_stream : {A : Type 0} → List (PortPlan A) → List StreamEntry → ℕ → Members → Result StreamEntry PlanFault
 read_stream ports earlier index members = read_stream_by_lookup (has_port ports) index members
 
@@ -222,13 +222,13 @@ abbrev pub next_gate_keys : Option ℕ → Members → List Field
 next_gate_keys None _ = []
 next_gate_keys (Some _) ms = field.NextEntries ∷ keys_if_present field.NextEntries (field.NextBase ∷ field.NextCycle ∷ []) ms
 
--- Keys that a gate may have.
+-- Keys that a stream gate may have. Keys of lists depend on other keys, and on a schedule change.
 abbrev pub gate_keys : Option ℕ → Members → List Field
 gate_keys change members =
     field.Number ∷ field.ShutOnRx ∷ field.ShutOnOctets ∷ field.Entries
     ∷ (keys_if_absent field.Entries (field.State ∷ field.Ipv ∷ []) members ++ keys_if_present field.Entries (field.Base ∷ field.Cycle ∷ next_gate_keys change members) members)
 
--- Keys of an entry of a gate's list.
+-- Keys that an entry of a stream gate's list may have.
 abbrev pub gate_entry_keys : List Field
 gate_entry_keys = field.Open ∷ field.Ns ∷ field.Ipv ∷ field.Octets ∷ []
 

@@ -12,7 +12,7 @@ use Rattle.bridge_filter.specs.declared.Clear.TheVariants as clear
 abbrev pub parse_ident_kind : List ℕ → Option Kind
 parse_ident_kind s = if pointwise nat_eq s (codes "null") then Some kind.Null else if pointwise nat_eq s (codes "source") then Some kind.Source else None
 
--- Tags of the frames that an entry matches.
+-- Tags of the frames that a stream entry matches; `None` for any other text.
 abbrev pub parse_tag_kind : List ℕ → Option TagKind
 parse_tag_kind s =
     if pointwise nat_eq s (codes "tagged") then Some tag.Tagged

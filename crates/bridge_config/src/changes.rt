@@ -13,7 +13,7 @@ use bridge_schema::{
 };
 use toml::{Table, Value};
 
-/// Whether a table has only keys of a schedule change.
+/// Whether a `[[change]]` table has no key except `at`; otherwise its fault is `UnknownKey`.
 fn has_change_keys(table: &Table) -> bool
     ensures { result ≡ sections.has_change_keys (table_view table.now) }
 {
@@ -38,7 +38,7 @@ fn read_change_time(index: u32, table: &Table) -> Result<u64, PlanFault>
     row.read_required(Field::At, &TIME)
 }
 
-/// Returns the first item, if there is one.
+/// Returns the first item; `None` without items. The section of the schedule change has at most one item.
 fn first_item(items: &[Value]) -> Option<&Value>
     ensures { option_map (λ v. view v.now) result ≡ doc.first_item (items_view items.now) }
 {
@@ -48,7 +48,7 @@ fn first_item(items: &[Value]) -> Option<&Value>
     }
 }
 
-/// Reads the time of the schedule change from an item, if it is a table.
+/// Reads the time of the schedule change from an item. `None` if there is no item, or it isn't a table.
 fn item_change(value: Option<&Value>) -> Result<Option<u64>, PlanFault>
     ensures reads { MatchesReading result (doc.item_change (option_map (λ v. view v.now) value.entry)) }
     ensures bounded { IfOk result rules.IsChangeInTime }
@@ -63,7 +63,7 @@ fn item_change(value: Option<&Value>) -> Result<Option<u64>, PlanFault>
     }
 }
 
-/// Reads the time of the plan's schedule change, if it has one. Allocates no memory.
+/// Reads the time in ns of the plan's schedule change; `None` if the plan has no change. Allocates no memory.
 #[tactic(auto, unfolding(crate::specs::Document::read_change))]
 pub(crate) fn read_change(items: &[Value]) -> Result<Option<u64>, PlanFault>
     ensures reads { MatchesReading result (doc.read_change (items_view items.now)) }

@@ -9,6 +9,6 @@ pub struct Command {
     pub at: u64,
     /// Flag that the command clears.
     pub clear: Clear,
-    /// Number of the filter, gate or meter.
+    /// Number of the filter, stream gate or meter.
     pub number: u32,
 }

@@ -24,7 +24,7 @@ use bridge_schema::{
 use std::alloc::{Allocator, Global};
 use toml::{Table, Value};
 
-/// Flag that a command clears: `blocked`, `rx`, `octets` or `red`.
+/// Texts of the key `clear`, which names the flag that a command clears: `blocked`, `rx`, `octets` or `red`.
 #[derive(Clone, Copy)]
 struct ClearText;
 
@@ -48,10 +48,12 @@ impl TextMeaning for ClearText {
     }
 }
 
-/// Numbers of the instances that have the flag `clear`.
+/// Numbers that a command may name: the plan's instances that have the flag `clear`.
 #[derive(Clone, Copy)]
 struct CommandTargets<'a, B: Allocator + Copy> {
+    /// Plan of the bridge that gets the command.
     plan: &'a Plan<B>,
+    /// Flag that the command clears.
     clear: Clear,
 }
 
@@ -67,7 +69,7 @@ impl<'a, B: Allocator + Copy> NumberLookup for CommandTargets<'a, B> {
     }
 }
 
-/// Returns the time of the last command, or 0.
+/// Returns the time of the last command in ns, or 0 without commands. The next command may not be earlier.
 #[tactic(auto, using(crate::proofs::Commanded::last_some, crate::proofs::Commanded::last_none))]
 fn last_time(commands: &[Command]) -> u64
     ensures { result ≡ spec.last_time 0 commands.now }
@@ -78,14 +80,14 @@ fn last_time(commands: &[Command]) -> u64
     }
 }
 
-/// Whether a table has only keys of a command.
+/// Whether a `[[command]]` table has only keys of a command; otherwise its fault is `UnknownKey`.
 fn has_command_keys(table: &Table) -> bool
     ensures { result ≡ spec.has_command_keys (table_view table.now) }
 {
     has_allowed_keys(table, &COMMAND_KEYS, false)
 }
 
-/// Reads the command in a table, after the earlier commands.
+/// Reads the command in a table. It may not be earlier than the last of `commands`, and must name an instance of the plan.
 fn read_command<B: Allocator + Copy>(
     plan: &Plan<B>,
     commands: &[Command],
@@ -123,9 +125,10 @@ fn read_command<B: Allocator + Copy>(
     })
 }
 
-/// Reader of the commands for a plan.
+/// Reads the section of commands for the bridge of a plan.
 #[derive(Clone, Copy)]
 struct CommandSection<'a, B: Allocator + Copy> {
+    /// Plan of the bridge.
     plan: &'a Plan<B>,
 }
 
@@ -150,7 +153,7 @@ impl<'a, A: Allocator + Copy, B: Allocator + Copy> SectionReader<A> for CommandS
     }
 }
 
-/// Returns the items of the section of commands. Allocates no memory.
+/// Returns the tables of a document of commands, which has no other section. Allocates no memory.
 #[tactic(auto, unfolding(crate::specs::Document::command_items))]
 fn command_items<'a>(table: &'a Table) -> Result<&'a [Value], PlanFault>
     ensures reads { MatchesReadingView (λ x. items_view x.now) result (doc.command_items (table_view table.now)) }

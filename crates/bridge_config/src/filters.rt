@@ -19,14 +19,15 @@ use bridge_schema::{
 use std::alloc::Allocator;
 use toml::{Table, Value};
 
-/// Whether a table has only keys of a filter.
+/// Whether a `[[filter]]` table has only keys of a filter; otherwise its fault is `UnknownKey`.
 fn has_filter_keys(table: &Table) -> bool
     ensures { result ≡ sections.has_filter_keys (table_view table.now) }
 {
     has_allowed_keys(table, &FILTER_KEYS, false)
 }
 
-/// Reads a filter with its number. `gates`, `meters` and `filters` look up numbers of gates, meters and earlier filters.
+/// Reads a filter and its number. It must name a number in `gates`, may name one in `meters`, and has none of `filters`. `read_filter`
+/// passes the plan's instances.
 fn read_filter_by_lookup<G: NumberLookup + Copy, M: NumberLookup + Copy, F: NumberLookup + Copy>(
     gates: G,
     meters: M,
@@ -81,7 +82,7 @@ fn read_filter_by_lookup<G: NumberLookup + Copy, M: NumberLookup + Copy, F: Numb
     first.finish((number as u32, plan))
 }
 
-/// Reads a filter with its number, after the earlier filters.
+/// Reads a filter and its number, after the plan's gates and meters. `filters` are the filters before it; none may have its number.
 fn read_filter<A: Allocator + Copy>(
     gates: &[(u32, GatePlan<A>)],
     meters: &[(u32, MeterPlan)],
@@ -101,10 +102,12 @@ fn read_filter<A: Allocator + Copy>(
     read_filter_by_lookup(gates, meters, filters, index, table)
 }
 
-/// Reader of the filters, for these gates and meters.
+/// Reads the section of filters, which name these stream gates and meters.
 #[derive(Clone, Copy)]
 struct FilterSection<'a, A: Allocator + Copy> {
+    /// Stream gates that were read before.
     gates: &'a [(u32, GatePlan<A>)],
+    /// Meters that were read before.
     meters: &'a [(u32, MeterPlan)],
 }
 
@@ -129,7 +132,7 @@ impl<'a, A: Allocator + Copy> SectionReader<A> for FilterSection<'a, A> {
     }
 }
 
-/// Reads the filters of an array, for these gates and meters.
+/// Reads the plan's filters, or returns the first fault. `gates` and `meters` were read before, because filters name them.
 pub(crate) fn read_filters<A: Allocator + Copy>(
     alloc: A,
     gates: &[(u32, GatePlan<A>)],

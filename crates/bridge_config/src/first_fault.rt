@@ -12,6 +12,7 @@ use std::marker::Model;
 /// First fault so far, if any. Values read after a fault have no meaning.
 #[derive(Drop)]
 pub(crate) struct FirstFault {
+    /// The fault; `None` while no read and no test failed.
     fault: Option<PlanFault>,
 }
 
@@ -109,14 +110,14 @@ impl FirstFault {
         self.value_or(row.read_or_default(default, key, kind), default)
     }
 
-    /// Returns the first fault, if any.
+    /// Returns the first fault so far; `None` without a fault. Lists of ports and gates are read only without a fault.
     pub fn fault(&self) -> Option<PlanFault>
         ensures { result ≡ self.now }
     {
         self.fault
     }
 
-    /// Returns the first fault, or `value` without a fault.
+    /// Ends the reading of a table: returns the first fault, or `value` without a fault.
     pub fn finish<T: Drop>(self, value: T) -> Result<T, PlanFault>
         ensures { EndsReading self value result }
     {

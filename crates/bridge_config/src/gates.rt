@@ -28,9 +28,10 @@ use bridge_schema::{
 use std::alloc::Allocator;
 use toml::Table;
 
-/// Reader of an entry of a gate's list, with its interval in ns.
+/// Reads an entry of a stream gate's list, with its interval in ns.
 #[derive(Clone, Copy)]
 struct GateEntryReader {
+    /// Location of the list, which faults of the entry name.
     place: KeyLocation,
 }
 
@@ -55,14 +56,14 @@ impl ListEntry for GateEntryReader {
     }
 }
 
-/// Whether a table has only keys of a gate. Some keys need a plan with a schedule change.
+/// Whether a `[[gate]]` table has only allowed keys. Some keys need the schedule change at `change`.
 fn has_only_gate_keys(change: Option<u64>, table: &Table) -> bool
     ensures { result ≡ has_known_keys (sections.gate_keys change (table_view table.now)) (table_view table.now) }
 {
     has_allowed_keys(table, &GATE_KEYS, change.is_some())
 }
 
-/// Whether the entries of the list at `key` have only their keys.
+/// Whether the entries of the list at `key` have only keys of a stream gate's entry. True if there is no array at `key`.
 fn has_only_gate_entry_keys(key: Field, table: &Table) -> bool
     ensures { result ≡ has_known_entry_keys sections.gate_entry_keys (get_member (key_name key)
         (table_view table.now)) }
@@ -70,7 +71,7 @@ fn has_only_gate_entry_keys(key: Field, table: &Table) -> bool
     has_allowed_entry_keys(get_value(table, key.key()), &GATE_ENTRY_KEYS)
 }
 
-/// Whether a table and the entries of its lists have only keys of a gate.
+/// Whether a `[[gate]]` table and the entries of its lists have only allowed keys; otherwise its fault is `UnknownKey`.
 fn has_gate_keys(change: Option<u64>, table: &Table) -> bool
     ensures { result ≡ sections.has_gate_keys change (table_view table.now) }
 {
@@ -79,7 +80,7 @@ fn has_gate_keys(change: Option<u64>, table: &Table) -> bool
         && has_only_gate_entry_keys(Field::NextEntries, table)
 }
 
-/// Reads the parts of a gate's list from three keys.
+/// Reads the parts of a stream gate's list from three keys: its first list, or its list after the schedule change.
 fn read_gate_parts<A: Allocator + Copy>(
     alloc: A,
     index: u32,
@@ -108,7 +109,7 @@ fn read_gate_parts<A: Allocator + Copy>(
     )
 }
 
-/// Returns the lists of a gate. `change` is the time of the schedule change in ns.
+/// Returns the schedule of a stream gate with lists; `None` if it has no first list. `change` is the time of the schedule change in ns.
 fn gate_schedule<A: Allocator + Copy>(
     old: Option<CyclicList<GateEntry, A>>,
     change: Option<u64>,
@@ -133,7 +134,7 @@ fn gate_schedule<A: Allocator + Copy>(
     }
 }
 
-/// Reads the lists of a gate. `change` is the time of the schedule change in ns.
+/// Reads the lists of a stream gate; `None` if it has no list. `change` is the time of the schedule change in ns.
 fn read_gate_lists<A: Allocator + Copy>(
     alloc: A,
     change: Option<u64>,
@@ -152,7 +153,7 @@ fn read_gate_lists<A: Allocator + Copy>(
     Ok(gate_schedule(old, change, new))
 }
 
-/// Reads the lists of a gate. Returns `None` after an earlier fault. If reading fails, stores the fault and returns `None`.
+/// Reads the lists of a stream gate. Returns `None` without a list, after an earlier fault, or if reading fails; then it stores the fault.
 fn take_gate_lists<A: Allocator + Copy>(
     first: &mut FirstFault,
     alloc: A,
@@ -178,7 +179,7 @@ fn take_gate_lists<A: Allocator + Copy>(
     }
 }
 
-/// Reads the state of a gate without a list. Returns false for a gate with a list, or if reading fails; then stores the fault.
+/// Reads the state of a stream gate without a list. Returns false for a gate with a list, or if reading fails; then stores the fault.
 fn take_fixed_state(first: &mut FirstFault, row: InstanceTable<'_>) -> bool
     ensures { TakesRead first.old false (read_if_absent the_field.Entries false
         (read_required (key_location row.entry the_field.State)
@@ -194,7 +195,7 @@ fn take_fixed_state(first: &mut FirstFault, row: InstanceTable<'_>) -> bool
     first.value_or(state, false)
 }
 
-/// Returns the lists, or a fixed state without a list.
+/// Returns the lists, or without a list a fixed state: `lets` if frames pass, with the internal priority value `ipv`.
 fn schedule_or_fixed<A: Allocator + Copy>(
     lets: bool,
     ipv: Option<u8>,
@@ -213,7 +214,7 @@ fn schedule_or_fixed<A: Allocator + Copy>(
     }
 }
 
-/// Reads a gate with its number, after the earlier gates. `change` is the time of the schedule change in ns.
+/// Reads a stream gate and its number, which none of the gates before it may have. `change` is the time of the schedule change in ns.
 fn read_gate<A: Allocator + Copy>(
     alloc: A,
     change: Option<u64>,
@@ -252,9 +253,10 @@ fn read_gate<A: Allocator + Copy>(
     first.finish((number as u32, plan))
 }
 
-/// Reader of the gates. `change` is the time of the schedule change in ns.
+/// Reads the section of stream gates. `change` is the time of the schedule change in ns; `None` without a change.
 #[derive(Clone, Copy)]
 pub(crate) struct GateSection {
+    /// Time of the plan's schedule change in ns.
     pub change: Option<u64>,
 }
 

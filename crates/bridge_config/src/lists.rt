@@ -15,18 +15,18 @@ use bridge_schema::{
 use std::alloc::Allocator;
 use toml::Table;
 
-/// Parts of a list.
+/// Parts of a gate control list as read from a table, before rules of lists are tested.
 #[derive(Drop)]
 pub(crate) struct ListParts<X, A: Allocator + Copy> {
     /// Base time in ns.
     pub base: u64,
     /// Cycle time in ns.
     pub cycle: u64,
-    /// Optional entries.
+    /// Entries; `None` if the table has no list.
     pub entries: Option<Vec<X, A>>,
 }
 
-/// Reads the parts of a list from three keys of a table. `entry` reads each entry.
+/// Reads the parts of a list from three keys of a table. `entry` reads each entry, for a port or for a stream gate.
 #[tactic(auto, unfolding(crate::specs::Sections::read_list_parts))]
 pub(crate) fn read_list_parts<A: Allocator + Copy, E: ListEntry>(
     alloc: A,
@@ -64,7 +64,7 @@ where
     })
 }
 
-/// Makes a list from its parts, if there are entries.
+/// Makes a list from its parts; `None` without entries. If the parts break a rule of lists, the fault is `BadList`.
 pub(crate) fn optional_list<S: Copy, A: Allocator + Copy>(
     alloc: A,
     section: Section,

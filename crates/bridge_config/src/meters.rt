@@ -17,7 +17,7 @@ use bridge_schema::{
 use std::alloc::Allocator;
 use toml::Table;
 
-/// Whether a meter uses the drop eligible indication of a frame: `aware` or `blind`.
+/// Texts of the key `colour`: `aware` if the meter uses a frame's drop eligible indication, otherwise `blind`.
 #[derive(Clone, Copy)]
 struct ColourText;
 
@@ -37,14 +37,14 @@ impl TextMeaning for ColourText {
     }
 }
 
-/// Whether a table has only keys of a meter.
+/// Whether a `[[meter]]` table has only keys of a meter; otherwise its fault is `UnknownKey`.
 fn has_meter_keys(table: &Table) -> bool
     ensures { result ≡ sections.has_meter_keys (table_view table.now) }
 {
     has_allowed_keys(table, &METER_KEYS, false)
 }
 
-/// Reads a meter with its number, after the earlier meters.
+/// Reads a meter and its number, which none of the meters before it may have.
 fn read_meter(
     meters: &[(u32, MeterPlan)],
     index: u32,
@@ -90,7 +90,7 @@ fn read_meter(
     first.finish((number as u32, plan))
 }
 
-/// Reader of the meters.
+/// Reads the section of meters.
 #[derive(Clone, Copy)]
 pub(crate) struct MeterSection;
 

@@ -6,7 +6,7 @@ ghost use Rattle.bridge_config.specs.Sections as sections;
 use bridge_schema::NumberLookup;
 use std::alloc::AllocError;
 
-/// Whether an instance has this number.
+/// Whether an instance has this number. Numbers of later instances must differ, and keys may name only existing numbers.
 pub(crate) fn has_number<X>(instances: &[(u32, X)], number: u64) -> bool
     ensures { result ≡ sections.has_number instances.now number }
 {
@@ -18,8 +18,9 @@ pub(crate) fn has_number<X>(instances: &[(u32, X)], number: u64) -> bool
     false
 }
 
-/// Numbers of a section's instances.
+/// Numbers of a section's instances. Readers look up numbers in it that other sections name, or that must be new.
 pub(crate) struct InstanceNumbers<'a, X> {
+    /// Instances with their numbers.
     pub instances: &'a [(u32, X)],
 }
 
@@ -43,7 +44,7 @@ impl<'a, X> NumberLookup for InstanceNumbers<'a, X> {
     }
 }
 
-/// Converts an optional number to 32 bits.
+/// Converts an optional number to 32 bits. The number's range was tested when its key was read.
 pub(crate) fn optional_u32(number: Option<u64>) -> Option<u32>
     requires { ForSome number (λ n. n ≤ u32.MAX) }
     ensures { result ≡ number }
@@ -54,7 +55,7 @@ pub(crate) fn optional_u32(number: Option<u64>) -> Option<u32>
     }
 }
 
-/// Converts an optional number to 8 bits.
+/// Converts an optional number to 8 bits. The number's range was tested when its key was read.
 pub(crate) fn optional_u8(number: Option<u64>) -> Option<u8>
     requires { ForSome number (λ n. n ≤ 255) }
     ensures { result ≡ number }

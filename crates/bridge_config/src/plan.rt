@@ -35,11 +35,17 @@ use toml::Table;
 /// Plan of a bridge. Only `plan_of` makes plans, and each plan follows the rules of plans.
 #[derive(Drop)]
 pub struct Plan<A: Allocator + Copy> {
+    /// Ports, in file order.
     ports: Vec<PortPlan<A>, A>,
+    /// VLANs and static filtering entries.
     forwarding: Forwarding<A>,
+    /// Stream identifications, in file order.
     streams: Vec<StreamEntry, A>,
+    /// Stream gates with their numbers, in file order.
     gates: Vec<(u32, GatePlan<A>), A>,
+    /// Flow meters with their numbers, in file order.
     meters: Vec<(u32, MeterPlan), A>,
+    /// Stream filters with their numbers, in file order.
     filters: Vec<(u32, FilterPlan), A>,
 }
 
@@ -74,7 +80,7 @@ impl<A: Allocator + Copy> Plan<A> {
         &self.ports
     }
 
-    /// Returns the port with this number, if the plan has it.
+    /// Returns the port with this number; `None` if the plan lacks it.
     pub fn port(&self, number: u8) -> Option<&PortPlan<A>>
         ensures port { option_map (λ p. p.now) result ≡ rules.find_port self.now.ports number }
         ensures rules { rules.IsPlan self.now }
@@ -137,7 +143,7 @@ impl<A: Allocator + Copy> Plan<A> {
         &self.filters
     }
 
-    /// Returns the stream filters with their numbers, by rising number.
+    /// Returns the stream filters with their numbers, by rising number. Results of runs and delay bounds list filters in this order.
     pub fn filters_in_order<B: Allocator + Copy>(
         &self,
         alloc: B,
@@ -170,7 +176,7 @@ impl<A: Allocator + Copy> Plan<A> {
     }
 }
 
-/// Returns the first port with this number.
+/// Returns the first port with this number; `None` if no port has it.
 fn find_port<A: Allocator + Copy>(ports: &[PortPlan<A>], number: u8) -> Option<&PortPlan<A>>
     ensures { option_map (λ p. p.now) result ≡ rules.find_port ports.now number }
 {
@@ -182,7 +188,7 @@ fn find_port<A: Allocator + Copy>(ports: &[PortPlan<A>], number: u8) -> Option<&
     None
 }
 
-/// Returns the numbers of the ports, in file order.
+/// Returns the numbers of the ports, in file order. `Plan::port_numbers` sorts them.
 fn collect_port_numbers<A: Allocator + Copy, B: Allocator + Copy>(
     alloc: B,
     ports: &[PortPlan<A>],
@@ -198,7 +204,7 @@ fn collect_port_numbers<A: Allocator + Copy, B: Allocator + Copy>(
     Ok(numbers)
 }
 
-/// Returns the set of the numbers of all ports.
+/// Returns the set of the ports' numbers: bit n - 1 stands for port n. VLANs and static entries may name only these ports.
 fn port_set<A: Allocator + Copy>(ports: &[PortPlan<A>]) -> u16
     requires { rules.ArePorts ports.now }
     ensures { result ≡ rules.port_set ports.now }
@@ -210,11 +216,14 @@ fn port_set<A: Allocator + Copy>(ports: &[PortPlan<A>]) -> u16
     bits
 }
 
-/// Gates, meters and filters of a plan.
+/// Stream gates, meters and filters of a plan, which `read_policing` reads for `read_plan`.
 #[derive(Drop)]
 struct Policing<A: Allocator + Copy> {
+    /// Stream gates with their numbers.
     gates: Vec<(u32, GatePlan<A>), A>,
+    /// Flow meters with their numbers.
     meters: Vec<(u32, MeterPlan), A>,
+    /// Stream filters with their numbers.
     filters: Vec<(u32, FilterPlan), A>,
 }
 
@@ -230,7 +239,7 @@ impl<A: Allocator + Copy> Model for Policing<A> {
     }) };
 }
 
-/// Reads the gates, meters and filters. `change` is the time of the schedule change in ns.
+/// Reads the gates and meters, then the filters, which name them. `change` is the time of the schedule change in ns.
 #[tactic(auto, unfolding(crate::specs::Document::read_policing))]
 fn read_policing<A: Allocator + Copy>(
     alloc: A,
@@ -251,7 +260,7 @@ fn read_policing<A: Allocator + Copy>(
     })
 }
 
-/// Reads a plan from the arrays of a document.
+/// Reads a plan from the arrays of its sections, or returns the first fault. Later sections name instances of earlier sections.
 #[tactic(auto, unfolding(crate::specs::Document::read_plan))]
 fn read_plan<A: Allocator + Copy>(alloc: A, arrays: SectionArrays<'_>) -> Result<Plan<A>, PlanFault>
     requires { AreWithinLimits arrays }
@@ -277,7 +286,7 @@ fn read_plan<A: Allocator + Copy>(alloc: A, arrays: SectionArrays<'_>) -> Result
     })
 }
 
-/// Parses a text as a TOML document.
+/// Parses a text as a TOML document, with a plan's faults. The readers of plans and of commands share this function.
 #[tactic(auto, unfolding(crate::specs::Document::read_document))]
 pub(crate) fn read_document(heap: Global, text: &[u8]) -> Result<Table, PlanFault>
     ensures { MatchesReadingView table_view result (doc.read_document text.now) }

@@ -44,9 +44,10 @@ pub struct PortPlan<A: Allocator + Copy> {
     pub list: Option<Egress<A>>,
 }
 
-/// Reader of an entry of a port's list: open classes as bits, and the interval in ns.
+/// Reads an entry of a port's list: open classes as bits, and the interval in ns.
 #[derive(Clone, Copy)]
 struct PortEntryReader {
+    /// Location of the list, which faults of the entry name.
     place: KeyLocation,
 }
 
@@ -69,14 +70,14 @@ impl ListEntry for PortEntryReader {
     }
 }
 
-/// Whether a table has only keys of a port. Some keys need a plan with a schedule change.
+/// Whether a `[[port]]` table has only allowed keys. Some keys need the schedule change at `change`.
 fn has_only_port_keys(change: Option<u64>, table: &Table) -> bool
     ensures { result ≡ has_known_keys (sections.port_keys change (table_view table.now)) (table_view table.now) }
 {
     has_allowed_keys(table, &PORT_KEYS, change.is_some())
 }
 
-/// Whether the entries of the list at `key` have only their keys.
+/// Whether the entries of the list at `key` have only keys of a port's entry. True if there is no array at `key`.
 fn has_only_port_entry_keys(key: Field, table: &Table) -> bool
     ensures { result ≡ has_known_entry_keys sections.port_entry_keys (get_member (key_name key)
         (table_view table.now)) }
@@ -84,7 +85,7 @@ fn has_only_port_entry_keys(key: Field, table: &Table) -> bool
     has_allowed_entry_keys(get_value(table, key.key()), &PORT_ENTRY_KEYS)
 }
 
-/// Whether a table and the entries of its lists have only keys of a port.
+/// Whether a `[[port]]` table and the entries of its lists have only allowed keys; otherwise its fault is `UnknownKey`.
 fn has_port_keys(change: Option<u64>, table: &Table) -> bool
     ensures { result ≡ sections.has_port_keys change (table_view table.now) }
 {
@@ -93,16 +94,17 @@ fn has_port_keys(change: Option<u64>, table: &Table) -> bool
         && has_only_port_entry_keys(Field::NextGates, table)
 }
 
-/// Whether a port has this number.
+/// Whether a port has this number. Streams may name only such a port, and later ports need another number.
 pub(crate) fn has_port<A: Allocator + Copy>(ports: &[PortPlan<A>], number: u64) -> bool
     ensures { result ≡ rules.has_port ports.now number }
 {
     ports.iter().any(|p| p.number as u64 == number)
 }
 
-/// Numbers of a plan's ports.
+/// Numbers of a plan's ports. Readers look up numbers in it that streams name, or that must be new.
 #[derive(Clone, Copy)]
 pub(crate) struct PortNumbers<'a, A: Allocator + Copy> {
+    /// The ports.
     pub ports: &'a [PortPlan<A>],
 }
 
@@ -114,7 +116,7 @@ impl<'a, A: Allocator + Copy> NumberLookup for PortNumbers<'a, A> {
     }
 }
 
-/// Reads the parts of a port's list from three keys.
+/// Reads the parts of a port's list from three keys: its first list, or its list after the schedule change.
 fn read_port_parts<A: Allocator + Copy>(
     alloc: A,
     index: u32,
@@ -142,7 +144,7 @@ fn read_port_parts<A: Allocator + Copy>(
     )
 }
 
-/// Returns the gate control lists of a port. `change` is the time of the schedule change in ns.
+/// Returns the gate control lists of a port; `None` if it has no first list. `change` is the time of the schedule change in ns.
 fn port_lists<A: Allocator + Copy>(
     old: Option<CyclicList<u8, A>>,
     change: Option<u64>,
@@ -166,7 +168,7 @@ fn port_lists<A: Allocator + Copy>(
     }
 }
 
-/// Reads the gate control lists of a port. `change` is the time of the schedule change in ns.
+/// Reads the gate control lists of a port; `None` if it has no list. `change` is the time of the schedule change in ns.
 fn read_port_lists<A: Allocator + Copy>(
     alloc: A,
     change: Option<u64>,
@@ -184,8 +186,8 @@ fn read_port_lists<A: Allocator + Copy>(
     Ok(port_lists(old, change, new))
 }
 
-/// Reads the gate control lists of a port. Returns `None` after an earlier fault. If reading fails, stores the fault and returns
-/// `None`.
+/// Reads the gate control lists of a port. Returns `None` without a list, after an earlier fault, or if reading fails; then it stores the
+/// fault.
 fn take_port_lists<A: Allocator + Copy>(
     first: &mut FirstFault,
     alloc: A,
@@ -210,7 +212,7 @@ fn take_port_lists<A: Allocator + Copy>(
     }
 }
 
-/// Reads a port. `change` is the time of the schedule change in ns, and `ports` looks up numbers of earlier ports.
+/// Reads a port whose number isn't in `ports`; `read_port` passes the ports before it. `change` is the time of the schedule change in ns.
 fn read_port_by_lookup<A: Allocator + Copy, P: NumberLookup + Copy>(
     alloc: A,
     change: Option<u64>,
@@ -254,7 +256,7 @@ fn read_port_by_lookup<A: Allocator + Copy, P: NumberLookup + Copy>(
     })
 }
 
-/// Reads a port, after the earlier ports. `change` is the time of the schedule change in ns.
+/// Reads a port, whose number none of the ports before it may have. `change` is the time of the schedule change in ns.
 fn read_port<A: Allocator + Copy>(
     alloc: A,
     change: Option<u64>,
@@ -270,9 +272,10 @@ fn read_port<A: Allocator + Copy>(
     read_port_by_lookup(alloc, change, PortNumbers { ports }, index, table)
 }
 
-/// Reader of the ports. `change` is the time of the schedule change in ns.
+/// Reads the section of ports. `change` is the time of the schedule change in ns; `None` without a change.
 #[derive(Clone, Copy)]
 pub(crate) struct PortSection {
+    /// Time of the plan's schedule change in ns.
     pub change: Option<u64>,
 }
 

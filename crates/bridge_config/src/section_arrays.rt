@@ -13,16 +13,24 @@ use crate::first_fault::FirstFault;
 use bridge_schema::{PLAN_SECTIONS, PlanFault, Section, has_only, is_empty, section_items};
 use toml::{Table, Value};
 
-/// Items of all sections of a plan.
+/// Tables of each section of a plan, within the section's limit. An absent section has no tables.
 #[derive(Clone, Copy)]
 pub(crate) struct SectionArrays<'a> {
+    /// Schedule change, at most one.
     pub changes: &'a [Value],
+    /// Ports, at least one and at most 16.
     pub ports: &'a [Value],
+    /// VLANs.
     pub vlans: &'a [Value],
+    /// Static filtering entries.
     pub statics: &'a [Value],
+    /// Stream identifications.
     pub streams: &'a [Value],
+    /// Stream gates.
     pub gates: &'a [Value],
+    /// Flow meters.
     pub meters: &'a [Value],
+    /// Stream filters.
     pub filters: &'a [Value],
 }
 
@@ -36,7 +44,7 @@ fn take_section_items<'a>(first: &mut FirstFault, section: Section, table: &'a T
     first.value_or(section_items(section, table), &[])
 }
 
-/// Reads the items of all sections of a plan. Allocates no memory.
+/// Reads the tables of all sections of a plan, or returns the first fault of a section. Allocates no memory.
 pub(crate) fn read_arrays<'a>(table: &'a Table) -> Result<SectionArrays<'a>, PlanFault>
     ensures reads { MatchesReadingView array_items result (doc.read_arrays (table_view table.now)) }
     ensures few { IfOk result AreWithinLimits }

@@ -36,14 +36,14 @@ fn has_static(statics: &[StaticEntry], vid: u64, address: &[u8; 6]) -> bool
         .any(|s| has_vlan_and_address(s, vid, address))
 }
 
-/// Whether a table has only keys of a static entry.
+/// Whether a `[[static]]` table has only keys of a static entry; otherwise its fault is `UnknownKey`.
 fn has_static_keys(table: &Table) -> bool
     ensures { result ≡ sections.has_static_keys (table_view table.now) }
 {
     has_allowed_keys(table, &STATIC_KEYS, false)
 }
 
-/// Reads a static entry, after the earlier entries; `all` is the set of the plan's ports.
+/// Reads a static entry. No entry before it may have its VLAN and address. `all` is the set of the plan's ports.
 fn read_static(
     all: u16,
     vlans: &[Vlan],
@@ -82,10 +82,12 @@ fn read_static(
     })
 }
 
-/// Reader of the static entries; `all` is the set of the plan's ports.
+/// Reads the section of static entries. `all` is the set of the plan's ports.
 #[derive(Clone, Copy)]
 pub(crate) struct StaticSection<'a> {
+    /// Set of the plan's ports: bit n - 1 stands for port n.
     pub all: u16,
+    /// VLANs that were read before.
     pub vlans: &'a [Vlan],
 }
 

@@ -16,7 +16,7 @@ use bridge_schema::{
 use std::alloc::Allocator;
 use toml::Table;
 
-/// Kind of identification, by the compared address: `null` or `source`.
+/// Texts of the key `kind`, which selects the address that an entry compares: `null` or `source`.
 #[derive(Clone, Copy)]
 struct KindText;
 
@@ -36,7 +36,7 @@ impl TextMeaning for KindText {
     }
 }
 
-/// Tags of matching frames: `tagged`, `priority` or `all`.
+/// Texts of the key `tag`, which selects the tags of matching frames: `tagged`, `priority` or `all`.
 #[derive(Clone, Copy)]
 struct TagText;
 
@@ -58,14 +58,14 @@ impl TextMeaning for TagText {
     }
 }
 
-/// Whether a table has only keys of a stream identification.
+/// Whether a `[[stream]]` table has only keys of a stream identification; otherwise its fault is `UnknownKey`.
 fn has_stream_keys(table: &Table) -> bool
     ensures { result ≡ sections.has_stream_keys (table_view table.now) }
 {
     has_allowed_keys(table, &STREAM_KEYS, false)
 }
 
-/// Reads a stream identification. `ports` looks up numbers of ports.
+/// Reads a stream identification. Its `port` must be a number that `ports` contains; `read_stream` passes the plan's ports.
 fn read_stream_by_lookup<P: NumberLookup + Copy>(
     ports: P,
     index: u32,
@@ -109,7 +109,7 @@ fn read_stream_by_lookup<P: NumberLookup + Copy>(
     })
 }
 
-/// Reads a stream identification, for these ports.
+/// Reads a stream identification, whose port must be one of `ports`. It doesn't depend on the entries before it.
 fn read_stream<A: Allocator + Copy>(
     ports: &[PortPlan<A>],
     earlier: &[StreamEntry],
@@ -122,9 +122,10 @@ fn read_stream<A: Allocator + Copy>(
     read_stream_by_lookup(PortNumbers { ports }, index, table)
 }
 
-/// Reader of the stream identifications, for these ports.
+/// Reads the section of stream identifications, which name these ports.
 #[derive(Clone, Copy)]
 pub(crate) struct StreamSection<'a, A: Allocator + Copy> {
+    /// Ports that were read before.
     pub ports: &'a [PortPlan<A>],
 }
 

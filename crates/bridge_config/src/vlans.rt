@@ -14,16 +14,17 @@ use bridge_schema::{
 use std::alloc::Allocator;
 use toml::Table;
 
-/// Whether a VLAN has the identifier `vid`.
+/// Whether a VLAN has the identifier `vid`. Static entries may name only such a VLAN, and later VLANs need another identifier.
 pub(crate) fn has_vlan(vlans: &[Vlan], vid: u64) -> bool
     ensures { result ≡ rules.has_vlan vlans.now vid }
 {
     vlans.iter().any(|v| v.vid as u64 == vid)
 }
 
-/// Identifiers of a plan's VLANs.
+/// Identifiers of a plan's VLANs. Readers of static entries look up their VLAN in it.
 #[derive(Clone, Copy)]
 pub(crate) struct VlanNumbers<'a> {
+    /// The VLANs.
     pub vlans: &'a [Vlan],
 }
 
@@ -35,14 +36,14 @@ impl<'a> NumberLookup for VlanNumbers<'a> {
     }
 }
 
-/// Whether a table has only keys of a VLAN.
+/// Whether a `[[vlan]]` table has only keys of a VLAN; otherwise its fault is `UnknownKey`.
 fn has_vlan_keys(table: &Table) -> bool
     ensures { result ≡ sections.has_vlan_keys (table_view table.now) }
 {
     has_allowed_keys(table, &VLAN_KEYS, false)
 }
 
-/// Reads a VLAN, after the earlier VLANs; `all` is the set of the plan's ports.
+/// Reads a VLAN, whose identifier none of the VLANs before it may have. `all` is the set of the plan's ports.
 fn read_vlan(all: u16, vlans: &[Vlan], index: u32, table: &Table) -> Result<Vlan, PlanFault>
     ensures reads { MatchesReading result (sections.read_vlan all vlans.now index (table_view table.now)) }
     ensures own { IfOk result (λ v. rules.has_vlan vlans.now v.vid ≡ false) }
@@ -67,9 +68,10 @@ fn read_vlan(all: u16, vlans: &[Vlan], index: u32, table: &Table) -> Result<Vlan
     })
 }
 
-/// Reader of the VLANs; `all` is the set of the plan's ports.
+/// Reads the section of VLANs. `all` is the set of the plan's ports.
 #[derive(Clone, Copy)]
 pub(crate) struct VlanSection {
+    /// Set of the plan's ports: bit n - 1 stands for port n.
     pub all: u16,
 }
 

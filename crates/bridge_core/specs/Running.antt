@@ -169,7 +169,7 @@ pub record HasReadAhead {R A : Type 0} (remaining : R → Option (List ℕ)) (ol
   pub onward : OnOk result ((p : Packet A) → lane.ahead ≡ Some p → was.capture.latest ≤ p.time)
   pub fewer : OnOk result (frames_left lane ≤ records_left was.capture)
 
--- Holds if the run is still under way, or stopped with a fault.
+-- Holds if the result is Ok and the run is under way, or the result is an error and the run stopped with this fault.
 abbrev pub RunsOrStops : {R W G A : Type 0} → (R → Option (List ℕ)) → (W → Option (List ℕ)) → Plan A → (ℕ → List ℕ) → List Input → Option Input → List W → RelayState G A → List (CaptureReader A) → List R → List W → Result (Unit {0}) RunFault → Type 0
 RunsOrStops remaining contents p texts commanded next olds b lanes sources sinks (Ok u) = IsUnderWay remaining contents p texts commanded next olds b lanes sources sinks
 RunsOrStops remaining contents p texts commanded next olds b lanes sources sinks (Err fault) =
@@ -189,13 +189,13 @@ pub record AgreesWithDevices {R W X : Type 0} (failed_read never_read : R → Bo
 abbrev pub AreHeadsLater : {A : Type 0} → Option ℕ → List (CaptureReader A) → Type 0
 AreHeadsLater {A} until lanes = (i : ℕ) (lane : CaptureReader A) (p : Packet A) → slice_get lanes i ≡ Some lane → lane.ahead ≡ Some p → (t : ℕ) × (until ≡ Some t) × (t ≤ p.time)
 
--- Holds if command `c` was carried out after the inputs so far, or the run stopped before it.
+-- Holds if command `c` was carried out and the run is under way (Ok), or the run stopped before the command with this fault.
 abbrev pub DoesCommand : {R W G A : Type 0} → (R → Option (List ℕ)) → (W → Option (List ℕ)) → Plan A → (ℕ → List ℕ) → List Input → Command → Option Input → List W → RelayState G A → List (CaptureReader A) → List R → List W → Result (Unit {0}) RunFault → Type 0
 DoesCommand remaining contents p texts commanded c next olds b lanes sources sinks (Ok u) = IsUnderWay remaining contents p texts (command_as_input c ∷ commanded) next olds b lanes sources sinks
 DoesCommand remaining contents p texts commanded c next olds b lanes sources sinks (Err fault) =
     (rests : ℕ → Option (List ℕ)) → HaveRests remaining (port_numbers lanes) rests sources → StopsUnderWay p texts rests commanded (Some (command_as_input c)) contents (port_numbers lanes) olds sinks fault
 
--- The first command as an input, or `None`.
+-- The first command as an input; `None` without commands.
 abbrev pub first_command : List Command → Option Input
 first_command [] = None
 first_command (c ∷ cs) = Some (command_as_input c)
@@ -212,7 +212,7 @@ pub record IsFinishedRun {R W G A : Type 0} (remaining : R → Option (List ℕ)
   pub under : IsUnderWay remaining contents p texts (commands_of commands) None olds b lanes sources sinks
   pub none : (i : ℕ) (lane : CaptureReader A) → slice_get lanes i ≡ Some lane → lane.ahead ≡ None
 
--- Holds if the run is complete, or stopped with a fault.
+-- Holds if the result is Ok and the run is complete, or the result is an error and the run stopped with this fault.
 abbrev pub FinishesOrStops : {R W G A : Type 0} → (R → Option (List ℕ)) → (W → Option (List ℕ)) → Plan A → (ℕ → List ℕ) → List Command → List W → RelayState G A → List (CaptureReader A) → List R → List W → Result (Unit {0}) RunFault → Type 0
 FinishesOrStops remaining contents p texts commands olds b lanes sources sinks (Ok u) = IsFinishedRun remaining contents p texts commands olds b lanes sources sinks
 FinishesOrStops remaining contents p texts commands olds b lanes sources sinks (Err fault) =

@@ -37,11 +37,17 @@ use std::marker::Model;
 /// port.
 #[derive(Drop)]
 pub struct Bridge<'a, G: Agenda + Drop, A: Allocator + Copy> {
+    /// Ports, filters and records.
     relay: Relay<'a, G, A>,
+    /// Pool without capacity: it drops the buffers of frames that have left.
     spares: BufferPool<A>,
+    /// Filters by rising number, for the result.
     order: Vec<(u32, FilterPlan), A>,
+    /// Empty list with capacity for all records of filters.
     views: Vec<(u32, View<A>), A>,
+    /// Empty list with capacity for the counts of all ports.
     counts: Vec<(u8, PortCount), A>,
+    /// Earliest time in ns of the next command.
     command: u64,
 }
 
@@ -181,7 +187,7 @@ impl<'a, G: Agenda + Drop, A: Allocator + Copy> Bridge<'a, G, A> {
         self.relay.arrived()
     }
 
-    /// Returns the number of starts of port `port`.
+    /// Returns the number of starts of port `port` so far: the number of frames that it sent.
     pub fn started(&self, port: u8) -> u64
         requires { (out : PortPlan A) × (find_port (bridge_plan self.now).ports port ≡ Some out) }
         ensures { (p : config.Plan A) (es : List Event) (left : ℕ → List CapturedFrame)
@@ -205,8 +211,8 @@ impl<'a, G: Agenda + Drop, A: Allocator + Copy> Bridge<'a, G, A> {
         self.command
     }
 
-    /// States that the bridge's events form a run, up to any time before the next due start. Each port has run up to its own time, and its
-    /// due start is its schedule's next start (`next`).
+    /// Does nothing; its contract states that the events form a run up to any time before the next start (`reaches`). Each port's due start
+    /// is its schedule's next start (`next`).
     pub fn assert_reached(&self)
         ensures reaches { (p : config.Plan A) (es : List Event) (left : ℕ → List CapturedFrame) (h : ℕ)
             → BridgeStandsFor p self.now es left → bridge_earliest self.now ≤ h

@@ -18,11 +18,14 @@ use std::alloc::Allocator;
 /// Output capture of a port.
 #[derive(Drop)]
 pub struct CaptureWriter {
+    /// Port whose departures the capture gets.
     pub number: u8,
+    /// Writer of the capture's records.
     pub writer: Writer,
 }
 
-/// Writes the header of each port's capture to its sink. Ports and sinks have equal order. Allocates no memory.
+/// Writes the header of each port's capture to its sink; a failed write is a fault of the port. Ports and sinks have equal order. Allocates
+/// no memory.
 pub fn begin_writers<W: ByteSink, A: Allocator + Copy>(
     ports: &[u8],
     lines: Vec<CaptureWriter, A>,
@@ -49,7 +52,8 @@ pub fn begin_writers<W: ByteSink, A: Allocator + Copy>(
     Ok(lines)
 }
 
-/// Returns the index of the writer of port `port`. Tries the port's number first, because ports are often numbered 1, 2, 3 and so on.
+/// Returns the index of the writer of port `port`, if it has one. Tries the port's number first, because ports are often numbered 1, 2, 3
+/// and so on.
 #[inline(always)]
 fn writer_index(lines: &[CaptureWriter], port: u8) -> Option<usize>
     ensures within { IfSome result (λ place. place < length lines.now) }
@@ -68,7 +72,8 @@ fn writer_index(lines: &[CaptureWriter], port: u8) -> Option<usize>
     None
 }
 
-/// Writes a departed frame to the capture of its port.
+/// Writes a departed frame to the capture of its port. A failed write is the fault `RunFault::Write` of this port. Without a writer, does
+/// nothing.
 pub fn write_frame<W: ByteSink, A: Allocator + Copy>(
     lines: &mut [CaptureWriter],
     sinks: &mut [W],

@@ -36,7 +36,7 @@ fn set_reader_head<H: Agenda, A: Allocator + Copy>(
     }
 }
 
-/// Updates the agenda's entry of the reader with index `place`, if all other entries are right.
+/// Updates the agenda's entry of the reader with index `place`, whose next frame has changed. All other entries must be right.
 #[inline(always)]
 fn update_head<H: Agenda, A: Allocator + Copy>(
     heads: &mut H,
@@ -63,7 +63,7 @@ pub fn make_heads<H: Agenda, A: Allocator + Copy>(lanes: &[CaptureReader<A>]) ->
     heads
 }
 
-/// Takes the earliest frame from its reader, and returns it with its port.
+/// Takes the next frame of the reader with index `place`, and returns it with its port. The reader must have a frame.
 fn take_frame<A: Allocator + Copy>(lanes: &mut [CaptureReader<A>], place: usize) -> (u8, Packet<A>)
     requires place { place < length lanes.old }
     requires first { IsEarliestReader lanes.old place }
@@ -76,7 +76,7 @@ fn take_frame<A: Allocator + Copy>(lanes: &mut [CaptureReader<A>], place: usize)
     }
 }
 
-/// Reads the record after the frame that was taken from a reader.
+/// Reads the record after the frame that was taken from the reader with index `place`. The record's octets use the buffer `spare`.
 fn read_next_ahead<R: ByteSource, A: Allocator + Copy>(
     spare: Vec<u8, A>,
     place: usize,
@@ -96,7 +96,8 @@ fn read_next_ahead<R: ByteSource, A: Allocator + Copy>(
     lanes[place].read_ahead(spare, &mut sources[place])
 }
 
-/// Handles the earliest frame: makes and writes all earlier starts, passes the frame to the relay, and reads the capture's next record.
+/// Handles the earliest frame, of the reader at `place`. Makes and writes all earlier starts, passes the frame to the relay, and reads the
+/// capture's next record.
 fn process_frame<R: ByteSource, W: ByteSink, G: Agenda + Drop, A: Allocator + Copy>(
     place: usize,
     relay: &mut Relay<'_, G, A>,
@@ -167,7 +168,7 @@ fn is_earlier(time: u64, until: Option<u64>) -> bool
     }
 }
 
-/// Returns the index of the reader with the earliest frame, if this frame is before `until`. Uses only the agenda.
+/// Returns the index of the reader with the earliest frame, if this frame is before `until`; otherwise `None`. Uses only the agenda.
 #[inline(always)]
 fn next_reader<H: Agenda, A: Allocator + Copy>(
     heads: &H,
@@ -186,7 +187,7 @@ fn next_reader<H: Agenda, A: Allocator + Copy>(
     }
 }
 
-/// Handles all frames before `until`, or all frames if `until` is `None`.
+/// Handles all frames before `until`, or all frames if `until` is `None`. Stops at the first fault.
 fn process_earlier_frames<R: ByteSource, W: ByteSink, G: Agenda + Drop, A: Allocator + Copy>(
     until: Option<u64>,
     relay: &mut Relay<'_, G, A>,
@@ -279,7 +280,7 @@ fn process_command<R: ByteSource, W: ByteSink, G: Agenda + Drop, A: Allocator + 
     Ok(())
 }
 
-/// Handles all frames and commands in their order, and makes and writes all starts.
+/// Handles all frames and commands in their order, and makes and writes all starts. Stops at the first fault.
 pub fn run<R: ByteSource, W: ByteSink, G: Agenda + Drop, A: Allocator + Copy>(
     commands: &[Command],
     relay: &mut Relay<'_, G, A>,

@@ -20,17 +20,22 @@ use bridge_relay::Relay;
 use bridge_semantics::{Outcome, PortCount, View};
 use std::alloc::Allocator;
 
-/// Lists that a run needs: port numbers, filters in order, and space for output captures, records and counts.
+/// Lists that a run needs. They are made before the run, so that its end allocates no memory.
 #[derive(Drop)]
 struct RunLists<A: Allocator + Copy> {
+    /// Port numbers, rising.
     ports: Vec<u8, A>,
+    /// Filters by rising number.
     order: Vec<(u32, FilterPlan), A>,
+    /// Space for the output captures.
     lines: Vec<CaptureWriter, A>,
+    /// Space for the records of the filters.
     views: Vec<(u32, View<A>), A>,
+    /// Space for the counts of the ports.
     counts: Vec<(u8, PortCount), A>,
 }
 
-/// Makes the lists that a run of `plan` needs.
+/// Makes the lists that a run of `plan` needs. Fails only if memory runs out.
 fn make_run_lists<A: Allocator + Copy>(alloc: A, plan: &Plan<A>) -> Result<RunLists<A>, NoMemory>
     ensures { IfOk result (AreRunLists plan.now) }
 {
@@ -58,7 +63,7 @@ fn make_run_lists<A: Allocator + Copy>(alloc: A, plan: &Plan<A>) -> Result<RunLi
     })
 }
 
-/// Makes an empty pool of buffers.
+/// Makes an empty pool of buffers, in which a run reuses the memory of frames that have left.
 fn make_buffer_pool<A: Allocator + Copy>(alloc: A) -> Result<BufferPool<A>, NoMemory> {
     match BufferPool::new(alloc) {
         Ok(spares) => Ok(spares),

@@ -62,7 +62,7 @@ first_fault cycle es =
     else if nat_lt cycle (interval_sum es) then Some OverCycle
     else None
 
--- Numbers of the faults.
+-- Numbers of the faults of a list.
 abbrev pub fault_code : ListFault → ℕ
 fault_code Empty = 1
 fault_code ZeroInterval = 2

@@ -11,9 +11,11 @@ use lib.Signed.{◌≤ℤ◌}
 use Rattle.bridge_cycle.specs.declared.timeline.Turn.{Turn}
 use Rattle.bridge_cycle.specs.Cyclic.{Cyclic, EntryInterval, phase, entry_interval, interval_turn, turn_by_time, interval_sum, IsLawful}
 
+-- Before the end of the first entry, this entry is in force.
 pub place_here : {S : Type 0} (e f : S × ℕ) (es : List (S × ℕ)) (start cycle p : ℕ) → p < start + e.1 → entry_interval (e ∷ f ∷ es) start cycle p ≡ Some (record { state = e.0; start = start; end = start + e.1 })
 place_here e f es start cycle p h = grind (arith, nat_tests)
 
+-- From the end of the first entry on, the entry in force is one of the others.
 pub place_next : {S : Type 0} (e f : S × ℕ) (es : List (S × ℕ)) (start cycle p : ℕ) → start + e.1 ≤ p → entry_interval (e ∷ f ∷ es) start cycle p ≡ entry_interval (f ∷ es) (start + e.1) cycle p
 place_next e f es start cycle p h = grind (arith, nat_tests)
 
@@ -39,7 +41,7 @@ interval_is_exact {S} (e ∷ f ∷ es) start cycle p x w a b h = elim (cases_lt 
       record { begins = t.begins; ends = t.ends; after = let k = t.after in omega arith; within = t.within; same = λ q k m. place_next e f es start cycle q (let n = t.after in omega arith) ∙ t.same q k m }
 ]
 
--- An interval comes from an entry's offsets.
+-- An interval in time comes from an entry's offsets in the cycle.
 pub turn_back : {S : Type 0} (t p : ℕ) (o : Option (EntryInterval S)) (x : Turn S) → interval_turn t p o ≡ Some x → (y : EntryInterval S) × (o ≡ Some y) × (interval_turn t p (Some y) ≡ Some x)
 turn_back t p None x h = absurd (cc)
 turn_back t p (Some y) x h = (y, refl, h)

@@ -14,8 +14,11 @@ use std::marker::Model;
 /// 802.1Q-2018, 8.6.9.4).
 #[derive(Drop)]
 pub struct Joined<S, A: Allocator + Copy> {
+    /// List that applies before `at`.
     old: CyclicList<S, A>,
+    /// List that applies from `at` on.
     new: CyclicList<S, A>,
+    /// Time of the schedule change in ns.
     at: u64,
     /// Greater of the two cycle times, in ns.
     cycle: u64,
@@ -45,7 +48,7 @@ impl<S: Copy, A: Allocator + Copy> Joined<S, A> {
         }
     }
 
-    /// Returns an equal value.
+    /// Returns equal lists in new memory, or `NoMemory`.
     pub fn copy(&self, alloc: A) -> Result<Self, NoMemory>
         ensures equal { IfOk result (λ j. j ≡ self.now) }
     {
@@ -57,7 +60,7 @@ impl<S: Copy, A: Allocator + Copy> Joined<S, A> {
         })
     }
 
-    /// Returns the old and the new list.
+    /// Returns the old and the new list, for searches that examine each list by itself.
     pub fn lists(&self) -> (&CyclicList<S, A>, &CyclicList<S, A>)
         ensures old { result.0.now ≡ self.now.old }
         ensures new { result.1.now ≡ self.now.new }
@@ -66,7 +69,7 @@ impl<S: Copy, A: Allocator + Copy> Joined<S, A> {
         (&self.old, &self.new)
     }
 
-    /// Time in ns of the schedule change.
+    /// Returns the time in ns of the schedule change.
     pub fn change_time(&self) -> u64
         ensures at { result ≡ self.now.at }
         ensures bounded { result < END_OF_TIME }

@@ -70,13 +70,17 @@ pub const LONGEST_CYCLE: u64 = 1_000_000_000;
 /// stream gates (8.6.5.1.2) have this type.
 #[derive(Drop)]
 pub struct CyclicList<S, A: Allocator + Copy> {
+    /// Base time in ns.
     base: u64,
+    /// Cycle time in ns.
     cycle: u64,
     /// Offset of time 0 in its cycle, in ns: 1 to the cycle time.
     shift: u64,
-    /// Entries per ns of the intervals, times 2^32.
+    /// Entries per ns of the intervals, times 2^32. A search multiplies an offset by it to guess the entry in force.
     density: u64,
+    /// States with their intervals in ns.
     entries: Vec<(S, u64), A>,
+    /// Offset in ns at which each interval ends.
     ends: Vec<u64, A>,
 }
 
@@ -119,7 +123,7 @@ impl<S: Copy, A: Allocator + Copy> CyclicList<S, A> {
         })
     }
 
-    /// Returns an equal list.
+    /// Returns an equal list in new memory, or `NoMemory`.
     pub fn copy(&self, alloc: A) -> Result<Self, NoMemory>
         ensures equal { IfOk result (λ l. l ≡ self.now) }
     {
@@ -141,7 +145,7 @@ impl<S: Copy, A: Allocator + Copy> CyclicList<S, A> {
         &self.entries
     }
 
-    /// Base time in ns: a cycle starts at this time.
+    /// Returns the base time in ns: a cycle starts at this time.
     pub fn base(&self) -> u64
         ensures base { result ≡ self.now.base }
         ensures lawful { cyclic.IsLawful self.now }
@@ -150,7 +154,7 @@ impl<S: Copy, A: Allocator + Copy> CyclicList<S, A> {
     }
 }
 
-/// Returns the first fault of a cycle time and entries.
+/// Returns the first fault of a cycle time and entries; `None` if they make a valid list.
 fn first_fault<S: Copy>(cycle: u64, entries: &[(S, u64)]) -> Option<ListFault>
     ensures { result ≡ cyclic.first_fault cycle entries.now }
 {
@@ -169,7 +173,7 @@ fn first_fault<S: Copy>(cycle: u64, entries: &[(S, u64)]) -> Option<ListFault>
     }
 }
 
-/// Whether an interval is 0 ns.
+/// Whether an interval is 0 ns, which a list must not have.
 fn has_zero_interval<S: Copy>(entries: &[(S, u64)]) -> bool
     ensures { result ≡ cyclic.has_zero_interval entries.now }
 {
@@ -190,7 +194,7 @@ fn is_within_cycle<S: Copy>(entries: &[(S, u64)], cycle: u64) -> bool
     true
 }
 
-/// Returns the offset at which each interval ends.
+/// Returns the offset in ns, from the start of a cycle, at which each interval ends. A search for an entry compares these ends.
 fn interval_ends<S: Copy, A: Allocator + Copy>(
     alloc: A,
     entries: &[(S, u64)],
@@ -207,7 +211,7 @@ fn interval_ends<S: Copy, A: Allocator + Copy>(
     Ok(ends)
 }
 
-/// Returns the number of entries per ns of the intervals, times 2^32.
+/// Returns the number of entries per ns of the intervals, times 2^32, from the ends of the intervals.
 fn entry_density(ends: &[u64]) -> u64 {
     let total = match ends.last() {
         Some(end) => (*end).max(1),
@@ -226,8 +230,8 @@ fn is_in_entry(ends: &[u64], phase: u64, place: usize) -> bool
         && (place + 1 == ends.len() || phase < ends[place])
 }
 
-/// Returns the index of the entry in force at offset `phase`, if it is `guess` or next to `guess`. With intervals of similar length
-/// the guess succeeds.
+/// Returns the index of the entry in force at offset `phase`, if it is `guess` or next to `guess`; otherwise `None`. With intervals of
+/// similar length the guess succeeds.
 #[inline(always)]
 fn index_near_guess(ends: &[u64], phase: u64, guess: usize) -> Option<usize>
     ensures { IfSome result (λ place. running.IsEntryIndex ends.now phase place) }

@@ -82,7 +82,7 @@ pub fn changing_list_fits_soon()
         × Fits (λ v. turn_opens (joined.turn_by_time j v) class) occ u }
 {}
 
-/// Each limit as a number, for proofs that use its value.
+/// Gives proofs the limits of lists and of searches as numbers.
 pub fn the_limits()
     ensures entries { MAX_ENTRIES ≡ 256 }
     ensures cycle { LONGEST_CYCLE ≡ 10 ^ 9 }

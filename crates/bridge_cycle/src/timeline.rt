@@ -6,11 +6,14 @@ use crate::cyclic_list::LONGEST_CYCLE;
 /// Callers ask a timeline for intervals before this time in ns.
 pub const END_OF_TURNS: u64 = 9_100_000_000_000_000_000;
 
-/// Interval of a list: its state is in force from `start`, which may be negative, until just before `end`, in ns.
+/// Interval of a list, in which one state is in force.
 #[derive(Clone, Copy)]
 pub struct Turn<S> {
+    /// State in force.
     pub state: S,
+    /// Start in ns; negative if the interval started before time 0.
     pub start: i64,
+    /// End in ns; the next interval starts at this time.
     pub end: u64,
 }
 
@@ -19,7 +22,7 @@ pub trait Timeline {
     /// State in force during an interval.
     type State;
 
-    /// Timelines with valid lists.
+    /// Whether the timeline's lists are valid.
     ghost is_lawful: { Self → Type 0 };
 
     /// Interval that contains a time.

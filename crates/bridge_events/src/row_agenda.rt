@@ -7,6 +7,7 @@ use crate::agenda::{Agenda, earlier_entry, entry};
 /// Times of the ports 1 to 16 in a list. Each search for the least time reads the whole list.
 #[derive(Debug, Drop)]
 pub struct RowAgenda {
+    /// Time of each port, from port 1.
     row: [Option<u64>; 16],
 }
 
@@ -30,7 +31,7 @@ impl Agenda for RowAgenda {
     }
 }
 
-/// Returns the port with the least time.
+/// Returns the port with the least time, and this time; `None` if no port has a time.
 fn least_entry(row: &[Option<u64>]) -> Option<(u8, u64)>
     requires { length row.now < 256 }
     ensures { IsLeast (row_time row.now) result }

@@ -8,7 +8,7 @@ use std::marker::Model;
 /// Key of a node if no port below it has a time. It exceeds each key of a time.
 const NO_MOMENT: u128 = 1 << 72;
 
-/// `NO_MOMENT` as a number. Each key is less, because times are below 2^64 and ports below 2^8.
+/// Gives proofs the number `NO_MOMENT`: 2^72. Each key is less, because times are below 2^64 and ports below 2^8.
 pub fn the_limit()
     ensures { NO_MOMENT ≡ 2 ^ 72 }
 {}
@@ -19,6 +19,7 @@ pub fn the_limit()
 /// Node 1 is the root. Nodes 2n and 2n + 1 are the children of node n. Node 15 + p is the leaf of port p.
 #[derive(Debug, Drop)]
 pub struct TreeAgenda {
+    /// Key of each node; the first key is unused.
     nodes: [u128; 32],
 }
 
@@ -67,7 +68,7 @@ impl Agenda for TreeAgenda {
     }
 }
 
-/// Key that orders entries by time, then by port.
+/// Returns the key that orders entries by time, then by port.
 #[inline(always)]
 fn entry_key(port: u8, t: u64) -> u128
     ensures moment { key_time result ≡ Some t }

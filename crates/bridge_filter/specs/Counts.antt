@@ -48,7 +48,7 @@ abbrev pub is_meter_red : PolicePlans → Option ℕ → List FilterStep → Boo
 is_meter_red p None ss = false
 is_meter_red p (Some m) ss = (meter.meter_history (p.meters m) (meter_share m ss)).all_red
 
--- Flags of filter `n`, its gate and its meter after the results `ss`; a flag that the plan doesn't enable is false.
+-- Flags of filter `n`, its stream gate and its meter after the results `ss`; a flag that the plan doesn't enable is false.
 abbrev pub filter_flags : PolicePlans → ℕ → FilterPlan → List FilterStep → Flags
 filter_flags p n f ss = record {
   blocked = f.block_oversize && is_blocked n ss;
@@ -62,7 +62,7 @@ abbrev pub filter_buckets : PolicePlans → Option ℕ → List FilterStep → O
 filter_buckets p None ss = None
 filter_buckets p (Some m) ss = Some (meter.history_buckets (p.meters m) (meter.meter_history (p.meters m) (meter_share m ss)))
 
--- Number of frames in a list of events.
+-- Number of arrived frames in a list of events; commands don't count.
 abbrev pub count_arrivals : List FilterEvent → ℕ
 count_arrivals [] = 0
 count_arrivals (Arrived c ∷ es) = count_arrivals es + 1

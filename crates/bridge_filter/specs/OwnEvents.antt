@@ -30,7 +30,7 @@ is_own_step s f (Unfiltered c) = false
 is_own_step s f (Judged c n g v) = nat_eq n s
 is_own_step s f (Commanded c n) = is_own_command s f c n
 
--- Results that belong to the filter.
+-- Results that belong to the filter: its frames, and commands for the filter, its stream gate and its meter.
 abbrev pub own_steps : ℕ → FilterPlan → List FilterStep → List FilterStep
 own_steps s f [] = []
 own_steps s f (x ∷ xs) = if is_own_step s f x then x ∷ own_steps s f xs else own_steps s f xs

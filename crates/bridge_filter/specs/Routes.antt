@@ -26,7 +26,7 @@ least_match handle priority fs = least_passing (λ f. is_handle_match f.handle h
 abbrev pub least_unnamed : ℕ → List (ℕ × FilterPlan) → Option ℕ
 least_unnamed priority fs = least_passing (λ f. is_none f.handle && is_priority_match f.priority priority) fs
 
--- True if the filter has exactly this handle.
+-- True if the filter names exactly this handle; false for a filter without handle.
 abbrev pub is_named_handle : ℕ → Option ℕ → Bool
 is_named_handle h None = false
 is_named_handle h (Some m) = nat_eq m h
@@ -35,15 +35,15 @@ is_named_handle h (Some m) = nat_eq m h
 abbrev pub least_named : ℕ → ℕ → List (ℕ × FilterPlan) → Option ℕ
 least_named h priority fs = least_passing (λ f. is_named_handle h f.handle && is_priority_match f.priority priority) fs
 
--- Route in a row for a priority.
+-- Route in a row for a priority; `None` if no filter matches.
 abbrev pub slot : List (Option Route) → ℕ → Option Route
 slot row priority = slice_index_or row priority None
 
--- Filter number in a row for a priority.
+-- Filter number in a row for a priority; `None` if no filter matches.
 abbrev pub slot_number : List (Option Route) → ℕ → Option ℕ
 slot_number row priority = option_map (λ r. r.number) (slot row priority)
 
--- Route with the lesser number.
+-- Route with the lower filter number; `r` if there is no other route.
 abbrev pub lesser_route : Route → Option Route → Option Route
 lesser_route r None = Some r
 lesser_route r (Some q) = if nat_lt q.number r.number then Some q else Some r
@@ -87,7 +87,7 @@ pub record IsRoute (fs : List (ℕ × FilterPlan)) (gates meters : List ℕ) (r 
   pub filter : slice_get fs r.filter ≡ Some (r.number, plan)
   pub served : HasInstanceIndices plan gates meters r
 
--- Statement: Each route of the row obeys `IsRoute`.
+-- Statement: Each route of the row, for one handle, obeys `IsRoute`.
 abbrev pub HasRoutes : List (Option Route) → List (ℕ × FilterPlan) → List ℕ → List ℕ → Type 0
 HasRoutes row fs gates meters = (k : ℕ) → k < 8 → IfSome (slot row k) (IsRoute fs gates meters)
 

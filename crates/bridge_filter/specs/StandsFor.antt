@@ -49,7 +49,7 @@ abbrev pub optional_buckets : Option ℕ → List (ℕ × meter.MeterState) → 
 optional_buckets None meters = None
 optional_buckets (Some n) meters = option_map (λ m. m.buckets) (lookup (nat_eq n) meters)
 
--- Red flag of a meter; false if the meter is absent.
+-- Red flag of an optional meter; false without a meter.
 abbrev pub red_flag : Option Buckets → Bool
 red_flag None = false
 red_flag (Some b) = b.all_red

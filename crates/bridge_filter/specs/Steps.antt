@@ -25,7 +25,7 @@ refusal f sdu =
     else if is_above_max f.plan.max_sdu sdu then Some verdict.Oversize
     else None
 
--- 1 if the condition holds, otherwise 0.
+-- 1 if the condition holds, otherwise 0. Counters grow by it.
 abbrev pub count_if : Bool → ℕ
 count_if b = if b then 1 else 0
 
@@ -66,7 +66,7 @@ pub record StandForShares {A : Type 0} (p : PolicePlans) (gates : List (ℕ × g
   pub gates_stand : GatesStand p.gates gates (λ n. gate_share n ss)
   pub meters_stand : MetersStand p.meters meters (λ n. meter_share n ss)
 
--- Statement: The meter with the optional number exists, or there is no number.
+-- Statement: The meter with the optional number exists, or there is no number (`None`).
 abbrev pub HasMeter : {X : Type 0} → Option ℕ → List (ℕ × X) → Type 0
 HasMeter None meters = Unit {0}
 HasMeter (Some n) meters = IsSome (lookup (nat_eq n) meters)
@@ -81,7 +81,7 @@ pub record HasInstances {A : Type 0} (f : FilterState) (gates : List (ℕ × gat
 abbrev pub HaveInstances : {A : Type 0} → List (ℕ × FilterState) → List (ℕ × gate.GateState A) → List (ℕ × meter.MeterState) → ℕ → Type 0
 HaveInstances filters gates meters calls = (n : ℕ) (f : FilterState) → lookup (nat_eq n) filters ≡ Some f → HasInstances f gates meters calls
 
--- Statement: The gate of each filter exists.
+-- Statement: The stream gate of each filter exists.
 abbrev pub HaveGates : {X : Type 0} → List (ℕ × FilterState) → List (ℕ × X) → Type 0
 HaveGates filters gates = (n : ℕ) (f : FilterState) → lookup (nat_eq n) filters ≡ Some f → IsSome (lookup (nat_eq f.plan.gate) gates)
 
@@ -100,7 +100,7 @@ pub record IsSameFilter (old : List (ℕ × FilterState)) (n : ℕ) (g : FilterS
 abbrev pub InstancesUnchanged : List (ℕ × FilterState) → List (ℕ × FilterState) → Type 0
 InstancesUnchanged old new = (n : ℕ) (g : FilterState) → lookup (nat_eq n) new ≡ Some g → IsSameFilter old n g
 
--- Plans of the filters, by number.
+-- Plans of the filters, by number, without their counters.
 abbrev pub filter_plans : List (ℕ × FilterState) → List (ℕ × FilterPlan)
 filter_plans fs = map (λ f. (f.0, f.1.plan)) fs
 
@@ -134,10 +134,10 @@ pub record IsNewGate {A : Type 0} (plan : GatePlan A) (g : gate.GateState A) : T
 pub record IsNewMeter (plan : MeterPlan) (m : meter.MeterState) : Type 0 where
   pub stands : meter.StandsFor plan m []
 
--- State of a filter without frames.
+-- State of a filter before its first frame: all counters are 0, and it isn't blocked.
 abbrev pub new_filter : FilterPlan → FilterState
 new_filter plan = record { plan = plan; counters = record { matching = 0; sdu_passed = 0; sdu_refused = 0; gate_passed = 0; gate_refused = 0; red = 0 }; blocked = false }
 
--- States of filters without frames.
+-- States of filters before their first frames, by number.
 abbrev pub new_filters : List (ℕ × FilterPlan) → List (ℕ × FilterState)
 new_filters fs = map (λ f. (f.0, new_filter f.1)) fs

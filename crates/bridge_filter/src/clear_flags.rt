@@ -16,7 +16,7 @@ use bridge_gate::StreamGate;
 use bridge_meter::Meter;
 use std::alloc::Allocator;
 
-/// Clears the blocked flag of the filter `number`.
+/// Clears the blocked flag of the filter `number`, which must exist. Carries out a command for `Police::clear`.
 pub(crate) fn clear_blocked<A: Allocator + Copy>(
     filters: &mut ByNumber<FilterState, A>,
     number: u32,
@@ -33,7 +33,7 @@ pub(crate) fn clear_blocked<A: Allocator + Copy>(
     }
 }
 
-/// Clears the receive flag of the gate `number`.
+/// Clears the receive flag of the stream gate `number`, which must exist. Carries out a command for `Police::clear`.
 pub(crate) fn clear_rx<A: Allocator + Copy>(gates: &mut ByNumber<StreamGate<A>, A>, number: u32)
     requires { IsSome (lookup (nat_eq number) gates.old.entries) }
     ensures stand { (rules : ℕ → GateRules) (share : ℕ → List GateEvent) → GatesStand rules gates.old.entries share
@@ -47,7 +47,7 @@ pub(crate) fn clear_rx<A: Allocator + Copy>(gates: &mut ByNumber<StreamGate<A>, 
     }
 }
 
-/// Clears the octets flag of the gate `number`.
+/// Clears the octets flag of the stream gate `number`, which must exist. Carries out a command for `Police::clear`.
 pub(crate) fn clear_octets<A: Allocator + Copy>(gates: &mut ByNumber<StreamGate<A>, A>, number: u32)
     requires { IsSome (lookup (nat_eq number) gates.old.entries) }
     ensures stand { (rules : ℕ → GateRules) (share : ℕ → List GateEvent) → GatesStand rules gates.old.entries share
@@ -61,7 +61,7 @@ pub(crate) fn clear_octets<A: Allocator + Copy>(gates: &mut ByNumber<StreamGate<
     }
 }
 
-/// Clears the red flag of the meter `number`.
+/// Clears the red flag of the meter `number`, which must exist. Carries out a command for `Police::clear`.
 pub(crate) fn clear_red<A: Allocator + Copy>(meters: &mut ByNumber<Meter, A>, number: u32)
     requires { IsSome (lookup (nat_eq number) meters.old.entries) }
     ensures stand { (plans : ℕ → MeterPlan) (share : ℕ → List colours.MeterEvent)

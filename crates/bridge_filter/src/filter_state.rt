@@ -5,16 +5,19 @@ ghost use Rattle.bridge_filter.specs.Steps.{refusal, state_with_verdict, new_fil
 
 use crate::{Counters, FilterPlan, Verdict};
 
-/// Plan, counters and blocked flag of a filter.
+/// State of one filter between frames.
 #[derive(Clone, Copy)]
 pub(crate) struct FilterState {
+    /// Settings of the filter.
     pub plan: FilterPlan,
+    /// Counts of the filter's frames so far.
     pub counters: Counters,
+    /// Whether an oversize frame blocked the filter.
     pub blocked: bool,
 }
 
 impl FilterState {
-    /// Makes the state of a filter without frames.
+    /// Makes the state of a filter before its first frame.
     pub(crate) fn new(plan: FilterPlan) -> FilterState
         ensures { result ≡ new_filter plan }
     {

@@ -17,7 +17,7 @@ use bridge_limits::END_OF_TIME;
 use bridge_meter::Meter;
 use std::alloc::Allocator;
 
-/// Returns the verdict on a frame of `filter`.
+/// Returns the verdict on a frame of `filter`: the filter's own tests come first, then its stream gate and meter, whose states change.
 fn frame_verdict<A: Allocator + Copy>(
     filter: &FilterState,
     route: Route,
@@ -48,7 +48,8 @@ fn frame_verdict<A: Allocator + Copy>(
     }
 }
 
-/// Judges a frame of the filter in `route`, and counts the verdict.
+/// Judges a frame of the filter in `route`, and counts the verdict. Changes the filter, its stream gate and its meter for
+/// `Police::pass_routed`.
 pub(crate) fn judge_frame<A: Allocator + Copy>(
     filters: &mut ByNumber<FilterState, A>,
     gates: &mut ByNumber<StreamGate<A>, A>,

@@ -22,10 +22,10 @@ use indexmap::IndexMap;
 use std::alloc::Allocator;
 use std::hash::{BuildHasherDefault, FoldHasher};
 
-/// Filters, gates, meters or rows by number.
+/// Map from numbers to filters, stream gates, meters or rows. Routes refer to its entries by index, so no entry is removed.
 pub(crate) type ByNumber<T, A> = IndexMap<u32, T, BuildHasherDefault<FoldHasher>, A>;
 
-/// Asks the gate at index `place`.
+/// Asks the stream gate at index `place` whether a frame of `sdu` octets passes at `at` ns. The frame may shut the gate.
 fn ask_gate<A: Allocator + Copy>(
     gates: &mut ByNumber<StreamGate<A>, A>,
     place: usize,
@@ -49,7 +49,7 @@ fn ask_gate<A: Allocator + Copy>(
     gate.ask(at, sdu)
 }
 
-/// Returns the verdict of the meter at index `place` on a frame that passed its gate.
+/// Returns the verdict of the meter at index `place` on a frame that passed its stream gate, and updates the meter.
 fn meter_verdict<A: Allocator + Copy>(
     meters: &mut ByNumber<Meter, A>,
     place: usize,
@@ -77,7 +77,7 @@ fn meter_verdict<A: Allocator + Copy>(
     colour_verdict(colour, drop_yellow, ipv)
 }
 
-/// Returns the verdict for a colour.
+/// Returns the verdict for a colour. A yellow frame passes as drop eligible, or is refused if `drop_yellow`.
 fn colour_verdict(colour: Colour, drop_yellow: bool, ipv: Option<u8>) -> Verdict
     ensures verdict { (plan : MeterPlan) → plan.drop_yellow ≡ drop_yellow → result ≡ colour_verdict plan ipv colour }
     ensures passed { has_passed_gate result ≡ true }
@@ -97,7 +97,8 @@ fn colour_verdict(colour: Colour, drop_yellow: bool, ipv: Option<u8>) -> Verdict
     }
 }
 
-/// Returns the verdict for the gate's answer. If the frame passed the gate, the meter at index `place` decides.
+/// Returns the verdict for the stream gate's answer. If the gate passed the frame, the meter at index `place` decides; without a meter, the
+/// frame passes.
 fn answer_verdict<A: Allocator + Copy>(
     answer: GateAnswer,
     place: Option<usize>,
@@ -134,7 +135,7 @@ fn answer_verdict<A: Allocator + Copy>(
     }
 }
 
-/// Returns the verdict on a frame that reached its gate.
+/// Returns the verdict of the stream gate and the meter in `route`, on a frame that the filter itself didn't refuse. Updates both.
 pub(crate) fn police_frame<A: Allocator + Copy>(
     route: Route,
     gates: &mut ByNumber<StreamGate<A>, A>,
@@ -165,7 +166,7 @@ pub(crate) fn police_frame<A: Allocator + Copy>(
     answer_verdict(answer, route.meter, meters, call)
 }
 
-/// Returns the receive flag and the octets flag of the gate `number`.
+/// Returns the receive flag and the octets flag of the stream gate `number`, which must exist. `Police::flags` reports them.
 pub(crate) fn gate_flags<A: Allocator + Copy>(
     gates: &ByNumber<StreamGate<A>, A>,
     number: u32,
@@ -184,7 +185,7 @@ pub(crate) fn gate_flags<A: Allocator + Copy>(
     }
 }
 
-/// Returns the bucket levels of the meter `number`.
+/// Returns the bucket levels and the red flag of the meter `number`, which must exist.
 pub(crate) fn meter_buckets<A: Allocator + Copy>(
     meters: &ByNumber<Meter, A>,
     number: u32,

@@ -25,9 +25,9 @@ pub struct FilterPlan {
     pub priority: Option<u8>,
     /// Number of the stream gate.
     pub gate: u32,
-    /// Largest SDU of a frame in octets.
+    /// Largest SDU of a frame in octets; `None` for no limit.
     pub max_sdu: Option<u32>,
-    /// Number of the meter.
+    /// Number of the meter; `None` without a meter.
     pub meter: Option<u32>,
     /// Whether an oversize frame blocks all later frames.
     pub block_oversize: bool,
@@ -40,7 +40,7 @@ pub struct FilterPlan {
 pub struct FilterInput {
     /// Arrival time in ns.
     pub at: u64,
-    /// Stream handle, if the frame has one.
+    /// Stream handle; `None` if no stream entry matches the frame.
     pub handle: Option<u32>,
     /// Priority, 0 to 7.
     pub priority: u8,
@@ -57,15 +57,15 @@ pub struct FilterInput {
 pub enum Verdict {
     /// An earlier oversize frame blocked the filter.
     Blocked,
-    /// The SDU exceeds the maximum.
+    /// The SDU exceeds the filter's maximum.
     Oversize,
-    /// The gate is closed.
+    /// The stream gate is closed.
     GateClosed,
-    /// An earlier frame at the closed gate shut the gate.
+    /// An earlier frame at the closed stream gate shut the gate.
     ShutByRx,
-    /// An earlier frame over the octet limit shut the gate.
+    /// An earlier frame over the octet limit shut the stream gate.
     ShutByOctets,
-    /// The frame exceeds the octet limit of the gate's interval.
+    /// The frame exceeds the octet limit of the stream gate's interval.
     OctetsExceeded,
     /// The meter made the frame red.
     Red,
@@ -75,10 +75,12 @@ pub enum Verdict {
     Pass { ipv: Option<u8>, eligible: bool },
 }
 
-/// Filter number and verdict of a frame.
+/// Filter of a frame, and its verdict.
 #[derive(Clone, Copy, Debug, PartialEq, Eq)]
 pub struct Ruling {
+    /// Number of the filter that the frame matches.
     pub filter: u32,
+    /// The filter's verdict on the frame.
     pub verdict: Verdict,
 }
 
@@ -87,26 +89,26 @@ pub struct Ruling {
 pub struct Counters {
     /// All frames of the filter.
     pub matching: u64,
-    /// Frames that reached the gate: neither blocked nor oversize.
+    /// Frames that reached the stream gate: neither blocked nor oversize.
     pub sdu_passed: u64,
     /// Oversize frames.
     pub sdu_refused: u64,
-    /// Frames that the gate passed.
+    /// Frames that the stream gate passed.
     pub gate_passed: u64,
-    /// Frames that the gate refused.
+    /// Frames that the stream gate refused.
     pub gate_refused: u64,
     /// Frames that the meter refused: red frames, and yellow ones if the meter drops them.
     pub red: u64,
 }
 
-/// Flags of a filter, its gate and its meter, which stay set until a command clears them.
+/// Flags of a filter, its stream gate and its meter, which stay set until a command clears them.
 #[derive(Clone, Copy, Debug, PartialEq, Eq)]
 pub struct Flags {
     /// An oversize frame blocked the filter.
     pub blocked: bool,
-    /// A frame at the closed gate shut the gate.
+    /// A frame at the closed stream gate shut the gate.
     pub rx: bool,
-    /// A frame over the octet limit shut the gate.
+    /// A frame over the octet limit shut the stream gate.
     pub octets: bool,
     /// The meter makes all later frames red.
     pub red: bool,
@@ -117,9 +119,9 @@ pub struct Flags {
 pub enum Clear {
     /// Blocked flag of a filter.
     Blocked,
-    /// Receive flag of a gate.
+    /// Receive flag of a stream gate.
     Rx,
-    /// Octets flag of a gate.
+    /// Octets flag of a stream gate.
     Octets,
     /// Red flag of a meter.
     Red,

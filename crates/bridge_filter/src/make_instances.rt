@@ -13,7 +13,7 @@ use bridge_meter::{Meter, MeterPlan};
 use indexmap::IndexMap;
 use std::alloc::{AllocError, Allocator};
 
-/// Inserts `thing` at `number`.
+/// Inserts the instance `thing` at `number`. Fails only if memory runs out. The makers of filters, stream gates and meters call it.
 fn insert_instance<T: Drop, A: Allocator + Copy>(
     made: &mut ByNumber<T, A>,
     number: u32,
@@ -31,7 +31,7 @@ fn insert_instance<T: Drop, A: Allocator + Copy>(
     }
 }
 
-/// Makes filters without frames.
+/// Makes the states of filters before their first frames. Fails only if memory runs out.
 pub(crate) fn make_filters<A: Allocator + Copy>(
     alloc: A,
     plans: &[(u32, FilterPlan)],
@@ -46,7 +46,7 @@ pub(crate) fn make_filters<A: Allocator + Copy>(
     Ok(made)
 }
 
-/// Makes gates without events.
+/// Makes the stream gates before their first events. Fails only if memory runs out.
 pub(crate) fn make_gates<A: Allocator + Copy>(
     alloc: A,
     plans: Vec<(u32, GatePlan<A>), A>,
@@ -62,7 +62,7 @@ pub(crate) fn make_gates<A: Allocator + Copy>(
     Ok(made)
 }
 
-/// Makes meters without events.
+/// Makes the meters before their first events. Fails only if memory runs out.
 pub(crate) fn make_meters<A: Allocator + Copy>(
     alloc: A,
     plans: &[(u32, MeterPlan)],

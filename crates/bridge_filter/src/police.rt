@@ -29,12 +29,19 @@ use std::marker::Model;
 /// Stream filters of a bridge, with their gates and meters, by number.
 #[derive(Drop)]
 pub struct Police<A: Allocator + Copy> {
+    /// Filters with their counters and blocked flags.
     filters: ByNumber<FilterState, A>,
+    /// Routes of frames with a handle that a filter names, by priority.
     rows: HandleRows<A>,
+    /// Routes of all other frames, by priority.
     any: PriorityRow,
+    /// Stream gates.
     gates: ByNumber<StreamGate<A>, A>,
+    /// Meters.
     meters: ByNumber<Meter, A>,
+    /// Number of frames so far; it bounds every counter.
     calls: u64,
+    /// Arrival time of the last frame in ns, or 0.
     earliest: u64,
 }
 
@@ -214,7 +221,7 @@ impl<A: Allocator + Copy> Police<A> {
         }
     }
 
-    /// Clears a flag of the filter, gate or meter `number`. Counters, counted octets and bucket levels stay.
+    /// Clears a flag of the filter, stream gate or meter `number`, which must exist. Counters, counted octets and bucket levels stay.
     pub fn clear(&mut self, clear: Clear, number: u32)
         requires { has_instance clear number self.old ≡ true }
         ensures stands { (p : PolicePlans) (es : List FilterEvent) → StandsFor p self.old es
@@ -233,7 +240,7 @@ impl<A: Allocator + Copy> Police<A> {
         }
     }
 
-    /// Number of arrived frames.
+    /// Returns the number of frames so far, matching a filter or not. No counter exceeds it.
     pub fn calls(&self) -> u64
         ensures calls { result ≡ self.now.calls }
         ensures frames { (p : PolicePlans) (es : List FilterEvent) → StandsFor p self.now es → result
@@ -242,7 +249,7 @@ impl<A: Allocator + Copy> Police<A> {
         self.calls
     }
 
-    /// Arrival time in ns of the last frame, or 0. Later frames arrive at this time or later.
+    /// Returns the arrival time in ns of the last frame, or 0. Later frames arrive at this time or later.
     pub fn earliest(&self) -> u64
         ensures earliest { result ≡ self.now.earliest }
         ensures last { (p : PolicePlans) (es : List FilterEvent) → StandsFor p self.now es → result
@@ -251,7 +258,7 @@ impl<A: Allocator + Copy> Police<A> {
         self.earliest
     }
 
-    /// Returns the counters of `filter`.
+    /// Returns the counters of `filter`, which must exist. The results of a run contain them.
     pub fn counters(&self, filter: u32) -> Counters
         requires { is_listed filter self.now.filters ≡ true }
         ensures shown { state_counters filter self.now ≡ Some result }
@@ -261,7 +268,7 @@ impl<A: Allocator + Copy> Police<A> {
         self.filter_state(filter).counters
     }
 
-    /// Returns the flags of `filter`, its gate and its meter.
+    /// Returns the flags of `filter`, which must exist, its stream gate and its meter. The results of a run contain them.
     pub fn flags(&self, filter: u32) -> Flags
         requires { is_listed filter self.now.filters ≡ true }
         ensures shown { state_filter_flags filter self.now ≡ Some result }
@@ -282,7 +289,7 @@ impl<A: Allocator + Copy> Police<A> {
         }
     }
 
-    /// Returns the bucket levels of the filter's meter; `None` if it has no meter.
+    /// Returns the bucket levels of the meter of `filter`, which must exist; `None` if the filter has no meter.
     pub fn buckets(&self, filter: u32) -> Option<Buckets>
         requires { is_listed filter self.now.filters ≡ true }
         ensures shown { result ≡ state_buckets filter self.now }
@@ -295,7 +302,7 @@ impl<A: Allocator + Copy> Police<A> {
         }
     }
 
-    /// Returns the state of `filter`.
+    /// Returns the state of `filter`, which must exist. The methods that report counters, flags and buckets call it.
     fn filter_state(&self, filter: u32) -> FilterState
         requires { is_listed filter self.now.filters ≡ true }
         ensures kept { lookup (nat_eq filter) self.now.kept ≡ Some result }

@@ -19,19 +19,21 @@ use std::alloc::Allocator;
 pub struct Route {
     /// Number of the filter.
     pub number: u32,
-    /// Index of the filter in the given order.
+    /// Index of the filter in the order that `Police::new` got.
     pub filter: usize,
+    /// Index of the filter's stream gate.
     pub(crate) gate: usize,
+    /// Index of the filter's meter; `None` without a meter.
     pub(crate) meter: Option<usize>,
 }
 
-/// Route of a frame for each priority, if a filter matches.
+/// Routes of frames by priority, from 0; `None` if no filter matches the frames.
 pub(crate) type PriorityRow = [Option<Route>; 8];
 
-/// Rows of the stream handles in filters.
+/// For each stream handle that a filter names, the routes of its frames by priority.
 pub(crate) type HandleRows<A> = ByNumber<PriorityRow, A>;
 
-/// Returns the route with the lesser number.
+/// Returns the route with the lower filter number. Of the filters that match a frame, the one with the lowest number judges it.
 pub(crate) fn lesser_route(route: Route, other: Option<Route>) -> Option<Route>
     ensures { result ≡ finding.lesser_route route other }
 {
@@ -62,7 +64,8 @@ pub fn is_priority_match(asked: Option<u8>, priority: u8) -> bool
     }
 }
 
-/// Returns the row of `handle` if it is at the guessed index. The guess succeeds if handles of consecutive filters are consecutive.
+/// Returns the row of `handle` if it is at the guessed index, otherwise `None`. The guess saves a hash; it succeeds if handles of
+/// consecutive filters are consecutive.
 #[inline(always)]
 fn row_by_guess<'a, A: Allocator + Copy>(
     rows: &'a HandleRows<A>,
@@ -111,7 +114,7 @@ pub(crate) fn find_row<'a, A: Allocator + Copy>(
     }
 }
 
-/// Returns the index of the instance `number`.
+/// Returns the index of the stream gate or meter `number`, which must exist.
 fn instance_index<T, A: Allocator + Copy>(instances: &ByNumber<T, A>, number: u32) -> usize
     requires { IsSome (lookup (nat_eq number) instances.now.entries) }
     ensures { slice_get (keys_of instances.now.entries) result ≡ Some number }
@@ -122,7 +125,7 @@ fn instance_index<T, A: Allocator + Copy>(instances: &ByNumber<T, A>, number: u3
     }
 }
 
-/// Returns the index of the instance `number`, if there is a number.
+/// Returns the index of the meter `number`, which must exist; `None` without a number.
 fn optional_index<T, A: Allocator + Copy>(
     instances: &ByNumber<T, A>,
     number: Option<u32>,
@@ -136,7 +139,7 @@ fn optional_index<T, A: Allocator + Copy>(
     }
 }
 
-/// Returns the plan of the filter at index `place`, and its route.
+/// Returns the plan of the filter at index `place`, and the route of its frames.
 pub(crate) fn plan_and_route<A: Allocator + Copy>(
     filters: &ByNumber<FilterState, A>,
     gates: &ByNumber<StreamGate<A>, A>,
@@ -163,7 +166,8 @@ pub(crate) fn plan_and_route<A: Allocator + Copy>(
     (plan, route)
 }
 
-/// Returns the lesser of two routes if the filter of `route` matches; otherwise returns `least`.
+/// Returns the lesser of `least` and `route` if the filter of `route` matches the frame; otherwise `least`. `search_route` keeps the
+/// result.
 fn lesser_match(
     least: Option<Route>,
     plan: &FilterPlan,
@@ -182,7 +186,8 @@ fn lesser_match(
     }
 }
 
-/// Returns the route for this handle and priority by a search through all filters. Only a priority above 7 needs it.
+/// Returns the route for this handle and priority by a search through all filters; `None` if none matches. Only a priority above 7 needs
+/// it.
 #[cold]
 #[inline(never)]
 fn search_route<A: Allocator + Copy>(
@@ -207,7 +212,7 @@ fn search_route<A: Allocator + Copy>(
     least
 }
 
-/// Returns the route for this handle and priority: the matching filter with the least number.
+/// Returns the route for this handle and priority: the matching filter with the least number. `None` if no filter matches.
 #[inline(always)]
 pub(crate) fn look_up_route<A: Allocator + Copy>(
     filters: &ByNumber<FilterState, A>,

@@ -16,7 +16,7 @@ use bridge_meter::Meter;
 use indexmap::IndexMap;
 use std::alloc::{AllocError, Allocator};
 
-/// Returns a slot extended by a filter that asks for the priority `asked`, or for any.
+/// Returns a slot after a filter's route was entered, if the filter accepts `priority`. The slot keeps the filter with the lower number.
 fn add_to_slot(slot: Option<Route>, asked: Option<u8>, route: Route, priority: u8) -> Option<Route>
     ensures { result ≡ finding.add_to_slot slot asked route priority }
 {
@@ -27,7 +27,7 @@ fn add_to_slot(slot: Option<Route>, asked: Option<u8>, route: Route, priority: u
     }
 }
 
-/// Adds a filter to a row.
+/// Enters a filter's route at each priority that the filter accepts. A slot keeps the filter with the lower number.
 fn add_to_row(row: &mut PriorityRow, asked: Option<u8>, route: Route)
     ensures { (k : ℕ) → k < 8 → finding.slot row.new k ≡ finding.add_to_slot (finding.slot row.old k) asked route k }
 {
@@ -36,7 +36,7 @@ fn add_to_row(row: &mut PriorityRow, asked: Option<u8>, route: Route)
     }
 }
 
-/// Adds a filter without handle to the default row. Ignores other filters.
+/// Enters the route of a filter without handle in the default row. Ignores a filter with a handle.
 fn add_to_default_row(any: &mut PriorityRow, plan: &FilterPlan, route: Route)
     ensures { (k : ℕ) → k < 8
         → finding.slot any.new k ≡ (if is_none plan.now.handle
@@ -67,7 +67,7 @@ pub(crate) fn default_row<A: Allocator + Copy>(
     any
 }
 
-/// Adds a filter with a handle to the row of this handle. A new row starts as a copy of the default row.
+/// Enters the route of a filter with a handle in the row of this handle. A new row starts as a copy of the default row.
 fn add_to_handle_row<A: Allocator + Copy>(
     rows: &mut HandleRows<A>,
     any: &PriorityRow,
@@ -88,7 +88,8 @@ fn add_to_handle_row<A: Allocator + Copy>(
     Ok(())
 }
 
-/// Makes the rows of the handles in filters.
+/// Makes one row for each handle that a filter names: for each priority, the matching filter with the lowest number. A row starts as a copy
+/// of the default row `any`.
 pub(crate) fn handle_rows<A: Allocator + Copy>(
     alloc: A,
     filters: &ByNumber<FilterState, A>,

@@ -27,7 +27,8 @@ fn is_reserved(da: &[u8; 6]) -> bool
     da[..5] == [0x01, 0x80, 0xC2, 0x00, 0x00] && da[5] <= 0x0F
 }
 
-/// Returns the egress ports of a frame from its VLAN's members, its static entry's ports and its ingress port.
+/// Returns the egress ports of a frame: its VLAN's members that the static entry allows, without the ingress port. Empty if the VLAN is
+/// unknown or lacks the ingress port.
 fn output_ports(members: Option<PortSet>, entry: Option<PortSet>, port: u8) -> PortSet
     requires from { 1 ≤ port }
     requires to { port ≤ 16 }
@@ -48,9 +49,13 @@ fn output_ports(members: Option<PortSet>, entry: Option<PortSet>, port: u8) -> P
 /// Filtering database: VLANs and static filtering entries. Contracts see two lists.
 #[derive(Drop)]
 pub struct Forwarding<A: Allocator + Copy> {
+    /// VLANs in the given order.
     vlans: Vec<Vlan, A>,
+    /// Static entries in the given order.
     statics: Vec<StaticEntry, A>,
+    /// Members of each VLAN, indexed by VLAN identifier.
     members: Vec<Option<PortSet>, A>,
+    /// Ports of each static entry, by VLAN identifier and address.
     entries: StaticTable<A>,
     /// Hints: the index among `entries` at which a key may stand. Look-ups test each hint.
     index_hints: Vec<u16, A>,
@@ -123,14 +128,14 @@ impl<A: Allocator + Copy> Forwarding<A> {
         output_ports(self.vlan_members(vid), self.static_ports(vid, da), port)
     }
 
-    /// Returns the members of a VLAN.
+    /// Returns the members of a VLAN; `None` if the database lacks it.
     fn vlan_members(&self, vid: u16) -> Option<PortSet>
         ensures { result ≡ vlan_members self.now.vlans vid }
     {
         self.members.get(vid as usize).copied().flatten()
     }
 
-    /// Index at which `key` may stand.
+    /// Returns the index at which `key` may be, or 0 without hints. `static_ports` tests the key at this index.
     #[inline(always)]
     fn hinted_index(&self, key: u64) -> usize {
         match self.index_hints.get(hint_slot(key, self.index_hints.len())) {
@@ -139,7 +144,7 @@ impl<A: Allocator + Copy> Forwarding<A> {
         }
     }
 
-    /// Returns the ports of the static entry for a VLAN and an address.
+    /// Returns the ports of the static entry for a VLAN and an address; `None` without such an entry.
     fn static_ports(&self, vid: u16, da: &[u8; 6]) -> Option<PortSet>
         ensures { result ≡ static_ports self.now.statics vid da.now }
     {

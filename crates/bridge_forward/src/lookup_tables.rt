@@ -28,7 +28,7 @@ fn vlan_table_len(vlans: &[Vlan]) -> usize
     places
 }
 
-/// Sets the members of `vid` unless they are set.
+/// Sets the members of `vid` unless they are set: the first VLAN with an identifier counts.
 fn insert_members(members: &mut [Option<PortSet>], vid: u16, ports: PortSet)
     requires { vid < length members.old }
     ensures places { length members.new ≡ length members.old }
@@ -41,7 +41,7 @@ fn insert_members(members: &mut [Option<PortSet>], vid: u16, ports: PortSet)
     }
 }
 
-/// Makes the table of members, indexed by VLAN identifier.
+/// Makes the table of members, indexed by VLAN identifier, so that forwarding takes constant time.
 pub(crate) fn make_member_table<A: Allocator + Copy>(
     alloc: A,
     vlans: &[Vlan],
@@ -57,7 +57,7 @@ pub(crate) fn make_member_table<A: Allocator + Copy>(
     Ok(members)
 }
 
-/// Sets the ports of `key` unless they are set.
+/// Sets the ports of `key` unless they are set: the first static entry with a key counts.
 fn insert_if_new<A: Allocator + Copy>(
     entries: &mut StaticTable<A>,
     key: u64,
@@ -91,7 +91,7 @@ fn insert_static<A: Allocator + Copy>(
 /// Number of hints for each static entry.
 const HINTS_PER_ENTRY: usize = 4;
 
-/// Slot of `key` among `hints` hints.
+/// Returns the slot of `key` among `hints` hints, by mixing the bits of the key.
 #[inline(always)]
 pub(crate) fn hint_slot(key: u64, hints: usize) -> usize {
     let mixed = key.wrapping_mul(0x9E37_79B9_7F4A_7C15) >> 32;
@@ -117,7 +117,7 @@ pub(crate) fn make_hints<A: Allocator + Copy>(
     Ok(hints)
 }
 
-/// Returns the ports at index `place` if they have this key.
+/// Returns the ports at index `place` if they have this key, otherwise `None`.
 #[inline(always)]
 pub(crate) fn ports_by_index<A: Allocator + Copy>(
     entries: &StaticTable<A>,
@@ -133,7 +133,7 @@ pub(crate) fn ports_by_index<A: Allocator + Copy>(
     }
 }
 
-/// Returns the ports of `key` by its hash.
+/// Returns the ports of `key` by its hash; `None` if no static entry has this key.
 #[inline(never)]
 pub(crate) fn ports_by_hash<A: Allocator + Copy>(
     entries: &StaticTable<A>,
@@ -144,7 +144,7 @@ pub(crate) fn ports_by_hash<A: Allocator + Copy>(
     entries.get(&key).copied()
 }
 
-/// Makes the table of the ports of static entries.
+/// Makes the table of the ports of static entries, by VLAN identifier and address, so that forwarding takes constant time.
 pub(crate) fn make_static_table<A: Allocator + Copy>(
     alloc: A,
     statics: &[StaticEntry],

@@ -8,6 +8,7 @@ use std::marker::Model;
 /// Set of the ports 1 to 16. Contracts see a number whose bit n - 1 is 1 exactly if port n is in the set.
 #[derive(Clone, Copy, Debug, PartialEq, Eq)]
 pub struct PortSet {
+    /// Bit n - 1 stands for port n.
     bits: u16,
 }
 
@@ -59,7 +60,7 @@ impl PortSet {
         has_no_port(self.bits)
     }
 
-    /// Returns the ports in both sets.
+    /// Returns the ports in both sets: the VLAN's members that a static entry allows.
     pub(crate) fn intersection(self, other: PortSet) -> PortSet
         ensures { result ≡ bit_and self other }
     {
@@ -68,7 +69,7 @@ impl PortSet {
         }
     }
 
-    /// Returns the set without `port`.
+    /// Returns the set without `port`: a frame never returns to its ingress port.
     pub(crate) fn without_port(self, port: u8) -> PortSet
         requires from { 1 ≤ port }
         requires to { port ≤ 16 }

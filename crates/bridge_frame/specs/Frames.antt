@@ -19,7 +19,7 @@ frame_tag octets = record {
   vid = slice_index octets 14 % 16 * 256 + slice_index octets 15 % 256;
 }
 
--- Numbers of the faults.
+-- Number of the fault of a frame's header: 1 or 2.
 abbrev pub fault_code : FrameFault → ℕ
 fault_code TooShort = 1
 fault_code TooLong = 2

@@ -13,21 +13,27 @@ ghost use Rattle.bridge_frame.specs.Link.{bits_per_second, transmission_time, sp
 use bridge_limits::{LONGEST_FRAME, MAX_CAPTURED_OCTETS};
 use thiserror::Error;
 
-/// C-VLAN tag: priority code point (0 to 7), drop eligible indication, VLAN identifier (0 to 4095; 0 in a priority
-/// tag).
+/// C-VLAN tag of a frame.
 #[derive(Clone, Copy, Debug, PartialEq, Eq)]
 pub struct Tag {
+    /// Priority code point, 0 to 7.
     pub pcp: u8,
+    /// Drop eligible indication.
     pub dei: bool,
+    /// VLAN identifier, 0 to 4095; 0 in a priority tag.
     pub vid: u16,
 }
 
-/// Header of a frame: destination, source, tag, and the SDU octets (its length without addresses and tag).
+/// Header of a frame.
 #[derive(Clone, Copy, Debug, PartialEq, Eq)]
 pub struct Head {
+    /// Destination address.
     pub da: [u8; 6],
+    /// Source address.
     pub sa: [u8; 6],
+    /// Tag; `None` for an untagged frame.
     pub tag: Option<Tag>,
+    /// SDU octets: the frame's length without addresses and tag.
     pub sdu: u32,
 }
 
@@ -57,10 +63,15 @@ impl FrameFault {
 /// Speed of a link: 10, 100, 1,000, 2,500 or 10,000 Mb/s.
 #[derive(Clone, Copy, Debug, PartialEq, Eq)]
 pub enum Speed {
+    /// 10 Mb/s.
     Mbps10,
+    /// 100 Mb/s.
     Mbps100,
+    /// 1,000 Mb/s.
     Mbps1000,
+    /// 2,500 Mb/s.
     Mbps2500,
+    /// 10,000 Mb/s.
     Mbps10000,
 }
 
@@ -79,7 +90,7 @@ impl Speed {
         }
     }
 
-    /// Speed in Mb/s, 10 to 10,000.
+    /// Returns the speed in Mb/s, 10 to 10,000.
     pub fn megabits(self) -> u64
         ensures { result * 10 ^ 6 ≡ bits_per_second self }
     {
@@ -93,7 +104,7 @@ impl Speed {
     }
 }
 
-/// Reads the tag of a tagged frame.
+/// Reads the tag of a frame of at least 18 octets that has a C-VLAN tag.
 fn read_tag(octets: &[u8]) -> Tag
     requires { 18 ≤ length octets.now }
     ensures { result ≡ frame_tag octets.now }
@@ -186,7 +197,7 @@ pub fn marked_head()
         → parsed_head (drop_eligible_frame octets) len ≡ Err e }
 {}
 
-/// Key of a VLAN identifier and an address: their eight octets as one big-endian number.
+/// Returns a VLAN identifier and an address as one key: their eight octets, big-endian. Tables of static entries and of streams use it.
 #[tactic(auto, unfolding(crate::specs::Addresses::address_key))]
 pub fn address_key(vid: u16, address: [u8; 6]) -> u64
     ensures number { result ≡ address_key vid address }

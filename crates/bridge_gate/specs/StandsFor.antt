@@ -31,7 +31,7 @@ pub record StandsFor {A : Type 0} (r : GateRules) (g : GateState A) (es : List G
   pub counted : (t : ℕ) (x : Turn GateEntry) (limit : ℕ) → g.earliest ≤ t → r.turn_at t ≡ Some x → x.state.octets ≡ Some limit → octets_in_turn r.turn_at x.start (gate_steps r es) ≡ counted_octets g x.start
   pub begun : (t : ℕ) (x : Turn GateEntry) → 0 < g.count → g.earliest ≤ t → r.turn_at t ≡ Some x → g.start ≤ℤ x.start
 
--- Answer of the gate in interval `x`.
+-- Answer of the gate to a frame in interval `x`, from its flags and its count.
 abbrev pub state_answer : {A : Type 0} → GateState A → Turn GateEntry → ℕ → GateAnswer
 state_answer g x sdu =
     if g.rx then ShutByRx
@@ -45,7 +45,7 @@ abbrev pub gate_after_counting : {A : Type 0} → GateState A → ℕ → ℤ �
 gate_after_counting g t z n None = record g { earliest = t }
 gate_after_counting g t z n (Some limit) = record g { start = z; count = n; earliest = t }
 
--- Gate after an answer.
+-- Gate after this answer: a passing frame counts, and a refusal may set a flag.
 abbrev pub gate_after_answer : {A : Type 0} → GateState A → ℕ → Turn GateEntry → ℕ → GateAnswer → GateState A
 gate_after_answer g t x sdu (Through ipv) = gate_after_counting g t x.start (counted_octets g x.start + sdu) x.state.octets
 gate_after_answer g t x sdu Closed = record g { rx = g.plan.shut_on_rx; earliest = t }

@@ -10,16 +10,16 @@ use std::alloc::Allocator;
 pub struct GateEntry {
     /// Whether frames pass.
     pub lets: bool,
-    /// Internal priority value, 0 to 7, that replaces the priority of passing frames.
+    /// Internal priority value, 0 to 7, that replaces the priority of passing frames; `None` keeps their priority.
     pub ipv: Option<u8>,
-    /// Largest number of SDU octets that pass in the interval.
+    /// Largest number of SDU octets that pass in the interval; `None` for no limit.
     pub octets: Option<u32>,
 }
 
 /// Schedule of a stream gate: a fixed state, one cyclic list, or an old and a new list with a schedule change.
 #[derive(Drop)]
 pub enum Schedule<A: Allocator + Copy> {
-    /// One state at all times, without octet limit.
+    /// One state at all times: whether frames pass (`lets`), and their internal priority value. It has no octet limit.
     Fixed { lets: bool, ipv: Option<u8> },
     /// One cyclic list.
     Cyclic(CyclicList<GateEntry, A>),
@@ -60,7 +60,7 @@ impl<A: Allocator + Copy> Schedule<A> {
         }
     }
 
-    /// Whether each internal priority value is 0 to 7.
+    /// Whether each internal priority value is 0 to 7. A stream gate is made only with such values.
     pub fn has_valid_priorities(&self) -> bool
         ensures { result ≡ has_valid_priorities self.now }
     {
@@ -107,7 +107,7 @@ fn have_valid_priorities(entries: &[(GateEntry, u64)]) -> bool
 }
 
 impl<A: Allocator + Copy> GatePlan<A> {
-    /// Returns an equal plan.
+    /// Returns an equal plan in new memory, or `NoMemory`.
     pub fn copy(&self, alloc: A) -> Result<Self, NoMemory>
         ensures equal { IfOk result (λ p. p ≡ self.now) }
     {

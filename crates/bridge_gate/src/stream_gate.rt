@@ -13,7 +13,7 @@ use std::marker::Model;
 /// Answer of a stream gate to a frame: it passes, or the reason of a refusal.
 #[derive(Clone, Copy, Debug, PartialEq, Eq)]
 pub enum GateAnswer {
-    /// The frame passes, with this internal priority value.
+    /// The frame passes, with the internal priority value of the interval, if it has one.
     Through(Option<u8>),
     /// The gate is closed.
     Closed,
@@ -28,11 +28,17 @@ pub enum GateAnswer {
 /// Stream gate (IEEE 802.1Q-2018, 8.6.5.1.2) with its two flags and the octets passed in the interval.
 #[derive(Drop)]
 pub struct StreamGate<A: Allocator + Copy> {
+    /// Schedule, and which refusals shut the gate.
     plan: GatePlan<A>,
+    /// Receive flag: a frame met the closed gate, and the plan shuts the gate then.
     rx: bool,
+    /// Octets flag: a frame exceeded an octet limit, and the plan shuts the gate then.
     octets: bool,
+    /// Start in ns of the interval whose octets `count` counts.
     start: i64,
+    /// SDU octets that passed in this interval.
     count: u64,
+    /// Arrival time in ns of the last frame, or 0.
     earliest: u64,
     /// Interval of the last search. Later frames in this interval need no search.
     turn: Turn<GateEntry>,
@@ -62,7 +68,7 @@ impl<A: Allocator + Copy> Model for StreamGate<A> {
 }
 
 impl<A: Allocator + Copy> StreamGate<A> {
-    /// Makes a gate without events.
+    /// Makes a gate before its first event.
     pub fn new(plan: GatePlan<A>) -> StreamGate<A>
         requires { has_valid_priorities plan.schedule ≡ true }
         ensures stands { StandsFor (gate_rules plan) result [] }
@@ -81,7 +87,8 @@ impl<A: Allocator + Copy> StreamGate<A> {
         }
     }
 
-    /// Answers a frame of `sdu` SDU octets that arrives at `t` ns.
+    /// Answers a frame of `sdu` SDU octets that arrives at `t` ns. A refusal may set a flag; a passing frame counts towards the octet
+    /// limit.
     pub fn ask(&mut self, t: u64, sdu: u32) -> GateAnswer
         requires time { self.old.earliest ≤ t }
         requires range { t < END_OF_TIME }
@@ -116,7 +123,7 @@ impl<A: Allocator + Copy> StreamGate<A> {
         turn
     }
 
-    /// Clears the receive flag.
+    /// Clears the receive flag, for a command: the gate then answers by its schedule.
     pub fn clear_rx(&mut self)
         ensures stands { (r : GateRules) (es : List GateEvent)
             → StandsFor r self.old es
@@ -140,7 +147,7 @@ impl<A: Allocator + Copy> StreamGate<A> {
         self.octets = false;
     }
 
-    /// Returns the receive flag and the octets flag.
+    /// Returns the receive flag and the octets flag, for the results of a run.
     pub fn flags(&self) -> (bool, bool)
         ensures shows_rx { result.0 ≡ self.now.rx }
         ensures shows_octets { result.1 ≡ self.now.octets }
@@ -154,7 +161,7 @@ impl<A: Allocator + Copy> StreamGate<A> {
         (self.rx, self.octets)
     }
 
-    /// Arrival time in ns of the last frame, or 0. Later frames arrive at this time or later.
+    /// Returns the arrival time in ns of the last frame, or 0. Later frames arrive at this time or later.
     pub fn earliest(&self) -> u64
         ensures earliest { result ≡ self.now.earliest }
         ensures last { (r : GateRules) (es : List GateEvent)

@@ -36,7 +36,7 @@ abbrev pub first_entry : Kind → Bool → ℕ → List StreamEntry → ℕ → 
 first_entry kind tagged n [] port vid address = None
 first_entry kind tagged n (e ∷ es) port vid address = if is_of_kind kind tagged e && has_key e port vid address then Some (record { place = n; handle = e.handle }) else first_entry kind tagged (n + 1) es port vid address
 
--- Entry with the lower index.
+-- Entry with the lower index; `None` if both are absent.
 abbrev pub earlier_entry : Option FirstEntry → Option FirstEntry → Option FirstEntry
 earlier_entry None source = source
 earlier_entry (Some d) None = Some d

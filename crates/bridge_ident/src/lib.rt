@@ -41,11 +41,13 @@ pub struct StreamEntry {
     pub handle: u32,
     /// Ingress port of matching frames.
     pub port: u8,
+    /// Address that the entry compares: destination or source.
     pub kind: Kind,
     /// Address of matching frames.
     pub address: [u8; 6],
     /// VLAN identifier of matching frames.
     pub vid: u16,
+    /// Tags of matching frames.
     pub tag: TagKind,
 }
 
@@ -80,7 +82,7 @@ pub fn has_vlan_tag(tag: Option<Tag>) -> bool
     }
 }
 
-/// Returns the handle of the first matching entry.
+/// Returns the handle of the first matching entry; `None` if no entry matches.
 fn first_handle(entries: &[StreamEntry], port: u8, head: &Head, vid: u16) -> Option<u32>
     ensures { result ≡ first_handle entries.now port head.now vid }
 {
@@ -95,6 +97,7 @@ fn first_handle(entries: &[StreamEntry], port: u8, head: &Head, vid: u16) -> Opt
 /// Stream identity table. Contracts see the list of its entries.
 #[derive(Drop)]
 pub struct Ident<A: Allocator + Copy> {
+    /// Entries in the given order.
     entries: Vec<StreamEntry, A>,
     /// Index that finds the first matching entry. Without an index, the table searches its entries in order.
     index: Option<StreamIndex<A>>,

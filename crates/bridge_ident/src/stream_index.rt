@@ -15,10 +15,12 @@ use indexmap::IndexMap;
 use std::alloc::{AllocError, Allocator};
 use std::hash::{BuildHasherDefault, FoldHasher};
 
-/// Index of an entry in the list, and its handle.
+/// First entry of a list that has some key.
 #[derive(Clone, Copy)]
 pub(crate) struct FirstEntry {
+    /// Index of the entry in the list.
     pub place: usize,
+    /// Stream handle of the entry.
     pub handle: u32,
 }
 
@@ -31,9 +33,13 @@ type OctetMarks = [bool; 256];
 /// First entries for frames with a VLAN tag, or for other frames, by compared address.
 #[derive(Drop)]
 struct AddressIndex<A: Allocator + Copy> {
+    /// First entries that compare destination addresses.
     destinations: FirstEntries<A>,
+    /// Last octets of their addresses.
     destination_marks: OctetMarks,
+    /// First entries that compare source addresses.
     sources: FirstEntries<A>,
+    /// Last octets of their addresses.
     source_marks: OctetMarks,
     /// Hints: the index among `destinations` at which a key may stand. Look-ups test each hint.
     index_hints: Vec<u16, A>,
@@ -66,7 +72,7 @@ impl StreamEntry {
     }
 }
 
-/// Number of values of 64 bits.
+/// 2^64: a key has the port above 64 bits for VLAN identifier and address.
 const TWO_POW_64: u128 = 1 << 64;
 
 /// Key of the entries of a port, a VLAN identifier and an address.
@@ -78,7 +84,7 @@ fn entry_key(port: u8, vid: u16, address: [u8; 6]) -> u128
     port as u128 * TWO_POW_64 + address_key(vid, address) as u128
 }
 
-/// Last octet of the address in a key.
+/// Returns the last octet of the address in a key. `OctetMarks` has a mark for each octet, so that most look-ups need no hash.
 #[inline(always)]
 fn last_octet(key: u128) -> usize
     ensures octet { result ≡ key % 256 }
@@ -131,7 +137,7 @@ fn index_entry<A: Allocator + Copy>(
     Ok(())
 }
 
-/// Counts the entries of this kind that accept these frames.
+/// Counts the entries of this kind that accept these frames, to reserve memory for their table.
 fn count_entries(entries: &[StreamEntry], kind: Kind, tagged: bool) -> usize {
     let mut count: usize = 0;
     for entry in entries {
@@ -167,7 +173,7 @@ fn first_entries<A: Allocator + Copy>(
 /// Number of hints for each destination.
 const HINTS_PER_ENTRY: usize = 4;
 
-/// Slot of `key` among `hints` hints.
+/// Returns the slot of `key` among `hints` hints, by mixing the bits of the key.
 #[inline(always)]
 fn hint_slot(key: u128, hints: usize) -> usize {
     let folded = ((key >> 64) ^ key) % TWO_POW_64;
@@ -175,7 +181,7 @@ fn hint_slot(key: u128, hints: usize) -> usize {
     (mixed.wrapping_mul(hints as u64) >> 32) as usize
 }
 
-/// Index at which `key` may stand.
+/// Returns the index at which `key` may be, or 0 without hints. Callers test the key at this index.
 #[inline(always)]
 fn hinted_index(hints: &[u16], key: u128) -> usize {
     match hints.get(hint_slot(key, hints.len())) {
@@ -230,7 +236,7 @@ fn with_hints<A: Allocator + Copy>(
     }
 }
 
-/// Adds the first entries for source addresses to those for destinations.
+/// Adds the first entries that compare source addresses to `destinations`.
 fn with_sources<A: Allocator + Copy>(
     alloc: A,
     entries: &[StreamEntry],
@@ -248,7 +254,7 @@ fn with_sources<A: Allocator + Copy>(
     }
 }
 
-/// Returns the first entries of both kinds.
+/// Returns the first entries that compare destination or source addresses, for frames with a VLAN tag (`tagged`) or for other frames.
 fn make_address_index<A: Allocator + Copy>(
     alloc: A,
     entries: &[StreamEntry],
@@ -263,7 +269,7 @@ fn make_address_index<A: Allocator + Copy>(
     }
 }
 
-/// Returns the first entry at index `place` if it has this key.
+/// Returns the first entry at index `place` if it has this key, otherwise `None`.
 #[inline(always)]
 fn entry_by_index<A: Allocator + Copy>(
     firsts: &FirstEntries<A>,
@@ -279,7 +285,7 @@ fn entry_by_index<A: Allocator + Copy>(
     }
 }
 
-/// Returns the first entry for `key` by its hash. Looks only if an address ends in the key's last octet.
+/// Returns the first entry for `key` by its hash; `None` if no entry has it. Looks only if an address ends in the key's last octet.
 #[inline(always)]
 fn entry_by_hash<A: Allocator + Copy>(
     firsts: &FirstEntries<A>,
@@ -295,7 +301,7 @@ fn entry_by_hash<A: Allocator + Copy>(
     }
 }
 
-/// Returns the first entry for `key`, by its hint first.
+/// Returns the first entry for `key`, by its hint first; `None` if no entry has this key.
 #[inline(always)]
 fn find_first_entry<A: Allocator + Copy>(
     firsts: &FirstEntries<A>,
@@ -311,7 +317,7 @@ fn find_first_entry<A: Allocator + Copy>(
     }
 }
 
-/// Returns the entry with the lower index.
+/// Returns the entry with the lower index, because the first matching entry counts; `None` if both are absent.
 #[inline(always)]
 fn earlier_entry(destination: Option<FirstEntry>, source: Option<FirstEntry>) -> Option<FirstEntry>
     ensures { result ≡ earlier_entry destination source }
@@ -331,7 +337,7 @@ fn entry_handle(first: Option<FirstEntry>) -> Option<u32>
 }
 
 impl<A: Allocator + Copy> AddressIndex<A> {
-    /// Returns the handle of the first entry for either address of a frame.
+    /// Returns the handle of the first entry for either address of a frame; `None` if no entry matches.
     #[inline(always)]
     fn find_handle(&self, port: u8, head: &Head, vid: u16) -> Option<u32>
         ensures { (entries : List StreamEntry)
@@ -353,7 +359,7 @@ impl<A: Allocator + Copy> AddressIndex<A> {
 }
 
 impl<A: Allocator + Copy> StreamIndex<A> {
-    /// Makes the index of a list of entries.
+    /// Makes the index of a list of entries: one part for frames with a VLAN tag, one for other frames.
     pub(crate) fn new(alloc: A, entries: &[StreamEntry]) -> Result<StreamIndex<A>, AllocError>
         ensures tagged { IfOk result (λ index. HasAddressEntries true entries.now index.tagged.destinations
             index.tagged.destination_marks index.tagged.sources index.tagged.source_marks) }
@@ -370,7 +376,7 @@ impl<A: Allocator + Copy> StreamIndex<A> {
         Ok(StreamIndex { tagged, others })
     }
 
-    /// Returns the handle of the first matching entry.
+    /// Returns the handle of the first matching entry; `None` if no entry matches.
     pub(crate) fn find_handle(&self, port: u8, head: &Head, vid: u16) -> Option<u32>
         ensures { (entries : List StreamEntry)
             → HasAddressEntries true entries self.now.tagged.destinations self.now.tagged.destination_marks

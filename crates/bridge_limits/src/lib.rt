@@ -26,7 +26,7 @@ impl<T: Drop> From<AllocFailed<T>> for NoMemory {
 /// End of time in ns: each arrival time and each base time is less.
 pub const END_OF_TIME: u64 = 4_000_000_000_000_000_000;
 
-/// Time in ns at which all transmissions of a run have ended, despite all waiting.
+/// Time in ns at which all transmissions of a run have ended, even if frames wait as long as possible.
 pub const END_OF_SENDING: u64 = 4_100_000_000_000_000_000;
 
 /// Longest frame in octets, without check sequence. A longer frame is malformed.
@@ -38,7 +38,7 @@ pub const MAX_CAPTURED_OCTETS: u32 = 262_144;
 /// Largest number of frames that arrive at a bridge in one run: a million on each of 16 ports.
 pub const MAX_ARRIVALS: u64 = 16_000_000;
 
-/// Each limit as a number, for proofs that use its value.
+/// Gives proofs the limits of a bridge as numbers.
 pub fn the_limits()
     ensures time { END_OF_TIME ≡ 4 * 10 ^ 18 }
     ensures sending { END_OF_SENDING ≡ 41 * 10 ^ 17 }

@@ -16,7 +16,7 @@ pub record IsWithinLimits (p : MeterPlan) : Type 0 where
   pub cbs : p.cbs ≤ LARGEST_BURST
   pub ebs : p.ebs ≤ LARGEST_BURST
 
--- Buckets after the refill up to time `t`.
+-- Buckets after the refill up to time `t`: neither level exceeds its size, and overflow may enter the excess bucket.
 unfoldable pub refill_buckets : Limits → Buckets → ℕ → Buckets
 refill_buckets l b t =
     let c = min l.cbs (b.committed + l.cir * (t - b.at)) in
@@ -32,14 +32,14 @@ spend_tokens b octets Green all_red = record { committed = b.committed - octets 
 spend_tokens b octets Yellow all_red = record { committed = b.committed; excess = b.excess - octets * octet_units; at = b.at; all_red = all_red }
 spend_tokens b octets Red all_red = record { committed = b.committed; excess = b.excess; at = b.at; all_red = all_red }
 
--- Meter after the buckets judged a frame.
+-- Meter after the refilled buckets `b` judged a frame.
 abbrev pub meter_after_judging : MeterPlan → ℕ → Bool → Buckets → MeterState
 meter_after_judging p octets dei b = record { plan = p; buckets = spend_tokens b octets (colour_by_buckets p b octets dei) (p.mark_all_red && is_red (colour_by_buckets p b octets dei)) }
 
--- Meter after a frame.
+-- Meter after a frame; unchanged while the red flag is set.
 abbrev pub meter_step : MeterState → ℕ → ℕ → Bool → MeterState
 meter_step m t octets dei = if m.buckets.all_red then m else meter_after_judging m.plan octets dei (refill_buckets (meter_limits m.plan) m.buckets t)
 
--- Colour of a frame.
+-- Colour that the meter gives a frame: red while the red flag is set, otherwise by the refilled buckets.
 abbrev pub meter_reply : MeterState → ℕ → ℕ → Bool → Colour
 meter_reply m t octets dei = if m.buckets.all_red then Red else colour_by_buckets m.plan (refill_buckets (meter_limits m.plan) m.buckets t) octets dei

@@ -80,7 +80,9 @@ pub struct Buckets {
 /// Meter with a committed and an excess bucket.
 #[derive(Drop)]
 pub struct Meter {
+    /// Rates, sizes and switches.
     plan: MeterPlan,
+    /// Levels of the buckets, and the red flag.
     buckets: Buckets,
 }
 
@@ -113,7 +115,7 @@ impl Meter {
         Meter { plan, buckets }
     }
 
-    /// Returns the rates, sizes and switches.
+    /// Returns the rates, sizes and switches. The caller needs the switch that drops yellow frames.
     pub fn plan(&self) -> MeterPlan
         ensures plan { result ≡ self.now.plan }
         ensures stands { (plan : MeterPlan) (events : List MeterEvent) → StandsFor plan self.now events
@@ -122,7 +124,8 @@ impl Meter {
         self.plan
     }
 
-    /// Returns the colour of a frame that arrives at `t` ns with `octets` metered octets. `dei` is the drop eligible indication.
+    /// Returns the colour of a frame that arrives at `t` ns with `octets` metered octets, and updates the buckets. `dei` is the drop
+    /// eligible indication.
     ///
     /// While the red flag is set, the buckets stay unchanged.
     pub fn colour(&mut self, t: u64, octets: u32, dei: bool) -> Colour
@@ -137,7 +140,7 @@ impl Meter {
         self.judge_frame(t, octets, dei)
     }
 
-    /// Returns the levels of the buckets.
+    /// Returns the levels of the buckets, the time of the last judged frame, and the red flag.
     pub fn state(&self) -> Buckets
         ensures state { result ≡ self.now.buckets }
         ensures committed { result.committed ≤ self.now.plan.cbs * octet_units }
@@ -158,7 +161,7 @@ impl Meter {
         self.buckets.all_red = false;
     }
 
-    /// Judges a frame with the current buckets.
+    /// Judges a frame with the current buckets: refills them, takes the frame's units, and may set the red flag.
     fn judge_frame(&mut self, t: u64, octets: u32, dei: bool) -> Colour
         requires { self.old.buckets.at ≤ t }
         ensures step { self.new ≡ meter_step self.old t octets dei }
@@ -255,7 +258,7 @@ pub fn bounds_are_covered()
         → IsCovered (meter_limits plan) (meter_history plan events).judged }
 {}
 
-/// Each limit as a number, for proofs that use its value.
+/// Gives proofs the limits of meters as numbers.
 pub fn the_limits()
     ensures units { UNITS_PER_OCTET ≡ 8 * 10 ^ 9 }
     ensures rate { HIGHEST_RATE ≡ 10 ^ 11 }

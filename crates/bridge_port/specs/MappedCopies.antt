@@ -1,4 +1,4 @@
--- Schedules of mapped items.
+-- Schedules of mapped items. The relay's items become the contents of frames by such a map.
 use Rattle.std.specs.Prelude.{◌≡◌, ℕ, List, [], ◌∷◌}
 use Rattle.bridge_port.specs.Schedule.{Copy, PortRules}
 

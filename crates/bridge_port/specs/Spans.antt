@@ -40,13 +40,13 @@ abbrev pub fit_in_spans : List OpenSpan → ℕ → ℕ → ℕ → Option ℕ
 fit_in_spans [] from occ stop = None
 fit_in_spans (x ∷ xs) from occ stop = let start = max from (min x.start stop) in if nat_le (min (start + occ) stop) x.end then Some start else fit_in_spans xs from occ stop
 
--- End of the span at index `k`.
+-- End in ns of the span at index `k`; 0 if there is no such span.
 abbrev pub span_end : List OpenSpan → ℕ → ℕ
 span_end [] k = 0
 span_end (x ∷ xs) zero = x.end
 span_end (x ∷ xs) (suc k) = span_end xs k
 
--- Spans of class `c`.
+-- Spans of class `c`; empty if the list has none for this class.
 abbrev pub class_spans : {A : Type 0} → List (Vec OpenSpan A) → ℕ → List OpenSpan
 class_spans [] c = []
 class_spans (v ∷ vs) zero = v.items

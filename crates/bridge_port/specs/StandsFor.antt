@@ -28,15 +28,15 @@ pub record EgressState (T : Type 0) : Type 0 where
 abbrev pub egress_state : {T : Type 0} → Speed → GateSchedule → List (Buffer (Item T)) → ℕ → ℕ → ℕ → ℕ → EgressState T
 egress_state speed list rings free earliest offered started = record { speed = speed; list = list; rooms = ring_rooms rings; queues = ring_queues rings; free = free; earliest = earliest; offered = offered; started = started }
 
--- State of a port without offers.
+-- State of a port before its first offer: empty queues and a free link.
 abbrev pub idle_state : {T : Type 0} → Speed → GateSchedule → List ℕ → EgressState T
 idle_state speed list rooms = record { speed = speed; list = list; rooms = rooms; queues = replicate 8 []; free = 0; earliest = 0; offered = 0; started = 0 }
 
--- Rules that the port's schedules follow.
+-- Rules that the port's schedules follow: open times, capacities and transmission times.
 abbrev pub state_rules : {T : Type 0} → EgressState T → PortRules (Item T)
 state_rules p = record { opens = opens p.list; ever = can_fit p.list; room = λ c. slice_index_or p.rooms c 0; occ = λ x. transmission_time x.len p.speed }
 
--- Queue of class `c`.
+-- Queued items of class `c`, the oldest first.
 abbrev pub class_queue : {T : Type 0} → EgressState T → ℕ → List (Item T)
 class_queue p c = slice_index_or p.queues c []
 
@@ -84,12 +84,12 @@ abbrev pub refusal_code : Refusal → ℕ
 refusal_code refusal.NeverFits = 1
 refusal_code refusal.Full = 2
 
--- Answer to an offer.
+-- Answer to an offer: Ok if the item is queued, otherwise the dropped item and the reason.
 abbrev pub offer_answer : {X : Type 0} → Option Refusal → X → Result (Unit {0}) (X × Refusal)
 offer_answer None x = Ok tt
 offer_answer (Some r) x = Err (x, r)
 
--- Fate of a copy after its offer.
+-- Fate of a copy after its offer: queued, or dropped for this reason.
 abbrev pub refusal_fate : Option Refusal → Fate
 refusal_fate None = Queued
 refusal_fate (Some refusal.NeverFits) = Never
@@ -100,11 +100,11 @@ abbrev pub queues_after_offer : {X : Type 0} → Option Refusal → List (List X
 queues_after_offer None qs c x = slice_set qs c (slice_index_or qs c [] ++ x ∷ [])
 queues_after_offer (Some r) qs c x = qs
 
--- Port after an offer.
+-- Port after an offer at time `t`: a queued item is the last of its queue, and a dropped item changes no queue.
 abbrev pub offered_state : {T : Type 0} → EgressState T → ℕ → ℕ → Item T → EgressState T
 offered_state p t c x = record p { queues = queues_after_offer (offer_refusal p c x) p.queues c x; earliest = t; offered = p.offered + 1 }
 
--- Copy that an offer creates.
+-- Copy that an offer at time `t` adds to the schedule, with its fate.
 abbrev pub offered_copy : {T : Type 0} → EgressState T → ℕ → ℕ → Item T → Copy (Item T)
 offered_copy p t c x = record { at = t; class = c; item = x; fate = refusal_fate (offer_refusal p c x) }
 
@@ -132,7 +132,7 @@ abbrev pub AreStartable : {T : Type 0} → GateSchedule → Speed → ℕ → Li
 AreStartable list speed c [] = Unit {0}
 AreStartable list speed c (x ∷ xs) = ((can_fit list c (transmission_time x.len speed) ≡ true) × (x.len ≤ LONGEST_FRAME)) × AreStartable list speed c xs
 
--- Statement: Invariant of a port's state.
+-- Statement: A port's state is consistent: it has eight queues, and each queued item can start under each list.
 pub record IsStateSound {T : Type 0} (p : EgressState T) : Type 0 where
   pub queues : length p.queues ≡ 8
   pub rooms : length p.rooms ≡ 8

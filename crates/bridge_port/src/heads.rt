@@ -64,8 +64,8 @@ fn head_fit<T: Drop, A: Allocator + Copy>(
     }
 }
 
-/// Recomputes the fit of `class` if it is before `from`, and returns it. Most classes have no head, so the first test returns
-/// early.
+/// Recomputes the earliest start of the head of `class` if it is before `from`, and returns it; `None` without a head. Most classes have no
+/// head, so the first test returns early.
 #[inline(always)]
 fn refresh_fit<T: Drop, A: Allocator + Copy>(
     fits: &mut [Option<u64>; 8],
@@ -98,7 +98,7 @@ fn refresh_fit<T: Drop, A: Allocator + Copy>(
     }
 }
 
-/// Recomputes all fits before `from`, and returns the best head.
+/// Recomputes all earliest starts before `from`, and returns time and class of the best head; `None` if all queues are empty.
 pub fn refresh_fits<T: Drop, A: Allocator + Copy>(
     fits: &mut [Option<u64>; 8],
     gates: &mut TransmissionGates<A>,
@@ -126,7 +126,8 @@ pub fn refresh_fits<T: Drop, A: Allocator + Copy>(
     best
 }
 
-/// Stores the fit of an item with a transmission time of `occ` ns if the queue of `class` is empty. Returns the best head.
+/// Stores the earliest start of an item with a transmission time of `occ` ns if the queue of `class` is empty. Returns time and class of
+/// the best head.
 #[inline(always)]
 pub fn add_item_fit<A: Allocator + Copy>(
     fits: &mut [Option<u64>; 8],
@@ -155,7 +156,8 @@ pub fn add_item_fit<A: Allocator + Copy>(
     }
 }
 
-/// Recomputes the fits after a start in `class` with `left` queued items. If no items are queued, no class has a fit.
+/// Recomputes the earliest starts after a start in `class` with `left` queued items, and returns the best head; `None` if no items are
+/// queued.
 #[inline(always)]
 pub fn refresh_after_start<T: Drop, A: Allocator + Copy>(
     fits: &mut [Option<u64>; 8],

@@ -4,10 +4,12 @@ ghost use Rattle.bridge_port.specs.StandsFor.{refusal_code};
 
 use thiserror::Error;
 
-/// Queued item: the length of the frame in octets, and a load that the owner gets back when the frame starts.
+/// Frame in a queue.
 #[derive(Debug, Drop)]
 pub struct Item<T> {
+    /// Length of the frame in octets.
     pub len: u32,
+    /// Load that the owner of the port gets back when the frame starts, such as the frame's octets.
     pub load: T,
 }
 

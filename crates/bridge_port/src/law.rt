@@ -88,7 +88,7 @@ pub fn solo_copies_follow<X: Drop>()
     ensures { (r : PortRules X) (xs ys : List (Copy X)) → HaveSameOffers xs ys → IsSolo r xs → IsSolo r ys → xs ≡ ys }
 {}
 
-/// The limit as a number, for proofs that use its value.
+/// Gives proofs the largest queue capacity, `LARGEST_ROOM`, as a number: 4,096 frames.
 pub fn the_limit()
     ensures room { LARGEST_ROOM ≡ 4_096 }
 {}

@@ -21,15 +21,25 @@ use std::marker::Model;
 /// recompute only changed fits.
 #[derive(Drop)]
 pub struct Port<T: Drop, A: Allocator + Copy> {
+    /// Speed of the link.
     speed: Speed,
+    /// Transmission gates.
     gates: TransmissionGates<A>,
+    /// Queues of the classes.
     rings: Vec<HeapCircularBuffer<Item<T>, A>, A>,
+    /// Time in ns from which the link is free.
     free: u64,
+    /// Number of queued items.
     queued: u64,
+    /// Earliest time in ns of the next offer.
     earliest: u64,
+    /// Number of offers so far.
     offered: u64,
+    /// Number of starts so far.
     started: u64,
+    /// Earliest start in ns of the head of each class; `None` for an empty queue.
     fits: [Option<u64>; 8],
+    /// Time and class of the next start; `None` if all queues are empty.
     best: Option<(u64, usize)>,
 }
 
@@ -162,7 +172,7 @@ impl<T: Drop, A: Allocator + Copy> Port<T, A> {
         }
     }
 
-    /// Returns time and class of the next start.
+    /// Returns time in ns and class of the next start without further offers; `None` if all queues are empty.
     fn next_head(&self) -> Option<(u64, usize)>
         ensures next { MatchOption result (IsIdle self.now) (λ b. StartsNext self.now b.0 b.1) }
         ensures kept { IsStateSound self.now }
@@ -238,7 +248,7 @@ impl<T: Drop, A: Allocator + Copy> Port<T, A> {
         }
     }
 
-    /// Number of offers so far, at most `MAX_ARRIVALS`.
+    /// Returns the number of offers so far, at most `MAX_ARRIVALS`.
     pub fn offered(&self) -> u64
         ensures offered { result ≡ self.now.offered }
         ensures counted { self.now.started + count_queued (λ x. true) self.now ≤ result }
@@ -247,14 +257,14 @@ impl<T: Drop, A: Allocator + Copy> Port<T, A> {
         self.offered
     }
 
-    /// Number of starts so far.
+    /// Returns the number of starts so far.
     pub fn started(&self) -> u64
         ensures { result ≡ self.now.started }
     {
         self.started
     }
 
-    /// Earliest time in ns of the next offer.
+    /// Returns the earliest time in ns of the next offer.
     pub fn earliest(&self) -> u64
         ensures earliest { result ≡ self.now.earliest }
         ensures bounded { result ≤ time_limit self.now.started }
@@ -263,7 +273,7 @@ impl<T: Drop, A: Allocator + Copy> Port<T, A> {
         self.earliest
     }
 
-    /// Time in ns from which the link is free: the end of the last transmission, or 0.
+    /// Returns the time in ns from which the link is free: the end of the last transmission, or 0.
     pub fn free_time(&self) -> u64
         ensures free { result ≡ self.now.free }
         ensures bounded { result ≤ time_limit self.now.started }

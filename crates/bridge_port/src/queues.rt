@@ -12,14 +12,14 @@ use std::alloc::Allocator;
 /// Largest queue capacity in frames.
 pub const LARGEST_ROOM: u16 = 4_096;
 
-/// Whether each queue capacity is 1 to `LARGEST_ROOM` frames.
+/// Whether each queue capacity is 1 to `LARGEST_ROOM` frames. A port is made only with such capacities.
 pub fn are_valid_rooms(rooms: &[u16; 8]) -> bool
     ensures { result ≡ are_valid_rooms rooms.now }
 {
     rooms.iter().all(|room| 1 <= *room && *room <= LARGEST_ROOM)
 }
 
-/// Makes empty rings with these capacities.
+/// Makes eight empty rings with these capacities in frames; memory is reserved now, so queueing can't fail.
 pub fn with_rooms<T: Drop, A: Allocator + Copy>(
     alloc: A,
     rooms: &[u16; 8],
@@ -41,7 +41,7 @@ pub fn with_rooms<T: Drop, A: Allocator + Copy>(
     Ok(rings)
 }
 
-/// Returns the head of the queue of `class`.
+/// Returns the head of the queue of `class`, its oldest item; `None` if the queue is empty.
 pub fn queue_head<T, A: Allocator + Copy>(
     rings: &Vec<HeapCircularBuffer<Item<T>, A>, A>,
     class: usize,
@@ -52,7 +52,7 @@ pub fn queue_head<T, A: Allocator + Copy>(
     rings[class].front()
 }
 
-/// Whether the queue of `class` is full.
+/// Whether the queue of `class` is full. If so, the port drops the next copy.
 pub fn is_full<T, A: Allocator + Copy>(
     rings: &Vec<HeapCircularBuffer<Item<T>, A>, A>,
     class: usize,
@@ -64,7 +64,7 @@ pub fn is_full<T, A: Allocator + Copy>(
     rings[class].len() >= rings[class].capacity()
 }
 
-/// Adds an item at the end of the queue of `class`.
+/// Adds an item at the end of the queue of `class`, which must not be full.
 pub fn push_item<T: Drop, A: Allocator + Copy>(
     rings: &mut Vec<HeapCircularBuffer<Item<T>, A>, A>,
     class: usize,
@@ -84,7 +84,7 @@ pub fn push_item<T: Drop, A: Allocator + Copy>(
     }
 }
 
-/// Removes the head of the queue of `class`, and returns it.
+/// Removes the head of the queue of `class`, and returns it; `None` if the queue is empty.
 pub fn pop_item<T: Drop, A: Allocator + Copy>(
     rings: &mut Vec<HeapCircularBuffer<Item<T>, A>, A>,
     class: usize,

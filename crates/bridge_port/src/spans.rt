@@ -12,14 +12,18 @@ use std::alloc::{AllocError, Allocator};
 /// Time in ns for which a class is open. At its end, the class is closed.
 #[derive(Clone, Copy)]
 pub struct OpenSpan {
+    /// Start in ns, in the first three cycles of a list.
     start: u32,
+    /// End in ns, when the class closes.
     end: u32,
 }
 
-/// Longest run and spans of each class of a list.
+/// What a search for first fits needs of a list.
 #[derive(Drop)]
 pub struct ClassSpans<A: Allocator + Copy> {
+    /// Longest run of each class.
     pub runs: [Run; 8],
+    /// Spans of each class, by rising time.
     pub each: Vec<Vec<OpenSpan, A>, A>,
 }
 
@@ -30,19 +34,23 @@ const MAX_WALK: usize = 8;
 /// no result.
 #[derive(Clone, Copy)]
 pub struct SearchHint {
+    /// Number of cycles before the last search.
     laps: u64,
+    /// Index of the last span that was found, for each class.
     places: [usize; 8],
 }
 
 /// Hints for a port's only list (`old`), or for its old and new list.
 #[derive(Clone, Copy)]
 pub struct SearchHints {
+    /// Hint for the only list, or for the list before the schedule change.
     pub old: SearchHint,
+    /// Hint for the list after the schedule change.
     pub new: SearchHint,
 }
 
 impl SearchHints {
-    /// Makes hints without a search.
+    /// Makes hints before the first search.
     pub fn new() -> SearchHints {
         let last = SearchHint {
             laps: 0,
@@ -56,7 +64,7 @@ impl SearchHints {
 }
 
 impl<A: Allocator + Copy> ClassSpans<A> {
-    /// Makes the spans of no list. Allocates no memory.
+    /// Makes the spans of a list that a port doesn't have. Allocates no memory.
     pub fn empty(alloc: A) -> ClassSpans<A> {
         ClassSpans {
             runs: [Run::Never; 8],
@@ -112,7 +120,7 @@ fn open_spans<A: Allocator + Copy>(
     Ok(spans)
 }
 
-/// Returns the first time, `from` or later, from which a span lasts for `occ` ns or up to time `stop`.
+/// Returns the first time, `from` or later, from which a span lasts for `occ` ns or up to time `stop`; `None` if no span does.
 fn fit_in_spans(spans: &[OpenSpan], from: u64, occ: u64, stop: u64) -> Option<u64>
     requires from { from < 9_000_000_000_000_000_000 }
     requires occ { occ ≤ 1_000_000_000 }

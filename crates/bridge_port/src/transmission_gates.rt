@@ -18,18 +18,26 @@ use std::marker::Model;
 /// Precomputed runs and spans of a port's lists, so that a search rarely walks interval by interval.
 #[derive(Drop)]
 struct GateCache<A: Allocator + Copy> {
+    /// Longest window of each class that every list has.
     runs: [Run; 8],
+    /// Spans of the only list, or of the list before the schedule change.
     old: ClassSpans<A>,
+    /// Spans of the list after the schedule change.
     new: ClassSpans<A>,
 }
 
-/// Transmission gates of a port: its gate control lists, if any, their runs and spans, and hints from the last search.
+/// Transmission gates of a port, with what speeds up a search for an earliest fit.
 #[derive(Drop)]
 pub struct TransmissionGates<A: Allocator + Copy> {
+    /// Gate control lists; `None` if all classes are always open.
     list: Option<Egress<A>>,
+    /// Runs and spans of the lists.
     kept: GateCache<A>,
+    /// Whether the lists are short, so that a search reads the current interval first.
     is_short: bool,
+    /// Interval that the last search of short lists read.
     turn: Turn<u8>,
+    /// Where the last search by spans ended.
     last: SearchHints,
 }
 
@@ -48,7 +56,7 @@ impl<A: Allocator + Copy> Model for TransmissionGates<A> {
     } };
 }
 
-/// Returns the shorter of two runs.
+/// Returns the shorter of two runs: `Never` is the shortest run, `Always` the longest.
 fn shorter_run(one: Run, other: Run) -> Run
     ensures { (n : ℕ) → Allows result n ↔ (Allows one n × Allows other n) }
 {
@@ -61,7 +69,7 @@ fn shorter_run(one: Run, other: Run) -> Run
     }
 }
 
-/// Returns the shorter run of each class.
+/// Returns the shorter run of each class, because a frame must fit under both lists of a schedule change.
 fn shorter_runs(one: &[Run; 8], other: &[Run; 8]) -> [Run; 8]
     ensures { (c : ℕ) → c < 8 → (n : ℕ)
         → Allows (slice_index_or result c Never) n
@@ -131,7 +139,7 @@ fn find_turn<A: Allocator + Copy>(kept: &mut Turn<u8>, list: &Egress<A>, t: u64)
     turn
 }
 
-/// Whether the lists are short or absent.
+/// Whether the lists have at most 16 entries each, or are absent.
 fn has_few_entries<A: Allocator + Copy>(list: &Option<Egress<A>>) -> bool {
     match list {
         None => true,

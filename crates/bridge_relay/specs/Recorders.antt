@@ -38,7 +38,7 @@ with_departure t d delay = record t { departures = t.departures ++ d ∷ []; del
 abbrev pub with_room : RecorderState → ℕ → RecorderState
 with_room t copies = record t { owed = t.owed + copies; is_open = true }
 
--- The recorder after a drop.
+-- The recorder after a copy of its filter was dropped.
 abbrev pub with_drop : RecorderState → Dropped → RecorderState
 with_drop t d = record t { drops = t.drops ++ d ∷ []; owed = t.owed - 1 }
 

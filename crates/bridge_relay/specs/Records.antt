@@ -4,7 +4,7 @@ use Rattle.bridge_filter.specs.declared.FilterPlan.{FilterPlan}
 use Rattle.bridge_relay.specs.declared.filter_recorder.FilterRecord.{FilterRecord}
 use Rattle.bridge_relay.specs.Recorders.{RecorderState}
 
--- An empty recorder.
+-- A recorder before the first frame.
 abbrev pub empty_recorder : RecorderState
 empty_recorder = record { verdicts = []; origins = []; departures = []; drops = []; delay = None; owed = 0; is_open = false }
 
@@ -16,6 +16,6 @@ pub record HasRecorded {A : Type 0} (t : RecorderState) (v : FilterRecord A) : T
   pub drops : v.drops.items ≡ t.drops
   pub delay : v.delay ≡ t.delay
 
--- An empty recorder for each filter.
+-- A recorder before the first frame, for each filter.
 abbrev pub empty_recorders : List (ℕ × FilterPlan) → List (ℕ × RecorderState)
 empty_recorders filters = map (λ f. (f.0, empty_recorder)) filters

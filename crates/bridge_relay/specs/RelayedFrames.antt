@@ -43,7 +43,7 @@ abbrev pub HasDestinationPriority : Destination → Type 0
 HasDestinationPriority (Forwarded set c) = c.priority ≤ 7
 HasDestinationPriority w = Unit {0}
 
--- Holds if the frame has egress ports.
+-- Holds if the frame is forwarded: it has egress ports.
 abbrev pub IsForwarded : Destination → Type 0
 IsForwarded (Forwarded set c) = Unit {0}
 IsForwarded w = ⊥

@@ -7,7 +7,7 @@ use bridge_cycle::NoMemory;
 use bridge_frame::mark_drop_eligible;
 use std::alloc::{AllocError, Allocator};
 
-/// Copies `octets` into a spare buffer.
+/// Copies `octets` into a spare buffer of the pool, or into a new one if the pool is empty.
 fn copy_octets<A: Allocator + Copy>(
     octets: &[u8],
     spares: &mut BufferPool<A>,
@@ -42,7 +42,7 @@ pub fn make_copies<A: Allocator + Copy>(
     Ok(copies)
 }
 
-/// Returns unused copies to the pool.
+/// Returns copies to the pool that no port will get, because a filter refused their frame.
 pub fn return_copies<A: Allocator + Copy>(copies: Vec<Vec<u8, A>, A>, spares: &mut BufferPool<A>) {
     for octets in copies {
         spares.put(octets);

@@ -22,28 +22,43 @@ const NO_DEPARTURE: Departure = Departure {
     done: 0,
 };
 
-/// Record of a filter: verdicts and origins of its frames, copies that left, dropped copies, and the longest delay in ns.
+/// Record of a filter, moved out of its recorder when a run ends.
 #[derive(Drop)]
 pub struct FilterRecord<A: Allocator + Copy> {
+    /// Verdict of each frame, in the order of arrival.
     pub verdicts: Vec<Verdict, A>,
+    /// Ingress port and arrival time of each frame.
     pub origins: Vec<Origin, A>,
+    /// Copies that left.
     pub departures: Vec<Departure, A>,
+    /// Copies that ports dropped.
     pub drops: Vec<Dropped, A>,
+    /// Longest delay in ns; `None` without departures.
     pub delay: Option<u64>,
 }
 
 /// Growing record of a filter. Capacity is reserved for all `owed` copies, queued or about to be offered: each leaves or is dropped.
 #[derive(Drop)]
 pub struct FilterRecorder<A: Allocator + Copy> {
+    /// Copies that have neither left nor been dropped.
     owed: usize,
+    /// Whether capacity for a verdict is reserved.
     is_open: bool,
+    /// Longest delay in ns so far.
     delay: Option<u64>,
+    /// Newest verdicts, not yet in `verdicts`.
     newest_verdicts: ItemBuffer<Verdict>,
+    /// Newest origins, not yet in `origins`.
     newest_origins: ItemBuffer<Origin>,
+    /// Newest departures, not yet in `departures`.
     newest_departures: ItemBuffer<Departure>,
+    /// Older verdicts.
     verdicts: Vec<Verdict, A>,
+    /// Older origins.
     origins: Vec<Origin, A>,
+    /// Older departures.
     departures: Vec<Departure, A>,
+    /// Dropped copies.
     drops: Vec<Dropped, A>,
 }
 
@@ -68,7 +83,7 @@ impl<A: Allocator + Copy> Model for FilterRecorder<A> {
 }
 
 impl<A: Allocator + Copy> FilterRecorder<A> {
-    /// Returns an empty recorder.
+    /// Returns a recorder before the first frame. Allocates no memory.
     pub fn new(alloc: A) -> FilterRecorder<A>
         ensures { result ≡ record {
           verdicts = [];
@@ -136,7 +151,7 @@ impl<A: Allocator + Copy> FilterRecorder<A> {
         (self.verdicts.len() + self.newest_verdicts.len()) as u64
     }
 
-    /// Releases the reservation of `copies` copies that no port will be offered.
+    /// Releases the reservation of `copies` copies of a frame that its filter refused: no port will be offered them.
     pub fn release_room(&mut self, copies: usize)
         requires { copies ≤ self.old.owed }
         ensures { self.new ≡ record self.old { owed = self.old.owed - copies } }
@@ -144,7 +159,7 @@ impl<A: Allocator + Copy> FilterRecorder<A> {
         self.owed -= copies;
     }
 
-    /// Appends a dropped copy.
+    /// Appends a dropped copy. Uses the capacity that `reserve_room` reserved, so it can't fail.
     pub fn record_drop(&mut self, dropped: Dropped)
         requires { 0 < self.old.owed }
         ensures { self.new ≡ record self.old { drops = self.old.drops ++ dropped ∷ []; owed = self.old.owed - 1 } }

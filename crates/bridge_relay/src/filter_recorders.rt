@@ -14,10 +14,10 @@ use indexmap::IndexMap;
 use std::alloc::{AllocError, Allocator};
 use std::hash::{BuildHasherDefault, FoldHasher};
 
-/// Map from filter number to recorder.
+/// Recorders of all filters of a relay, by filter number.
 pub type FilterRecorders<A> = IndexMap<u32, FilterRecorder<A>, BuildHasherDefault<FoldHasher>, A>;
 
-/// Makes an empty recorder for each filter.
+/// Makes an empty recorder for each filter of a plan. Fails only if memory runs out.
 pub fn make_recorders<A: Allocator + Copy>(
     alloc: A,
     filters: &[(u32, FilterPlan)],
@@ -36,7 +36,7 @@ pub fn make_recorders<A: Allocator + Copy>(
     Ok(tables)
 }
 
-/// Returns the difference of the first two filter numbers, at least 1.
+/// Returns the difference of the first two filter numbers, at least 1. `index_by_guess` assumes that all numbers rise by this step.
 #[inline(always)]
 fn number_step<A: Allocator + Copy>(tables: &FilterRecorders<A>, first: u32) -> u32
     ensures { 0 < result }
@@ -60,7 +60,7 @@ fn whole_steps(apart: u32, step: u32) -> u32
     }
 }
 
-/// Returns `place` if the recorder at this index has number `number`.
+/// Returns `place` if the recorder at this index has number `number`, otherwise `None`.
 #[inline(always)]
 fn index_if_number<A: Allocator + Copy>(
     tables: &FilterRecorders<A>,
@@ -75,8 +75,8 @@ fn index_if_number<A: Allocator + Copy>(
     }
 }
 
-/// Guesses a recorder's index without a hash. Numbers that rise in equal steps have consecutive indices, and the catch-all filter is often
-/// the last.
+/// Guesses a recorder's index without a hash; `None` if the guess is wrong. Numbers that rise in equal steps have consecutive indices, and
+/// the catch-all filter is often the last.
 #[inline(always)]
 fn index_by_guess<A: Allocator + Copy>(tables: &FilterRecorders<A>, number: u32) -> Option<usize>
     ensures { IfSome result (λ place. slice_get (keys_of tables.now.entries) place ≡ Some number) }
@@ -90,7 +90,7 @@ fn index_by_guess<A: Allocator + Copy>(tables: &FilterRecorders<A>, number: u32)
     }
 }
 
-/// Returns the index of the recorder with number `number`, by its hash.
+/// Returns the index of the recorder with number `number`, which must exist, by its hash.
 #[inline(never)]
 fn index_by_hash<A: Allocator + Copy>(tables: &FilterRecorders<A>, number: u32) -> usize
     requires { IsSome (lookup (nat_eq number) tables.now.entries) }
@@ -102,7 +102,7 @@ fn index_by_hash<A: Allocator + Copy>(tables: &FilterRecorders<A>, number: u32) 
     }
 }
 
-/// Returns the index of the recorder with number `number`.
+/// Returns the index of the recorder with number `number`, which must exist. Guesses the index before it uses the hash.
 #[inline(always)]
 fn recorder_index<A: Allocator + Copy>(tables: &FilterRecorders<A>, number: u32) -> usize
     requires { IsSome (lookup (nat_eq number) tables.now.entries) }
@@ -114,7 +114,7 @@ fn recorder_index<A: Allocator + Copy>(tables: &FilterRecorders<A>, number: u32)
     }
 }
 
-/// Returns the index of the recorder with number `number`. Tries the index `hint` first.
+/// Returns the index of the recorder with number `number`, which must exist. Tries the index `hint` first.
 #[inline(always)]
 fn recorder_index_by_hint<A: Allocator + Copy>(
     tables: &FilterRecorders<A>,
@@ -211,7 +211,7 @@ pub fn record_verdict<A: Allocator + Copy>(
     table.record_verdict(verdict, origin)
 }
 
-/// Releases the reservation of `copies` copies of a filter's frame.
+/// Releases the reservation of `copies` copies of a frame that filter `number` refused.
 pub fn release_room<A: Allocator + Copy>(
     tables: &mut FilterRecorders<A>,
     number: u32,

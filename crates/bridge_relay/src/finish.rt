@@ -27,7 +27,7 @@ use bridge_filter::{FilterPlan, Police};
 use bridge_semantics::{Outcome, PortCount, View};
 use std::alloc::Allocator;
 
-/// Returns the record of a filter, moved out of its recorder.
+/// Returns the record of a filter: lists from its recorder; counters, flags and buckets from `police`. Leaves the recorder empty.
 fn make_view<A: Allocator + Copy>(
     alloc: A,
     police: &Police<A>,
@@ -61,7 +61,8 @@ fn make_view<A: Allocator + Copy>(
     }
 }
 
-/// Returns the records of the filters in `order`.
+/// Returns the records of the filters in `order`. Stores them in `views`, which has the capacity, so that the end of a run allocates no
+/// memory.
 fn make_views<A: Allocator + Copy>(
     alloc: A,
     police: &Police<A>,
@@ -87,8 +88,8 @@ fn make_views<A: Allocator + Copy>(
 }
 
 impl<'a, G: Agenda + Drop, A: Allocator + Copy> Relay<'a, G, A> {
-    /// States the run so far: all starts before the next due start are made, and each port has run up to its own time. The agenda has each
-    /// port's next start.
+    /// Does nothing; its contract states the run so far. All starts before the next due start are made, and the agenda has each port's next
+    /// start.
     pub fn assert_reached(&self)
         ensures reaches { (p : config.Plan A) (es : List Event) (left : ℕ → List CapturedFrame) (h : ℕ)
             → RelayStandsFor p self.now es left → self.now.earliest ≤ h

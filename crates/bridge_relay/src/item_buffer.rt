@@ -11,7 +11,9 @@ const BUFFER_LEN: usize = 8;
 /// once for eight items.
 #[derive(Drop)]
 pub struct ItemBuffer<T: Copy> {
+    /// Slots; only the first `count` have a meaning.
     items: [T; BUFFER_LEN],
+    /// Number of buffered items.
     count: usize,
 }
 

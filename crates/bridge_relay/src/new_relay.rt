@@ -17,7 +17,7 @@ use bridge_gate::GatePlan;
 use bridge_ident::{Ident, StreamEntry};
 use std::alloc::Allocator;
 
-/// Copies stream gates with their numbers.
+/// Copies stream gates with their numbers: the relay owns its gates, and only borrows the plan.
 fn copy_gates<A: Allocator + Copy>(
     alloc: A,
     gates: &[(u32, GatePlan<A>)],
@@ -36,7 +36,7 @@ fn copy_gates<A: Allocator + Copy>(
     Ok(copies)
 }
 
-/// Makes the indexed table of stream entries.
+/// Makes the table that finds a frame's stream handle, from the plan's stream entries.
 fn make_ident<A: Allocator + Copy>(alloc: A, streams: &[StreamEntry]) -> Result<Ident<A>, NoMemory>
     ensures { IfOk result (λ table. table ≡ streams.now) }
 {

@@ -15,31 +15,44 @@ use bridge_port::{Item, Port, Refusal};
 use bridge_semantics::{PortCount, QueuedFrame};
 use std::alloc::Allocator;
 
-/// Port of a bridge: link speed, VLAN and priority of untagged frames, class of each priority, queues and counts.
+/// Port of a bridge during a run.
 #[derive(Drop)]
 pub struct PortState<A: Allocator + Copy> {
+    /// Speed of the link.
     pub speed: Speed,
+    /// VLAN of untagged and priority-tagged frames.
     pub vid: u16,
+    /// Priority of untagged frames.
     pub priority: u8,
+    /// Class of each priority.
     pub classes: [u8; 8],
+    /// Queues and transmission gates.
     pub port: Port<QueuedFrame<A>, A>,
+    /// Counts of frames and copies so far.
     pub count: PortCount,
 }
 
-/// Copy that started: its class, its end of transmission in ns, and its contents.
+/// Copy that started.
 #[derive(Drop)]
 pub struct StartedFrame<A: Allocator + Copy> {
+    /// Class of its queue.
     pub class: u8,
+    /// End of transmission in ns.
     pub done: u64,
+    /// Contents of the copy.
     pub item: Item<QueuedFrame<A>>,
 }
 
 /// How a port counts an arriving frame.
 #[derive(Clone, Copy)]
 pub enum Ingress {
+    /// The header can't be read.
     Malformed,
+    /// The frame has no egress port.
     Nowhere,
+    /// The frame is forwarded, and no filter matches it.
     Unfiltered,
+    /// A filter judges the frame.
     Policed,
 }
 
@@ -80,7 +93,7 @@ impl<A: Allocator + Copy> PortState<A> {
         })
     }
 
-    /// Counts an arriving frame.
+    /// Counts a frame that arrived at this port, by what the bridge does with it.
     #[inline(always)]
     pub fn count_frame(&mut self, came: Ingress)
         requires few { self.old.count.frames < MAX_ARRIVALS }
@@ -157,7 +170,7 @@ impl<A: Allocator + Copy> PortState<A> {
     }
 }
 
-/// Moves the octets of a dropped copy to `back`.
+/// Moves the octets of a dropped copy to `back`; the relay then returns them to the pool.
 #[inline(always)]
 fn return_octets<A: Allocator + Copy>(item: Item<QueuedFrame<A>>, back: &mut Option<Vec<u8, A>>) {
     let Item { load, .. } = item;

@@ -19,10 +19,12 @@ use bridge_semantics::{PortCount, QueuedFrame};
 use std::alloc::Allocator;
 use std::marker::Model;
 
-/// Ports of a bridge by number, 1 to 16, and the time of each port's next start.
+/// Ports of a bridge, and the time of each port's next start.
 #[derive(Drop)]
 pub struct Ports<G: Agenda + Drop, A: Allocator + Copy> {
+    /// Sixteen slots: port n is at index n - 1; `None` if the plan lacks it.
     slots: Vec<Option<PortState<A>>, A>,
+    /// Time in ns of the next start of each port with queued copies.
     agenda: G,
 }
 
@@ -37,7 +39,7 @@ impl<G: Agenda + Drop, A: Allocator + Copy> Model for Ports<G, A> {
     ghost invariant = { λ p. ArePortsSound G.held p.slots.items p.agenda };
 }
 
-/// Sets or clears the next start of port `port`.
+/// Sets the next start of port `port` to `due` ns; clears it if `due` is `None`.
 #[inline(always)]
 fn set_next_start<G: Agenda>(agenda: &mut G, port: u8, due: Option<u64>)
     requires from { 1 ≤ port }
@@ -64,7 +66,7 @@ fn update_next_start<G: Agenda>(agenda: &mut G, port: u8, before: Option<u64>, d
     set_next_start(agenda, port, due);
 }
 
-/// Returns the number of ports below the first port of `set`, or 0 for an empty set.
+/// Returns the number of ports below the first port of `set`, or 0 for an empty set. `count_outputs` skips these ports.
 #[inline(always)]
 fn ports_before_first(set: PortSet) -> u8
     ensures within { result ≤ 16 }
@@ -77,7 +79,7 @@ fn ports_before_first(set: PortSet) -> u8
     bits.trailing_zeros() as u8
 }
 
-/// Makes the port with number `number`, if the plan has it.
+/// Makes the port with number `number`; `None` if the plan lacks it.
 fn make_port_state<A: Allocator + Copy>(
     alloc: A,
     plan: &Plan<A>,
@@ -185,7 +187,7 @@ impl<G: Agenda + Drop, A: Allocator + Copy> Ports<G, A> {
         }
     }
 
-    /// Returns the number of starts of port `number`.
+    /// Returns the number of starts of port `number` so far: the number of frames that it sent.
     pub fn started(&self, number: u8) -> u64
         requires from { 1 ≤ number }
         requires there { (s : PortState A) × (port_state self.now number ≡ Some s) }
@@ -209,7 +211,7 @@ impl<G: Agenda + Drop, A: Allocator + Copy> Ports<G, A> {
         }
     }
 
-    /// Whether port `number` exists.
+    /// Whether the bridge has a port `number`. A set of egress ports may name other ports.
     pub fn has(&self, number: u8) -> bool
         requires from { 1 ≤ number }
         requires to { number ≤ 16 }
@@ -242,7 +244,7 @@ impl<G: Agenda + Drop, A: Allocator + Copy> Ports<G, A> {
         (count, last)
     }
 
-    /// Counts a frame that arrived at port `number`.
+    /// Counts a frame that arrived at port `number`, which must exist, by what the bridge does with it.
     #[inline(always)]
     pub fn count_arrival(&mut self, number: u8, came: Ingress)
         requires from { 1 ≤ number }
@@ -258,7 +260,7 @@ impl<G: Agenda + Drop, A: Allocator + Copy> Ports<G, A> {
         }
     }
 
-    /// States that the agenda has exactly each port's next start.
+    /// Does nothing; its contract states that the agenda has exactly each port's next start. `Relay::assert_reached` needs this.
     pub fn assert_agenda(&self)
         ensures { ArePortsSound G.held self.now.slots self.now.agenda }
     {

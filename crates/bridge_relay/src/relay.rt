@@ -45,7 +45,7 @@ use bridge_semantics::{Departure, Destination, Origin, QueuedFrame};
 use std::alloc::Allocator;
 use std::marker::Model;
 
-/// Returns the stream handle of a frame. Isn't inlined: its code would take registers from the loop of a run.
+/// Returns the stream handle of a frame, if a stream entry matches. Isn't inlined: its code would take registers from the loop of a run.
 #[inline(never)]
 fn stream_handle<A: Allocator + Copy>(
     ident: &Ident<A>,
@@ -61,13 +61,21 @@ fn stream_handle<A: Allocator + Copy>(
 /// Relay of a bridge, over a borrowed plan: stream entries, filters, ports and recorders.
 #[derive(Drop)]
 pub struct Relay<'a, G: Agenda + Drop, A: Allocator + Copy> {
+    /// Allocator of copies and records.
     pub(crate) alloc: A,
+    /// Plan of the bridge, accepted by `check`.
     pub(crate) plan: &'a Plan<A>,
+    /// Finds stream handles.
     pub(crate) ident: Ident<A>,
+    /// Stream filters with their gates and meters.
     pub(crate) police: Police<A>,
+    /// Ports with their queues and next starts.
     pub(crate) ports: Ports<G, A>,
+    /// Recorders of the filters.
     pub(crate) tables: FilterRecorders<A>,
+    /// Number of frames so far.
     pub(crate) arrived: u64,
+    /// Earliest time of the next event in ns.
     pub(crate) earliest: u64,
 }
 
@@ -129,7 +137,7 @@ impl<'a, G: Agenda + Drop, A: Allocator + Copy> Relay<'a, G, A> {
         self.arrived
     }
 
-    /// Returns the number of starts of port `port`.
+    /// Returns the number of starts of port `port` so far: the number of frames that it sent.
     pub fn started(&self, port: u8) -> u64
         requires known { (out : PortPlan A) × (find_port self.now.plan.ports port ≡ Some out) }
         ensures { (p : config.Plan A) (es : List Event) (left : ℕ → List CapturedFrame)
@@ -147,7 +155,7 @@ impl<'a, G: Agenda + Drop, A: Allocator + Copy> Relay<'a, G, A> {
         self.earliest
     }
 
-    /// Makes the next start. Allocates no memory.
+    /// Makes the next start, records the departure, and returns the frame. Allocates no memory.
     #[inline(always)]
     pub fn advance(&mut self) -> Sent<A>
         requires { (q k : ℕ) × (G.held self.old.ports.agenda q ≡ Some k) }
@@ -439,7 +447,7 @@ impl<'a, G: Agenda + Drop, A: Allocator + Copy> Relay<'a, G, A> {
         }
     }
 
-    /// Counts a frame that isn't forwarded.
+    /// Counts a frame that is malformed or has no egress port at its ingress port, and advances the relay to its arrival time.
     fn count_unforwarded(&mut self, port: u8, t: u64, came: Ingress)
         requires known { (s : PortState A) × (port_state self.old.ports port ≡ Some s) }
         requires from { 1 ≤ port }
@@ -620,7 +628,7 @@ impl<'a, G: Agenda + Drop, A: Allocator + Copy> Relay<'a, G, A> {
     }
 }
 
-/// Returns the number of the filter that was found.
+/// Returns the number of the filter that was found; `None` for an unfiltered frame.
 #[inline(always)]
 fn route_number(found: Option<Route>) -> Option<u32>
     ensures { result ≡ option_map (λ r. r.number) found }
@@ -631,7 +639,7 @@ fn route_number(found: Option<Route>) -> Option<u32>
     }
 }
 
-/// Returns the index of the filter that was found. The search for its recorder begins there.
+/// Returns the index of the filter that was found, or 0. The search for the filter's recorder begins at this index.
 #[inline(always)]
 fn route_index(found: Option<Route>) -> usize {
     match found {
@@ -640,7 +648,7 @@ fn route_index(found: Option<Route>) -> usize {
     }
 }
 
-/// Returns octets of a dropped copy to the pool.
+/// Returns the octets of a copy to the pool, if a port dropped it.
 #[inline(always)]
 fn return_octets<A: Allocator + Copy>(back: Option<Vec<u8, A>>, spares: &mut BufferPool<A>) {
     if let Some(octets) = back {
@@ -657,7 +665,8 @@ fn first_port_with_copy(copies: usize, last: u8) -> u8
     if copies == 0 { last.max(1) } else { 1 }
 }
 
-/// Returns the VLAN, the priority and the drop eligible indicator of a frame, by its tag or by its port's defaults.
+/// Returns VLAN, priority and drop eligible indicator of a received frame: from its tag, or from its port's defaults `vid` and `priority`.
+/// A priority-tagged frame gets the default VLAN.
 #[inline(always)]
 fn classify(tag: Option<Tag>, vid: u16, priority: u8) -> (u16, u8, bool)
     ensures { result ≡ classify tag vid priority }

@@ -12,7 +12,7 @@ Grows (Some old) octets (Some new) = Appends old new octets
 pub record HasGrown {T : Type 0} (contents : T → Option (Option (List ℕ))) (old : T) (octets : List ℕ) (new : T) : Type 0 where
   pub grows : Grows (contents old) octets (contents new)
 
--- The known octets of a sink; `None` after a fault.
+-- Contents of a report writer: `None` after a fault; otherwise `Some` of its octets, whose inner `None` means that they are unknown.
 abbrev pub unless_failed : {F : Type 0} → Option F → Option (List ℕ) → Option (Option (List ℕ))
 unless_failed None known = Some known
 unless_failed (Some fault) known = None

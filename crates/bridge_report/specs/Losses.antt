@@ -40,7 +40,7 @@ losses_of verdicts drops = record {
   never = count_never_fits drops;
 }
 
--- The number of refused frames and dropped copies.
+-- The number of refused frames and dropped copies, for all reasons together.
 abbrev pub total : Losses → ℕ
 total l = l.blocked + l.oversize + l.gate_closed + (l.shut_rx + l.shut_octets) + (l.octets_exceeded + l.red) + (l.yellow_dropped + l.full + l.never)
 
@@ -69,10 +69,10 @@ lost_line filter frames l = codes "lost: filter " ++ (decimal filter ++ (codes "
 abbrev pub line_if : Bool → ℕ → ℕ → Losses → List ℕ
 line_if protected filter frames l = if protected && not (nat_eq (total l) 0) then lost_line filter frames l else []
 
--- The line of a filter by its record.
+-- The line of a filter by its record; empty if the filter is unprotected or lost nothing.
 abbrev pub lost_lines_of : {A : Type 0} → ℕ → View A → List ℕ
 lost_lines_of filter view = line_if view.protected filter (length view.verdicts.items) (losses_of view.verdicts.items view.drops.items)
 
--- The lines of all filters, in list order.
+-- The lines of all protected filters that lost a frame or a copy, in list order.
 abbrev pub lost_lines : {A : Type 0} → List (ℕ × View A) → List ℕ
 lost_lines filters = flat_map (λ f. lost_lines_of f.0 f.1) filters

@@ -15,7 +15,7 @@ use Rattle.bridge_report.specs.Words.{kind_word, flag_word, verdict_word, refusa
 abbrev pub header_line : ℕ → Bool → List ℕ
 header_line filter protected = codes "filter " ++ (decimal filter ++ (codes " " ++ (kind_word protected ++ codes "\n")))
 
--- The line with the number of matching frames.
+-- The line with the number of frames that the filter matched.
 abbrev pub matching_line : ℕ → List ℕ
 matching_line matching = codes "matching " ++ (decimal matching ++ codes "\n")
 
@@ -27,7 +27,7 @@ test_line test passed refused = test ++ (codes " passed " ++ (decimal passed ++ 
 abbrev pub red_line : ℕ → List ℕ
 red_line red = codes "red " ++ (decimal red ++ codes "\n")
 
--- The lines of a filter's counters.
+-- The lines of a filter's counters: matching frames, tests of size and stream gate, and red frames.
 abbrev pub counter_lines : Counters → List ℕ
 counter_lines c = matching_line c.matching ++ (test_line (codes "sdu") c.sdu_passed c.sdu_refused
     ++ (test_line (codes "gate") c.gate_passed c.gate_refused ++ red_line c.red))
@@ -40,7 +40,7 @@ named_flag name flag = codes " " ++ (name ++ (codes " " ++ flag_word flag))
 unfoldable pub all_flags : Flags → List ℕ
 all_flags f = named_flag (codes "blocked") f.blocked ++ (named_flag (codes "rx") f.rx ++ (named_flag (codes "octets") f.octets ++ named_flag (codes "red") f.red))
 
--- The line of a filter's flags.
+-- The line with the flags of a filter, its stream gate and its meter.
 abbrev pub flags_line : Flags → List ℕ
 flags_line f = codes "flags" ++ (all_flags f ++ codes "\n")
 
@@ -112,6 +112,6 @@ list_lines view = frame_lines 1 view.verdicts.items ++ (flat_map drop_line view.
 unfoldable pub section_text : {A : Type 0} → ℕ → View A → List ℕ
 section_text filter view = state_lines filter view ++ (copy_lines view ++ (list_lines view ++ codes "end\n"))
 
--- The sections of all filters, in list order.
+-- The report of a run: the sections of all filters, in list order.
 abbrev pub report_text : {A : Type 0} → List (ℕ × View A) → List ℕ
 report_text filters = flat_map (λ f. section_text f.0 f.1) filters

@@ -2,7 +2,7 @@
 use Rattle.std.specs.Prelude.{ℕ, ◌-◌, List, ◌++◌, sum_by, codes, decimal}
 use Rattle.bridge_semantics.specs.declared.outcome.PortCount.{PortCount}
 
--- The sum of one count over all ports.
+-- The sum of one count, such as malformed frames, over all ports.
 abbrev pub sum_over_ports : (PortCount → ℕ) → List (ℕ × PortCount) → ℕ
 sum_over_ports count ports = sum_by (λ p. count p.1) ports
 

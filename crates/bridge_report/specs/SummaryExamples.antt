@@ -4,10 +4,11 @@ use Rattle.std.specs.Fmt.{digits}
 use Rattle.bridge_semantics.specs.declared.outcome.PortCount.{PortCount}
 use Rattle.bridge_report.specs.Summary.{summary_text}
 
--- One frame of a filter arrived at port 1 and left by port 3.
+-- Counts of port 1: one frame of a filter arrived.
 abbrev came : PortCount
 came = record { frames = 1; malformed = 0; nowhere = 0; unfiltered = 0; sent = 0; dropped = 0 }
 
+-- Counts of port 3: the frame's copy left.
 abbrev went : PortCount
 went = record { frames = 0; malformed = 0; nowhere = 0; unfiltered = 0; sent = 1; dropped = 0 }
 

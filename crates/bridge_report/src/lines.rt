@@ -21,7 +21,7 @@ pub fn put_header<T: ReportSink>(text: &mut T, filter: u32, protected: bool)
     text.put("\n");
 }
 
-/// Writes the line with the number of matching frames.
+/// Writes the line with the number of frames that the filter matched.
 fn put_matching<T: ReportSink>(text: &mut T, matching: u64)
     ensures { HasGrown T.contents text.old (matching_line matching) text.new }
 {
@@ -29,7 +29,7 @@ fn put_matching<T: ReportSink>(text: &mut T, matching: u64)
     text.put("\n");
 }
 
-/// Writes the line of a test: numbers of passed and refused frames.
+/// Writes the line of a test, `sdu` or `gate`: the numbers of frames that passed it and that it refused.
 fn put_test<T: ReportSink>(text: &mut T, test: &str, passed: u64, refused: u64)
     ensures { HasGrown T.contents text.old (test_line test.now passed refused) text.new }
 {
@@ -39,7 +39,7 @@ fn put_test<T: ReportSink>(text: &mut T, test: &str, passed: u64, refused: u64)
     text.put("\n");
 }
 
-/// Writes the line with the number of frames that the meter discarded.
+/// Writes the line with the number of frames that the meter refused.
 fn put_red<T: ReportSink>(text: &mut T, red: u64)
     ensures { HasGrown T.contents text.old (red_line red) text.new }
 {
@@ -47,7 +47,7 @@ fn put_red<T: ReportSink>(text: &mut T, red: u64)
     text.put("\n");
 }
 
-/// Writes the lines of a filter's counters.
+/// Writes the lines of a filter's counters: matching frames, the tests of size and stream gate, and red frames.
 pub fn put_counters<T: ReportSink>(text: &mut T, counters: &Counters)
     ensures { HasGrown T.contents text.old (counter_lines counters.now) text.new }
 {
@@ -57,7 +57,7 @@ pub fn put_counters<T: ReportSink>(text: &mut T, counters: &Counters)
     put_red(text, counters.red);
 }
 
-/// Writes a flag's name and its value.
+/// Writes a space, a flag's name and its value, for the line of flags.
 fn put_flag<T: ReportSink>(text: &mut T, name: &str, flag: bool)
     ensures { HasGrown T.contents text.old (named_flag name.now flag) text.new }
 {
@@ -67,7 +67,7 @@ fn put_flag<T: ReportSink>(text: &mut T, name: &str, flag: bool)
     text.put(flag_word(flag));
 }
 
-/// Writes the names and values of the four flags.
+/// Writes the names and values of the flags `blocked`, `rx`, `octets` and `red`.
 fn put_all_flags<T: ReportSink>(text: &mut T, flags: &Flags)
     ensures { HasGrown T.contents text.old (all_flags flags.now) text.new }
 {
@@ -86,7 +86,7 @@ pub fn put_flags<T: ReportSink>(text: &mut T, flags: &Flags)
     text.put("\n");
 }
 
-/// Writes the line of a meter's buckets.
+/// Writes the line of a meter's buckets: both levels in bucket units, and their time in ns.
 fn put_buckets<T: ReportSink>(text: &mut T, buckets: &Buckets)
     ensures { HasGrown T.contents text.old (bucket_line (Some buckets.now)) text.new }
 {
@@ -116,7 +116,7 @@ pub fn put_queued<T: ReportSink>(text: &mut T, departures: &[Departure], drops: 
     text.put("\n");
 }
 
-/// Writes the line of a known delay in ns.
+/// Writes the line of the longest delay in ns, if a frame of the filter left.
 fn put_known_delay<T: ReportSink>(text: &mut T, delay: u64)
     ensures { HasGrown T.contents text.old (delay_line (Some delay)) text.new }
 {
@@ -145,7 +145,7 @@ pub fn put_frame<T: ReportSink>(text: &mut T, number: usize, verdict: Verdict)
     text.put_line(&line);
 }
 
-/// Writes the line of a dropped copy.
+/// Writes the line of a dropped copy: its frame's number, the port and the reason.
 pub fn put_drop<T: ReportSink>(text: &mut T, dropped: &Dropped)
     ensures { HasGrown T.contents text.old (drop_line dropped.now) text.new }
 {
@@ -157,7 +157,7 @@ pub fn put_drop<T: ReportSink>(text: &mut T, dropped: &Dropped)
     text.put("\n");
 }
 
-/// Writes the line of a copy that left.
+/// Writes the line of a copy that left: its frame's number, the port, and start and end of its transmission in ns.
 pub fn put_departure<T: ReportSink>(text: &mut T, departure: &Departure)
     ensures { HasGrown T.contents text.old (departure_line departure.now) text.new }
 {

@@ -18,7 +18,7 @@ pub fn put_frames<T: ReportSink>(text: &mut T, verdicts: &[Verdict])
     }
 }
 
-/// Writes the lines of the dropped copies.
+/// Writes one line for each dropped copy of the filter's frames.
 #[tactic(auto, using(crate::proofs::Puts::goes_on))]
 pub fn put_drops<T: ReportSink>(text: &mut T, drops: &[Dropped])
     ensures { HasGrown T.contents text.old (flat_map drop_line drops.now) text.new }
@@ -28,7 +28,7 @@ pub fn put_drops<T: ReportSink>(text: &mut T, drops: &[Dropped])
     }
 }
 
-/// Writes the lines of the copies that left.
+/// Writes one line for each copy of the filter's frames that left.
 #[tactic(auto, using(crate::proofs::Puts::goes_on))]
 pub fn put_departures<T: ReportSink>(text: &mut T, departures: &[Departure])
     ensures { HasGrown T.contents text.old (flat_map departure_line departures.now) text.new }

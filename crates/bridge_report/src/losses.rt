@@ -11,31 +11,49 @@ use bridge_semantics::{Dropped, Outcome, View};
 use bridge_text::TextBuilder;
 use std::alloc::Allocator;
 
-/// Why a filter refuses a frame.
+/// Why a filter refuses a frame: each verdict except `Pass` is a reason.
 #[derive(Clone, Copy)]
 pub enum Reason {
+    /// An earlier oversize frame blocked the filter.
     Blocked,
+    /// The SDU exceeds the filter's maximum.
     Oversize,
+    /// The stream gate is closed.
     GateClosed,
+    /// An earlier frame at the closed stream gate shut the gate.
     ShutByRx,
+    /// An earlier frame over the octet limit shut the stream gate.
     ShutByOctets,
+    /// The frame exceeds the octet limit of the stream gate's interval.
     OctetsExceeded,
+    /// The meter made the frame red.
     Red,
+    /// The meter made the frame yellow, and drops yellow frames.
     YellowDropped,
 }
 
-/// Numbers of refused frames and dropped copies, by reason.
+/// Numbers of a filter's refused frames and dropped copies, one field for each reason.
 #[derive(Clone, Copy)]
 pub struct Losses {
+    /// Frames of a blocked filter.
     pub blocked: u64,
+    /// Frames with an SDU above the filter's maximum.
     pub oversize: u64,
+    /// Frames at a closed stream gate.
     pub gate_closed: u64,
+    /// Frames at a stream gate that an earlier frame shut while it was closed.
     pub shut_rx: u64,
+    /// Frames at a stream gate that an earlier frame over the octet limit shut.
     pub shut_octets: u64,
+    /// Frames over the octet limit of an interval.
     pub octets_exceeded: u64,
+    /// Frames that the meter made red.
     pub red: u64,
+    /// Yellow frames that the meter drops.
     pub yellow_dropped: u64,
+    /// Copies that a full queue dropped.
     pub full: u64,
+    /// Copies that fit no window of their class.
     pub never: u64,
 }
 
@@ -55,14 +73,14 @@ fn has_reason(reason: Reason, verdict: Verdict) -> bool
     }
 }
 
-/// Counts the frames that were refused for reason `reason`.
+/// Counts the frames that the filter refused for reason `reason`, by their verdicts.
 pub fn count_refused(reason: Reason, verdicts: &[Verdict]) -> u64
     ensures { result ≡ spec.refused_for reason verdicts.now }
 {
     verdicts.iter().filter(|v| has_reason(reason, **v)).count() as u64
 }
 
-/// Counts the copies that a full queue dropped.
+/// Counts the copies that a port dropped because their queue was full.
 pub fn count_full(drops: &[Dropped]) -> usize
     ensures { result ≡ count_full drops.now }
 {
@@ -72,7 +90,7 @@ pub fn count_full(drops: &[Dropped]) -> usize
         .count()
 }
 
-/// Counts the copies that fit no window of their queue.
+/// Counts the copies that a port dropped because they fit no window of their class.
 pub fn count_never_fitting(drops: &[Dropped]) -> usize
     ensures { result ≡ count_never_fits drops.now }
 {
@@ -100,7 +118,7 @@ fn count_losses(verdicts: &[Verdict], drops: &[Dropped]) -> Losses
     }
 }
 
-/// Returns the number of refused frames and dropped copies.
+/// Returns the number of refused frames and dropped copies, for all reasons together.
 fn total(losses: &Losses) -> u128
     ensures { result ≡ spec.total losses.now }
 {
@@ -152,7 +170,7 @@ pub fn put_losses<A: Allocator>(text: &mut TextBuilder<A>, place: &str, losses: 
     put_reason(text, place, "never", losses.never as u128);
 }
 
-/// Writes the line of a filter that lost frames or copies.
+/// Writes the line of a filter that lost frames or copies. `run --strict` prints it.
 fn put_line<A: Allocator>(text: &mut TextBuilder<A>, filter: u32, frames: u64, losses: &Losses)
     ensures { HasGrown text.old (spec.lost_line filter frames losses.now) text.new }
 {
@@ -167,7 +185,7 @@ fn put_line<A: Allocator>(text: &mut TextBuilder<A>, filter: u32, frames: u64, l
     text.put("\n");
 }
 
-/// Writes the line of a filter, if the filter is protected and lost a frame or a copy.
+/// Writes the line of a filter, if the filter is protected and lost a frame or a copy; otherwise writes nothing.
 fn put_if<A: Allocator>(
     text: &mut TextBuilder<A>,
     protected: bool,
@@ -182,7 +200,7 @@ fn put_if<A: Allocator>(
     }
 }
 
-/// Writes the line of a filter by its record.
+/// Counts the losses in a filter's record, and writes the filter's line if it is protected and has losses.
 fn put_lost<A: Allocator>(text: &mut TextBuilder<A>, filter: u32, view: &View<A>)
     ensures { HasGrown text.old (spec.lost_lines_of filter view.now) text.new }
 {

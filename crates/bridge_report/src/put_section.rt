@@ -28,7 +28,7 @@ fn put_copies<A: Allocator, T: ReportSink>(text: &mut T, view: &View<A>)
     put_delay(text, view.delay);
 }
 
-/// Writes the lists of frames, drops and departures.
+/// Writes the last part of a section: the lists of frames, drops and departures.
 fn put_lists<A: Allocator, T: ReportSink>(text: &mut T, view: &View<A>)
     ensures { HasGrown T.contents text.old (list_lines view.now) text.new }
 {
@@ -37,7 +37,7 @@ fn put_lists<A: Allocator, T: ReportSink>(text: &mut T, view: &View<A>)
     put_departures(text, &view.departures);
 }
 
-/// Writes the section of a filter.
+/// Writes the report section of a filter, from its number to the line `end`.
 pub fn put_section<A: Allocator, T: ReportSink>(text: &mut T, filter: u32, view: &View<A>)
     ensures { HasGrown T.contents text.old (section_text filter view.now) text.new }
 {
@@ -47,7 +47,7 @@ pub fn put_section<A: Allocator, T: ReportSink>(text: &mut T, filter: u32, view:
     text.put("end\n");
 }
 
-/// Writes the sections of `filters`, in list order.
+/// Writes the sections of `filters`, in list order: the whole report of a run.
 pub fn put_sections<A: Allocator, T: ReportSink>(text: &mut T, filters: &[(u32, View<A>)])
     ensures { HasGrown T.contents text.old (report_text filters.now) text.new }
 {

@@ -12,7 +12,9 @@ const LINE_WIDTH: usize = 128;
 /// allocation.
 #[derive(Drop)]
 pub struct ReportLine {
+    /// Buffer; the line's text is its end.
     octets: [u8; LINE_WIDTH],
+    /// Index of the text's first octet in the buffer.
     start: usize,
 }
 
@@ -28,7 +30,7 @@ impl Model for ReportLine {
 }
 
 impl ReportLine {
-    /// Returns a line with the text `end`.
+    /// Returns a line that consists of `end`; further pieces are written in front of it.
     #[inline(always)]
     pub fn with_ending(end: &str) -> ReportLine
         requires { length end.now ≤ 128 }
@@ -73,7 +75,7 @@ impl ReportLine {
         self.prepend(piece);
     }
 
-    /// Returns the line's octets.
+    /// Returns the line's octets, for sinks that accept octets.
     #[inline(always)]
     pub fn octets(&self) -> &[u8]
         ensures octets { result.now ≡ self.now }
@@ -82,7 +84,7 @@ impl ReportLine {
         &self.octets[self.start..]
     }
 
-    /// Returns the line's text.
+    /// Returns the line's text, for sinks that accept text.
     pub fn text(&self) -> &str
         ensures { result.now ≡ self.now }
     {

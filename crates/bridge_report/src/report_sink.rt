@@ -7,7 +7,7 @@ use bridge_text::TextBuilder;
 use itoa::{Buffer, Integer};
 use std::alloc::Allocator;
 
-/// Text that grows at its end. After a failure it ignores all calls.
+/// Output of a report: a text in memory or a buffered writer. After a failure it ignores all calls.
 pub trait ReportSink {
     /// Octets of the text: `None` after a failure, `Some (None)` if they are unknown.
     ghost contents: { Self → Option (Option (List ℕ)) };

@@ -13,10 +13,12 @@ use std::io::Write;
 /// Octets of the longest number.
 const MAX_DIGITS: usize = 20;
 
-/// Writer, and buffered octets that it hasn't received.
+/// Writer with a buffer in front of it, so that each line of a report needs no call of the writer.
 #[derive(Drop)]
 pub struct BufferedWriter<W: Write + Drop, A: Allocator> {
+    /// Writer that gets the octets.
     pub writer: W,
+    /// Buffered octets that the writer hasn't received.
     pub octets: Vec<u8, A>,
 }
 
@@ -36,7 +38,7 @@ impl<W: Write + Drop, A: Allocator> BufferedWriter<W, A> {
         Ok(())
     }
 
-    /// Empties the buffer if it has no capacity for `more` further octets.
+    /// Writes the buffer to the writer if the buffer has no capacity for `more` further octets.
     #[inline(always)]
     fn make_room(&mut self, more: usize) -> Result<(), ReportFault>
         ensures text { OnOk result (Keeps (append_known (W.contents self.old.writer) self.old.octets.items)
@@ -65,7 +67,7 @@ impl<W: Write + Drop, A: Allocator> BufferedWriter<W, A> {
     }
 }
 
-/// Appends `more` to `octets`.
+/// Appends `more` to `octets`; the fault is `NoMemory` if memory runs out.
 #[inline(always)]
 fn push_octets<A: Allocator>(octets: &mut Vec<u8, A>, more: &[u8]) -> Result<(), ReportFault>
     ensures { OnOk result (octets.new.items ≡ octets.old.items ++ more.now) }
@@ -102,7 +104,7 @@ fn push_number<A: Allocator>(octets: &mut Vec<u8, A>, number: u64) -> Result<(),
 }
 
 impl<W: Write + Drop, A: Allocator> BufferedWriter<W, A> {
-    /// Appends `piece` to the buffer.
+    /// Appends `piece` to the buffer. A buffer without capacity for it is written first.
     #[inline(always)]
     fn put(&mut self, piece: &str) -> Result<(), ReportFault>
         ensures { OnOk result (Appends (append_known (W.contents self.old.writer) self.old.octets.items)
@@ -112,7 +114,7 @@ impl<W: Write + Drop, A: Allocator> BufferedWriter<W, A> {
         push_octets(&mut self.octets, piece.as_bytes())
     }
 
-    /// Appends `piece` and the digits of `number` to the buffer.
+    /// Appends `piece` and the digits of `number` to the buffer. A buffer without capacity for them is written first.
     #[inline(always)]
     fn put_number(&mut self, piece: &str, number: u64) -> Result<(), ReportFault>
         ensures { OnOk result (Appends (append_known (W.contents self.old.writer) self.old.octets.items)
@@ -123,7 +125,7 @@ impl<W: Write + Drop, A: Allocator> BufferedWriter<W, A> {
         push_number(&mut self.octets, number)
     }
 
-    /// Appends `line` to the buffer.
+    /// Appends `line` to the buffer. A buffer without capacity for it is written first.
     #[inline(always)]
     fn put_line(&mut self, line: &ReportLine) -> Result<(), ReportFault>
         ensures { OnOk result (Appends (append_known (W.contents self.old.writer) self.old.octets.items)
@@ -138,7 +140,9 @@ impl<W: Write + Drop, A: Allocator> BufferedWriter<W, A> {
 /// Report sink that writes through a buffer. After a fault it ignores all calls.
 #[derive(Drop)]
 pub struct ReportWriter<W: Write + Drop, A: Allocator> {
+    /// Writer with its buffer.
     pub held: BufferedWriter<W, A>,
+    /// First fault; `None` while every call succeeded.
     pub fault: Option<ReportFault>,
 }
 

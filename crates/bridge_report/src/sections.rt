@@ -17,7 +17,7 @@ use std::io::Write;
 /// Buffer size in octets: a writer receives at most this number at once.
 const BUFFER_OCTETS: usize = 262_144;
 
-/// Returns the record of the filter with number `filter`.
+/// Returns the record of the filter with number `filter`; `None` if the result has no such filter.
 pub fn find_view<A: Allocator>(outcome: &Outcome<A>, filter: u32) -> Option<&View<A>>
     ensures { option_map (λ view. view.now) result ≡ lookup (nat_eq filter) outcome.now.filters.items }
 {
@@ -29,7 +29,7 @@ pub fn find_view<A: Allocator>(outcome: &Outcome<A>, filter: u32) -> Option<&Vie
     None
 }
 
-/// Whether the result has a record of the filter with number `filter`.
+/// Whether the result has a record of the filter with number `filter`. If so, `section` may be called.
 pub fn has_section<A: Allocator>(outcome: &Outcome<A>, filter: u32) -> bool
     ensures { result ≡ is_some (lookup (nat_eq filter) outcome.now.filters.items) }
 {
@@ -54,7 +54,7 @@ pub fn section<A: Allocator + Copy>(
     text.finish()
 }
 
-/// Returns the sections of all filters, by rising number.
+/// Returns the report of a run as a text in memory: the sections of all filters, by rising number.
 pub fn report<A: Allocator + Copy>(alloc: A, outcome: &Outcome<A>) -> Result<String<A>, NoMemory>
     ensures { IfOk result (λ text. string_bytes text ≡ report_text outcome.now.filters.items) }
 {

@@ -3,7 +3,7 @@ use Rattle.std.specs.Prelude.{ℕ}
 use Rattle.bridge_schema.specs.declared.plan_fault.PlanFault.{PlanFault}
 use Rattle.bridge_schema.specs.declared.plan_fault.PlanFault.TheVariants as fault
 
--- Number of a fault.
+-- Number of a plan's fault, in the order of the variants.
 abbrev pub fault_code : PlanFault → ℕ
 fault_code fault.Syntax = 1
 fault_code fault.TooLong = 2

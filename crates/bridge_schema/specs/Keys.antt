@@ -5,7 +5,7 @@ use Rattle.bridge_schema.specs.declared.plan_fault.Section.TheVariants as sectio
 use Rattle.bridge_schema.specs.declared.plan_fault.Field.{Field}
 use Rattle.bridge_schema.specs.declared.plan_fault.Field.TheVariants as field
 
--- Name of a section.
+-- Name of a section, as in files and fault lines.
 abbrev pub section_name : Section → List ℕ
 section_name section.Top = codes "top"
 section_name section.Change = codes "change"
@@ -18,7 +18,7 @@ section_name section.Meter = codes "meter"
 section_name section.Filter = codes "filter"
 section_name section.Command = codes "command"
 
--- Largest number of instances of a section.
+-- Largest number of instances of a section; a section with more has the fault TooMany.
 abbrev pub limit_of : Section → ℕ
 limit_of section.Top = 0
 limit_of section.Change = 1
@@ -31,7 +31,7 @@ limit_of section.Meter = 1024
 limit_of section.Filter = 1024
 limit_of section.Command = 4096
 
--- Name of a key.
+-- Name of a key, as in files and fault lines.
 abbrev pub key_name : Field → List ℕ
 key_name field.Number = codes "number"
 key_name field.Mbps = codes "mbps"

@@ -14,7 +14,7 @@ use Rattle.bridge_schema.specs.Keys.{key_name}
 use Rattle.bridge_schema.specs.Reading as reading
 pub use Rattle.bridge_schema.specs.Reading.{◌>>=◌, are_tables, count_items, instances, further_instances}
 
--- True if memory ran out.
+-- True if the fault is that memory ran out.
 abbrev pub is_no_memory : PlanFault → Bool
 is_no_memory fault.NoMemory = true
 is_no_memory _ = false
@@ -33,13 +33,13 @@ MatchesReading = reading.Gives is_no_memory
 
 -- Kinds of values.
 
--- Integer from `low` to `high`.
+-- Reads an integer from `low` to `high`; any other integer is OutOfRange.
 unfoldable pub number_in_range : ℕ → ℕ → Data → Result ℕ Flaw
 number_in_range low high (integer (pos n)) = if nat_le low n && nat_le n high then Ok n else Err flaw.OutOfRange
 number_in_range low high (integer (negsuc n)) = Err flaw.OutOfRange
 number_in_range low high _ = Err flaw.WrongKind
 
--- Boolean.
+-- Reads a boolean; any other value has a wrong kind.
 unfoldable pub switch : Data → Result Bool Flaw
 switch (boolean b) = Ok b
 switch _ = Err flaw.WrongKind
@@ -50,18 +50,18 @@ known_number has low high (integer (pos n)) = if (nat_le low n && nat_le n high)
 known_number has low high (integer (negsuc n)) = Err flaw.Unresolved
 known_number has low high _ = Err flaw.WrongKind
 
--- Value of the option; OutOfRange for `None`.
+-- Value of the option; the reason OutOfRange for `None`. Readers of speeds and texts use it.
 abbrev pub or_out_of_range : {A : Type 0} → Option A → Result A Flaw
 or_out_of_range (Some x) = Ok x
 or_out_of_range None = Err flaw.OutOfRange
 
--- Speed of a port in Mb/s.
+-- Reads the speed of a port in Mb/s; an integer that isn't a speed is OutOfRange.
 unfoldable pub speed : Data → Result Speed Flaw
 speed (integer (pos n)) = or_out_of_range (speed_by_mbps n)
 speed (integer (negsuc n)) = Err flaw.OutOfRange
 speed _ = Err flaw.WrongKind
 
--- Text with a meaning.
+-- Reads a text whose meaning the function gives; a text without meaning is OutOfRange.
 unfoldable pub text_value : {A : Type 0} → (List ℕ → Option A) → Data → Result A Flaw
 text_value meaning (string s) = or_out_of_range (meaning s)
 text_value meaning _ = Err flaw.WrongKind
@@ -83,26 +83,26 @@ abbrev pub is_empty : Items → Bool
 is_empty no_items = true
 is_empty _ = false
 
--- First flaw of an array of numbers: wrong kinds come before numbers out of range.
+-- Why an array of numbers is refused: wrong kinds come before numbers out of range. `None` if all items are in range.
 abbrev pub numbers_flaw : ℕ → ℕ → Items → Option Flaw
 numbers_flaw low high items = if not (are_integers items) then Some flaw.WrongKind else if not (are_in_range low high items) then Some flaw.OutOfRange else None
 
--- Integer in an item; 0 for other items.
+-- Integer of at least 0 in an item; 0 for any other item.
 abbrev pub value_number : Data → ℕ
 value_number (integer (pos n)) = n
 value_number _ = 0
 
--- Integers in the items.
+-- Integers in the items, one for each item. Readers test the items first.
 abbrev pub item_numbers : Items → List ℕ
 item_numbers no_items = []
 item_numbers (item d ds) = value_number d ∷ item_numbers ds
 
--- Value, or the flaw if there is one.
+-- Result of a reader: the value, or the reason of its refusal if there is one.
 abbrev pub unless_flaw : {A : Type 0} → Option Flaw → A → Result A Flaw
 unless_flaw None x = Ok x
 unless_flaw (Some e) x = Err e
 
--- Array of integers from `low` to `high`.
+-- Reads an array whose items are integers from `low` to `high`. Returns the integers, or why the value is refused.
 unfoldable pub number_array : ℕ → ℕ → Data → Result (List ℕ) Flaw
 number_array low high (array items) = unless_flaw (numbers_flaw low high items) (item_numbers items)
 number_array low high _ = Err flaw.WrongKind
@@ -112,7 +112,7 @@ abbrev pub add_to_set : ℕ → ℕ → List ℕ → ℕ
 add_to_set low bits [] = bits
 add_to_set low bits (n ∷ ns) = add_to_set low (bit_or bits (2 ^ (n - low))) ns
 
--- Array of integers from `low` to `high`, as a set.
+-- Reads an array whose items are integers from `low` to `high` as a set: bit n - `low` stands for n.
 unfoldable pub number_set : ℕ → ℕ → Data → Result ℕ Flaw
 number_set low high d = number_array low high d >>= λ ns. Ok (add_to_set low 0 ns)
 
@@ -135,37 +135,37 @@ are_numbers_in_range low high ns = list_all (λ n. nat_le low n && nat_le n high
 
 -- Presence.
 
--- Fault of a location whose value has a flaw.
+-- Fault of a plan for the value at a location, by the reason of its refusal.
 abbrev pub flaw_fault : KeyLocation → Flaw → PlanFault
 flaw_fault place flaw.WrongKind = fault.WrongKind place
 flaw_fault place flaw.OutOfRange = fault.OutOfRange place
 flaw_fault place flaw.Unresolved = fault.Unresolved place
 
--- Value that was read at a location, or the fault of the location.
+-- Result of reading the value at a location: the value, or the plan's fault that names the location.
 abbrev pub read_at_key : {A : Type 0} → KeyLocation → Result A Flaw → Result A PlanFault
 read_at_key = reading.at_place flaw_fault
 
--- Required value.
+-- Value of a required key; Missing if the key is absent, or the fault of a refused value.
 abbrev pub required_value : {A : Type 0} → KeyLocation → (Data → Result A Flaw) → Option Data → Result A PlanFault
 required_value = reading.required_in fault.Missing flaw_fault
 
--- Optional value.
+-- Value of an optional key; `None` if the key is absent, or the fault of a refused value.
 abbrev pub optional_value : {A : Type 0} → KeyLocation → (Data → Result A Flaw) → Option Data → Result (Option A) PlanFault
 optional_value = reading.optional_in flaw_fault
 
--- Optional value with a default.
+-- Value of an optional key; the default if the key is absent, or the fault of a refused value.
 abbrev pub value_or_default : {A : Type 0} → A → KeyLocation → (Data → Result A Flaw) → Option Data → Result A PlanFault
 value_or_default = reading.default_in flaw_fault
 
--- Required key.
+-- Reads a required key of a table; Missing if the table lacks it.
 unfoldable pub read_required : {A : Type 0} → KeyLocation → Field → (Data → Result A Flaw) → Members → Result A PlanFault
 read_required place key kind members = required_value place kind (get_member (key_name key) members)
 
--- Optional key.
+-- Reads an optional key of a table; `None` if the table lacks it.
 unfoldable pub read_optional : {A : Type 0} → KeyLocation → Field → (Data → Result A Flaw) → Members → Result (Option A) PlanFault
 read_optional place key kind members = optional_value place kind (get_member (key_name key) members)
 
--- Optional key with a default.
+-- Reads an optional key of a table; the default if the table lacks it.
 unfoldable pub read_or_default : {A : Type 0} → A → KeyLocation → Field → (Data → Result A Flaw) → Members → Result A PlanFault
 read_or_default default place key kind members = value_or_default default place kind (get_member (key_name key) members)
 
@@ -218,16 +218,16 @@ read_entries entry no_items = Ok []
 read_entries entry (item (table ms) ds) = entry ms >>= λ x. read_entries entry ds >>= λ xs. Ok (x ∷ xs)
 read_entries entry (item _ ds) = read_entries entry ds
 
--- Array of tables, each of them an entry.
+-- Reads an array of tables as entries, in order; WrongKind if the value isn't an array of tables.
 unfoldable pub read_list : {A : Type 0} → KeyLocation → (Members → Result A PlanFault) → Data → Result (List A) PlanFault
 read_list place entry (array items) = if are_tables items then read_entries entry items else Err (fault.WrongKind place)
 read_list place entry _ = Err (fault.WrongKind place)
 
--- Optional array of tables.
+-- Entries of an optional array of tables, or the first fault; `None` if the key is absent.
 abbrev pub read_optional_list : {A : Type 0} → KeyLocation → (Members → Result A PlanFault) → Option Data → Result (Option (List A)) PlanFault
 read_optional_list place entry None = Ok None
 read_optional_list place entry (Some d) = read_list place entry d >>= λ xs. Ok (Some xs)
 
--- Read values after earlier values.
+-- Earlier values followed by the values of a reader, or its fault. Proofs about lists use it.
 abbrev pub with_prefix : {A : Type 0} → List A → Result (List A) PlanFault → Result (List A) PlanFault
 with_prefix front read = read >>= λ xs. Ok (front ++ xs)

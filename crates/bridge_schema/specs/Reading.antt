@@ -14,7 +14,7 @@ abbrev pub ◌>>=◌ : {A B E : Type 0} → Result A E → (A → Result B E) �
 (Ok x) >>= f = f x
 (Err e) >>= f = Err e
 
--- Statement: The property holds unless memory ran out.
+-- Statement: The property holds if the flag is false. The flag means that memory ran out.
 abbrev pub Unless : Bool → Type 0 → Type 0
 Unless true Holds = Unit {0}
 Unless false Holds = Holds
@@ -32,7 +32,7 @@ GivesAs is_memory view (Err e) read = Fails is_memory e read
 abbrev pub Gives : {X E : Type 0} → (E → Bool) → Result X E → Result X E → Type 0
 Gives is_memory = GivesAs is_memory (λ x. x)
 
--- Ok if the test holds, otherwise the fault.
+-- Ok if the test holds, otherwise the fault. Readers use it for rules such as known keys and different numbers.
 abbrev pub provided : {E : Type 0} → Bool → E → Result Bool E
 provided true e = Ok true
 provided false e = Err e
@@ -53,22 +53,22 @@ document_of too_long syntax text =
 
 -- Presence.
 
--- Value that was read at a location, or the fault of the location.
+-- Result of reading the value at a location: the value, or the fault that names the location.
 abbrev pub at_place : {A P E : Type 0} → (P → Flaw → E) → P → Result A Flaw → Result A E
 at_place flawed place (Ok x) = Ok x
 at_place flawed place (Err e) = Err (flawed place e)
 
--- Required value.
+-- Value of a required key; the fault `missing` if the key is absent, or the fault of a refused value.
 abbrev pub required_in : {A P E : Type 0} → (P → E) → (P → Flaw → E) → P → (Data → Result A Flaw) → Option Data → Result A E
 required_in missing flawed place kind None = Err (missing place)
 required_in missing flawed place kind (Some d) = at_place flawed place (kind d)
 
--- Optional value.
+-- Value of an optional key; `None` if the key is absent, or the fault of a refused value.
 abbrev pub optional_in : {A P E : Type 0} → (P → Flaw → E) → P → (Data → Result A Flaw) → Option Data → Result (Option A) E
 optional_in flawed place kind None = Ok None
 optional_in flawed place kind (Some d) = at_place flawed place (kind d) >>= λ x. Ok (Some x)
 
--- Optional value with a default.
+-- Value of an optional key; the default if the key is absent, or the fault of a refused value.
 abbrev pub default_in : {A P E : Type 0} → (P → Flaw → E) → A → P → (Data → Result A Flaw) → Option Data → Result A E
 default_in flawed default place kind None = Ok default
 default_in flawed default place kind (Some d) = at_place flawed place (kind d)
@@ -92,7 +92,7 @@ are_tables no_items = true
 are_tables (item (table ms) ds) = are_tables ds
 are_tables (item _ ds) = false
 
--- Number of items.
+-- Number of items of an array.
 abbrev pub count_items : Items → ℕ
 count_items no_items = 0
 count_items (item d ds) = suc (count_items ds)
@@ -105,7 +105,7 @@ items_in not_a_list too_many limit section (Some (array items)) =
     else Err (not_a_list section)
 items_in not_a_list too_many limit section (Some _) = Err (not_a_list section)
 
--- Items of a section of a document.
+-- Items of a section of a document: an array of tables within the limit; no items if the section is absent.
 abbrev pub items_of : {S E : Type 0} → (S → E) → (S → E) → (S → ℕ) → (S → List ℕ) → S → Members → Result Items E
 items_of not_a_list too_many limit spelling section members = items_in not_a_list too_many limit section (get_member (spelling section) members)
 
@@ -115,6 +115,6 @@ further_instances read earlier index no_items = Ok earlier
 further_instances read earlier index (item (table ms) ds) = read earlier index ms >>= λ x. further_instances read (earlier ++ x ∷ []) (index + 1) ds
 further_instances read earlier index (item _ ds) = further_instances read earlier (index + 1) ds
 
--- Instances of a section, with indexes from 1.
+-- Instances of a section, read table by table with indexes from 1; or the first fault.
 abbrev pub instances : {A E : Type 0} → (List A → ℕ → Members → Result A E) → Items → Result (List A) E
 instances read items = further_instances read [] 1 items

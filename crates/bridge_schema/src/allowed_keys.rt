@@ -22,7 +22,7 @@ pub enum KeyConflict {
     NoChange,
 }
 
-/// Returns `Lacks` if the table lacks `key`.
+/// Returns `Lacks` if the table lacks `key`, otherwise `None`. `find_conflict` calls it for keys that need a list.
 fn find_lack(table: &Table, key: Field) -> Option<KeyConflict>
     ensures { is_none result ≡ has_key key (table_view table.now) }
 {
@@ -99,6 +99,7 @@ pub fn has_allowed_keys(table: &Table, keys: &[KeyRule], has_change: bool) -> bo
     true
 }
 
+/// Whether each table among the items has only allowed keys. No key of a list's entry depends on a schedule change.
 fn have_allowed_keys(items: &[Value], keys: &[KeyRule]) -> bool
     ensures { result ≡ spec.have_allowed_keys keys.now (items_view items.now) }
 {

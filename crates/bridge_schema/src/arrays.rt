@@ -7,6 +7,7 @@ use crate::plan_fault::Flaw;
 use crate::value_kinds::ValueKind;
 use toml::Value;
 
+/// Whether each item is an integer, of any size and sign.
 fn are_integers(items: &[Value]) -> bool
     ensures { result ≡ spec.are_integers (items_view items.now) }
 {
@@ -18,6 +19,7 @@ fn are_integers(items: &[Value]) -> bool
     true
 }
 
+/// Whether each item is an integer from `low` to `high`.
 fn are_in_range(items: &[Value], low: u64, high: u64) -> bool
     ensures { result ≡ spec.are_in_range low high (items_view items.now) }
 {
@@ -34,7 +36,7 @@ fn are_in_range(items: &[Value], low: u64, high: u64) -> bool
     true
 }
 
-/// Whether each item of an array is a table.
+/// Whether each item of an array is a table. Only such an array is a section or a list.
 pub fn are_tables(items: &[Value]) -> bool
     ensures tables { result ≡ spec.are_tables (items_view items.now) }
 {
@@ -46,6 +48,8 @@ pub fn are_tables(items: &[Value]) -> bool
     true
 }
 
+/// Returns why an array of numbers is refused; `None` if all items are integers from `low` to `high`. A wrong kind comes before a wrong
+/// number.
 fn numbers_flaw(items: &[Value], low: u64, high: u64) -> Option<Flaw>
     ensures { result ≡ spec.numbers_flaw low high (items_view items.now) }
 {
@@ -58,6 +62,7 @@ fn numbers_flaw(items: &[Value], low: u64, high: u64) -> Option<Flaw>
     }
 }
 
+/// Returns an item's integer, or 0 for any other item. Callers have tested that the item is an integer in range.
 fn value_number(value: &Value) -> u64
     ensures { result ≡ spec.value_number (view value.now) }
 {
@@ -67,7 +72,7 @@ fn value_number(value: &Value) -> u64
     }
 }
 
-/// Returns the bits with bit `k` set.
+/// Returns the set `bits` with the number of bit `k` added.
 #[tactic(auto, using(crate::proofs::Sets::shifted))]
 pub fn with_bit(bits: u16, k: u64) -> u16
     requires few { k < 16 }
@@ -76,6 +81,7 @@ pub fn with_bit(bits: u16, k: u64) -> u16
     bits | 1 << k
 }
 
+/// Returns the numbers of tested items as a set: bit `n - low` stands for `n`.
 fn value_set(items: &[Value], low: u64, high: u64) -> u16
     requires order { low ≤ high }
     requires few { high < low + 16 }
@@ -121,7 +127,7 @@ impl ValueKind for NumberSet {
     }
 }
 
-/// Array of ports that the plan has, as a set from port 1 on. Each other integer is `Unresolved`.
+/// Array of numbers of ports that the plan has, as a set: bit n - 1 stands for port n. Any other integer is `Unresolved`.
 #[derive(Clone, Copy)]
 pub struct KnownPorts {
     /// Ports of the plan: bit n - 1 stands for port n.
@@ -157,6 +163,7 @@ impl ValueKind for KnownPorts {
     }
 }
 
+/// Whether an array has eight items: one for each priority or class.
 #[tactic(auto, using(crate::proofs::Sets::count_of_view))]
 fn has_eight(items: &[Value]) -> bool
     ensures numbers { result ≡ nat_eq (length (spec.item_numbers (items_view items.now))) 8 }
@@ -165,6 +172,7 @@ fn has_eight(items: &[Value]) -> bool
     items.len() == 8
 }
 
+/// Returns the class of each priority from eight tested items.
 fn read_classes(items: &[Value]) -> [u8; 8]
     requires eight { length items.now ≡ 8 }
     requires between { spec.are_in_range 0 7 (items_view items.now) ≡ true }
@@ -178,6 +186,7 @@ fn read_classes(items: &[Value]) -> [u8; 8]
     out
 }
 
+/// Returns the capacity of each class's queue, in frames, from eight tested items.
 fn read_rooms(items: &[Value]) -> [u16; 8]
     requires eight { length items.now ≡ 8 }
     requires between { spec.are_in_range 1 4096 (items_view items.now) ≡ true }

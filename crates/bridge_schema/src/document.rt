@@ -29,7 +29,7 @@ pub fn read_document<F: ReaderFault>(heap: Global, text: &[u8]) -> Result<Table,
     }
 }
 
-/// Whether a text is the spelling of one of `words`.
+/// Whether a text is the spelling of one of `words`: keys or sections.
 fn is_spelled<W: Spell>(words: &[W], text: &str) -> bool
     ensures { result ≡ spec.is_among W.spelling words.now text.now }
 {
@@ -48,7 +48,7 @@ pub fn has_only<W: Spell>(table: &Table, words: &[W]) -> bool
     true
 }
 
-/// Whether there are no items.
+/// Whether a section has no tables. A plan without ports is refused.
 #[tactic(auto, using(crate::proofs::Counts::is_empty_view))]
 pub fn is_empty(items: &[Value]) -> bool
     ensures empty { result ≡ is_empty (items_view items.now) }
@@ -92,7 +92,8 @@ fn array_items<'a, F: ReaderFault>(
     }
 }
 
-/// Returns the items of a section of a document. Allocates no memory.
+/// Returns the items of a section of a document if it is an array of tables within the limit; no items if it is absent. Allocates no
+/// memory.
 pub fn section_items<'a, F: ReaderFault>(
     section: F::Section,
     table: &'a Table,

@@ -14,19 +14,19 @@ use crate::presence::{
 use crate::value_kinds::ValueKind;
 use toml::Table;
 
-/// Table of an instance of a section.
+/// Table of an instance of a section, and its location. Section readers read keys from it; faults name the location.
 #[derive(Clone, Copy)]
 pub struct InstanceTable<'t> {
-    /// Table.
+    /// Table whose keys are read.
     pub table: &'t Table,
-    /// Section.
+    /// Section that has the table.
     pub section: Section,
     /// Index of the instance in its section, from 1.
     pub index: u32,
 }
 
 impl<'t> InstanceTable<'t> {
-    /// Returns the location of `key`.
+    /// Returns the location of `key`, for faults.
     pub fn locate_key(&self, key: Field) -> KeyLocation
         ensures { result ≡ record { section = self.now.section; index = self.now.index; field = key } }
     {
@@ -37,7 +37,7 @@ impl<'t> InstanceTable<'t> {
         }
     }
 
-    /// Reads a required key. Allocates no memory.
+    /// Reads a required key. Returns `Missing` if the table lacks it, or the fault of a refused value. Allocates no memory.
     pub fn read_required<K: ValueKind>(&self, key: Field, kind: &K) -> Result<K::Out, PlanFault>
         ensures reads { MatchesReading result (spec.read_required (record {
           section = self.now.section;
@@ -50,7 +50,7 @@ impl<'t> InstanceTable<'t> {
         read_required(self.table, self.locate_key(key), key, kind)
     }
 
-    /// Reads an optional key. Allocates no memory.
+    /// Reads an optional key. Returns `None` if the table lacks it, or the fault of a refused value. Allocates no memory.
     pub fn read_optional<K: ValueKind>(
         &self,
         key: Field,
@@ -67,7 +67,7 @@ impl<'t> InstanceTable<'t> {
         read_optional(self.table, self.locate_key(key), key, kind)
     }
 
-    /// Reads an optional key with a default. Allocates no memory.
+    /// Reads an optional key, or returns `default` if the table lacks it. A refused value is a fault. Allocates no memory.
     pub fn read_or_default<K: ValueKind>(
         &self,
         default: K::Out,

@@ -8,18 +8,18 @@ use crate::reader_fault::ReaderFault;
 use std::alloc::Allocator;
 use toml::{Table, Value};
 
-/// Reader of a section's instances.
+/// Reads the tables of one section into instances, such as ports or filters. `read_instances` calls it for each table.
 pub trait SectionReader<A: Allocator + Copy> {
-    /// Faults of the text.
+    /// Faults of this kind of text, such as a plan.
     type Fault: ReaderFault;
 
-    /// Instance of the section.
+    /// Instance that a table describes, such as a port.
     type Instance;
 
     /// Instance in a table, from the earlier instances and its index; or its first fault.
     ghost reading: { Self → List Self.Instance → ℕ → Members → Result Self.Instance Self.Fault };
 
-    /// Property of all instances together.
+    /// Property of all instances read so far, which each further instance keeps.
     ghost Keeps: { Self → List Self.Instance → Type 0 };
 
     /// Reads the instance in a table. `earlier` are the instances before it, and `index` counts from 1.

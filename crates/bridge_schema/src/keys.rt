@@ -20,7 +20,7 @@ pub const PLAN_SECTIONS: [Section; 8] = [
 /// Sections of a file of commands.
 pub const COMMAND_SECTIONS: [Section; 1] = [Section::Command];
 
-/// Values that a key allows.
+/// Kind and range of the values that a key allows. Explanations of faults write them as a sentence.
 #[derive(Clone, Copy)]
 pub enum AllowedValue {
     /// Integer in a range.
@@ -41,7 +41,7 @@ pub enum AllowedValue {
     Kind,
     /// Tags of identified frames.
     Tag,
-    /// State of a gate.
+    /// State of a stream gate: the text `open` or `closed`.
     State,
     /// Colour mode of a meter.
     Colour,
@@ -58,13 +58,13 @@ pub enum AllowedValue {
 /// Presence rule: whether a key is required, and on which other keys it depends.
 #[derive(Clone, Copy)]
 pub enum Presence {
-    /// Required.
+    /// Each table of the section must have the key.
     Required,
-    /// Optional.
+    /// A table may lack the key.
     Optional,
-    /// Allowed only if the table has the list.
+    /// Allowed only if the table has this list.
     WithList(Field),
-    /// Allowed only if the table lacks the list.
+    /// Allowed only if the table lacks this list.
     WithoutList(Field),
     /// Allowed only if the table has the list and the plan has a schedule change.
     WithListInChange(Field),
@@ -76,14 +76,14 @@ pub enum Presence {
 #[derive(Clone, Copy)]
 pub struct KeyRule(pub Field, pub AllowedValue, pub Presence);
 
-/// Keys of the parts of a list.
+/// Keys under which a table has the parts of a gate control list. Ports and stream gates have different keys.
 #[derive(Clone, Copy)]
 pub struct ListKeys {
-    /// Base time.
+    /// Key of the base time.
     pub base: Field,
-    /// Cycle time.
+    /// Key of the cycle time.
     pub cycle: Field,
-    /// Entries.
+    /// Key of the entries; without it, the table has no list.
     pub entries: Field,
 }
 
@@ -101,44 +101,54 @@ pub const NEXT_PORT_LIST: ListKeys = ListKeys {
     entries: Field::NextGates,
 };
 
-/// Keys of a gate's first list.
+/// Keys of a stream gate's first list.
 pub const GATE_LIST: ListKeys = ListKeys {
     base: Field::Base,
     cycle: Field::Cycle,
     entries: Field::Entries,
 };
 
-/// Keys of a gate's list after the schedule change.
+/// Keys of a stream gate's list after the schedule change.
 pub const NEXT_GATE_LIST: ListKeys = ListKeys {
     base: Field::NextBase,
     cycle: Field::NextCycle,
     entries: Field::NextEntries,
 };
 
+/// Allowed numbers of instances, stream handles and octet limits.
 const NUMBER_VALUE: AllowedValue = AllowedValue::Between(NUMBER);
 
+/// Allowed VLAN identifiers.
 const VLAN_VALUE: AllowedValue = AllowedValue::Between(VID);
 
+/// Allowed priorities and internal priority values.
 const PRIORITY_VALUE: AllowedValue = AllowedValue::Between(PRIORITY);
 
+/// Allowed base times, and times of commands and of the schedule change.
 const TIME_VALUE: AllowedValue = AllowedValue::Between(TIME);
 
+/// Allowed information rates.
 const RATE_VALUE: AllowedValue = AllowedValue::Between(RATE);
 
+/// Rule of a port's keys that need its list `gates`.
 const WITH_GATES: Presence = Presence::WithList(Field::Gates);
 
+/// Rule of a port's keys that need both of its lists and a schedule change.
 const WITH_NEXT_GATES: Presence = Presence::WithNextList(Field::Gates, Field::NextGates);
 
+/// Rule of a stream gate's keys that need its list `entries`.
 const WITH_ENTRIES: Presence = Presence::WithList(Field::Entries);
 
+/// Rule of a stream gate's keys that need both of its lists and a schedule change.
 const WITH_NEXT_ENTRIES: Presence = Presence::WithNextList(Field::Entries, Field::NextEntries);
 
+/// Rule of the keys that only a stream gate without a list has.
 const WITHOUT_ENTRIES: Presence = Presence::WithoutList(Field::Entries);
 
-/// Keys of the schedule change.
+/// Keys of a `[[change]]` table, the schedule change, with their rules.
 pub const CHANGE_KEYS: [KeyRule; 1] = [KeyRule(Field::At, TIME_VALUE, Presence::Required)];
 
-/// Keys of a port.
+/// Keys of a `[[port]]` table with their rules, in the order in which explanations list them.
 pub const PORT_KEYS: [KeyRule; 12] = [
     KeyRule(
         Field::Number,
@@ -166,19 +176,19 @@ pub const PORT_KEYS: [KeyRule; 12] = [
     ),
 ];
 
-/// Keys of an entry of a port's list.
+/// Keys of an entry of a port's list, with their rules.
 pub const PORT_ENTRY_KEYS: [KeyRule; 2] = [
     KeyRule(Field::Open, AllowedValue::Set(PRIORITY), Presence::Required),
     KeyRule(Field::Ns, AllowedValue::Length, Presence::Required),
 ];
 
-/// Keys of a VLAN.
+/// Keys of a `[[vlan]]` table, with their rules.
 pub const VLAN_KEYS: [KeyRule; 2] = [
     KeyRule(Field::Vid, VLAN_VALUE, Presence::Required),
     KeyRule(Field::Members, AllowedValue::Ports, Presence::Required),
 ];
 
-/// Keys of a static filtering entry.
+/// Keys of a `[[static]]` table, a static filtering entry, with their rules.
 pub const STATIC_KEYS: [KeyRule; 3] = [
     KeyRule(
         Field::Vid,
@@ -189,7 +199,7 @@ pub const STATIC_KEYS: [KeyRule; 3] = [
     KeyRule(Field::Ports, AllowedValue::Ports, Presence::Required),
 ];
 
-/// Keys of a stream identification.
+/// Keys of a `[[stream]]` table, which gives a handle to frames of one port, VLAN and address; with their rules.
 pub const STREAM_KEYS: [KeyRule; 6] = [
     KeyRule(Field::Handle, NUMBER_VALUE, Presence::Required),
     KeyRule(
@@ -203,7 +213,7 @@ pub const STREAM_KEYS: [KeyRule; 6] = [
     KeyRule(Field::Tag, AllowedValue::Tag, Presence::Required),
 ];
 
-/// Keys of a stream gate.
+/// Keys of a `[[gate]]` table, a stream gate, with their rules.
 pub const GATE_KEYS: [KeyRule; 11] = [
     KeyRule(Field::Number, NUMBER_VALUE, Presence::Required),
     KeyRule(Field::ShutOnRx, AllowedValue::Switch, Presence::Optional),
@@ -226,7 +236,7 @@ pub const GATE_KEYS: [KeyRule; 11] = [
     ),
 ];
 
-/// Keys of an entry of a gate's list.
+/// Keys of an entry of a stream gate's list, with their rules.
 pub const GATE_ENTRY_KEYS: [KeyRule; 4] = [
     KeyRule(Field::Open, AllowedValue::Switch, Presence::Required),
     KeyRule(Field::Ns, AllowedValue::Length, Presence::Required),
@@ -234,7 +244,7 @@ pub const GATE_ENTRY_KEYS: [KeyRule; 4] = [
     KeyRule(Field::Octets, NUMBER_VALUE, Presence::Optional),
 ];
 
-/// Keys of a flow meter.
+/// Keys of a `[[meter]]` table, with their rules.
 pub const METER_KEYS: [KeyRule; 9] = [
     KeyRule(Field::Number, NUMBER_VALUE, Presence::Required),
     KeyRule(Field::Cir, RATE_VALUE, Presence::Required),
@@ -247,7 +257,7 @@ pub const METER_KEYS: [KeyRule; 9] = [
     KeyRule(Field::MarkAllRed, AllowedValue::Switch, Presence::Optional),
 ];
 
-/// Keys of a stream filter.
+/// Keys of a `[[filter]]` table, with their rules.
 pub const FILTER_KEYS: [KeyRule; 8] = [
     KeyRule(Field::Number, NUMBER_VALUE, Presence::Required),
     KeyRule(Field::Handle, NUMBER_VALUE, Presence::Optional),
@@ -275,7 +285,7 @@ pub const FILTER_KEYS: [KeyRule; 8] = [
     KeyRule(Field::Protected, AllowedValue::Switch, Presence::Optional),
 ];
 
-/// Keys of a command.
+/// Keys of a `[[command]]` table, with their rules.
 pub const COMMAND_KEYS: [KeyRule; 3] = [
     KeyRule(Field::At, TIME_VALUE, Presence::Required),
     KeyRule(Field::Clear, AllowedValue::Clear, Presence::Required),
@@ -298,7 +308,7 @@ pub fn section_keys(section: Section) -> &'static [KeyRule] {
     }
 }
 
-/// Returns the keys of an entry of a section's list.
+/// Returns the keys of an entry of a section's list: a port's list, or for any other section a stream gate's list.
 pub fn entry_keys(section: Section) -> &'static [KeyRule] {
     match section {
         Section::Port => &PORT_ENTRY_KEYS,
@@ -315,7 +325,7 @@ pub fn section_lists(section: Section) -> &'static [ListKeys] {
     }
 }
 
-/// Returns the key that identifies an instance.
+/// Returns the first key that identifies an instance, such as `number` of a port. Explanations name the instance by this key.
 pub fn identifying_key(section: Section) -> Field {
     match section {
         Section::Vlan | Section::Static => Field::Vid,

@@ -13,7 +13,7 @@ use crate::plan_fault::{KeyLocation, PlanFault};
 use std::alloc::Allocator;
 use toml::{Table, Value};
 
-/// Reader of a list's entries.
+/// Reads one entry of a list inside an instance, such as an entry of a gate control list. `read_list` calls it.
 pub trait ListEntry {
     /// Value of an entry's table.
     type Out;
@@ -24,13 +24,14 @@ pub trait ListEntry {
     /// Property of each entry.
     ghost Fits: { Self → Self.Out → Type 0 };
 
-    /// Reads a table. Allocates no memory.
+    /// Reads the table of one entry, or returns its first fault. Allocates no memory.
     fn read(&self, table: &Table) -> Result<Self::Out, PlanFault>
         ensures reads { MatchesReading result (reading self.now (table_view table.now)) }
         ensures fits { IfOk result (Fits self.now) }
         ensures takes_no_memory { IfErr result (λ e. ¬ (e ≡ NoMemory)) };
 }
 
+/// Reads the tables of an array in order, or returns the first fault. `read_list` has tested that all items are tables.
 fn read_entries<A: Allocator + Copy, E: ListEntry>(
     alloc: A,
     entry: &E,
@@ -52,7 +53,7 @@ where
     Ok(list)
 }
 
-/// Reads the entries of an array of tables in order, or returns the first fault; `None` without a value.
+/// Reads the entries of an array of tables in order, or returns the first fault. Returns `None` if the key is absent.
 #[tactic(auto, unfolding(crate::specs::Readers::read_list))]
 pub fn read_list<A: Allocator + Copy, E: ListEntry>(
     alloc: A,

@@ -80,7 +80,7 @@ pub enum Field {
     NextCycle,
     /// Gate control list of a port after the schedule change.
     NextGates,
-    /// Open classes, or state, of an entry of a list.
+    /// Open classes of a port's entry, or the state of a stream gate's entry.
     Open,
     /// Interval of an entry of a list in ns.
     Ns,
@@ -98,27 +98,27 @@ pub enum Field {
     Kind,
     /// Tags of identified frames.
     Tag,
-    /// Whether a frame at a closed gate shuts the gate until a command.
+    /// Whether a frame at a closed stream gate shuts the gate until a command.
     ShutOnRx,
-    /// Whether a frame over the octet limit shuts the gate until a command.
+    /// Whether a frame over the octet limit shuts the stream gate until a command.
     ShutOnOctets,
-    /// State of a gate without a list.
+    /// State of a stream gate without a list.
     State,
-    /// Internal priority value.
+    /// Internal priority value of a stream gate, or of an entry of its list.
     Ipv,
     /// List of a stream gate.
     Entries,
     /// List of a stream gate after the schedule change.
     NextEntries,
-    /// Octet limit of an interval.
+    /// Limit of octets that a stream gate passes in an interval.
     Octets,
-    /// Committed information rate.
+    /// Committed information rate in bit/s.
     Cir,
-    /// Committed burst size.
+    /// Committed burst size in octets.
     Cbs,
-    /// Excess information rate.
+    /// Excess information rate in bit/s.
     Eir,
-    /// Excess burst size.
+    /// Excess burst size in octets.
     Ebs,
     /// Coupling flag of a meter.
     Coupling,
@@ -128,11 +128,11 @@ pub enum Field {
     DropYellow,
     /// Whether a red frame sets the meter's red flag.
     MarkAllRed,
-    /// Gate of a filter.
+    /// Number of a filter's stream gate.
     Gate,
     /// Largest SDU of a filter in octets.
     MaxSdu,
-    /// Meter of a filter.
+    /// Number of a filter's meter.
     Meter,
     /// Whether an oversize frame blocks the filter.
     BlockOversize,
@@ -192,7 +192,7 @@ const KEYS: [&str; 43] = [
 ];
 
 impl Field {
-    /// Returns the name of a key.
+    /// Returns the name of a key, as in files and fault lines.
     pub fn key(self) -> &'static str
         ensures spelling { result.now ≡ key_name self }
     {
@@ -200,7 +200,7 @@ impl Field {
     }
 }
 
-/// Flaw of one value.
+/// Why the value of a key is refused, without its location. Readers turn it into a fault of the plan or network.
 #[derive(Clone, Copy, Debug, PartialEq, Eq, Error)]
 pub enum Flaw {
     /// The value has another kind than the key allows.
@@ -217,7 +217,7 @@ pub enum Flaw {
 /// Location of a key in an instance of a section.
 #[derive(Clone, Copy, Debug, PartialEq, Eq)]
 pub struct KeyLocation {
-    /// Section.
+    /// Section that has the instance.
     pub section: Section,
     /// Index of the instance in its section, from 1.
     pub index: u32,
@@ -234,7 +234,7 @@ pub enum PlanFault {
     /// The text has more than 1,048,576 octets.
     #[error("the text is too long")]
     TooLong,
-    /// A key isn't allowed here.
+    /// A table of the section has a key that is unknown, or not allowed next to its other keys.
     #[error("an unknown key")]
     UnknownKey(Section, u32),
     /// A section isn't an array of tables.
@@ -249,7 +249,7 @@ pub enum PlanFault {
     /// A number, a text or the length of an array isn't allowed.
     #[error("a value that is not allowed")]
     OutOfRange(KeyLocation),
-    /// An earlier instance of the section has equal identifying keys.
+    /// An earlier instance of the section has equal identifying keys. The index is the later instance's.
     #[error("a repeated instance")]
     Duplicate(Section, u32),
     /// The plan lacks this port, VLAN, gate or meter.
@@ -258,7 +258,7 @@ pub enum PlanFault {
     /// A section has more instances than its limit.
     #[error("too many instances")]
     TooMany(Section),
-    /// The list of an instance is refused.
+    /// A gate control list of an instance breaks this rule of lists.
     #[error("a refused list")]
     BadList(Section, u32, ListFault),
     /// The plan has no ports.

@@ -13,21 +13,21 @@ use crate::reader_fault::ReaderFault;
 use crate::value_kinds::ValueKind;
 use toml::{Table, Value};
 
-/// Returns the value of `key` in a table.
+/// Returns the value of `key`; `None` if the table lacks the key. Wraps `Table::get`, to give its result a contract.
 pub fn get_value<'a>(table: &'a Table, key: &str) -> Option<&'a Value>
     ensures value { option_map (λ v. view v.now) result ≡ get_member key.now (table_view table.now) }
 {
     table.get(key)
 }
 
-/// Whether a table has `key`.
+/// Whether a table has `key`. Some keys are required or allowed only next to another key.
 pub fn has_key(table: &Table, key: Field) -> bool
     ensures has { result ≡ spec.has_key key (table_view table.now) }
 {
     get_value(table, key.key()).is_some()
 }
 
-/// Reads a required value. Allocates no memory.
+/// Reads the value of a required key. Returns `missing_key` for `None`, or the fault of a refused value at `place`. Allocates no memory.
 pub fn required_value<F: ReaderFault, K: ValueKind>(
     place: F::Place,
     kind: &K,
@@ -47,7 +47,7 @@ pub fn required_value<F: ReaderFault, K: ValueKind>(
     }
 }
 
-/// Reads a required key. Allocates no memory.
+/// Reads a required key of a plan. Returns `Missing` if the table lacks it, or the fault of a refused value. Allocates no memory.
 #[tactic(auto, unfolding(crate::specs::Readers::read_required))]
 pub fn read_required<K: ValueKind>(
     table: &Table,
@@ -62,7 +62,7 @@ pub fn read_required<K: ValueKind>(
     required_value(place, kind, get_value(table, key.key()))
 }
 
-/// Reads an optional value. Allocates no memory.
+/// Reads the value of an optional key. Returns `None` for `None`, or the fault of a refused value at `place`. Allocates no memory.
 pub fn optional_value<F: ReaderFault, K: ValueKind>(
     place: F::Place,
     kind: &K,
@@ -82,7 +82,7 @@ pub fn optional_value<F: ReaderFault, K: ValueKind>(
     }
 }
 
-/// Reads an optional key. Allocates no memory.
+/// Reads an optional key of a plan. Returns `None` if the table lacks it, or the fault of a refused value. Allocates no memory.
 #[tactic(auto, unfolding(crate::specs::Readers::read_optional))]
 pub fn read_optional<K: ValueKind>(
     table: &Table,
@@ -97,7 +97,7 @@ pub fn read_optional<K: ValueKind>(
     optional_value(place, kind, get_value(table, key.key()))
 }
 
-/// Reads an optional value with a default. Allocates no memory.
+/// Reads the value of an optional key, or returns `default` for `None`. A refused value is a fault at `place`. Allocates no memory.
 pub fn value_or_default<F: ReaderFault, K: ValueKind>(
     default: K::Out,
     place: F::Place,
@@ -121,7 +121,7 @@ where
     }
 }
 
-/// Reads an optional key with a default. Allocates no memory.
+/// Reads an optional key of a plan, or returns `default` if the table lacks it. A refused value is a fault. Allocates no memory.
 #[tactic(auto, unfolding(crate::specs::Readers::read_or_default))]
 pub fn read_or_default<K: ValueKind>(
     default: K::Out,

@@ -5,7 +5,7 @@ use crate::value_kinds::NumberRange;
 use bridge_limits::END_OF_TIME;
 use bridge_meter::{HIGHEST_RATE, LARGEST_BURST};
 
-/// Largest number of octets of a text.
+/// Largest number of octets of a plan, a network file or another TOML text; a longer text isn't parsed.
 pub const MOST_OCTETS: usize = 1_048_576;
 
 /// Largest integer of TOML.
@@ -17,7 +17,7 @@ pub const LARGEST_NUMBER: u64 = u32::MAX as u64;
 /// Latest base time, schedule change or command, in ns.
 pub const LAST_TIME: u64 = END_OF_TIME - 1;
 
-/// The limit as a number, for proofs that use its value.
+/// Gives proofs the value of `LARGEST_NUMBER`: 2^32 - 1.
 pub fn the_limit()
     ensures number { LARGEST_NUMBER ≡ 2 ^ 32 - 1 }
 {}

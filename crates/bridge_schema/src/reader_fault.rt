@@ -8,22 +8,22 @@ ghost use Rattle.bridge_schema.specs.Readers as spec;
 
 use crate::plan_fault::{Flaw, KeyLocation, PlanFault, Section};
 
-/// Name of a section or key.
+/// Sections or keys, by their spelling in a text. Shared readers compare them with the names in the document.
 pub trait Spell {
     /// Spelling of the name.
     ghost spelling: { Self → List ℕ };
 
-    /// Returns the spelling of the name.
+    /// Returns the spelling of a section or key in a text.
     fn spell(&self) -> &'static str
         ensures spelling { result.now ≡ spelling self.now };
 }
 
-/// Section of a text: an array of tables.
+/// Section of a text: an array of tables with a limited number of instances.
 pub trait TextSection: Spell {
     /// Largest number of instances.
     ghost limit: { Self → ℕ };
 
-    /// Returns the largest number of instances.
+    /// Returns the largest number of instances; a section with more is refused.
     fn limit(&self) -> usize
         ensures limit { result ≡ limit self.now };
 }
@@ -33,7 +33,7 @@ pub trait ReaderFault {
     /// Section of the text.
     type Section: TextSection + Drop;
 
-    /// Location of a key.
+    /// Location of a key, which faults name.
     type Place: Drop;
 
     /// Whether the fault is `no_memory`.
@@ -54,10 +54,10 @@ pub trait ReaderFault {
     /// Fault of a section with too many instances.
     ghost too_many: { Self.Section → Self };
 
-    /// Fault of an absent required key.
+    /// Fault of a required key that is absent at this location.
     ghost missing: { Self.Place → Self };
 
-    /// Fault of a value with a flaw.
+    /// Fault of a value at this location, by the reason of its refusal.
     ghost flawed: { Self.Place → Flaw → Self };
 
     /// Returns the fault if memory ran out.
@@ -92,14 +92,14 @@ pub trait ReaderFault {
         ensures told { is_memory result ≡ false }
         ensures takes_no_memory { ¬ (result ≡ memory) };
 
-    /// Returns the fault of a value with a flaw.
+    /// Returns the fault of the value at `place`, which a reader refused because of `flaw`.
     fn flaw_fault(place: Self::Place, flaw: Flaw) -> Self
         ensures fault { result ≡ flawed place flaw }
         ensures told { is_memory result ≡ false }
         ensures takes_no_memory { ¬ (result ≡ memory) };
 }
 
-/// Returns the largest number of instances of a section.
+/// Returns the largest number of instances of a section. A section with more is the fault `TooMany`.
 pub fn max_instances(section: Section) -> usize
     ensures { result ≡ limit_of section }
 {

@@ -7,7 +7,7 @@ use crate::plan_fault::Flaw;
 use crate::value_kinds::ValueKind;
 use toml::Value;
 
-/// Meanings of a key's texts.
+/// Maps the texts that a key allows to their meanings, such as `open` to true.
 pub trait TextMeaning {
     /// Meaning of a text.
     type Out;
@@ -20,7 +20,7 @@ pub trait TextMeaning {
         ensures means { result ≡ meaning self.now text.now };
 }
 
-/// Kind of values: a text with a meaning.
+/// Kind of value of keys whose texts have a meaning. Any other text is `OutOfRange`.
 #[derive(Clone, Copy)]
 pub struct TextValue<M> {
     /// Meanings of the texts.
@@ -46,7 +46,7 @@ impl<M: TextMeaning> ValueKind for TextValue<M> {
     }
 }
 
-/// State of a gate: `open` or `closed`.
+/// State of a stream gate: `open` means true, `closed` means false.
 #[derive(Clone, Copy)]
 pub struct Openness;
 
@@ -66,6 +66,7 @@ impl TextMeaning for Openness {
     }
 }
 
+/// Returns the value of a hexadecimal digit by its ASCII code; `None` for any other octet.
 fn hex_value(c: u8) -> Option<u8>
     ensures { result ≡ texts.hex_value c }
 {
@@ -77,6 +78,7 @@ fn hex_value(c: u8) -> Option<u8>
     }
 }
 
+/// Returns the octet that the two hexadecimal digits at index `i` spell; `None` if one isn't a digit.
 fn hex_pair(text: &[u8], i: usize) -> Option<u8>
     requires { i + 1 < length text.now }
     ensures { result ≡ texts.hex_pair text.now i }
@@ -86,6 +88,7 @@ fn hex_pair(text: &[u8], i: usize) -> Option<u8>
     Some(16 * high + low)
 }
 
+/// Whether hyphens separate the six pairs of an address text of 17 octets.
 fn has_hyphens(text: &[u8]) -> bool
     requires { length text.now ≡ 17 }
     ensures { result ≡ texts.has_hyphens text.now }
@@ -93,6 +96,7 @@ fn has_hyphens(text: &[u8]) -> bool
     text[2] == 45 && text[5] == 45 && text[8] == 45 && text[11] == 45 && text[14] == 45
 }
 
+/// Parses a MAC address such as `01-80-C2-00-00-0E`; `None` for any other text.
 #[tactic(auto, unfolding(crate::specs::Texts::parse_address))]
 fn parse_address(text: &[u8]) -> Option<[u8; 6]>
     ensures { result ≡ texts.parse_address text.now }

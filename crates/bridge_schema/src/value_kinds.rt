@@ -9,18 +9,18 @@ use crate::plan_fault::Flaw;
 use bridge_frame::Speed;
 use toml::Value;
 
-/// Kind of value.
+/// Kind of value that a key allows: it parses a value or refuses it. Readers of keys work for any kind.
 pub trait ValueKind {
     /// Parsed value.
     type Out;
 
-    /// Parsed value, or the flaw of the data.
+    /// Parsed value, or why the data is refused.
     ghost reading: { Self → Data → Result Self.Out Flaw };
 
     /// Property of each parsed value.
     ghost Fits: { Self → Self.Out → Type 0 };
 
-    /// Parses a value, or returns its flaw. Allocates no memory.
+    /// Parses a value, or returns why it is refused. Allocates no memory.
     fn read(&self, value: &Value) -> Result<Self::Out, Flaw>
         ensures reads { result ≡ reading self.now (view value.now) }
         ensures fits { IfOk result (Fits self.now) };
@@ -61,7 +61,7 @@ impl ValueKind for NumberRange {
     }
 }
 
-/// Boolean.
+/// Boolean value, `true` or `false`.
 #[derive(Clone, Copy)]
 pub struct Switch;
 
@@ -105,12 +105,12 @@ impl ValueKind for Mbps {
     }
 }
 
-/// Finds the number of an existing instance.
+/// Numbers of instances that keys may name, such as ports of the plan. `KnownNumber` looks numbers up in it.
 pub trait NumberLookup {
     /// Whether a number exists.
     ghost among: { Self → ℕ → Bool };
 
-    /// Whether `number` exists.
+    /// Whether an instance has the number `number`.
     fn has(&self, number: u64) -> bool
         ensures among { result ≡ among self.now number };
 }

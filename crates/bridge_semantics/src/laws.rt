@@ -128,7 +128,8 @@ pub fn filter_is_isolated<A: Allocator + Copy>()
         → IsSoloView p n f (own_events p n f es) v }
 {}
 
-/// A list of events determines a filter's record.
+/// Own events determine one record of a filter whose queues have their ports to themselves. The isolation law therefore names a single
+/// record.
 pub fn solo_view_is_unique<A: Allocator + Copy>()
     ensures { (p : Plan A) (n : ℕ) (f : FilterPlan) (es : List Event) (u v : View A)
         → IsSoloView p n f es u

@@ -7,7 +7,7 @@ Grows old octets None = ⊤
 Grows None octets (Some new) = ⊥
 Grows (Some old) octets (Some new) = new ≡ old ++ octets
 
--- `Grows` as a record, for contracts.
+-- Statement: `Grows` holds. Contracts of `TextBuilder`, and of functions that add pieces to one, state it.
 pub record HasGrown (old : Option (List ℕ)) (octets : List ℕ) (new : Option (List ℕ)) : Type 0 where
   pub grows : Grows old octets new
 

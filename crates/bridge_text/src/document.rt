@@ -4,7 +4,7 @@ use crate::position::{Position, key_position, put_position, table_position, top_
 use crate::value::{Said, fill_with_word, put_value, put_value_sentence};
 use toml::{Table, Value};
 
-/// File contents and the parsed document.
+/// A TOML file in two forms: its text gives positions, its parsed table gives values. Explanations of faults need both.
 #[derive(Clone, Copy)]
 pub struct Document<'a> {
     /// File contents.
@@ -21,12 +21,12 @@ pub fn value_items<'a>(value: Option<&'a Value>) -> &'a [Value] {
     }
 }
 
-/// Returns the items of the array `section`.
+/// Returns the items of the array `section`; no items if the section is absent or isn't an array.
 pub fn section_instances<'a>(table: &'a Table, section: &str) -> &'a [Value] {
     value_items(table.get(section))
 }
 
-/// Returns table `index`, counted from 1, of the array `section`.
+/// Returns table `index`, counted from 1, of the array `section`. `None` if there is no item with this index, or the item isn't a table.
 pub fn instance_table<'a>(table: &'a Table, section: &str, index: u32) -> Option<&'a Table> {
     match section_instances(table, section).get((index as usize).wrapping_sub(1)) {
         Some(Value::Table(table)) => Some(table),
@@ -34,7 +34,7 @@ pub fn instance_table<'a>(table: &'a Table, section: &str, index: u32) -> Option
     }
 }
 
-/// Returns the value at `key` if the table has the key.
+/// Returns the value at `key`. `None` if there is no table, or the table lacks the key.
 pub fn table_value<'a>(table: Option<&'a Table>, key: &str) -> Option<&'a Value> {
     match table {
         Some(table) => table.get(key),
@@ -42,7 +42,7 @@ pub fn table_value<'a>(table: Option<&'a Table>, key: &str) -> Option<&'a Value>
     }
 }
 
-/// Returns an integer of at least 0.
+/// Returns the value as a number if it is an integer of at least 0; otherwise `None`.
 pub fn unsigned_number(value: Option<&Value>) -> Option<u64> {
     match value {
         Some(Value::Integer(number)) if *number >= 0 => Some(*number as u64),
@@ -50,7 +50,7 @@ pub fn unsigned_number(value: Option<&Value>) -> Option<u64> {
     }
 }
 
-/// Table in an array of tables.
+/// Location of one table in an array of tables, such as the second `[[port]]`. Explanations of faults use it.
 #[derive(Clone, Copy)]
 pub struct Instance<'a> {
     /// Document that has the table.
@@ -62,12 +62,12 @@ pub struct Instance<'a> {
 }
 
 impl<'a> Instance<'a> {
-    /// Returns the table of this instance.
+    /// Finds this instance's table in the document. `None` if the section has no table with this index.
     pub fn table(self) -> Option<&'a Table> {
         instance_table(self.document.table, self.section, self.index)
     }
 
-    /// Returns the value at `key`.
+    /// Returns the value at `key`. `None` if the document lacks the table, or the table lacks the key.
     pub fn value(self, key: &str) -> Option<&'a Value> {
         table_value(self.table(), key)
     }
@@ -104,7 +104,7 @@ impl<'a> Instance<'a> {
         said.put(":\n");
     }
 
-    /// Writes `key` and its value if the table has the key.
+    /// Writes `key` and its value if the table has the key. `put_place` calls it for keys by which planners recognise the table.
     fn put_identifying_key(self, said: &mut Said, key: &str) {
         if let Some(value) = self.value(key) {
             fill_with_word(said, ", {a} = ", 0, key);
@@ -113,7 +113,7 @@ impl<'a> Instance<'a> {
     }
 }
 
-/// Writes that the section `name` isn't an array of tables.
+/// Writes that the top-level key `name` isn't an array of tables: its position, its value, and how to write the section.
 pub fn put_no_list(said: &mut Said, document: Document<'_>, name: &str) {
     put_position(said, top_level_position(document.text, name));
     let value = document.table.get(name);
@@ -139,7 +139,8 @@ pub fn put_too_many(said: &mut Said, document: Document<'_>, section: &str, limi
     );
 }
 
-/// Whether both values are one integer or one text. Unless `is_exact`, texts may differ in the case of ASCII letters.
+/// Whether both values are equal integers or equal texts; values of other kinds never match. Unless `is_exact`, texts may differ in the
+/// case of ASCII letters.
 fn is_same_value(one: Option<&Value>, other: Option<&Value>, is_exact: bool) -> bool {
     match (one, other) {
         (Some(Value::Integer(one)), Some(Value::Integer(other))) => *one == *other,
@@ -151,7 +152,7 @@ fn is_same_value(one: Option<&Value>, other: Option<&Value>, is_exact: bool) -> 
     }
 }
 
-/// Whether two tables have equal values at each of `keys`.
+/// Whether two tables have equal values at each of `keys`. A missing key never matches. `find_duplicate` compares tables by it.
 fn is_twin(one: Option<&Table>, other: Option<&Table>, keys: &[&str], is_exact: bool) -> bool {
     for key in keys {
         if !is_same_value(table_value(one, *key), table_value(other, *key), is_exact) {
@@ -161,8 +162,8 @@ fn is_twin(one: Option<&Table>, other: Option<&Table>, keys: &[&str], is_exact: 
     true
 }
 
-/// Returns the index, from 1, of the first table that equals `table` at each of `keys`, or 0. Unless `is_exact`, texts may differ
-/// in the case of ASCII letters.
+/// Returns the index, from 1, of the first table that equals `table` at each of `keys`; 0 if no table does. Unless `is_exact`, texts may
+/// differ in the case of ASCII letters.
 pub fn find_duplicate(
     items: &[Value],
     table: Option<&Table>,

@@ -2,7 +2,7 @@
 
 use crate::value::{Said, fill_with_word};
 
-/// Kind of a file.
+/// Kind of a TOML file. If a command got a file of another kind, the explanation names the kind.
 #[derive(Clone, Copy, PartialEq, Eq)]
 pub enum FileKind {
     /// Plan of one bridge.
@@ -35,7 +35,7 @@ const TRAFFIC: [&str; 1] = ["[[traffic]]"];
 /// Header of the section of commands.
 const COMMANDS: [&str; 1] = ["[[command]]"];
 
-/// Whether a line begins with one of `headers`.
+/// Whether a line begins with one of `headers`. `has_header` tests each line of a file.
 fn is_header(line: &[u8], headers: &[&str]) -> bool {
     headers
         .iter()

@@ -6,19 +6,19 @@ use crate::value::{Said, fill_with_word};
 use std::alloc::Global;
 use strsim::osa_distance;
 
-/// Largest number of octets of a compared word.
+/// Largest number of octets of an unknown word and its `front` together. A longer word has no nearest name.
 const LONGEST_WORD: usize = 40;
 
 /// Largest number of edits between a word and a near name.
 const MAX_EDITS: usize = 3;
 
-/// Largest number of listed names.
+/// Largest number of names that `put_all` lists.
 const MOST_NAMES: usize = 16;
 
 /// Returns the first name with the fewest edits from `word`. The limit is 3 edits, or a quarter, rounded up, of the octets of
 /// `front` and `word` if that is less.
 ///
-/// Swapping two neighbouring characters is one edit. If memory runs out, discards the text and returns `None`.
+/// Swapping two neighbouring characters is one edit. Returns `None` if no name is near, or, with the text discarded, if memory runs out.
 pub fn nearest_name<'a>(
     alloc: Global,
     said: &mut Said,
@@ -92,7 +92,7 @@ pub fn put_nearest(alloc: Global, said: &mut Said, word: &str, names: &[&str], l
     }
 }
 
-/// Writes all names, at most the first 16.
+/// Writes all names, at most the first 16, if no name is near. A single name gets a sentence of its own.
 fn put_all(said: &mut Said, names: &[&str], listing: Listing) {
     if let [name] = names {
         return fill_with_word(said, listing.only, 0, *name);

@@ -7,14 +7,14 @@ use crate::text_builder::TextBuilder;
 use bridge_limits::NoMemory;
 use std::alloc::{Allocator, Global};
 
-/// Returns `path` followed by `body`.
+/// Joins `path` and `body` in a new text, or returns `NoMemory`. Explanations begin with the path of their file.
 pub fn text_with_path(alloc: Global, path: &str, body: &str) -> Result<String, NoMemory>
     ensures { IfOk result (λ said. StartsWithName path.now (string_bytes said)) }
 {
     Ok(format!(in alloc; "{path}{body}")?)
 }
 
-/// Returns `path` followed by the finished text of `body`.
+/// Returns `path` followed by the finished text of `body`. `NoMemory` if memory ran out for the body or for the new text.
 pub fn finish_with_path(
     alloc: Global,
     path: &str,

@@ -6,14 +6,16 @@
 use crate::text_builder::TextBuilder;
 use std::alloc::Allocator;
 
-/// Line and column in a text, each from 1. A column counts characters.
+/// Line and column in a text, as explanations and warnings give them.
 #[derive(Clone, Copy)]
 pub struct Position {
+    /// Line, from 1.
     pub line: usize,
+    /// Column in characters, from 1.
     pub column: usize,
 }
 
-/// Returns the position after the first `count` octets.
+/// Returns the position after the first `count` octets. Explanations of syntax errors call it, because the TOML parser gives offsets.
 pub fn position_at_offset(octets: &[u8], count: usize) -> Position {
     let mut line = 1usize;
     let mut column = 1usize;
@@ -28,7 +30,7 @@ pub fn position_at_offset(octets: &[u8], count: usize) -> Position {
     Position { line, column }
 }
 
-/// Returns the position of the first non-blank character of a line.
+/// Returns the position of the first non-blank character of line `number`.
 fn first_char_position(number: usize, line: &str) -> Position {
     let blanks = line.len().saturating_sub(line.trim_start().len());
     Position {
@@ -37,7 +39,7 @@ fn first_char_position(number: usize, line: &str) -> Position {
     }
 }
 
-/// Returns the rest of a line that begins with `word`, without leading blanks.
+/// Returns the rest of a line after `word`, without leading blanks. `None` if the line's first non-blank text isn't `word`.
 fn strip_word<'a>(line: &'a str, word: &str) -> Option<&'a str> {
     match line.trim_start().strip_prefix(word) {
         Some(rest) => Some(rest.trim_start()),
@@ -45,12 +47,12 @@ fn strip_word<'a>(line: &'a str, word: &str) -> Option<&'a str> {
     }
 }
 
-/// Returns the rest of a table header that begins with `name`.
+/// Returns what follows `name` in a table header such as `[[name]]`. `None` if the line isn't a header that begins with `name`.
 fn strip_header_name<'a>(line: &'a str, name: &str) -> Option<&'a str> {
     strip_word(strip_word(line, "[")?.trim_start_matches('['), name)
 }
 
-/// Whether a line is a table header of `name`, followed by `word`.
+/// Whether a line is a table header of `name`, followed by `word`, such as `]]` or `.`.
 fn is_table_header(line: &str, name: &str, word: &str) -> bool {
     match strip_header_name(line, name) {
         Some(rest) => rest.starts_with(word),
@@ -95,7 +97,7 @@ pub fn table_position(text: &str, name: &str, index: u32, count: usize) -> Optio
     if found == count { position } else { None }
 }
 
-/// Returns the position of `key` in the table `name` whose header is on line `header`.
+/// Returns the position of `key` in the table `name` whose header is on line `header`. `None` if no line of this table sets the key.
 pub fn key_position(text: &str, name: &str, header: usize, key: &str) -> Option<Position> {
     let mut number = header;
     for line in text.lines().skip(header) {
@@ -110,7 +112,7 @@ pub fn key_position(text: &str, name: &str, header: usize, key: &str) -> Option<
     None
 }
 
-/// Returns the first position of a top-level key.
+/// Returns the first position of a top-level key, or of a table header with this name. `None` if the text has neither.
 pub fn top_level_position(text: &str, key: &str) -> Option<Position> {
     let mut number = 0usize;
     let mut is_top = true;

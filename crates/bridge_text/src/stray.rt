@@ -6,7 +6,7 @@ use crate::position::{put_position, top_level_position};
 use crate::value::{Said, put_key};
 use std::alloc::Global;
 
-/// Whether `name` is in `names`.
+/// Whether `name` is in `names`, the sections that a file may have.
 fn is_listed(names: &[&str], name: &str) -> bool {
     for other in names {
         if *other == name {
@@ -16,7 +16,8 @@ fn is_listed(names: &[&str], name: &str) -> bool {
     false
 }
 
-/// Writes the first top-level key that is none of `sections`, and the nearest section.
+/// Writes the first top-level key that is none of `sections`, and the nearest section. Explanations of plans, networks and commands call
+/// it.
 pub fn put_stray_section(
     alloc: Global,
     said: &mut Said,

@@ -12,6 +12,7 @@ use std::marker::Model;
 /// Text that grows at its end. After memory runs out, it accepts no more pieces and finishes with an error.
 #[derive(Drop)]
 pub struct TextBuilder<A: Allocator> {
+    /// The text; `None` after memory ran out.
     held: Option<String<A>>,
 }
 
@@ -43,7 +44,7 @@ impl<A: Allocator> TextBuilder<A> {
         }
     }
 
-    /// Adds a piece at the end.
+    /// Adds a piece at the end. If memory runs out, drops the text; `finish` then returns `NoMemory`.
     pub fn put(&mut self, piece: &str)
         ensures { HasGrown self.old piece.now self.new }
     {
@@ -90,7 +91,7 @@ impl<A: Allocator> TextBuilder<A> {
         }
     }
 
-    /// Adds a character.
+    /// Adds a character as it is; `put_letter` has tested that it needs no escape.
     fn put_char(&mut self, letter: char)
         ensures { HasGrown self.old (encode_utf8 letter) self.new }
     {
@@ -103,7 +104,7 @@ impl<A: Allocator> TextBuilder<A> {
         }
     }
 
-    /// Adds a hexadecimal digit.
+    /// Adds a lower-case hexadecimal digit for a number below 16.
     fn put_digit(&mut self, digit: u8)
         requires { digit < 16 }
         ensures { HasGrown self.old (digit_char digit ∷ []) self.new }
@@ -111,7 +112,7 @@ impl<A: Allocator> TextBuilder<A> {
         self.put_char(digit_letter(digit) as char);
     }
 
-    /// Adds a code below 256 in hexadecimal.
+    /// Adds a code below 256 in hexadecimal, without a leading zero, for the escape of a control character.
     fn put_hexadecimal(&mut self, code: u8)
         ensures { HasGrown self.old (hexadecimal code) self.new }
     {
@@ -122,7 +123,7 @@ impl<A: Allocator> TextBuilder<A> {
         self.put_digit(code % 16);
     }
 
-    /// Adds the escape of a control character.
+    /// Adds the escape of a control character, as Rust writes it: for example `\t` or `\u{1b}`.
     fn put_control(&mut self, code: u8)
         ensures { HasGrown self.old (control_escape code) self.new }
     {
@@ -187,7 +188,7 @@ impl<A: Allocator> TextBuilder<A> {
         }
     }
 
-    /// Adds the value of a placeholder.
+    /// Adds the value of a placeholder: `place` is the digit or letter between its braces. Adds nothing for an unknown placeholder.
     #[tactic(auto, using(crate::proofs::Longer::longer))]
     fn put_placeholder(&mut self, place: &[u8], numbers: &[u64], words: &[&str])
         ensures { IsLonger self.old self.new }
@@ -226,7 +227,7 @@ impl<A: Allocator> TextBuilder<A> {
     }
 }
 
-/// Returns the ASCII code of a hexadecimal digit.
+/// Returns the ASCII code of a lower-case hexadecimal digit for a number below 16.
 fn digit_letter(digit: u8) -> u8
     requires { digit < 16 }
     ensures letter { result ≡ digit_char digit }

@@ -4,7 +4,7 @@ use crate::text_builder::TextBuilder;
 use std::alloc::Global;
 use toml::Value;
 
-/// Text under construction.
+/// Text under construction in the global allocator, such as an explanation or a warning.
 pub type Said = TextBuilder<Global>;
 
 /// Largest number of characters shown of a text.
@@ -13,7 +13,7 @@ const MAX_CHARACTERS: usize = 60;
 /// Largest number of items shown of an array.
 const MAX_ITEMS: usize = 16;
 
-/// Writes a template that may use one number and one word.
+/// Writes a template in which `{0}` stands for `number` and `{a}` for `word`. The template may use only one of them.
 pub fn fill_with_word(said: &mut Said, template: &str, number: u64, word: &str) {
     said.put_template(template, &[number], &[word]);
 }
@@ -35,7 +35,7 @@ pub fn put_text(said: &mut Said, text: &str) {
     }
 }
 
-/// Writes a key as quoted in a sentence. A long key is cut.
+/// Writes a key in backquotes. A key that is long or needs quotes in TOML is written as a quoted text, cut after 60 characters.
 pub fn put_key(said: &mut Said, key: &str) {
     let mut is_plain = true;
     for octet in key.as_bytes() {
@@ -62,7 +62,7 @@ fn put_item(said: &mut Said, item: &Value) {
     }
 }
 
-/// Returns at most the first `most` items.
+/// Returns at most the first `most` items, because explanations show only the start of a long array.
 pub fn first_items(items: &[Value], most: usize) -> &[Value] {
     if items.len() > most {
         &items[..most]
@@ -84,7 +84,7 @@ fn put_items(said: &mut Said, items: &[Value]) {
     }
 }
 
-/// Writes a value.
+/// Writes a value for an explanation. An array shows at most 16 items; a table, a float or a date shows only its kind.
 pub fn put_value(said: &mut Said, value: &Value) {
     match value {
         Value::Array(items) => {

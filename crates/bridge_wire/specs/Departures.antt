@@ -20,7 +20,7 @@ use Rattle.bridge_capture.specs.declared.capture_reader.CaptureReader.{CaptureRe
 use Rattle.bridge_capture.specs.CaptureReaders.{IsOneAhead}
 use Rattle.bridge_wire.specs.Wire.{Frame, Offer, copy_offers, frame_offers, is_well_formed, IsWritable, IsOutput, PassesQueue, StopsRun, WiresText}
 
--- Frame of a queued item.
+-- Frame of a queued item: its length and its octets.
 abbrev pub item_frame : {A : Type 0} → Item (Vec ℕ A) → Frame
 item_frame item = record { len = item.len; octets = item.load.items }
 
@@ -28,7 +28,7 @@ item_frame item = record { len = item.len; octets = item.load.items }
 abbrev pub is_overlong : {A : Type 0} → Item (Vec ℕ A) → Bool
 is_overlong item = nat_lt item.len (length item.load.items)
 
--- Statement: All copies have class `c`.
+-- Statement: All copies have class `c`. A port with one queue uses only class 0.
 abbrev pub HaveClass : {X : Type 0} → ℕ → List (Copy X) → Type 0
 HaveClass c [] = Unit {0}
 HaveClass c (x ∷ xs) = (x.class ≡ c) × HaveClass c xs
@@ -89,7 +89,7 @@ abbrev pub RunsOneMore : {A : Type 0} → Speed → ℕ → List CapturedFrame �
 RunsOneMore speed room frames next p count began now (Ok u) = IsRunning speed room (frames ++ next ∷ []) p count began now
 RunsOneMore speed room frames next p count began now (Err e) = StopsAtSink speed room frames next.time began now
 
--- Counts before the first frame.
+-- Counts of a run before the first frame: all are 0.
 abbrev pub no_count : WireCount
 no_count = record { frames = 0; malformed = 0; sent = 0; full = 0 }
 
@@ -99,12 +99,12 @@ pub record IsUnderWay {A : Type 0} (speed : Speed) (room : ℕ) (text : List ℕ
   pub ahead : IsOneAhead lane remaining text frames
   pub running : IsRunning speed room frames p count began now
 
--- Statement: The run continues, or it stopped with a fault.
+-- Statement: The result is Ok and the run continues, or the result is the fault with which the run stopped.
 abbrev pub RunsOrStops : {A : Type 0} → Speed → ℕ → List ℕ → Option (List ℕ) → CaptureReader A → EgressState (Vec ℕ A) → WireCount → Option (List ℕ) → Option (List ℕ) → Result (Unit {0}) RunFault → Type 0
 RunsOrStops speed room text remaining lane p count began now (Ok u) = IsUnderWay speed room text remaining lane p count began now
 RunsOrStops speed room text remaining lane p count began now (Err fault) = StopsRun speed room text remaining began now fault
 
--- Statement: The run ended, or it stopped with a fault.
+-- Statement: The result is Ok and the run is complete, or the result is the fault with which the run stopped.
 abbrev pub EndsOrStops : Speed → ℕ → List ℕ → Option (List ℕ) → Option (List ℕ) → Option (List ℕ) → Result WireCount RunFault → Type 0
 EndsOrStops speed room text rest old new (Ok count) = WiresText speed room text old new count
 EndsOrStops speed room text rest old new (Err fault) = StopsRun speed room text rest old new fault

@@ -34,7 +34,7 @@ pub record Offer : Type 0 where
 abbrev pub one_queue : Speed → ℕ → PortRules Frame
 one_queue speed room = record { opens = λ c u. true; ever = λ c n. true; room = λ c. room; occ = λ f. transmission_time f.len speed }
 
--- True if the captured frame has a header.
+-- True if the captured frame has a header, so that it is offered to the queue.
 abbrev pub is_well_formed : CapturedFrame → Bool
 is_well_formed c = is_ok (parsed_head c.octets c.len)
 
@@ -46,7 +46,7 @@ frame_offer c = record { at = c.time; class = 0; frame = record { len = c.len; o
 abbrev pub frame_offers : List CapturedFrame → List Offer
 frame_offers frames = reverse (map frame_offer (filter is_well_formed frames))
 
--- Offers of the copies of a schedule.
+-- Offers of the copies of a schedule, without their fates.
 abbrev pub copy_offers : List (Copy Frame) → List Offer
 copy_offers copies = map (λ x. record { at = x.at; class = x.class; frame = x.item }) copies
 

@@ -12,7 +12,8 @@ use bridge_capture::{BufferPool, ByteSink, RunFault, SNAP_LENGTH, Writer};
 use bridge_port::{Item, Port};
 use std::alloc::Allocator;
 
-/// Starts the next frame, and writes it with the end of its transmission. Its buffer then returns to the pool.
+/// Starts the next frame, and writes it with the end of its transmission. Its buffer then returns to the pool. A failed write is the fault
+/// `RunFault::Write` of port 1.
 #[inline(always)]
 pub fn send_next<W: ByteSink, A: Allocator + Copy>(
     port: &mut Port<Vec<u8, A>, A>,
@@ -71,7 +72,7 @@ fn write_record<W: ByteSink>(
     writer.put(sink, done, len, octets).is_ok()
 }
 
-/// Starts and writes all frames due before time `t` in ns.
+/// Starts and writes all frames due before time `t` in ns. Stops at the first failed write.
 #[inline(always)]
 pub fn send_due_frames<W: ByteSink, A: Allocator + Copy>(
     t: u64,

@@ -19,7 +19,7 @@ use bridge_limits::{END_OF_TIME, MAX_CAPTURED_OCTETS};
 use bridge_port::{Item, LARGEST_ROOM, Port};
 use std::alloc::Allocator;
 
-/// Offers the next frame of a capture, after all earlier starts.
+/// Offers the next frame of a capture to the queue, after all starts before its arrival. A frame without a header is only counted.
 #[inline(always)]
 fn offer_frame<W: ByteSink, A: Allocator + Copy>(
     speed: Speed,
@@ -74,7 +74,7 @@ fn offer_frame<W: ByteSink, A: Allocator + Copy>(
     Ok(())
 }
 
-/// Offers a frame of a capture, and reads the next record.
+/// Offers a frame of a capture, and reads the next record ahead. Stops at the first fault of source or sink.
 #[inline(always)]
 fn process_frame<R: ByteSource, W: ByteSink, A: Allocator + Copy>(
     speed: Speed,
@@ -128,7 +128,7 @@ fn process_frame<R: ByteSource, W: ByteSink, A: Allocator + Copy>(
     }
 }
 
-/// Sends all frames of a capture through a queue, and writes all departures.
+/// Sends all frames of a capture through a queue, writes all departures, and returns the counts. Stops at the first fault.
 fn send_all<R: ByteSource, W: ByteSink, A: Allocator + Copy>(
     speed: Speed,
     lane: &mut CaptureReader<A>,

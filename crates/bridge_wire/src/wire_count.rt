@@ -1,10 +1,14 @@
 //! Counts of a run through one queue.
 
-/// Numbers of frames in a capture: all frames, frames without a header, frames sent, and frames dropped by the full queue.
+/// Numbers of frames of a capture that was sent through one queue.
 #[derive(Clone, Copy, Debug, Default, PartialEq, Eq)]
 pub struct WireCount {
+    /// All frames of the capture.
     pub frames: u64,
+    /// Frames without a header; they aren't offered.
     pub malformed: u64,
+    /// Frames that the queue accepted; all have left.
     pub sent: u64,
+    /// Frames that the full queue dropped.
     pub full: u64,
 }
