@@ -13,3 +13,12 @@ pub mod Lists
 pub mod Rounds
 pub mod Reached
 pub mod Whole
+pub mod Paced
+pub mod Periods
+pub mod Hopping
+pub mod Waiting
+pub mod Phased
+pub mod Kept
+pub mod Shifted
+pub mod Fair
+pub mod Passed

@@ -1,11 +1,21 @@
 #![tactic(auto)]
-//! Delay bounds of a protected filter's frames in each queue. They hold whatever the talker sends.
+//! Delays of a protected filter's frames in each queue: bounds that hold whatever the talker sends, and phases and delays of periodic
+//! talkers.
 
 mod gate_frames;
+pub mod latency;
 pub mod laws;
 mod longest_time;
+mod passing;
+pub mod periodic_laws;
 mod queue_bounds;
 mod tight_bound;
+mod timing;
+mod traffic;
+mod waits;
 
+pub use passing::{longest_sdu, passes};
 pub use queue_bounds::{find_filter, queue_bound};
 pub use tight_bound::tight_queue_bound;
+pub use timing::{Phases, Timing, queue_timing};
+pub use traffic::Traffic;

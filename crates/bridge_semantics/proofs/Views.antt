@@ -1,9 +1,9 @@
 -- A list of events determines a filter's record.
-use Rattle.std.proofs.Common.{◌≡◌, ℕ, List, [], ◌∷◌, arith, refl, ap, ◌∙◌, sym, subst, inl, inr, Option, Some, None}
+use Rattle.std.proofs.Common.{◌≡◌, ◌≤◌, ℕ, List, [], ◌∷◌, arith, refl, ap, ◌∙◌, sym, subst, inl, inr, Option, Some, None}
 use Rattle.bridge_limits.specs.Members.{IsMember}
 use Rattle.bridge_filter.specs.declared.FilterPlan.{FilterPlan}
-use Rattle.bridge_port.specs.Schedule.{Copy}
-use Rattle.bridge_port.specs.Solo.{HaveSameOffers}
+use Rattle.bridge_port.specs.Schedule.{Copy, PortRules, Started}
+use Rattle.bridge_port.specs.Solo.{HaveSameOffers, IsSolo, IsSoloFate}
 use Rattle.bridge_port.proofs.Alone.{one_outcome}
 use Rattle.bridge_config.specs.declared.ports.PortPlan.{PortPlan}
 use Rattle.bridge_config.specs.Model.{Plan}
@@ -117,3 +117,14 @@ told_once {A} p s f es u v a b =
           (λ d i. (m.drops_are d).1 (drops_as p s Q P from d ((n.drops_are d).0 i)));
       delay = greatest_one (IsFilterDelay p s Q) u.delay v.delay (greatest_as (IsFilterDelay p s P) (IsFilterDelay p s Q) (delayed_as p s P Q to) (delayed_as p s Q P from) u.delay m.longest) n.longest;
     }
+
+-- In a queue by itself, a copy starts at its offer or later.
+pub solo_after : (r : PortRules CarriedFrame) (s : ℕ) (x : Copy CarriedFrame) (xs : List (Copy CarriedFrame)) → IsSolo r xs → IsMember x xs → x.fate ≡ Started s → x.at ≤ s
+solo_after r s x [] h i f = absurd i
+solo_after r s x (y ∷ ys) h (inl e) f =
+    let is : y.fate ≡ Started s = subst (λ (z : Copy CarriedFrame). z.fate ≡ Started s) e f in
+    let fate : IsSoloFate r y ys (Started s) = subst (IsSoloFate r y ys) is h.0 in
+    let after = fate.2.after in
+    let same : x.at ≡ y.at = ap (λ (z : Copy CarriedFrame). z.at) e in
+    omega (arith, after, same)
+solo_after r s x (y ∷ ys) h (inr i) f = solo_after r s x ys h.1 i f

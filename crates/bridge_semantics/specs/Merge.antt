@@ -1,6 +1,6 @@
 -- The order of a bridge's inputs: by time, at equal times commands first, then by port.
 use Rattle.std.specs.Prelude.{◌≡◌, ℕ, ◌<◌, ◌≤◌, nat_eq, List, [], ◌∷◌, ◌++◌, map, if◌then◌else◌, ◌⊎◌}
-use Rattle.bridge_limits.specs.Members.{IsOrdered}
+use Rattle.bridge_limits.specs.Members.{IsMember, IsOrdered}
 use Rattle.bridge_capture.specs.Grammar.{CapturedFrame}
 use Rattle.bridge_filter.specs.declared.Clear.{Clear}
 use Rattle.bridge_filter.specs.declared.FilterPlan.{FilterPlan}
@@ -26,6 +26,19 @@ command_input at clear n = record { at = at; rank = 0; event = Cleared clear n }
 -- Holds if input `a` is later than input `b`, or has the same time and an equal or greater rank.
 abbrev pub FollowsInput : Input → Input → Type 0
 FollowsInput a b = (b.at < a.at) ⊎ ((b.at ≡ a.at) × (b.rank ≤ a.rank))
+
+-- Holds if input `a` has a strictly later time than input `b`.
+abbrev pub IsLater : Input → Input → Type 0
+IsLater a b = b.at < a.at
+
+-- Holds if the event is a frame with arrival time `t` in ns, or any command.
+abbrev pub IsTimed : ℕ → Event → Type 0
+IsTimed t (Arrived a) = a.at ≡ t
+IsTimed t (Cleared clear m) = Unit {0}
+
+-- Holds if each input that is a frame has the frame's arrival time; an input that is a command may have any time.
+abbrev pub AreTimed : List Input → Type 0
+AreTimed xs = (x : Input) → IsMember x xs → IsTimed x.at x.event
 
 -- The inputs in the list with rank `q`, in list order: the commands if `q` is 0, otherwise the frames of port `q`.
 abbrev pub inputs_by_rank : ℕ → List Input → List Input

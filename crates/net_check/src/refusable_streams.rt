@@ -3,7 +3,7 @@
 ghost use Rattle.std.specs.Prelude.{◌≤◌, All, IfSome, length};
 ghost use Rattle.std.specs.Option.{ForSome};
 ghost use Rattle.net_file.specs.Rules.{IsTalker};
-ghost use Rattle.net_periods.specs.Traffic.{IsTraffic};
+ghost use Rattle.bridge_bounds.specs.Traffic.{IsTraffic};
 ghost use Rattle.net_latency.specs.Bounds.{HasValidPort};
 
 use crate::network::{check_network_file, read_network, read_plans};
@@ -20,7 +20,7 @@ use net_latency::{
     latency_through_hops, put_reason, stream_hops,
 };
 use net_model::{Link, Network, StreamHop};
-use net_periods::{Traffic, passes};
+use bridge_bounds::{Traffic, passes};
 use std::alloc::Global;
 use std::rt::Files;
 

@@ -14,7 +14,7 @@ use Rattle.net_file.specs.declared.fault.NetFault.{NetFault}
 use Rattle.net_file.specs.declared.fault.NetFault.TheVariants as fault
 use Rattle.net_file.specs.Keys.{has_only_keys, read_optional, provided, read_required}
 use Rattle.net_file.specs.Sections.{no_duplicate}
-use Rattle.net_periods.specs.Traffic.{IsTraffic}
+use Rattle.bridge_bounds.specs.Traffic.{IsTraffic}
 use Rattle.net_file.specs.declared.traffic_row.TrafficRow.{TrafficRow}
 
 -- Keys that a traffic row's table may have.

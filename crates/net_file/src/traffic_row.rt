@@ -11,7 +11,7 @@ use crate::fault::{NetFault, NetField, NetKeyLocation, NetSection};
 use crate::keys::{DEADLINE, OCTETS, PERIOD, PHASE, TRAFFIC_KEYS};
 use crate::reading::{read_optional, read_required};
 use bridge_schema::{NUMBER, NumberRange, SectionReader, has_only};
-use net_periods::Traffic;
+use bridge_bounds::Traffic;
 use std::alloc::Allocator;
 use toml::Table;
 

@@ -18,13 +18,13 @@ use Rattle.bridge_semantics.specs.Offers.{CarriedFrame}
 use Rattle.bridge_semantics.specs.Runs.{AreFinished, IsOutcome, IsRun}
 use Rattle.bridge_semantics.specs.declared.outcome.Outcome.{Outcome}
 use Rattle.bridge_semantics.specs.declared.outcome.View.{View}
-use Rattle.net_periods.specs.Passing.{Passes, passes}
-use Rattle.net_periods.specs.Timings.{IsDoneInPhases, IsTiming}
-use Rattle.net_periods.specs.Traffic.{IsTraffic, KeepsTraffic}
-use Rattle.net_periods.specs.declared.timing.Phases.{Phases}
-use Rattle.net_periods.specs.declared.timing.Timing.{Timing}
-use Rattle.net_periods.proofs.Kept as kept
-use Rattle.net_periods.proofs.Passed as passed
+use Rattle.bridge_bounds.specs.Passing.{Passes, passes}
+use Rattle.bridge_bounds.specs.Timings.{IsDoneInPhases, IsTiming}
+use Rattle.bridge_bounds.specs.Traffic.{IsTraffic, KeepsTraffic}
+use Rattle.bridge_bounds.specs.declared.timing.Phases.{Phases}
+use Rattle.bridge_bounds.specs.declared.timing.Timing.{Timing}
+use Rattle.bridge_bounds.proofs.Kept as kept
+use Rattle.bridge_bounds.proofs.Passed as passed
 use Rattle.net_file.specs.declared.traffic_row.TrafficRow.{TrafficRow}
 use Rattle.net_latency.specs.Traffic.{IsSentInTime, PassesAt, RowPasses}
 

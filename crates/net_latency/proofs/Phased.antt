@@ -18,20 +18,19 @@ use Rattle.bridge_port.proofs.Members.{same_start}
 use Rattle.bridge_config.specs.Model.{Plan}
 use Rattle.bridge_semantics.specs.declared.outcome.Outcome.{Outcome}
 use Rattle.bridge_semantics.specs.Events.{Arrival, Arrived, Cleared, Event}
-use Rattle.bridge_semantics.specs.Merge.{Input, input_events, capture_inputs, inputs_by_rank, own_inputs}
+use Rattle.bridge_semantics.specs.Merge.{Input, input_events, capture_inputs, inputs_by_rank, own_inputs, IsLater}
 use Rattle.bridge_semantics.specs.Offers.{CarriedFrame}
 use Rattle.bridge_semantics.proofs.Merging.{events_own, in_at, own_of_rank, rising_own}
 use Rattle.bridge_bounds.proofs.Reached.{found_in}
 use Rattle.net_model.specs.Networks.{IsNetwork, IsNetworkRun, Network, Sender, inputs_over_link, port_inputs, delayed_frame, external_inputs, sender}
-use Rattle.net_model.specs.Alone.{IsLater}
-use Rattle.net_model.specs.Latency.{InputsInPeriods, IsMultiple}
+use Rattle.bridge_bounds.specs.Latency.{InputsInPeriods, IsMultiple}
 use Rattle.net_model.proofs.Members.{frames_apart, in_inputs, in_own, rank_in}
-use Rattle.net_periods.specs.declared.timing.Phases.{Phases}
-use Rattle.net_periods.specs.declared.timing.Timing.{Timing}
-use Rattle.net_periods.specs.declared.traffic.Traffic.{Traffic}
-use Rattle.net_periods.specs.Timings.{IsDoneInPhases, IsTimingWithPhases, IsTiming, IsTimingWithoutPhases, IsDelayInBounds, longest_link_time, shortest_link_time}
-use Rattle.net_periods.specs.Traffic.{ComeInPeriods, IsTraffic}
-use Rattle.net_periods.proofs.Kept.{ComesOfQueue, IsLong, comes_on, long_copy, phases, times}
+use Rattle.bridge_bounds.specs.declared.timing.Phases.{Phases}
+use Rattle.bridge_bounds.specs.declared.timing.Timing.{Timing}
+use Rattle.bridge_bounds.specs.declared.traffic.Traffic.{Traffic}
+use Rattle.bridge_bounds.specs.Timings.{IsDoneInPhases, IsTimingWithPhases, IsTiming, IsTimingWithoutPhases, IsDelayInBounds, longest_link_time, shortest_link_time}
+use Rattle.bridge_bounds.specs.Traffic.{ComeInPeriods, IsTraffic}
+use Rattle.bridge_bounds.proofs.Kept.{ComesOfQueue, IsLong, comes_on, long_copy, phases, times}
 use Rattle.net_latency.specs.declared.latency.StreamLatency.{StreamLatency}
 use Rattle.net_latency.specs.declared.queue_exit.HopArrival.{HopArrival}
 use Rattle.net_latency.specs.StreamLatency.{first_hop_arrival, is_in_one_period, arrival_over_link, whole_periods}

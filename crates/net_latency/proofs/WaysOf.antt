@@ -9,8 +9,8 @@ use Rattle.bridge_semantics.specs.Offers.{CarriedFrame}
 use Rattle.net_model.specs.declared.links.Link.{Link}
 use Rattle.net_model.specs.declared.links.StreamHop.{StreamHop}
 use Rattle.net_model.specs.Networks.{Network}
-use Rattle.net_periods.specs.declared.timing.Phases.{Phases}
-use Rattle.net_periods.specs.declared.traffic.Traffic.{Traffic}
+use Rattle.bridge_bounds.specs.declared.timing.Phases.{Phases}
+use Rattle.bridge_bounds.specs.declared.traffic.Traffic.{Traffic}
 use Rattle.net_latency.specs.declared.latency.StreamLatency.{StreamLatency}
 use Rattle.net_latency.specs.declared.queue_exit.HopArrival.{HopArrival}
 use Rattle.net_latency.specs.declared.tree.HopQueue.{HopQueue}

@@ -9,9 +9,9 @@ use Rattle.bridge_limits.proofs.Options.{some_is_none}
 use Rattle.bridge_config.specs.Model.{Plan}
 use Rattle.bridge_bounds.specs.Bounds.{HasNoBound}
 use Rattle.net_model.specs.declared.links.StreamHop.{StreamHop}
-use Rattle.net_periods.specs.declared.timing.Phases.{Phases}
-use Rattle.net_periods.specs.declared.timing.Timing.{Timing}
-use Rattle.net_periods.specs.Timings.{IsTiming}
+use Rattle.bridge_bounds.specs.declared.timing.Phases.{Phases}
+use Rattle.bridge_bounds.specs.declared.timing.Timing.{Timing}
+use Rattle.bridge_bounds.specs.Timings.{IsTiming}
 use Rattle.net_latency.specs.declared.latency.StreamLatency.{StreamLatency}
 use Rattle.net_latency.specs.declared.latency.CombinedLatency.{CombinedLatency}
 use Rattle.net_latency.specs.declared.latency.CombinedLatency.TheVariants as gathered

@@ -9,7 +9,7 @@ use Rattle.net_model.specs.Handing.{hands_over}
 use Rattle.net_model.specs.Networks.{End, Sender, sender}
 use Rattle.net_model.specs.Faults.{is_entry_port, protected_handle}
 use Rattle.net_model.specs.NetworkParts.{link_value}
-use Rattle.net_periods.specs.declared.traffic.Traffic.{Traffic}
+use Rattle.bridge_bounds.specs.declared.traffic.Traffic.{Traffic}
 use Rattle.net_latency.specs.declared.latency.StreamLatency.{StreamLatency}
 use Rattle.net_latency.specs.declared.tree.HopQueue.{HopQueue}
 use Rattle.net_latency.specs.StreamLatency.{IsStreamLatency}

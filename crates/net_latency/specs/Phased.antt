@@ -12,12 +12,12 @@ use Rattle.bridge_semantics.specs.Outputs.{departed_frame}
 use Rattle.net_model.specs.declared.links.Link.{Link}
 use Rattle.net_model.specs.declared.links.StreamHop.{StreamHop}
 use Rattle.net_model.specs.Networks.{Network, delayed_frame, sender}
-use Rattle.net_model.specs.Latency.{IsMultiple}
-use Rattle.net_periods.specs.declared.timing.Phases.{Phases}
-use Rattle.net_periods.specs.declared.timing.Timing.{Timing}
-use Rattle.net_periods.specs.declared.traffic.Traffic.{Traffic}
-use Rattle.net_periods.specs.Timings.{IsTiming}
-use Rattle.net_periods.specs.Traffic.{KeepsTraffic}
+use Rattle.bridge_bounds.specs.Latency.{IsMultiple}
+use Rattle.bridge_bounds.specs.declared.timing.Phases.{Phases}
+use Rattle.bridge_bounds.specs.declared.timing.Timing.{Timing}
+use Rattle.bridge_bounds.specs.declared.traffic.Traffic.{Traffic}
+use Rattle.bridge_bounds.specs.Timings.{IsTiming}
+use Rattle.bridge_bounds.specs.Traffic.{KeepsTraffic}
 use Rattle.net_latency.specs.declared.latency.StreamLatency.{StreamLatency}
 use Rattle.net_latency.specs.declared.queue_exit.HopArrival.{HopArrival}
 use Rattle.net_latency.specs.declared.tree.HopQueue.{HopQueue}

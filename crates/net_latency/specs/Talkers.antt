@@ -16,7 +16,7 @@ use Rattle.net_file.specs.declared.talker.Talker.{Talker}
 use Rattle.net_file.specs.Model.{Stream}
 use Rattle.net_model.specs.declared.links.Link.{Link}
 use Rattle.net_model.specs.declared.links.StreamHop.{StreamHop}
-use Rattle.net_periods.specs.declared.traffic.Traffic.{Traffic}
+use Rattle.bridge_bounds.specs.declared.traffic.Traffic.{Traffic}
 use Rattle.net_latency.specs.declared.bounds.QueueBound.{QueueBound}
 use Rattle.net_latency.specs.Streams.{are_in_time, stream_hop_value, bounds_if_any, stream_lines}
 use Rattle.net_latency.specs.Traffic.{suits}
@@ -47,7 +47,7 @@ first_misfit plans index (s ∷ ss) =
 
 -- DELAYS OF TALKERS' FRAMES
 
--- The traffic of a network file's talker, in the form of `net_periods`.
+-- The traffic of a network file's talker, in the form of `bridge_bounds`.
 abbrev pub talker_traffic : Talker → Traffic
 talker_traffic t = record { period = t.period; from = t.from; to = t.to; least = t.least; longest = t.longest }
 

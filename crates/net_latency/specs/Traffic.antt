@@ -21,10 +21,10 @@ use Rattle.net_file.specs.declared.fault.NetField.TheVariants as field
 use Rattle.net_file.specs.declared.fault.NetFault.TheVariants as net
 use Rattle.net_file.specs.declared.fault.NetKeyLocation.{NetKeyLocation}
 use Rattle.net_file.specs.declared.fault.NetSection.TheVariants as section
-use Rattle.net_periods.specs.Passing.{Passes}
-use Rattle.net_periods.specs.Timings.{IsDoneInPhases, IsTiming, IsDelayInBounds}
-use Rattle.net_periods.specs.declared.timing.Phases.{Phases}
-use Rattle.net_periods.specs.declared.timing.Timing.{Timing}
+use Rattle.bridge_bounds.specs.Passing.{Passes}
+use Rattle.bridge_bounds.specs.Timings.{IsDoneInPhases, IsTiming, IsDelayInBounds}
+use Rattle.bridge_bounds.specs.declared.timing.Phases.{Phases}
+use Rattle.bridge_bounds.specs.declared.timing.Timing.{Timing}
 use Rattle.net_file.specs.declared.traffic_fault.TrafficFault.{TrafficFault}
 use Rattle.net_file.specs.declared.traffic_fault.TrafficFault.TheVariants as fault
 use Rattle.net_file.specs.declared.traffic_row.TrafficRow.{TrafficRow}

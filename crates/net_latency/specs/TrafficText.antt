@@ -6,7 +6,7 @@ use Rattle.app_failure.specs.declared.fault.Failure.{Failure}
 use Rattle.app_failure.specs.declared.fault.Failure.TheVariants as fault
 use Rattle.app_failure.specs.Jobs.{Accepts, EndsCheck}
 use Rattle.app_failure.specs.Reading.{IsFileFault}
-use Rattle.net_periods.specs.declared.timing.Phases.{Phases}
+use Rattle.bridge_bounds.specs.declared.timing.Phases.{Phases}
 use Rattle.net_file.specs.declared.traffic_fault.TrafficFault.{TrafficFault}
 use Rattle.net_file.specs.declared.traffic_fault.TrafficFault.TheVariants as text
 use Rattle.net_file.specs.declared.traffic_row.TrafficRow.{TrafficRow}

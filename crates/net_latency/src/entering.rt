@@ -1,7 +1,7 @@
 //! The tests whether only the talker's frames get the handle of a hop, and whether each hop's frames get the next hop's filter.
 ghost use Rattle.std.specs.Prelude.{◌≡◌, ◌≤◌, All, length, slice_get, true};
 ghost use Rattle.net_model.specs.Faults.{is_entry_port};
-ghost use Rattle.net_periods.specs.Traffic.{IsTraffic};
+ghost use Rattle.bridge_bounds.specs.Traffic.{IsTraffic};
 ghost use Rattle.net_latency.specs.StreamLatency.{IsQueue};
 ghost use Rattle.net_latency.specs.Entering as spec;
 ghost use Rattle.net_latency.specs.Entering.{IsStreamCourse};
@@ -14,7 +14,7 @@ use bridge_config::{Plan, PortPlan};
 use net_model::{
     Link, StreamHop, find_plan, has_entry, is_received_by_next_hop, peer_port, protected_handle,
 };
-use net_periods::Traffic;
+use bridge_bounds::Traffic;
 use std::alloc::Allocator;
 
 /// Whether port `on` is open and has an entry with this handle, so that frames from outside can get the handle there.

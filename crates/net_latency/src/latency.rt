@@ -1,6 +1,6 @@
 //! Delays of a stream's frames over all their routes.
 ghost use Rattle.std.specs.Prelude.{◌≡◌, ◌+◌, ◌≤◌, All, length};
-ghost use Rattle.net_periods.specs.Traffic.{IsTraffic};
+ghost use Rattle.bridge_bounds.specs.Traffic.{IsTraffic};
 ghost use Rattle.net_latency.specs.StreamLatency as spec;
 ghost use Rattle.net_latency.specs.StreamLatency.{AddsQueueLatency, HasHeadroom, IsStreamLatency, IsQueue, IsQueueLatency, IsHopLatency, stream_model};
 
@@ -8,7 +8,7 @@ use crate::queue_exit::{HopArrival, QueueExit, StreamContext, hop_passes, queue_
 use crate::tree::{HopQueue, is_tree};
 use bridge_check::Accepted;
 use net_model::{Link, StreamHop};
-use net_periods::{Phases, Traffic};
+use bridge_bounds::{Phases, Traffic};
 use std::alloc::Allocator;
 
 /// Delays in ns of a periodic talker's frames, from arrival at the first hop to the end of transmission at a last hop.

@@ -1,6 +1,6 @@
 //! Laws of a frame's route through a network: the promises that reviewers read. Each law is the contract of a function that does nothing,
 //! and that nobody calls.
-ghost use Rattle.std.specs.Prelude.{◌≡◌, ◌≤◌, ◌+◌, ℕ, List, Some, nat_eq, slice_get, true};
+ghost use Rattle.std.specs.Prelude.{◌≡◌, ◌<◌, ◌≤◌, ◌+◌, ℕ, List, Option, Some, nat_eq, slice_get, true};
 ghost use Rattle.std.specs.List.{list_all};
 ghost use Rattle.std.specs.Map.{lookup};
 ghost use Rattle.bridge_limits.specs.Members.{IsMember};
@@ -12,22 +12,25 @@ ghost use Rattle.bridge_config.specs.Rules.{IsPlan, find_port};
 ghost use Rattle.bridge_check.specs.Acceptable.{IsAcceptable};
 ghost use Rattle.bridge_semantics.specs.Events.{Event, own_events};
 ghost use Rattle.bridge_semantics.specs.Offers.{CarriedFrame};
+ghost use Rattle.bridge_port.specs.GateSchedule.{lists_open};
 ghost use Rattle.bridge_semantics.specs.Runs.{AreFinished, IsOutcome, IsRun};
 ghost use Rattle.bridge_semantics.specs.declared.outcome.View.{View};
-ghost use Rattle.net_periods.specs.declared.timing.Timing.{Timing};
-ghost use Rattle.net_periods.specs.Passing.{passes};
-ghost use Rattle.net_periods.specs.Timings.{IsTiming};
+ghost use Rattle.bridge_bounds.specs.declared.timing.Timing.{Timing};
+ghost use Rattle.bridge_bounds.specs.Passing.{passes};
+ghost use Rattle.bridge_bounds.specs.Timings.{IsTiming};
 ghost use Rattle.net_file.specs.declared.traffic_row.TrafficRow.{TrafficRow};
 ghost use Rattle.net_latency.specs.Traffic.{IsSentInTime, PassesAt};
 ghost use Rattle.bridge_capture.specs.Grammar.{CapturedFrame};
-ghost use Rattle.bridge_semantics.specs.Merge.{Input};
+ghost use Rattle.bridge_semantics.specs.Merge.{Input, inputs_by_rank};
 ghost use Rattle.bridge_semantics.specs.declared.outcome.Outcome.{Outcome};
 ghost use Rattle.net_model.specs.declared.links.Link.{Link};
 ghost use Rattle.net_model.specs.declared.links.StreamHop.{StreamHop};
-ghost use Rattle.net_model.specs.Networks.{IsNetwork, IsNetworkRun, Network};
-ghost use Rattle.net_periods.specs.declared.timing.Phases.{Phases};
-ghost use Rattle.net_periods.specs.declared.traffic.Traffic.{Traffic};
-ghost use Rattle.net_periods.specs.Traffic.{IsTraffic, KeepsTraffic};
+ghost use Rattle.net_model.specs.Alone.{ArrivesOverLink, IsAlone};
+ghost use Rattle.net_model.specs.Networks.{Hop, IsHop, IsNetwork, IsNetworkRun, Network, Sender, sender};
+ghost use Rattle.bridge_bounds.specs.Latency.{InputsInPeriods, IsDelayedCopy, StartInPeriods, link_time};
+ghost use Rattle.bridge_bounds.specs.declared.timing.Phases.{Phases};
+ghost use Rattle.bridge_bounds.specs.declared.traffic.Traffic.{Traffic};
+ghost use Rattle.bridge_bounds.specs.Traffic.{IsTraffic, KeepsTraffic};
 ghost use Rattle.net_latency.specs.declared.latency.StreamLatency.{StreamLatency};
 ghost use Rattle.net_latency.specs.declared.tree.HopQueue.{HopQueue};
 ghost use Rattle.net_latency.specs.StreamLatency.{IsStreamLatency, first_hop_arrival};
@@ -110,4 +113,26 @@ pub fn passing_row_is_sent<A: Allocator + Copy>()
         → IsTiming p r.filter q y.class r.traffic x
         → PassesAt p r x
         → IsSentInTime out r x y }
+{}
+
+/// If the copies of a hop's queue start once a period, their arrivals at the next hop keep the period. A chain of these laws bounds a
+/// route's total delay.
+pub fn next_hop_in_periods<A: Allocator + Copy>()
+    ensures { (n : Network A) (stream : List (ℕ × ℕ)) (commands : ℕ → List Input) (captures : ℕ → ℕ
+        → List CapturedFrame)
+        (views : Hop A → Option (View A)) (g h : Hop A) (q base c period first last least most next : ℕ) (s : Sender)
+        (out : PortPlan A)
+        → (alone : IsAlone n commands captures stream views)
+        → IsHop n stream h
+        → sender n.links h.bridge q ≡ Some s
+        → StartInPeriods base (lists_open out.list c) (link_time out) period first last next
+        (alone.lists g s.from.port c)
+        → ((y : Copy CarriedFrame) → IsMember y (alone.lists g s.from.port c) → least ≤ link_time out y.item)
+        → ((y : Copy CarriedFrame) → IsMember y (alone.lists g s.from.port c) → link_time out y.item ≤ most)
+        → last + most ≤ first + period
+        → 0 < least
+        → ((x : Input) → ArrivesOverLink n stream alone.lists h q s x
+        → IsDelayedCopy (link_time out) s.delay (alone.lists g s.from.port c) x)
+        → InputsInPeriods base period (first + least + s.delay) (last + most
+        + s.delay) next (inputs_by_rank q (alone.own h)) }
 {}

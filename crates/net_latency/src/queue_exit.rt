@@ -1,6 +1,6 @@
 //! Frames that leave a queue of a hop: they leave the stream's hops, or they continue to another hop.
 ghost use Rattle.std.specs.Prelude.{◌≡◌, ◌+◌, ◌↔◌, IfSome, option_map, slice_get, true, ℕ};
-ghost use Rattle.net_periods.specs.Traffic.{IsTraffic};
+ghost use Rattle.bridge_bounds.specs.Traffic.{IsTraffic};
 ghost use Rattle.net_latency.specs.StreamLatency as spec;
 ghost use Rattle.net_latency.specs.StreamLatency.{HasHeadroom, HopPasses, IsQueue, IsQueueExit, KeepsHeadroom, stream_model};
 
@@ -10,7 +10,7 @@ use crate::tree::HopQueue;
 use bridge_bounds::find_filter;
 use bridge_check::Accepted;
 use net_model::{Link, StreamHop};
-use net_periods::{Phases, Timing, Traffic, passes, queue_timing};
+use bridge_bounds::{Phases, Timing, Traffic, passes, queue_timing};
 use std::alloc::Allocator;
 
 /// Everything that the delays of one stream depend on: plans and links, its hops, their reachable queues, and its talker's first phase.

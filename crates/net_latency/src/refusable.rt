@@ -1,6 +1,6 @@
 //! Explanations of traffic that may be refused: the condition that fails. No call fails: files that can't be read again are left out.
 ghost use Rattle.std.specs.Prelude.{◌≤◌, All, length};
-ghost use Rattle.net_periods.specs.Traffic.{IsTraffic};
+ghost use Rattle.bridge_bounds.specs.Traffic.{IsTraffic};
 ghost use Rattle.net_file.specs.TrafficRows.{IsRow};
 
 use crate::reporting::read_rows;
@@ -12,7 +12,7 @@ use bridge_config::Plan;
 use bridge_filter::FilterPlan;
 use bridge_text::TextBuilder;
 use net_file::TrafficRow;
-use net_periods::{Traffic, longest_sdu, passes};
+use bridge_bounds::{Traffic, longest_sdu, passes};
 use std::alloc::Global;
 use std::fs;
 use std::rt::Files;

@@ -6,7 +6,7 @@ ghost use Rattle.std.specs.Option.{ForSome};
 ghost use Rattle.net_latency.specs.StreamLatency.{IsQueue};
 ghost use Rattle.net_latency.specs.Entering.{IsStreamCourse};
 ghost use Rattle.net_file.specs.Rules.{IsTalker};
-ghost use Rattle.net_periods.specs.Traffic.{IsTraffic};
+ghost use Rattle.bridge_bounds.specs.Traffic.{IsTraffic};
 ghost use Rattle.net_latency.specs.Streams.{stream_hop_value};
 ghost use Rattle.net_latency.specs.Talkers as spec;
 ghost use Rattle.net_latency.specs.Bounds.{HasValidPort};
@@ -25,7 +25,7 @@ use bridge_config::Plan;
 use bridge_limits::NoMemory;
 use net_file::{NetFault, NetField, NetKeyLocation, NetSection, StreamRow, Talker};
 use net_model::{Link, StreamHop};
-use net_periods::Traffic;
+use bridge_bounds::Traffic;
 use std::alloc::Allocator;
 
 /// Whether the period suits the filter with this number: no cycle time on its route fails to divide it. Returns true if the filter is

@@ -15,7 +15,7 @@ use bridge_check::Accepted;
 use bridge_limits::NoMemory;
 use bridge_text::TextBuilder;
 use net_file::TrafficRow;
-use net_periods::{Phases, Timing, passes, queue_timing};
+use bridge_bounds::{Phases, Timing, passes, queue_timing};
 use std::alloc::Allocator;
 
 /// Delays of a traffic row's frames in a reachable queue: one line of `bounds --traffic`.

@@ -17,15 +17,15 @@ use Rattle.bridge_semantics.specs.declared.outcome.View.{View}
 use Rattle.bridge_semantics.specs.declared.outcome.Outcome.{Outcome}
 use Rattle.bridge_semantics.specs.Events.{Event, arrival, arrival_filter, is_own_event, own_events, filter_inputs, plan_police}
 use Rattle.bridge_semantics.specs.Offers.{CarriedFrame, port_offers}
-use Rattle.bridge_semantics.specs.Merge.{Input, FollowsInput, inputs_by_rank, input_events, capture_inputs, own_inputs, capture_input}
+use Rattle.bridge_semantics.specs.Merge.{Input, FollowsInput, inputs_by_rank, input_events, capture_inputs, own_inputs, capture_input, IsTimed, AreTimed, IsLater}
 use Rattle.bridge_semantics.specs.Outputs.{IsOutput, IsDeparture, departed_frame}
 use Rattle.bridge_semantics.specs.Runs.{AreSolo, IsPortCopy, IsFilterView}
 use Rattle.bridge_semantics.proofs.Safe.{IsSafe, apart}
 use Rattle.bridge_semantics.proofs.Steps.{steps_own}
 use Rattle.bridge_semantics.proofs.Headline.{origins_own, as_offer, in_offered, queues, solo_queues, lies_by, view_as, queued_at}
 use Rattle.bridge_semantics.proofs.Merging.{rising_own, own_of_rank, events_own}
-use Rattle.net_model.specs.Networks.{Network, Sender, sender, delayed_frame, external_inputs, inputs_over_link, port_inputs, IsNetworkRun, IsTimed, AreTimed, IsNetwork, Hop, hop, IsHop, IsOfStream, IsClosed}
-use Rattle.net_model.specs.Alone.{ArrivesOverLink, IsLater, IsAlone}
+use Rattle.net_model.specs.Networks.{Network, Sender, sender, delayed_frame, external_inputs, inputs_over_link, port_inputs, IsNetworkRun, IsNetwork, Hop, hop, IsHop, IsOfStream, IsClosed}
+use Rattle.net_model.specs.Alone.{ArrivesOverLink, IsAlone}
 use Rattle.net_model.proofs.Members.{in_map, map_in, in_own, own_in, rank_in, in_inputs, inputs_in, frames_apart}
 
 -- Each hop passes the tests of its plan.

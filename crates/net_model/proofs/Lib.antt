@@ -6,9 +6,6 @@ pub mod Feeding
 pub mod Handed
 pub mod Closed
 pub mod Settling
-pub mod Paced
-pub mod Periods
-pub mod Hopping
 pub mod Firsts
 pub mod Flows
 pub mod Skipped

@@ -9,11 +9,10 @@ use Rattle.bridge_capture.specs.Grammar.{CapturedFrame}
 use Rattle.bridge_filter.specs.declared.FilterPlan.{FilterPlan}
 use Rattle.bridge_config.specs.Model.{Plan}
 use Rattle.bridge_semantics.specs.Events.{is_own_event}
-use Rattle.bridge_semantics.specs.Merge.{Input, capture_input, inputs_by_rank, capture_inputs, own_inputs}
+use Rattle.bridge_semantics.specs.Merge.{Input, capture_input, inputs_by_rank, capture_inputs, own_inputs, IsLater}
 use Rattle.bridge_semantics.specs.Outputs.{LeavesEarlier}
 use Rattle.bridge_semantics.proofs.Views.{after_all}
 use Rattle.net_model.specs.Networks.{delayed_frame}
-use Rattle.net_model.specs.Alone.{IsLater}
 
 pub in_map : {X Y : Type 0} (f : X → Y) (y : Y) (xs : List X) → IsMember y (map f xs) → (x : X) × IsMember x xs × (y ≡ f x)
 in_map f y [] i = absurd i

@@ -23,14 +23,14 @@ use Rattle.bridge_semantics.specs.declared.destination.Destination.TheVariants a
 use Rattle.bridge_semantics.specs.declared.outcome.View.{View}
 use Rattle.bridge_semantics.specs.Events.{Arrival, Event, Arrived, Cleared, frame_destination}
 use Rattle.bridge_semantics.specs.Offers.{CarriedFrame, Offer, egress_rules, verdict_offer, step_offer, frame_step, destination_offer, arrival_offer, port_offers, copy_offers, class_offers}
-use Rattle.bridge_semantics.specs.Merge.{Input, FollowsInput, inputs_by_rank, input_events, newest_time}
+use Rattle.bridge_semantics.specs.Merge.{Input, FollowsInput, inputs_by_rank, input_events, newest_time, IsTimed, AreTimed, IsLater}
 use Rattle.bridge_semantics.specs.Runs.{AreSolo, IsSoloView, AreSameViews}
 use Rattle.bridge_semantics.proofs.Headline.{in_class_in}
 use Rattle.bridge_semantics.proofs.Offering.{in_class_join}
 use Rattle.bridge_semantics.proofs.Views.{after_all, rising_one, same_offers, told_once}
 use Rattle.bridge_semantics.proofs.Merging.{in_at, one_list}
-use Rattle.net_model.specs.Networks.{Network, Sender, sender, IsTimed, AreTimed, Hop, hop, IsHop}
-use Rattle.net_model.specs.Alone.{ArrivesOverLink, IsLater, IsAlone, HaveSameExternalInputs}
+use Rattle.net_model.specs.Networks.{Network, Sender, sender, Hop, hop, IsHop}
+use Rattle.net_model.specs.Alone.{ArrivesOverLink, IsAlone, HaveSameExternalInputs}
 
 -- INPUTS BEFORE A TIME
 
@@ -211,17 +211,6 @@ in_older t x (y ∷ ys) i l = by_bool (nat_lt y.at t)
       | inl e ↦ absurd (let m = ltb-false y.at t k in let z : x.at ≡ y.at = ap (λ (w : Copy CarriedFrame). w.at) e in omega (arith, l, m, z))
       | inr j ↦ in_older t x ys j l
     ]))
-
--- In a queue by itself, a copy starts at its offer or later.
-pub solo_after : (r : PortRules CarriedFrame) (s : ℕ) (x : Copy CarriedFrame) (xs : List (Copy CarriedFrame)) → IsSolo r xs → IsMember x xs → x.fate ≡ Started s → x.at ≤ s
-solo_after r s x [] h i f = absurd i
-solo_after r s x (y ∷ ys) h (inl e) f =
-    let is : y.fate ≡ Started s = subst (λ (z : Copy CarriedFrame). z.fate ≡ Started s) e f in
-    let fate : IsSoloFate r y ys (Started s) = subst (IsSoloFate r y ys) is h.0 in
-    let after = fate.2.after in
-    let same : x.at ≡ y.at = ap (λ (z : Copy CarriedFrame). z.at) e in
-    omega (arith, after, same)
-solo_after r s x (y ∷ ys) h (inr i) f = solo_after r s x ys h.1 i f
 
 -- TWO RUNS OF A STREAM
 

@@ -1,5 +1,5 @@
 -- A stream alone on an idle network.
-use Rattle.std.specs.Prelude.{◌≡◌, ℕ, true, ◌<◌, Option, Some, None, List, ◌↔◌}
+use Rattle.std.specs.Prelude.{◌≡◌, ℕ, true, Option, Some, None, List, ◌↔◌}
 use Rattle.bridge_limits.specs.Members.{IsMember, IsOrdered}
 use Rattle.bridge_capture.specs.Grammar.{CapturedFrame}
 use Rattle.bridge_filter.specs.declared.FilterPlan.{FilterPlan}
@@ -10,10 +10,10 @@ use Rattle.bridge_config.specs.Rules.{find_port}
 use Rattle.bridge_semantics.specs.declared.outcome.View.{View}
 use Rattle.bridge_semantics.specs.Events.{is_own_event}
 use Rattle.bridge_semantics.specs.Offers.{CarriedFrame}
-use Rattle.bridge_semantics.specs.Merge.{Input, FollowsInput, inputs_by_rank, input_events, own_inputs, capture_input}
+use Rattle.bridge_semantics.specs.Merge.{Input, FollowsInput, inputs_by_rank, input_events, own_inputs, capture_input, AreTimed}
 use Rattle.bridge_semantics.specs.Outputs.{departed_frame}
 use Rattle.bridge_semantics.specs.Runs.{AreSolo, IsFilterView}
-use Rattle.net_model.specs.Networks.{Network, Sender, sender, delayed_frame, external_inputs, Hop, hop, IsHop, AreTimed}
+use Rattle.net_model.specs.Networks.{Network, Sender, sender, delayed_frame, external_inputs, Hop, hop, IsHop}
 
 -- Holds if input `x` at port `q` is an own frame of hop `h`, sent by a stream hop at `s.from` one link delay earlier.
 pub record ArrivesOverLink {A : Type 0} (n : Network A) (stream : List (ℕ × ℕ)) (lists : Hop A → ℕ → ℕ → List (Copy CarriedFrame))
@@ -31,10 +31,6 @@ pub record ArrivesOverLink {A : Type 0} (n : Network A) (stream : List (ℕ × �
   pub started : copy.fate ≡ Started start
   pub input : x ≡ capture_input q (delayed_frame s.delay (departed_frame out.speed start copy.item))
   pub own : is_own_event h.plan h.number h.filter x.event ≡ true
-
--- Holds if input `a` has a strictly later time than input `b`.
-abbrev pub IsLater : Input → Input → Type 0
-IsLater a b = b.at < a.at
 
 -- The own inputs of hop `h` from outside, newest first: its commands if `q` is 0, otherwise its frames in the capture
 -- of port `q`.

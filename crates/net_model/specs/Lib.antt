@@ -3,7 +3,6 @@ pub mod Alone
 pub mod LinkFrames
 pub mod ClosedTest
 pub mod ConsistentRuns
-pub mod Latency
 pub mod NetworkParts
 pub mod FrameSearch
 pub mod Handing

@@ -12,14 +12,14 @@ use Rattle.bridge_capture.specs.WrittenCapture.{written_text}
 use Rattle.bridge_config.specs.declared.command.Command.{Command}
 use Rattle.bridge_config.specs.Model.{Plan}
 use Rattle.bridge_semantics.specs.declared.outcome.Outcome.{Outcome}
-use Rattle.bridge_semantics.specs.Merge.{Input, command_as_input, commands_of}
+use Rattle.bridge_semantics.specs.Merge.{Input, command_as_input, commands_of, AreTimed, IsTimed}
 use Rattle.net_model.specs.Checked.{AreClosed}
 use Rattle.net_model.proofs.Chain.{alone_in}
 use Rattle.net_model.proofs.Once.{one_course}
 use Rattle.bridge_core.specs.WholeRuns.{ArePortNumbers}
 use Rattle.bridge_core.proofs.Beginning.{one_order}
 use Rattle.bridge_core.proofs.Simulating.{ports_many}
-use Rattle.net_model.specs.Networks.{AreTimed, Hop, IsTimed, IsNetwork, Sender, sender}
+use Rattle.net_model.specs.Networks.{Hop, IsNetwork, Sender, sender}
 use Rattle.net_model.specs.NetworkParts.{NetworkParts, link_value, network_value, stream_value}
 use Rattle.net_run.specs.declared.rounds.BridgeResult.{BridgeResult}
 use Rattle.net_run.specs.declared.bridge_run.BridgeInput.{BridgeInput}

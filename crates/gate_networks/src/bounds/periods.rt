@@ -14,7 +14,7 @@ use bridge_check::Accepted;
 use bridge_text::TextBuilder;
 use net_file::{TrafficRow, parse_traffic};
 use net_latency::{QueueTiming, TrafficFigures, queue_timings};
-use net_periods::Phases;
+use bridge_bounds::Phases;
 use std::alloc::Global;
 use std::fs;
 use std::rt::Files;

@@ -1,7 +1,7 @@
 use Rattle.std.proofs.Common.{ℕ, ◌++◌, ◌∷◌, ◌∙◌, [], List, refl, sym, subst, eq-eqb}
 use Rattle.std.proofs.lemmas.Bool.{and_parts, and_from}
 use Rattle.bridge_filter.proofs.Owned.{differs}
-use Rattle.net_periods.specs.Timings.{IsTiming}
+use Rattle.bridge_bounds.specs.Timings.{IsTiming}
 use Rattle.net_latency.specs.declared.timings.QueueTiming.{QueueTiming}
 use Rattle.net_latency.specs.Traffic.{AreRowTimings}
 use Rattle.net_latency.proofs.Gathered.{placed, row_more, row_past}

@@ -1,0 +1,163 @@
+//! The test whether a filter passes each frame of a periodic talker. If yes, the lines of `bounds --traffic` say `passes`.
+ghost use Rattle.std.specs.Prelude.{◌≡◌, ◌↔◌, ◌≤◌, true};
+ghost use Rattle.bridge_limits.specs.declared.TheConstants.{END_OF_TIME};
+ghost use Rattle.bridge_cycle.specs.Cyclic.{IsLawful, turn_by_time};
+ghost use Rattle.bridge_filter.specs.Verdicts.{is_above_max};
+ghost use Rattle.bridge_bounds.specs.Passing as spec;
+ghost use Rattle.bridge_bounds.specs.Passing.{CanPassTurns, CanPassSchedule, CanPassList, Passes};
+ghost use Rattle.bridge_bounds.specs.Traffic.{IsTraffic};
+
+use crate::traffic::Traffic;
+use bridge_check::find_gate;
+use bridge_config::Plan;
+use bridge_cycle::{CyclicList, Timeline};
+use bridge_filter::FilterPlan;
+use bridge_gate::{GateEntry, Schedule};
+use bridge_ident::{StreamEntry, TagKind};
+use std::alloc::Allocator;
+
+/// Whether an entry of this tag kind accepts only VLAN-tagged frames. A tag makes the SDU of a frame 4 octets shorter.
+fn takes_only_tagged(tag: TagKind) -> bool
+    ensures { result ≡ spec.takes_only_tagged tag }
+{
+    match tag {
+        TagKind::Tagged => true,
+        TagKind::Priority => false,
+        TagKind::All => false,
+    }
+}
+
+/// Whether all entries with this stream handle accept only VLAN-tagged frames. Returns true if no entry has the handle.
+fn are_all_tagged(handle: u32, streams: &[StreamEntry]) -> bool
+    ensures { result ≡ spec.are_all_tagged handle streams.now }
+{
+    streams
+        .iter()
+        .all(|e| e.handle != handle || takes_only_tagged(e.tag))
+}
+
+/// Returns the largest possible SDU in octets of a frame with this handle and captured length. Without a handle, frames may be untagged.
+pub fn longest_sdu<A: Allocator + Copy>(plan: &Plan<A>, handle: Option<u32>, len: u32) -> u32
+    ensures { result ≡ spec.longest_sdu plan.now handle len }
+{
+    match handle {
+        Some(handle) if are_all_tagged(handle, plan.streams()) => len.saturating_sub(16),
+        _ => len.saturating_sub(12),
+    }
+}
+
+/// Whether an SDU of `octets` is above the filter's maximum `most`. Returns false without a maximum.
+fn is_above(most: Option<u32>, octets: u32) -> bool
+    ensures { result ≡ is_above_max most octets }
+{
+    match most {
+        None => false,
+        Some(most) => most < octets,
+    }
+}
+
+/// Whether an interval of this stream gate entry passes a first frame of `sdu` octets: the gate is open and the octet limit suffices.
+fn can_pass_entry(entry: &GateEntry, sdu: u32) -> bool
+    ensures { result ≡ spec.can_pass_entry entry.now sdu }
+{
+    if !entry.lets {
+        return false;
+    }
+    match entry.octets {
+        None => true,
+        Some(limit) => sdu <= limit,
+    }
+}
+
+/// Whether an interval with an octet limit ends by time `until`, when the next frame may arrive. Returns true without a limit.
+fn is_limit_reset_in_time(octets: Option<u32>, end: u64, until: u64) -> bool
+    ensures { result ≡ spec.is_limit_reset_in_time octets end until }
+{
+    match octets {
+        None => true,
+        Some(_) => end <= until,
+    }
+}
+
+/// Whether each interval from `from` to `to` passes one frame of `sdu` octets. Looks at no more than one cycle of the list.
+fn can_pass_turns<A: Allocator + Copy>(
+    list: &CyclicList<GateEntry, A>,
+    from: u64,
+    to: u64,
+    sdu: u32,
+) -> bool
+    requires phases { from ≤ to }
+    requires to { to ≤ END_OF_TIME }
+    requires lawful { IsLawful list.now }
+    ensures { (result ≡ true) ↔ CanPassTurns (turn_by_time list.now) from to sdu }
+{
+    let end = to.min(from + list.cycle());
+    let mut seen = from;
+    while seen <= end {
+        let turn = list.turn(seen);
+        if !can_pass_entry(&turn.state, sdu) {
+            return false;
+        }
+        seen = turn.end;
+    }
+    true
+}
+
+/// Whether a stream gate's list passes each frame of the traffic. The period must be a multiple of the cycle time. No frame may share an
+/// interval's octets with another.
+fn can_pass_list<A: Allocator + Copy>(
+    list: &CyclicList<GateEntry, A>,
+    traffic: &Traffic,
+    sdu: u32,
+) -> bool
+    requires traffic { IsTraffic traffic.now }
+    requires lawful { IsLawful list.now }
+    ensures { (result ≡ true) ↔ CanPassList list.now traffic.now sdu }
+{
+    if traffic.period % list.cycle() != 0 {
+        return false;
+    }
+    if !can_pass_turns(list, traffic.from, traffic.to, sdu) {
+        return false;
+    }
+    let last = list.turn(traffic.to);
+    is_limit_reset_in_time(last.state.octets, last.end, traffic.from + traffic.period)
+}
+
+/// Whether a stream gate's schedule passes each frame of the traffic. If the schedule changes, both lists must pass them.
+fn can_pass_schedule<A: Allocator + Copy>(
+    schedule: &Schedule<A>,
+    traffic: &Traffic,
+    sdu: u32,
+) -> bool
+    requires { IsTraffic traffic.now }
+    ensures { (result ≡ true) ↔ CanPassSchedule schedule.now traffic.now sdu }
+{
+    match schedule {
+        Schedule::Fixed { lets, ipv: _ } => *lets,
+        Schedule::Cyclic(list) => {
+            let _ = list.cycle();
+            can_pass_list(list, traffic, sdu)
+        }
+        Schedule::Joined(joined) => {
+            let (old, new) = joined.lists();
+            can_pass_list(old, traffic, sdu) && can_pass_list(new, traffic, sdu)
+        }
+    }
+}
+
+/// Whether each own frame of `filter` passes if they keep `traffic`. Sizes must be allowed, the filter has no meter, and the stream gate
+/// passes one frame in each interval.
+pub fn passes<A: Allocator + Copy>(plan: &Plan<A>, filter: &FilterPlan, traffic: &Traffic) -> bool
+    requires traffic { IsTraffic traffic.now }
+    ensures { (result ≡ true) ↔ Passes plan.now filter.now traffic.now }
+{
+    let octets = longest_sdu(plan, filter.handle, traffic.longest);
+    if is_above(filter.max_sdu, octets) || filter.meter.is_some() {
+        return false;
+    }
+    match find_gate(plan.gates(), filter.gate) {
+        None => false,
+        Some(gate) => can_pass_schedule(&gate.schedule, traffic, octets),
+    }
+}

@@ -1,5 +1,0 @@
-pub mod Traffic
-pub mod Waits
-pub mod Timings
-pub mod Passing
-pub mod Examples
