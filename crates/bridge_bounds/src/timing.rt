@@ -11,9 +11,9 @@ ghost use Rattle.bridge_bounds.specs.Bounds.{HasNoBound, IsQueueBound, IsRoomBou
 ghost use Rattle.bridge_bounds.specs.Timings.{IsTimingWithPhases, IsTiming, IsPortTiming, IsTimingWithoutPhases};
 ghost use Rattle.bridge_bounds.specs.Traffic.{IsTraffic};
 
+use crate::queue_bounds::{find_filter, queue_bound};
 use crate::traffic::Traffic;
 use crate::waits::port_waits;
-use bridge_bounds::{find_filter, queue_bound};
 use bridge_check::Accepted;
 use bridge_config::{Plan, PortPlan};
 use bridge_cycle::Egress;

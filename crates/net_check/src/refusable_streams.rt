@@ -9,7 +9,7 @@ ghost use Rattle.net_latency.specs.Bounds.{HasValidPort};
 use crate::network::{check_network_file, read_network, read_plans};
 use crate::refusing::bridge_name;
 use app_files::CommandFiles;
-use bridge_bounds::find_filter;
+use bridge_bounds::{Traffic, find_filter, passes};
 use bridge_config::Plan;
 use bridge_filter::FilterPlan;
 use bridge_limits::{END_OF_TIME, LONGEST_FRAME};
@@ -20,7 +20,6 @@ use net_latency::{
     latency_through_hops, put_reason, stream_hops,
 };
 use net_model::{Link, Network, StreamHop};
-use bridge_bounds::{Traffic, passes};
 use std::alloc::Global;
 use std::rt::Files;
 

@@ -9,12 +9,12 @@ ghost use Rattle.net_latency.specs.Entering.{IsStreamCourse};
 use crate::latency::{StreamLatency, stream_latency};
 use crate::next_hop::{far_end, hop_at_bridge};
 use crate::tree::HopQueue;
+use bridge_bounds::Traffic;
 use bridge_check::Accepted;
 use bridge_config::{Plan, PortPlan};
 use net_model::{
     Link, StreamHop, find_plan, has_entry, is_received_by_next_hop, peer_port, protected_handle,
 };
-use bridge_bounds::Traffic;
 use std::alloc::Allocator;
 
 /// Whether port `on` is open and has an entry with this handle, so that frames from outside can get the handle there.

@@ -6,9 +6,9 @@ ghost use Rattle.net_latency.specs.StreamLatency.{AddsQueueLatency, HasHeadroom,
 
 use crate::queue_exit::{HopArrival, QueueExit, StreamContext, hop_passes, queue_exit};
 use crate::tree::{HopQueue, is_tree};
+use bridge_bounds::{Phases, Traffic};
 use bridge_check::Accepted;
 use net_model::{Link, StreamHop};
-use bridge_bounds::{Phases, Traffic};
 use std::alloc::Allocator;
 
 /// Delays in ns of a periodic talker's frames, from arrival at the first hop to the end of transmission at a last hop.

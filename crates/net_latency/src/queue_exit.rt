@@ -7,10 +7,9 @@ ghost use Rattle.net_latency.specs.StreamLatency.{HasHeadroom, HopPasses, IsQueu
 use crate::latency::StreamLatency;
 use crate::next_hop::{NextHop, next_hop};
 use crate::tree::HopQueue;
-use bridge_bounds::find_filter;
+use bridge_bounds::{Phases, Timing, Traffic, find_filter, passes, queue_timing};
 use bridge_check::Accepted;
 use net_model::{Link, StreamHop};
-use bridge_bounds::{Phases, Timing, Traffic, passes, queue_timing};
 use std::alloc::Allocator;
 
 /// Everything that the delays of one stream depend on: plans and links, its hops, their reachable queues, and its talker's first phase.

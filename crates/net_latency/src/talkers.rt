@@ -19,13 +19,12 @@ use crate::latency::StreamLatency;
 use crate::streams::bounds_of_bridge;
 use crate::traffic::suits;
 use crate::tree::HopQueue;
-use bridge_bounds::find_filter;
+use bridge_bounds::{Traffic, find_filter};
 use bridge_check::Accepted;
 use bridge_config::Plan;
 use bridge_limits::NoMemory;
 use net_file::{NetFault, NetField, NetKeyLocation, NetSection, StreamRow, Talker};
 use net_model::{Link, StreamHop};
-use bridge_bounds::Traffic;
 use std::alloc::Allocator;
 
 /// Whether the period suits the filter with this number: no cycle time on its route fails to divide it. Returns true if the filter is

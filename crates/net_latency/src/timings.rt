@@ -10,12 +10,11 @@ ghost use Rattle.net_latency.specs.Traffic.{AreRowTimings, AreTimings, RowPasses
 ghost use Rattle.net_latency.specs.TrafficText as printing;
 
 use crate::bounds::{QueueBound, queue_bounds};
-use bridge_bounds::find_filter;
+use bridge_bounds::{Phases, Timing, find_filter, passes, queue_timing};
 use bridge_check::Accepted;
 use bridge_limits::NoMemory;
 use bridge_text::TextBuilder;
 use net_file::TrafficRow;
-use bridge_bounds::{Phases, Timing, passes, queue_timing};
 use std::alloc::Allocator;
 
 /// Delays of a traffic row's frames in a reachable queue: one line of `bounds --traffic`.
