@@ -1,2 +1,0 @@
-mod NoCommands
-mod Came
