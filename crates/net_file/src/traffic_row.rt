@@ -10,8 +10,8 @@ ghost use Rattle.net_file.specs.TrafficRows.{AreRows, IsRow};
 use crate::fault::{NetFault, NetField, NetKeyLocation, NetSection};
 use crate::keys::{DEADLINE, OCTETS, PERIOD, PHASE, TRAFFIC_KEYS};
 use crate::reading::{read_optional, read_required};
-use bridge_schema::{NUMBER, NumberRange, SectionReader, has_only};
 use bridge_bounds::Traffic;
+use bridge_schema::{NUMBER, NumberRange, SectionReader, has_only};
 use std::alloc::Allocator;
 use toml::Table;
 
