@@ -12,8 +12,8 @@ use Rattle.bridge_filter.specs.declared.Verdict.{Verdict}
 use Rattle.bridge_filter.specs.declared.Verdict.TheVariants as verdict
 use Rattle.bridge_filter.specs.Verdicts as verdicts
 use Rattle.bridge_forward.specs.Ports.{has_port}
-use Rattle.bridge_port.specs.Schedule.{Copy, Started, PortRules}
-use Rattle.bridge_port.specs.Solo.{IsSolo, IsSoloFate}
+use Rattle.bridge_port.specs.Schedule.{Copy, PortRules}
+use Rattle.bridge_port.specs.Solo.{IsSolo}
 use Rattle.bridge_port.proofs.Alone.{one_outcome}
 use Rattle.bridge_config.specs.declared.ports.PortPlan.{PortPlan}
 use Rattle.bridge_config.specs.Model.{Plan}
@@ -27,7 +27,7 @@ use Rattle.bridge_semantics.specs.Merge.{Input, FollowsInput, inputs_by_rank, in
 use Rattle.bridge_semantics.specs.Runs.{AreSolo, IsSoloView, AreSameViews}
 use Rattle.bridge_semantics.proofs.Headline.{in_class_in}
 use Rattle.bridge_semantics.proofs.Offering.{in_class_join}
-use Rattle.bridge_semantics.proofs.Views.{after_all, rising_one, same_offers, told_once}
+use Rattle.bridge_semantics.proofs.Views.{after_all, rising_one, same_offers, solo_after, told_once}
 use Rattle.bridge_semantics.proofs.Merging.{in_at, one_list}
 use Rattle.net_model.specs.Networks.{Network, Sender, sender, Hop, hop, IsHop}
 use Rattle.net_model.specs.Alone.{ArrivesOverLink, IsAlone, HaveSameExternalInputs}

@@ -10,7 +10,7 @@ use Rattle.bridge_config.specs.Rules.{find_port}
 use Rattle.bridge_semantics.specs.declared.outcome.View.{View}
 use Rattle.bridge_semantics.specs.Events.{is_own_event}
 use Rattle.bridge_semantics.specs.Offers.{CarriedFrame}
-use Rattle.bridge_semantics.specs.Merge.{Input, FollowsInput, inputs_by_rank, input_events, own_inputs, capture_input, AreTimed}
+use Rattle.bridge_semantics.specs.Merge.{AreTimed, FollowsInput, Input, IsLater, capture_input, input_events, inputs_by_rank, own_inputs}
 use Rattle.bridge_semantics.specs.Outputs.{departed_frame}
 use Rattle.bridge_semantics.specs.Runs.{AreSolo, IsFilterView}
 use Rattle.net_model.specs.Networks.{Network, Sender, sender, delayed_frame, external_inputs, Hop, hop, IsHop}
