@@ -5,6 +5,7 @@ ghost use Rattle.app_commands.specs.WireFiles.{EndsInto, EndsOver, EndsWiring, S
 ghost use Rattle.app_commands.specs.Jobs.{EndsWire, IsOfRun, PrintsCounts};
 
 use crate::jobs::wire_job;
+use crate::progress::{Progress, WatchedReader, input_octets};
 use app_failure::{Failure, file_failure};
 use app_files::{
     Cause, FileId, Said, create_output, file_fault, is_same_file, is_standard, open_capture,
@@ -16,20 +17,22 @@ use bridge_wire::RunFault;
 use std::alloc::Global;
 use std::io;
 use std::io::{Read, Write};
-use std::rt::Files;
+use std::rt::{Clock, Files};
 
 /// Path of standard input's file. Its identity shows whether the output would overwrite the input.
 const STANDARD_INPUT: &str = "/dev/stdin";
 
 /// Sends one capture through one queue of `room` frames (1 to 4,096). `-` stands for standard input or output.
 ///
-/// Refuses an output that is the input file. The output keeps its contents until the first read succeeds.
-pub fn wire_files<H: Input + AllocGlobal + Print + Files>(
+/// Refuses an output that is the input file. The output keeps its contents until the first read succeeds. If `is_watched`, a long run shows
+/// its progress.
+pub fn wire_files<H: Input + AllocGlobal + Clock + Print + Eprint + Files>(
     rt: &H,
     speed: Speed,
     room: u16,
     input: &str,
     output: &str,
+    is_watched: bool,
 ) -> Result<Said, Failure>
     requires room { (1 ≤ room) × (room ≤ LARGEST_ROOM) }
     ensures ok { IfOk result (SaysCounts output.now) }
@@ -37,14 +40,28 @@ pub fn wire_files<H: Input + AllocGlobal + Print + Files>(
 {
     if is_standard(input) {
         let file = path_file_id(rt, STANDARD_INPUT);
-        return wire_to_output(rt, speed, room, rt.reader(), file, output);
+        let progress = Progress::new(rt, 0, is_watched);
+        let reader = WatchedReader::new(rt.reader(), &progress);
+        let said = wire_to_output(rt, speed, room, reader, file, output);
+        progress.clear();
+        return said;
     }
     let reader = match open_capture(rt, input, Cause::NotFound) {
         Ok(reader) => reader,
         Err(fault) => return Err(file_failure(fault)),
     };
     let file = open_file_id(&reader);
-    wire_to_output(rt, speed, room, reader, file, output)
+    let progress = Progress::new(rt, input_octets(&reader), is_watched);
+    let said = wire_to_output(
+        rt,
+        speed,
+        room,
+        WatchedReader::new(reader, &progress),
+        file,
+        output,
+    );
+    progress.clear();
+    said
 }
 
 /// Sends a reader's capture to the file at `output` or to standard output. `file` is the reader's file, if the system identifies it; it is

@@ -21,7 +21,7 @@ use bridge_limits::NoMemory;
 use bridge_report::{lost_lines, summary};
 use bridge_semantics::Outcome;
 use std::alloc::Global;
-use std::rt::Files;
+use std::rt::{Clock, Files};
 
 /// Lines of a complete run, from which the output of `run` is made.
 #[derive(Drop)]
@@ -39,7 +39,7 @@ pub(crate) struct RunLines {
 /// Runs captures under an accepted plan between two folders, and writes report, requested tables and picture. Refuses outputs that are
 /// files in use. Returns the run's lines.
 #[tactic(auto, using(crate::proofs::ShownEnded::memory_ends))]
-pub(crate) fn run_with_outputs<H: AllocGlobal + Files>(
+pub(crate) fn run_with_outputs<H: AllocGlobal + Clock + Eprint + Files>(
     files: &mut CommandFiles<'_, H>,
     accepted: &Accepted<Global>,
     orders: &[Command],
@@ -60,7 +60,7 @@ pub(crate) fn run_with_outputs<H: AllocGlobal + Files>(
     if let Err(fault) = check_run_outputs_unused(files, accepted, job) {
         return Err(fault);
     }
-    let sent = match run_folder(files, accepted, orders, job.input, job.output) {
+    let sent = match run_folder(files, accepted, orders, job, flags) {
         Ok(sent) => sent,
         Err(fault) => return Err(fault),
     };

@@ -9,11 +9,11 @@ use crate::strict::{StrictRun, run_job};
 use app_failure::{Failure, NoMemory};
 use app_files::CommandFiles;
 use std::alloc::Global;
-use std::rt::Files;
+use std::rt::{Clock, Files};
 
 /// Runs captures through the bridge of a plan, and returns the output of `run`. If a warning is an error, nothing runs. The status is 1
 /// then, and if a loss is an error.
-pub fn run_bridge<H: AllocGlobal + Files>(
+pub fn run_bridge<H: AllocGlobal + Clock + Eprint + Files>(
     files: &mut CommandFiles<'_, H>,
     job: &RunRequest<'_>,
     flags: Flags,

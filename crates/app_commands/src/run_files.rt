@@ -4,7 +4,8 @@ ghost use Rattle.bridge_config.specs.Commands.{AreCommands};
 ghost use Rattle.app_files.specs.Folders.{HavePaths};
 ghost use Rattle.app_commands.specs.RunFiles.{EndsReading, EndsSending, EndsWithCommands, HasReport, IsAcceptedPlan, IsCheckedPlan, IsOfOutputs, IsOfReport};
 
-use crate::context::{RunRequest, Texts};
+use crate::context::{Flags, RunRequest, Texts};
+use crate::progress::{Progress, all_input_octets, watched_readers};
 use crate::running::run_captures;
 use app_failure::{Failure, file_failure, read_commands_and_check, read_plan};
 use app_files::{
@@ -19,7 +20,7 @@ use bridge_semantics::Outcome;
 use std::alloc::Global;
 use std::fs::OpenFile;
 use std::io::Write;
-use std::rt::Files;
+use std::rt::{Clock, Files};
 
 /// Result of a complete run, and the file of its report.
 #[derive(Drop)]
@@ -30,39 +31,40 @@ pub struct Sent<F: Write + OpenFile + Drop> {
     pub report: Output<F>,
 }
 
-/// Runs captures under an accepted plan between two folders, and writes the report. Refuses outputs that are files in use, and an empty
-/// folder path. Inputs and outputs are in use afterwards.
-pub fn run_folder<H: AllocGlobal + Files>(
+/// Runs captures under an accepted plan between the folders of `job`, and writes the report. Refuses outputs that are files in use, and an
+/// empty folder path. Inputs and outputs are in use afterwards.
+pub fn run_folder<H: AllocGlobal + Clock + Eprint + Files>(
     files: &mut CommandFiles<'_, H>,
     accepted: &Accepted<Global>,
     orders: &[Command],
-    input: &str,
-    output: &str,
+    job: &RunRequest<'_>,
+    flags: Flags,
 ) -> Result<Sent<H::File>, Failure>
     requires commands { AreCommands accepted.now orders.now }
-    ensures named { IfOk result (λ _. HavePaths input.now output.now) }
+    ensures named { IfOk result (λ _. HavePaths job.now.input.now job.now.output.now) }
     ensures reported { IfOk result (λ sent. HasReport ⟦<Output<H::File> as Write>⟧.contents sent.outcome sent.report) }
-    ensures err { IfErr result (EndsSending accepted.now input.now output.now) }
+    ensures err { IfErr result (EndsSending accepted.now job.now.input.now job.now.output.now) }
 {
-    match test_folders(files.alloc(), input, output) {
-        Ok(()) => send_named(files, accepted, orders, input, output),
+    match test_folders(files.alloc(), job.input, job.output) {
+        Ok(()) => send_named(files, accepted, orders, job, flags),
         Err(fault) => Err(file_failure(fault)),
     }
 }
 
 /// Runs captures under an accepted plan between two folders with nonempty paths: opens all files, runs, then writes the report.
-fn send_named<H: AllocGlobal + Files>(
+fn send_named<H: AllocGlobal + Clock + Eprint + Files>(
     files: &mut CommandFiles<'_, H>,
     accepted: &Accepted<Global>,
     orders: &[Command],
-    input: &str,
-    output: &str,
+    job: &RunRequest<'_>,
+    flags: Flags,
 ) -> Result<Sent<H::File>, Failure>
     requires commands { AreCommands accepted.now orders.now }
-    requires named { HavePaths input.now output.now }
+    requires named { HavePaths job.now.input.now job.now.output.now }
     ensures reported { IfOk result (λ sent. HasReport ⟦<Output<H::File> as Write>⟧.contents sent.outcome sent.report) }
-    ensures err { IfErr result (EndsSending accepted.now input.now output.now) }
+    ensures err { IfErr result (EndsSending accepted.now job.now.input.now job.now.output.now) }
 {
+    let (input, output) = (job.input, job.output);
     let Ok(ports) = accepted.plan().port_numbers(files.alloc()) else {
         return Err(Failure::NoMemory);
     };
@@ -81,9 +83,9 @@ fn send_named<H: AllocGlobal + Files>(
             return Err(fault);
         }
     };
-    let outcome = match run_captures(files.alloc(), accepted, orders, readers, writers) {
-        Ok((outcome, _)) => outcome,
-        Err(halted) => return Err(Failure::Run(halted.fault)),
+    let outcome = match run_watched(files.rt, accepted, orders, readers, writers, flags) {
+        Ok(outcome) => outcome,
+        Err(fault) => return Err(Failure::Run(fault)),
     };
     match write_report_file(files, &outcome, output) {
         Ok(report) => Ok(Sent { outcome, report }),
@@ -91,6 +93,32 @@ fn send_named<H: AllocGlobal + Files>(
             drop(outcome);
             Err(fault)
         }
+    }
+}
+
+/// Runs captures from readers into writers, and shows the progress of a long run if `flags` asks for it.
+fn run_watched<H: AllocGlobal + Clock + Eprint + Files>(
+    rt: &H,
+    accepted: &Accepted<Global>,
+    orders: &[Command],
+    readers: Vec<H::File>,
+    writers: Vec<Output<H::File>>,
+    flags: Flags,
+) -> Result<Outcome<Global>, RunFault>
+    requires commands { AreCommands accepted.now orders.now }
+    requires readers { length readers.items ≡ length accepted.now.ports }
+    requires writers { length writers.items ≡ length accepted.now.ports }
+{
+    let progress = Progress::new(rt, all_input_octets(&readers), flags.is_watched);
+    let Ok(readers) = watched_readers(rt.alloc(), readers, &progress) else {
+        drop(writers);
+        return Err(RunFault::NoMemory);
+    };
+    let ran = run_captures(rt.alloc(), accepted, orders, readers, writers);
+    progress.clear();
+    match ran {
+        Ok((outcome, _)) => Ok(outcome),
+        Err(halted) => Err(halted.fault),
     }
 }
 

@@ -18,7 +18,7 @@ use app_files::CommandFiles;
 use bridge_check::Accepted;
 use bridge_config::Command;
 use std::alloc::Global;
-use std::rt::Files;
+use std::rt::{Clock, Files};
 
 /// Result of the command `run`, from which its output is made. Warnings and losses may be errors.
 #[derive(Drop)]
@@ -55,7 +55,7 @@ impl StrictRun {
 /// nothing runs, and only plan and commands are opened.
 ///
 /// Reads plan and commands once, so both may be pipes.
-pub(crate) fn run_job<H: AllocGlobal + Files>(
+pub(crate) fn run_job<H: AllocGlobal + Clock + Eprint + Files>(
     files: &mut CommandFiles<'_, H>,
     job: &RunRequest<'_>,
     flags: Flags,
@@ -87,7 +87,7 @@ pub(crate) fn run_job<H: AllocGlobal + Files>(
 
 /// Runs captures under an accepted plan. If warnings are errors, a plan with a warning doesn't run. `idle` is the line of a schedule change
 /// without effect.
-fn run_accepted_captures<H: AllocGlobal + Files>(
+fn run_accepted_captures<H: AllocGlobal + Clock + Eprint + Files>(
     files: &mut CommandFiles<'_, H>,
     accepted: &Accepted<Global>,
     orders: &[Command],
@@ -161,7 +161,7 @@ fn run_warnings<H: AllocGlobal + Files>(
 
 /// Runs captures under an accepted plan if the plan has no warning; otherwise returns the warnings. Called if warnings are errors.
 #[tactic(auto, using(crate::proofs::ShownEnded::memory_ends))]
-fn send_strictly<H: AllocGlobal + Files>(
+fn send_strictly<H: AllocGlobal + Clock + Eprint + Files>(
     files: &mut CommandFiles<'_, H>,
     accepted: &Accepted<Global>,
     orders: &[Command],

@@ -13,22 +13,23 @@ use bridge_limits::NoMemory;
 use bridge_port::LARGEST_ROOM;
 use bridge_wire::WireCount;
 use std::alloc::{Allocator, Global};
-use std::rt::Files;
+use std::rt::{Clock, Files};
 
 /// Sends one capture through one queue of `room` frames (1 to 4,096), and returns the output of `wire`. The counts go to standard error if
-/// the capture goes to standard output.
-pub fn send_capture<H: Input + AllocGlobal + Print + Files>(
+/// the capture goes to standard output. If `is_watched`, a long run shows its progress.
+pub fn send_capture<H: Input + AllocGlobal + Clock + Print + Eprint + Files>(
     rt: &H,
     speed: Speed,
     room: u16,
     input: &str,
     output: &str,
+    is_watched: bool,
 ) -> Result<Output, Failure>
     requires room { (1 ≤ room) × (room ≤ LARGEST_ROOM) }
     ensures ok { IfOk result (IsWireOutput output.now) }
     ensures fails { IfErr result (EndsWiring input.now output.now) }
 {
-    match wire_files(rt, speed, room, input, output) {
+    match wire_files(rt, speed, room, input, output, is_watched) {
         Ok(said) => Ok(wire_output(rt.alloc(), said)),
         Err(fault) => Err(fault),
     }

@@ -289,7 +289,9 @@ fn run_network_folders<H: AllocGlobal + Eprint + Files>(
         drop(drawing);
         return Err(Failure::NoMemory);
     };
-    match run_network(alloc, network, incoming, rounds, &mut teller) {
+    let ran = run_network(alloc, network, incoming, rounds, &mut teller);
+    teller.clear();
+    match ran {
         Ok(settled) => {
             let rounds = settled.rounds;
             let told = write_results_and_picture(

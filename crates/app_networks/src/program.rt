@@ -19,11 +19,11 @@ use app_commands::{
 use app_failure::{Failure, NoMemory};
 use app_files::CommandFiles;
 use std::alloc::Global;
-use std::rt::Files;
+use std::rt::{Clock, Files};
 
 /// Carries out the arguments, and returns the program's output. The status is 4 for help or the version. If `is_watched`, a long run shows
 /// its progress on standard error.
-pub fn perform<H: Input + AllocGlobal + Print + Eprint + Files>(
+pub fn perform<H: Input + AllocGlobal + Clock + Print + Eprint + Files>(
     rt: &H,
     words: &[String],
     is_watched: bool,
@@ -52,7 +52,7 @@ fn help_output(alloc: Global, text: String) -> Output
 }
 
 /// Reads the request from the arguments, and returns its output. Refused arguments give their fault and the usage.
-fn perform_request<H: Input + AllocGlobal + Print + Eprint + Files>(
+fn perform_request<H: Input + AllocGlobal + Clock + Print + Eprint + Files>(
     rt: &H,
     words: &[String],
     is_watched: bool,
@@ -68,7 +68,7 @@ fn perform_request<H: Input + AllocGlobal + Print + Eprint + Files>(
 
 /// Returns the output of a request: of its successful command, or of its failure. Keeps the texts that the command reads, for the
 /// explanation.
-fn request_output<H: Input + AllocGlobal + Print + Eprint + Files>(
+fn request_output<H: Input + AllocGlobal + Clock + Print + Eprint + Files>(
     rt: &H,
     words: &[String],
     request: &Request,
@@ -128,7 +128,7 @@ pub(crate) fn requested_run<'a>(
 }
 
 /// Carries out the command of a request by the command's function. Keeps in `texts` what it reads.
-fn run_request<H: Input + AllocGlobal + Print + Eprint + Files>(
+fn run_request<H: Input + AllocGlobal + Clock + Print + Eprint + Files>(
     rt: &H,
     request: &Request,
     is_watched: bool,
@@ -151,7 +151,14 @@ fn run_request<H: Input + AllocGlobal + Print + Eprint + Files>(
             room,
             input,
             output,
-        } => send_capture(rt, *speed, *room, input.as_str(), output.as_str()),
+        } => send_capture(
+            rt,
+            *speed,
+            *room,
+            input.as_str(),
+            output.as_str(),
+            is_watched,
+        ),
         Command::Check { plan } => check_plan(&mut files, plan.as_str(), flags, texts),
         Command::Run {
             plan,

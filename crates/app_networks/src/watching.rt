@@ -1,13 +1,11 @@
-//! Shows the progress of a network run on standard error.
+//! Shows the progress of a network run on one line of standard error.
 use crate::refusing::bridge_name;
+use app_commands::{LONG_INPUT, clear_line};
 use net_file::BridgeRow;
 use net_run::{BridgeInput, RoundObserver};
 use std::alloc::Global;
 
-/// Number of captured octets from which a run shows its progress. Shorter runs are quick.
-const LONG: u64 = 8_388_608;
-
-/// Observer of a network run that prints its rounds and bridges on standard error. Prints nothing unless `is_wanted` is true.
+/// Observer of a network run that shows its round and its bridge on standard error. Shows nothing unless `is_wanted` is true.
 #[derive(Drop)]
 pub(crate) struct ProgressPrinter<'a, H> {
     pub(crate) rt: &'a H,
@@ -21,8 +19,18 @@ impl<H: Eprint> RoundObserver for ProgressPrinter<'_, H> {
             return;
         }
         let number = round.saturating_add(1);
+        let (index, count) = (bridge.saturating_add(1), self.bridges.len());
         let name = bridge_name(self.bridges, bridge);
-        let _ = eprint!(self.rt; "round {number}: {name}\n");
+        let _ = eprint!(self.rt; "\rround {number}, bridge {index} of {count}: {name}\x1b[K");
+    }
+}
+
+impl<H: Eprint> ProgressPrinter<'_, H> {
+    /// Removes the line, if one was shown.
+    pub(crate) fn clear(&self) {
+        if self.is_wanted {
+            clear_line(self.rt);
+        }
     }
 }
 
@@ -41,5 +49,5 @@ pub(crate) fn is_long_run(incoming: &[BridgeInput<Global>]) -> bool {
     for came in incoming {
         octets = octets.saturating_add(capture_octets(&came.captures));
     }
-    octets >= LONG
+    octets >= LONG_INPUT
 }

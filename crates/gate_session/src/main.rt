@@ -23,14 +23,14 @@ use sections::compare;
 use std::alloc::Global;
 use std::fs;
 use std::process::ExitCode;
-use std::rt::{Env, Files};
+use std::rt::{Clock, Env, Files};
 
 fn main(rt: HostRuntime) -> ExitCode {
     ExitCode::from(if run(&rt) { 0 } else { 1 })
 }
 
 /// Plays the scripts that the arguments name, and returns whether all lines succeeded.
-fn run<H: Input + AllocGlobal + Print + Eprint + Env + Files>(rt: &H) -> bool {
+fn run<H: Input + AllocGlobal + Clock + Print + Eprint + Env + Files>(rt: &H) -> bool {
     let Ok(words) = read_arguments(rt) else {
         return false;
     };
@@ -43,7 +43,7 @@ fn run<H: Input + AllocGlobal + Print + Eprint + Env + Files>(rt: &H) -> bool {
 }
 
 /// Plays a script line by line. If a line fails, prints it on standard error and returns false.
-fn play<H: Input + AllocGlobal + Print + Eprint + Files>(rt: &H, path: &str) -> bool {
+fn play<H: Input + AllocGlobal + Clock + Print + Eprint + Files>(rt: &H, path: &str) -> bool {
     let Ok(script) = fs::read_to_string(rt, path) else {
         return false;
     };
@@ -57,7 +57,7 @@ fn play<H: Input + AllocGlobal + Print + Eprint + Files>(rt: &H, path: &str) -> 
 }
 
 /// Prints a line of a script, carries it out, and prints its output. Returns false if it fails.
-fn step<H: Input + AllocGlobal + Print + Eprint + Files>(rt: &H, line: &str) -> bool {
+fn step<H: Input + AllocGlobal + Clock + Print + Eprint + Files>(rt: &H, line: &str) -> bool {
     let is_begun = println!(rt; "{line}").is_ok();
     let mut said = TextBuilder::new(rt.alloc());
     let (word, rest) = line.split_once(' ').unwrap_or((line, ""));
@@ -69,7 +69,7 @@ fn step<H: Input + AllocGlobal + Print + Eprint + Files>(rt: &H, line: &str) -> 
 }
 
 /// Carries out a line of a script, and adds its output to `said`.
-fn look<H: Input + AllocGlobal + Print + Eprint + Files>(
+fn look<H: Input + AllocGlobal + Clock + Print + Eprint + Files>(
     rt: &H,
     said: &mut TextBuilder<Global>,
     word: &str,
@@ -109,7 +109,7 @@ fn split_words(alloc: Global, said: &mut TextBuilder<Global>, line: &str) -> Vec
 }
 
 /// Runs the command that `line` has as arguments, and adds its output.
-fn job<H: Input + AllocGlobal + Print + Eprint + Files>(
+fn job<H: Input + AllocGlobal + Clock + Print + Eprint + Files>(
     rt: &H,
     said: &mut TextBuilder<Global>,
     line: &str,
@@ -133,7 +133,7 @@ fn tell(said: &mut TextBuilder<Global>, output: &Output) {
 }
 
 /// Runs a command while `PATH` leads to a pipe that gives a file's contents once: `pipe FILE PATH WORDS`.
-fn pipe<H: Input + AllocGlobal + Print + Eprint + Files>(
+fn pipe<H: Input + AllocGlobal + Clock + Print + Eprint + Files>(
     rt: &H,
     said: &mut TextBuilder<Global>,
     rest: &str,

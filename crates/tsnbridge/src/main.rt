@@ -9,7 +9,7 @@ use app_failure::{NoMemory, print_fault};
 use app_networks::{Output, perform};
 use std::io::IsTerminal;
 use std::process::ExitCode;
-use std::rt::Files;
+use std::rt::{Clock, Files};
 
 fn main(rt: HostRuntime) -> ExitCode {
     let is_watched = rt.stderr().is_terminal();
@@ -20,7 +20,7 @@ fn main(rt: HostRuntime) -> ExitCode {
 }
 
 /// Carries out the arguments, and prints the text for standard output.
-fn run<H: Input + AllocGlobal + Print + Eprint + Files>(
+fn run<H: Input + AllocGlobal + Clock + Print + Eprint + Files>(
     rt: &H,
     words: &[String],
     is_watched: bool,

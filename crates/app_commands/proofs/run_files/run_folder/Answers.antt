@@ -5,4 +5,4 @@ pub returns-in-Ok-clause-named : goal.returns-in-Ok-clause-named
 returns-in-Ok-clause-named g c = where_named _ c.send_named.result c.in-Ok.ensures.named
 
 pub returns-in-Err-clause-err : goal.returns-in-Err-clause-err
-returns-in-Err-clause-err g c = lack_fails c.args.accepted.now c.args.input.now c.args.output.now c.file_failure.result (c.file_failure.ensures.folders c.args.input.now c.args.output.now c.in-Err.ensures.unnamed)
+returns-in-Err-clause-err g c = lack_fails c.args.accepted.now c.args.job.now.input.now c.args.job.now.output.now c.file_failure.result (c.file_failure.ensures.folders c.args.job.now.input.now c.args.job.now.output.now c.in-Err.ensures.unnamed)
