@@ -11,6 +11,8 @@ that the first one feeds. The seed is fixed, so the same files come out each tim
 The files are little-endian and count nanoseconds. A record's moment is that at which the whole frame has come, and only the
 first octets of each frame are captured: its addresses, its tag and its EtherType.
 
+`zone` gets three folders: `normal`, `outside` (a device outside the group babbles) and `members` (two members of the group babble).
+
 `network` gets what comes to the open ports of its three bridges. `crates/gate_session/data` gets both networks with their
 captures, and for each open port of `network` a capture in which a talker babbles there beside what comes on it anyway.
 """
@@ -267,6 +269,36 @@ def change(babbling):
     return ports
 
 
+def zone(babbling):
+    """4 ms of the zone controller. `babbling` is None, "outside" (telematics) or "members" (a radar and a lidar)."""
+    chance = random.Random(SEED)
+    end = 4_000_000
+    ports = {1: Port(100), 2: Port(100), 3: Port(1000), 4: Port(100), 5: Port(1000), 6: Port(1000)}
+    kinds = [(11, 18, 10_000_000, 272), (21, 26, 20_000_000, 1016), (31, 36, 1_000_000, 80)]
+    fronts = {}
+    for first, last, period, length in kinds:
+        for number in range(first, last + 1):
+            port = 1 if number < 15 else 2 if number < 19 else 3 if number < 27 else 4
+            fronts[number] = tagged(f"91-E0-F0-00-FE-{number}", f"02-00-00-00-05-{number}", 10, 6)
+            moment = chance.randint(0, min(period, end) - 1)
+            while moment < end:
+                ports[port].send(moment, fronts[number], length)
+                moment += period
+    telematics = "02-00-00-00-05-99"
+    if babbling != "outside":
+        now_and_then(chance, ports[6], end, 200_000, [tagged("02-00-00-00-05-01", telematics, 10, 0)], [60, 500, 1514])
+
+    def forged():
+        return tagged(f"91-E0-F0-00-FE-{chance.choice(sorted(fronts))}", telematics, 10, chance.randint(4, 7))
+
+    if babbling == "outside":
+        babble(chance, ports[6], end, forged, [60, 500, 1514])
+    if babbling == "members":
+        babble(chance, ports[1], end, lambda: fronts[12], [60])
+        babble(chance, ports[3], end, lambda: fronts[23], [60, 500, 1016])
+    return ports
+
+
 def write(folder, ports):
     """Makes the captures of the ports in a folder."""
     os.makedirs(folder, exist_ok=True)
@@ -281,6 +313,8 @@ def main():
             write(os.path.join(top, name, "normal"), example(False))
             write(os.path.join(top, name, "babbling"), example(True))
         shutil.copyfile(os.path.join(TOP, name, "plan.toml"), os.path.join(GATE, name, "plan.toml"))
+    for name, babbling in (("normal", None), ("outside", "outside"), ("members", "members")):
+        write(os.path.join(TOP, "zone", name), zone(babbling))
     networks()
 
 
