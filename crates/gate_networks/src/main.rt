@@ -4,7 +4,6 @@
 
 mod bounds;
 mod captures;
-mod greens;
 mod pairs;
 mod random_numbers;
 mod rounds;
@@ -41,7 +40,7 @@ fn print_report(rt: &(impl AllocGlobal + Print), said: TextBuilder<Global>) -> R
     }
 }
 
-/// Reports pairs of bridges, runs of networks, bounds, and lines that runs try to refute. Returns whether all results are right.
+/// Reports pairs of bridges, runs of networks, and bounds, and returns whether all results are right.
 fn report_all(
     rt: &(impl AllocGlobal + Files),
     said: &mut TextBuilder<Global>,
@@ -49,8 +48,7 @@ fn report_all(
     let are_pairs_so = run_result(pairs::run(rt.alloc(), said))?;
     let are_rounds_so = run_result(rounds::run(rt.alloc(), said))?;
     let are_bounds_so = bounds::run(rt, said)?;
-    let are_greens_so = run_result(greens::run(rt.alloc(), said))?;
-    Ok(are_pairs_so && are_rounds_so && are_bounds_so && are_greens_so)
+    Ok(are_pairs_so && are_rounds_so && are_bounds_so)
 }
 
 /// Returns the result, or the run's fault as a fault of the program.

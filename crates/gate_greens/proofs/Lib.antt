@@ -1,0 +1,2 @@
+mod NoCommands
+mod Came

@@ -1,9 +1,0 @@
-use denote.Shadow.{shadow}
-use denote.Text.{Utf8}
-use Rattle.gate_networks.proofs.greens.networks.line.parse_line.Given as goal
-
-abbrev pub invariant-loop-word : goal.invariant-loop-word
-invariant-loop-word l =
-    (goal.iterator-loop-word).can_next l.word-iterator ×
-    (goal.iterator-loop-word).is_finite l.word-iterator ×
-    shadow (Utf8 l.before)
