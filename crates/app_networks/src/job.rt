@@ -13,7 +13,7 @@ use crate::outputs::{Outputs, open_outputs};
 use crate::picture::{open_picture, write_picture};
 use crate::refusing::run_failure;
 use crate::tables::put_tables;
-use crate::watching::{ProgressPrinter, is_long_run};
+use crate::watching::ProgressPrinter;
 use crate::writing::write_bridges;
 use app_commands::Flags;
 use app_failure::{Failure, file_failure};
@@ -278,11 +278,7 @@ fn run_network_folders<H: AllocGlobal + Eprint + Files>(
     let (alloc, bridges) = (files.alloc(), file.bridges());
     let opened = open_run(files, file, network, job)?;
     let (incoming, outputs, drawing) = opened;
-    let mut teller = ProgressPrinter {
-        rt: files.rt,
-        bridges,
-        is_wanted: flags.is_watched && is_long_run(&incoming),
-    };
+    let mut teller = ProgressPrinter::new(files.rt, bridges, &incoming, flags);
     let Ok(rounds) = most_rounds(alloc, network) else {
         drop(incoming);
         drop(outputs);

@@ -1,6 +1,6 @@
 //! Shows the progress of a network run on one line of standard error.
 use crate::refusing::bridge_name;
-use app_commands::{LONG_INPUT, clear_line};
+use app_commands::{Flags, LONG_INPUT, clear_line};
 use net_file::BridgeRow;
 use net_run::{BridgeInput, RoundObserver};
 use std::alloc::Global;
@@ -25,7 +25,21 @@ impl<H: Eprint> RoundObserver for ProgressPrinter<'_, H> {
     }
 }
 
-impl<H: Eprint> ProgressPrinter<'_, H> {
+impl<'a, H: Eprint> ProgressPrinter<'a, H> {
+    /// Makes the observer of a run with these inputs. It shows lines if the user watches and the inputs are long.
+    pub(crate) fn new(
+        rt: &'a H,
+        bridges: &'a [BridgeRow<Global>],
+        incoming: &[BridgeInput<Global>],
+        flags: Flags,
+    ) -> ProgressPrinter<'a, H> {
+        ProgressPrinter {
+            rt,
+            bridges,
+            is_wanted: flags.is_watched && is_long_run(incoming),
+        }
+    }
+
     /// Removes the line, if one was shown.
     pub(crate) fn clear(&self) {
         if self.is_wanted {
@@ -44,7 +58,7 @@ fn capture_octets(captures: &[Vec<u8>]) -> u64 {
 }
 
 /// Whether a network's inputs have enough octets for a long run.
-pub(crate) fn is_long_run(incoming: &[BridgeInput<Global>]) -> bool {
+fn is_long_run(incoming: &[BridgeInput<Global>]) -> bool {
     let mut octets = 0u64;
     for came in incoming {
         octets = octets.saturating_add(capture_octets(&came.captures));
