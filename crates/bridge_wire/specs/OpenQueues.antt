@@ -1,5 +1,5 @@
 -- Queue of a port whose gates are always open, and the frame ahead.
-use Rattle.std.specs.Prelude.{ℕ, ◌-◌, List, length, take, slice_get, Option, Some, None, Vec, option_map, Result, Ok, Err}
+use Rattle.std.specs.Prelude.{ℕ, ◌+◌, ◌-◌, List, length, take, slice_get, Option, Some, None, Vec, option_map, Result, Ok, Err}
 use Rattle.bridge_port.specs.declared.item.Item.{Item}
 use Rattle.bridge_port.specs.StandsFor.{EgressState}
 use Rattle.bridge_frame.specs.declared.Speed.{Speed}
@@ -46,3 +46,7 @@ arrived_frame time x = record { time = time; len = x.len; octets = x.load.items 
 abbrev pub ContinuesOrStops : {A : Type 0} → Speed → ℕ → List ℕ → Option (List ℕ) → CaptureState → OpenQueue A → WireCount → Option (List ℕ) → Option (List ℕ) → Result (Option ℕ) RunFault → Type 0
 ContinuesOrStops speed room text remaining capture q count began now (Ok time) = IsUnderWay speed room text remaining (queue_reader capture time q) (queue_state q) count began now
 ContinuesOrStops speed room text remaining capture q count began now (Err fault) = StopsRun speed room text remaining began now fault
+
+-- Counts with the number of all frames, which is the sum of the other counts.
+abbrev pub with_frames : WireCount → WireCount
+with_frames count = record count { frames = count.malformed + count.sent + count.full }

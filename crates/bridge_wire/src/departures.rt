@@ -51,8 +51,7 @@ pub fn send_next<W: ByteSink, A: Allocator + Copy>(
 }
 
 /// Writes the record of a frame that left, at the end of its transmission. Returns whether the sink accepted all of it.
-// Not inlined: inlining makes the calling loop a third slower for short frames.
-#[inline(never)]
+#[inline(always)]
 fn write_record<W: ByteSink>(
     writer: &mut Writer,
     sink: &mut W,

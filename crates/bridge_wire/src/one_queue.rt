@@ -6,7 +6,7 @@ ghost use Rattle.bridge_port.specs.StandsFor.{count_queued};
 ghost use Rattle.bridge_capture.specs.CaptureReaders.{IsReader, frames_left as room_ahead};
 ghost use Rattle.bridge_wire.specs.Wire.{NamesPortOne, StopsRun, WiresText};
 ghost use Rattle.bridge_wire.specs.Departures.{RunsOneMore, EndsOrStops, is_overlong, IsRunning, IsUnderWay, no_count};
-ghost use Rattle.bridge_wire.specs.OpenQueues.{ContinuesOrStops, arrived_frame, packet_ahead, place_ahead, queue_reader, queue_state};
+ghost use Rattle.bridge_wire.specs.OpenQueues.{ContinuesOrStops, arrived_frame, packet_ahead, place_ahead, queue_reader, queue_state, with_frames};
 
 use crate::departures::send_due_frames;
 use crate::open_queue::OpenQueue;
@@ -35,18 +35,17 @@ fn offer_frame<W: ByteSink, A: Allocator + Copy>(
         → (length x.load.items ≤ MAX_CAPTURED_OCTETS) × (length x.load.items ≤ x.len) }
     requires speed { queue.old.speed ≡ speed }
     requires within { count_queued is_overlong (queue_state queue.old) ≡ 0 }
-    requires offered { queue.old.offered ≤ count.old.frames }
-    requires few { count.old.frames < MAX_RECORDS }
-    requires sums { count.old.malformed + count.old.sent + count.old.full ≡ count.old.frames }
+    requires offered { queue.old.offered ≤ (with_frames count.old).frames }
+    requires few { (with_frames count.old).frames < MAX_RECORDS }
     ensures continues { (x : Item (Vec ℕ A)) (room : ℕ) (frames : List CapturedFrame) (began : Option (List ℕ))
         → place_ahead queue.old ≡ Some x
-        → IsRunning speed room frames (queue_state queue.old) count.old began (W.contents sink.old)
-        → RunsOneMore speed room frames (arrived_frame time x) (queue_state queue.new) count.new began
+        → IsRunning speed room frames (queue_state queue.old) (with_frames count.old) began (W.contents sink.old)
+        → RunsOneMore speed room frames (arrived_frame time x) (queue_state queue.new) (with_frames count.new) began
         (W.contents sink.new) result }
     ensures same { OnOk result ((queue.new.speed ≡ speed) × (count_queued is_overlong (queue_state queue.new) ≡ 0)) }
     ensures early { OnOk result (queue.new.earliest ≤ time) }
-    ensures counts { OnOk result ((count.new.frames ≡ count.old.frames + 1) × (queue.new.offered ≤ count.new.frames)
-        × (count.new.malformed + count.new.sent + count.new.full ≡ count.new.frames)) }
+    ensures counts { OnOk result (((with_frames count.new).frames ≡ (with_frames count.old).frames + 1)
+        × (queue.new.offered ≤ (with_frames count.new).frames)) }
     ensures only { OnErr result (result ≡ Err (RunFault.Write 1)) }
     ensures fails { OnErr result (W.has_failed sink.new ≡ true) }
     ensures sound { W.never_fails sink.old ≡ true → OnErr result (W.ran_out sink.new ≡ true) }
@@ -55,7 +54,6 @@ fn offer_frame<W: ByteSink, A: Allocator + Copy>(
     if let Err(fault) = send_due_frames(time, queue, writer, sink) {
         return Err(fault);
     }
-    count.frames += 1;
     let ahead = queue.ahead();
     match parse(&ahead.load, ahead.len) {
         Err(_) => count.malformed += 1,
@@ -87,25 +85,25 @@ fn process_frame<R: ByteSource, W: ByteSink, A: Allocator + Copy>(
         → (length x.load.items ≤ MAX_CAPTURED_OCTETS) × (length x.load.items ≤ x.len) }
     requires speed { queue.old.speed ≡ speed }
     requires within { count_queued is_overlong (queue_state queue.old) ≡ 0 }
-    requires offered { queue.old.offered ≤ count.old.frames }
-    requires few { count.old.frames < MAX_RECORDS }
-    requires sums { count.old.malformed + count.old.sent + count.old.full ≡ count.old.frames }
+    requires offered { queue.old.offered ≤ (with_frames count.old).frames }
+    requires few { (with_frames count.old).frames < MAX_RECORDS }
     requires reading { IsReading capture.old }
     requires latest { capture.old.latest ≡ time }
     ensures goes { (x : Item (Vec ℕ A)) (room : ℕ) (text : List ℕ) (frames : List CapturedFrame)
         (began : Option (List ℕ)) → place_ahead queue.old ≡ Some x
         → StandsFor capture.old (R.remaining source.old) text (frames ++ arrived_frame time x ∷ [])
         → HasReadFrames text (frames ++ arrived_frame time x ∷ [])
-        → IsRunning speed room frames (queue_state queue.old) count.old began (W.contents sink.old)
-        → ContinuesOrStops speed room text (R.remaining source.new) capture.new queue.new count.new began
+        → IsRunning speed room frames (queue_state queue.old) (with_frames count.old) began (W.contents sink.old)
+        → ContinuesOrStops speed room text (R.remaining source.new) capture.new queue.new (with_frames count.new)
+        began
         (W.contents sink.new) result }
     ensures same { OnOk result ((queue.new.speed ≡ speed) × (count_queued is_overlong (queue_state queue.new) ≡ 0)) }
     ensures lane { IfOk result (λ next. IsReader (queue_reader capture.new next queue.new)) }
     ensures onward { IfOk result (λ next. (t : ℕ) → next ≡ Some t → queue.new.earliest ≤ t) }
     ensures fewer { IfOk result (λ next. room_ahead (queue_reader capture.new next queue.new)
         ≤ records_left capture.old) }
-    ensures counts { OnOk result ((count.new.frames ≡ count.old.frames + 1) × (queue.new.offered ≤ count.new.frames)
-        × (count.new.malformed + count.new.sent + count.new.full ≡ count.new.frames)) }
+    ensures counts { OnOk result (((with_frames count.new).frames ≡ (with_frames count.old).frames + 1)
+        × (queue.new.offered ≤ (with_frames count.new).frames)) }
     ensures one { IfErr result NamesPortOne }
     ensures read { (number : ℕ) → result ≡ Err (RunFault.Capture number CaptureFault.Read)
         → R.has_failed source.new ≡ true }
@@ -175,6 +173,8 @@ fn send_all<R: ByteSource, W: ByteSink, A: Allocator + Copy>(
     if let Err(fault) = send_due_frames(u64::MAX, queue, writer, sink) {
         return Err(fault);
     }
+    // Each frame has one of the other counts, so the loop needs no count of all frames.
+    count.frames = count.malformed + count.sent + count.full;
     Ok(count)
 }
 

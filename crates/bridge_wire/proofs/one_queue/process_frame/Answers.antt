@@ -1,7 +1,7 @@
 use Rattle.std.proofs.Common.{◌≡◌, [], Err, ◌++◌, ◌∷◌, inr, ap, sym, ◌∙◌, subst}
 use Rattle.bridge_capture.specs.declared.fault.RunFault.TheVariants as run
 use Rattle.bridge_wire.specs.Wire.{StopsRun}
-use Rattle.bridge_wire.specs.OpenQueues.{arrived_frame, queue_state}
+use Rattle.bridge_wire.specs.OpenQueues.{arrived_frame, queue_state, with_frames}
 use Rattle.bridge_wire.proofs.Ends.{stops_behind, stops_writing}
 use Rattle.bridge_wire.proofs.one_queue.process_frame.Goals as goal
 
@@ -20,4 +20,4 @@ returns-in-Err-read_ahead-clause-goes g c = λ x room text frames began there st
     let running = c.in_default.ensures.continues x room frames began there r in
     let refused = c.in-Err-read_ahead.ensures.looks text (frames ++ arrived_frame c.args.time x ∷ []) stands in
     subst (StopsRun c.args.speed room text (g.R.ByteSource.remaining c.read_ahead.new.source) began (contents c.offer_frame.new.sink)) (sym c.run_fault.ensures)
-    (stops_behind c.args.speed room text (g.R.ByteSource.remaining c.read_ahead.new.source) frames (arrived_frame c.args.time x) (queue_state c.offer_frame.new.queue) c.offer_frame.new.count began (contents c.offer_frame.new.sink) fault (λ e. c.read_ahead.ensures.no_write (c.in-Err-read_ahead.is ∙ ap Err e)) refused running)
+    (stops_behind c.args.speed room text (g.R.ByteSource.remaining c.read_ahead.new.source) frames (arrived_frame c.args.time x) (queue_state c.offer_frame.new.queue) (with_frames c.offer_frame.new.count) began (contents c.offer_frame.new.sink) fault (λ e. c.read_ahead.ensures.no_write (c.in-Err-read_ahead.is ∙ ap Err e)) refused running)

@@ -3,7 +3,7 @@ use Rattle.bridge_capture.specs.StandsFor.{last_time, StandsFor}
 use Rattle.bridge_capture.specs.CaptureReaders.{frame_ahead, FindsNext}
 use Rattle.bridge_capture.specs.declared.fault.RunFault.TheVariants as run
 use Rattle.bridge_wire.specs.Wire.{frame_offers, StopsRun}
-use Rattle.bridge_wire.specs.OpenQueues.{place_ahead, queue_reader, queue_state}
+use Rattle.bridge_wire.specs.OpenQueues.{place_ahead, queue_reader, queue_state, with_frames}
 use Rattle.bridge_wire.proofs.Running.{HasGone}
 use Rattle.bridge_wire.proofs.Queues.{ahead_of, place_some}
 use Rattle.bridge_wire.proofs.Ends.{idle_late, room_some, stops_at_end, wires_all}
@@ -17,7 +17,6 @@ loop-next-init g c = record {
   onward = λ t e. let z = c.requires.new.0 in omega arith;
   offered = let z = c.requires.new.1 in omega arith;
   few = let z = c.requires.few in omega arith;
-  sums = omega arith;
   lasts = λ h. h;
   holds = λ h. h;
   under = λ room text began u. u;
@@ -49,9 +48,6 @@ process_frame-requires-clause-few g c =
     let x = place_some q in
     let room = room_some (queue_reader c.loop-next.capture c.loop-next.next q) _ (ahead_of c.loop-next.next (place_ahead q) c.in-Some.time x.0 c.in-Some.is x.1) in
     let few = c.loop-next.invariant.few in omega arith
-
-pub process_frame-requires-clause-sums : goal.process_frame-requires-clause-sums
-process_frame-requires-clause-sums g c = c.loop-next.invariant.sums
 
 pub process_frame-requires-clause-reading : goal.process_frame-requires-clause-reading
 process_frame-requires-clause-reading g c =
@@ -104,7 +100,6 @@ loop-next-preserved g c =
           let x = place_some q in
           let room = room_some (queue_reader c.loop-next.capture c.loop-next.next q) _ (ahead_of c.loop-next.next (place_ahead q) c.in-Some.time x.0 c.in-Some.is x.1) in
           let few = kept.few in let fewer = e.fewer in let one = e.counts.0 in omega arith;
-      sums = e.counts.2;
       lasts = λ h. e.lasts (kept.lasts h);
       holds = λ h. e.holds (kept.holds h);
       under = λ room text began start.
@@ -134,7 +129,7 @@ returns-in-Err-send_due_frames-clause-ends g c = λ room text began start.
     let is : c.in-Err-send_due_frames.fault ≡ run.Write 1 = (let was = c.in-Err-send_due_frames.is in let only = e.only in cc) in
     let gone = e.goes (frame_offers u.frames) c.loop-next.count.sent c.loop-next.count.full u.running.left u.running.sends in
     subst (StopsRun c.args.speed room text (g.R.ByteSource.remaining c.loop-next.source) began (contents c.send_due_frames.new.sink)) (sym is)
-    (stops_at_end c.args.speed room text (g.R.ByteSource.remaining c.loop-next.source) lane old new c.loop-next.count began (contents c.loop-next.sink) (contents c.send_due_frames.new.sink) u none refl same.0 same.1 (e.late (last_time 0 u.frames) u.running.calm) gone.0 gone.1 gone.2)
+    (stops_at_end c.args.speed room text (g.R.ByteSource.remaining c.loop-next.source) lane old new (with_frames c.loop-next.count) began (contents c.loop-next.sink) (contents c.send_due_frames.new.sink) u none refl same.0 same.1 (e.late (last_time 0 u.frames) u.running.calm) gone.0 gone.1 gone.2)
 
 pub returns-clause-ends : goal.returns-clause-ends
 returns-clause-ends g c = λ room text began start.
@@ -147,10 +142,7 @@ returns-clause-ends g c = λ room text began start.
     let same = c.send_due_frames.ensures.same in
     let gone : HasGone old new (contents c.loop-next.sink) (contents c.send_due_frames.new.sink) = record { list = refl; speed = same.0; rooms = same.1; offered = same.2; within = c.send_due_frames.ensures.within; goes = λ offers sent full left s. c.in_default-send_due_frames.ensures.goes offers sent full left s } in
     let due = c.in_default-send_due_frames.ensures.due in
-    wires_all c.args.speed room text (g.R.ByteSource.remaining c.loop-next.source) lane old new c.loop-next.count began (contents c.loop-next.sink) (contents c.send_due_frames.new.sink) u none gone (idle_late new 18446744073709551615 due.0 due.1 due.2 (omega arith))
-
-pub returns-clause-sums : goal.returns-clause-sums
-returns-clause-sums g c = c.loop-next.invariant.sums
+    wires_all c.args.speed room text (g.R.ByteSource.remaining c.loop-next.source) lane old new (with_frames c.loop-next.count) began (contents c.loop-next.sink) (contents c.send_due_frames.new.sink) u none gone (idle_late new 18446744073709551615 due.0 due.1 due.2 (omega arith))
 
 pub returns-clause-few : goal.returns-clause-few
 returns-clause-few g c = let few = c.loop-next.invariant.few in omega arith
