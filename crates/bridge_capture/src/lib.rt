@@ -47,7 +47,7 @@ pub use hex_fault::HexFault;
 pub use hex_octets::parse_octets;
 pub use hex_texts::hex_lines;
 pub use laws::{each_text_reads_one_way, the_limits, written_is_read};
-pub use packet::Packet;
+pub use packet::{Packet, PacketInfo};
 pub use read_ahead::ReadAhead;
 pub use record::{MAX_RECORDS, SNAP_LENGTH};
 pub use slice_source::SliceSource;

@@ -6,7 +6,7 @@ ghost use Rattle.bridge_capture.specs.TakenOctets.{TakesRefusedRecord, HasSoundH
 
 use crate::byte_source::ByteSource;
 use crate::capture_fault::CaptureFault;
-use crate::format::{CaptureFormat, FractionUnit};
+use crate::format::{ByteOrder, CaptureFormat, FractionUnit};
 use crate::header::read_word;
 use crate::packet::PacketInfo;
 use crate::transfer::fill_buffer;
@@ -38,16 +38,43 @@ fn parse_record_header(form: CaptureFormat, octets: &[u8]) -> RecordHeader
     ensures captured { result.captured ≡ captured_length form octets.now }
     ensures original { result.original ≡ original_length form octets.now }
 {
-    let seconds = read_word(form.order, &octets[..4]) as u64;
-    let fraction = read_word(form.order, &octets[4..8]) as u64;
-    let unit: u64 = match form.unit {
+    match form.order {
+        ByteOrder::Little => parse_words(ByteOrder::Little, form.unit, octets),
+        ByteOrder::Big => parse_big_words(form.unit, octets),
+    }
+}
+
+/// Reads time and lengths from big-endian words. Not inlined: most captures are little-endian, and a test of the order for each word
+/// costs more than reading it.
+#[cold]
+#[inline(never)]
+fn parse_big_words(unit: FractionUnit, octets: &[u8]) -> RecordHeader
+    requires { length octets.now ≡ 16 }
+    ensures time { result.time ≡ record_time (record { order = ByteOrder.Big; unit = unit }) octets.now }
+    ensures captured { result.captured ≡ captured_length (record { order = ByteOrder.Big; unit = unit }) octets.now }
+    ensures original { result.original ≡ original_length (record { order = ByteOrder.Big; unit = unit }) octets.now }
+{
+    parse_words(ByteOrder::Big, unit, octets)
+}
+
+/// Reads time and lengths from the four words of a record's header.
+#[inline(always)]
+fn parse_words(order: ByteOrder, unit: FractionUnit, octets: &[u8]) -> RecordHeader
+    requires { length octets.now ≡ 16 }
+    ensures time { result.time ≡ record_time (record { order = order; unit = unit }) octets.now }
+    ensures captured { result.captured ≡ captured_length (record { order = order; unit = unit }) octets.now }
+    ensures original { result.original ≡ original_length (record { order = order; unit = unit }) octets.now }
+{
+    let seconds = read_word(order, &octets[..4]) as u64;
+    let fraction = read_word(order, &octets[4..8]) as u64;
+    let scale: u64 = match unit {
         FractionUnit::Micro => 1000,
         FractionUnit::Nano => 1,
     };
     RecordHeader {
-        time: seconds * 1_000_000_000 + fraction * unit,
-        captured: read_word(form.order, &octets[8..12]),
-        original: read_word(form.order, &octets[12..16]),
+        time: seconds * 1_000_000_000 + fraction * scale,
+        captured: read_word(order, &octets[8..12]),
+        original: read_word(order, &octets[12..16]),
     }
 }
 

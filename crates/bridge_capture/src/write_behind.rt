@@ -145,8 +145,7 @@ impl<W: Write + Drop, A: Allocator> ByteSink for WriteBehind<W, A> {
         if !self.held.has_room(16 + octets.len()) || self.sink.failed() {
             return false;
         }
-        self.held.put_words(first, second);
-        self.held.put(octets);
+        self.held.put_record(first, second, octets);
         true
     }
 

@@ -1,5 +1,6 @@
 //! Octets held back from a writer.
-ghost use Rattle.std.specs.Prelude.{◌≡◌, ◌≤◌, ◌<◌, ◌+◌, vec_len};
+ghost use Rattle.std.specs.Prelude.{◌≡◌, ◌≤◌, ◌<◌, ◌+◌, ◌++◌, length, vec_len};
+ghost use Rattle.std.specs.Int.{w64, to_le_bytes};
 ghost use Rattle.bridge_capture.specs.declared.write_buffer.TheConstants.{MAX_BLOCK, MAX_RECORD_OCTETS};
 
 use bridge_limits::NoMemory;
@@ -27,8 +28,7 @@ pub struct WriteBuffer<A: Allocator> {
 }
 
 impl<A: Allocator> WriteBuffer<A> {
-    ghost use Rattle.std.specs.Prelude.{◌-◌, ◌++◌, [], true, length, drop, IfOk};
-    ghost use Rattle.std.specs.Int.{w64, to_le_bytes};
+    ghost use Rattle.std.specs.Prelude.{◌-◌, [], true, drop, IfOk};
     ghost use Rattle.bridge_capture.specs.Buffers.{held_octets};
 
     /// Makes an empty buffer with blocks of `block` octets. Allocates memory once.
@@ -103,17 +103,24 @@ impl<A: Allocator> WriteBuffer<A> {
         self.count = to;
     }
 
-    /// Adds the octets of two numbers, little-endian. They must fit.
+    /// Adds the octets of two numbers, little-endian, then `octets`. They must fit.
     #[inline(always)]
-    pub fn put_words(&mut self, first: u64, second: u64)
-        requires { 16 ≤ vec_len self.old.octets - self.old.count }
+    pub fn put_record(&mut self, first: u64, second: u64, octets: &[u8])
+        requires { 16 + length octets.now ≤ vec_len self.old.octets - self.old.count }
         ensures octets { held_octets self.new ≡ held_octets self.old
-            ++ (to_le_bytes w64 first ++ to_le_bytes w64 second) }
+            ++ ((to_le_bytes w64 first ++ to_le_bytes w64 second) ++ octets.now) }
         ensures width { vec_len self.new.octets ≡ vec_len self.old.octets }
-        ensures count { self.new.count ≡ self.old.count + 16 }
+        ensures count { self.new.count ≡ self.old.count + (16 + length octets.now) }
     {
-        self.put(&first.to_le_bytes());
-        self.put(&second.to_le_bytes());
+        let from = self.count;
+        let to = from + 16 + octets.len();
+        fill_record(
+            &mut self.octets.as_mut_slice()[from..to],
+            first,
+            second,
+            octets,
+        );
+        self.count = to;
     }
 
     /// Drops the first `count` octets, after they were written.
@@ -127,4 +134,16 @@ impl<A: Allocator> WriteBuffer<A> {
         self.octets.as_mut_slice().copy_within(count..from, 0);
         self.count = from - count;
     }
+}
+
+/// Fills a record with the octets of two numbers, little-endian, then `octets`.
+#[inline(always)]
+fn fill_record(record: &mut [u8], first: u64, second: u64, octets: &[u8])
+    requires { length record.old ≡ 16 + length octets.now }
+    ensures { record.new ≡ (to_le_bytes w64 first ++ to_le_bytes w64 second) ++ octets.now }
+{
+    let (words, rest) = record.split_at_mut(16);
+    words[..8].copy_from_slice(&first.to_le_bytes());
+    words[8..].copy_from_slice(&second.to_le_bytes());
+    rest.copy_from_slice(octets);
 }

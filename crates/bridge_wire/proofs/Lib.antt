@@ -1,3 +1,5 @@
+pub mod Rings
+pub mod Queues
 pub mod Lists
 pub mod Sends
 pub mod Running

@@ -1,6 +1,6 @@
 -- Frames of a capture, one after another.
-use Rattle.std.proofs.Common.{◌≡◌, ℕ, Bool, true, false, ◌+◌, ◌≤◌, List, [], ◌∷◌, ◌++◌, length, refl, ap, ◌∙◌, sym, subst, arith, inl, inr, Option, Some, None, Result, Ok, Err, reverse, add-zero, zero-add}
-use Rattle.std.specs.Prelude.{not, ◌&&◌, map, filter, count_by, Vec, if◌then◌else◌, is_none, slice_index_or, IsErr}
+use Rattle.std.proofs.Common.{◌≡◌, ℕ, Bool, true, false, ◌+◌, ◌<◌, ◌≤◌, List, [], ◌∷◌, ◌++◌, length, refl, ap, ◌∙◌, sym, subst, arith, inl, inr, Option, Some, None, Result, Ok, Err, reverse, add-zero, zero-add}
+use Rattle.std.specs.Prelude.{not, ◌&&◌, map, filter, count_by, Vec, if◌then◌else◌, is_none, slice_index_or, sum_by, IsErr}
 use Rattle.std.specs.List.{flat_map}
 use Rattle.std.specs.Io.KnownBytes.{Appends}
 use Rattle.std.proofs.KnownBytes.{Appends-trans}
@@ -21,10 +21,10 @@ use Rattle.bridge_port.specs.declared.item.Refusal.TheVariants as refusal
 use Rattle.bridge_port.specs.Schedule.{Started, Copy, IsLawful, is_accepted}
 use Rattle.bridge_port.specs.MappedCopies.{map_copies, SameRooms}
 use Rattle.bridge_port.specs.GateSchedule.{Always, can_fit, GateSchedule, opens}
-use Rattle.bridge_port.specs.StandsFor.{EgressState, StandsFor, HasNoStartEarlier, IsNextStartTime, state_rules, offer_refusal, refusal_fate, offered_copy, offered_state, offer_answer, count_queued}
-use Rattle.bridge_port.proofs.Ports.{idle_calm, up_to}
+use Rattle.bridge_port.specs.StandsFor.{EgressState, StandsFor, HasNoStartEarlier, IsNextStartTime, state_rules, offer_refusal, refusal_fate, offered_copy, offered_state, queues_after_offer, count_queued}
+use Rattle.bridge_port.proofs.Ports.{idle_calm, stands_offered, up_to}
 use Rattle.bridge_port.proofs.Watched.{lawful_seen}
-use Rattle.bridge_port.proofs.Keeping.{count_cons, count_push}
+use Rattle.bridge_port.proofs.Keeping.{count_cons, count_push, count_pushed}
 use Rattle.bridge_port.proofs.Members.{not_started}
 use Rattle.bridge_wire.specs.declared.wire_count.WireCount.{WireCount}
 use Rattle.bridge_capture.specs.declared.fault.RunFault.{RunFault}
@@ -227,14 +227,24 @@ counted_full count =
     let full : count.full + 1 ≡ 1 + count.full = omega arith in
     ap (λ n. record count { frames = count.frames + 1; full = n }) full ∙ ap (λ n. record count { frames = count.frames + 1; sent = n; full = 1 + count.full }) sent
 
-pub answered_ok : {X : Type 0} (o : Option Refusal) (x : X) (u : Unit {0}) → offer_answer o x ≡ Ok u → true ≡ is_none o
-answered_ok None x u h = refl
-answered_ok (Some r) x u h = absurd (cc)
-
-pub answered_err : {X : Type 0} (o : Option Refusal) (x : X) (e : X × Refusal) → offer_answer o x ≡ Err e → false ≡ is_none o
-answered_err None x e h = absurd (cc)
-answered_err (Some r) x e h = refl
-
 -- A captured frame has at most its length in octets.
 pub not_overlong : {A : Type 0} (x : Item (Vec ℕ A)) → length x.load.items ≤ x.len → is_overlong x ≡ false
 not_overlong x h = le-ltb x.len (length x.load.items) h
+
+after_offer : {X : Type 0} (f : X → Bool) (r : Option Refusal) (qs : List (List X)) (x : X) → 0 < length qs → sum_by (count_by f) (queues_after_offer r qs 0 x) ≡ (if is_none r && f x then 1 else 0) + sum_by (count_by f) qs
+after_offer f None qs x l = count_pushed f qs 0 x l
+after_offer f (Some r) qs x l = sym (zero-add _)
+
+-- An offer at a time before which no frame can start.
+pub offered_to : {A : Type 0} (mid new : EgressState (Vec ℕ A)) (t : ℕ) (x : Item (Vec ℕ A)) → new ≡ offered_state mid t 0 x → 0 < length mid.queues → mid.earliest ≤ t → HasNoStartEarlier mid t → HasOffered mid new t x
+offered_to {A} mid new t x moved some later calm = record {
+  moved = moved;
+  stands = λ xs st. subst (λ (p : EgressState (Vec ℕ A)). StandsFor p (offered_copy mid t 0 x ∷ xs)) (sym moved) (stands_offered mid t 0 x xs some later calm st);
+  counts = λ f. ap (count_queued f) moved ∙ after_offer f (offer_refusal mid 0 x) mid.queues x some;
+}
+
+-- Frames that have at most their length in octets stay so after an offer.
+pub within_offered : (b over : Bool) (new old : ℕ) → new ≡ (if b && over then 1 else 0) + old → over ≡ false → old ≡ 0 → new ≡ 0
+within_offered true true new old e f z = absurd (cc)
+within_offered true false new old e f z = omega arith
+within_offered false over new old e f z = omega arith

@@ -1,2 +1,4 @@
 pub mod Wire
 pub mod Departures
+pub mod Rings
+pub mod OpenQueues

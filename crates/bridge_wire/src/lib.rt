@@ -3,6 +3,7 @@
 
 mod departures;
 mod one_queue;
+mod open_queue;
 mod wire_count;
 
 pub use bridge_capture::RunFault;

@@ -1,113 +1,109 @@
 //! Sends one capture through one queue.
-ghost use Rattle.std.specs.Prelude.{◌≡◌, ◌≢◌, ◌≤◌, ◌<◌, ◌+◌, ℕ, List, [], ◌∷◌, ◌++◌, None, Some, Err, Option, length, true, IfOk, IfErr, OnOk, OnErr};
+ghost use Rattle.std.specs.Prelude.{◌≡◌, ◌≢◌, ◌≤◌, ◌<◌, ◌+◌, ℕ, List, [], ◌∷◌, ◌++◌, None, Some, Err, Option, Vec, length, true, IfOk, IfErr, OnOk, OnErr};
 ghost use Rattle.bridge_capture.specs.Grammar.{CapturedFrame};
-ghost use Rattle.bridge_capture.specs.Reading.{packet_frame};
 ghost use Rattle.bridge_capture.specs.StandsFor.{HasReadFrames, IsReading, records_left, StandsFor};
 ghost use Rattle.bridge_port.specs.StandsFor.{count_queued};
 ghost use Rattle.bridge_capture.specs.CaptureReaders.{IsReader, frames_left as room_ahead};
 ghost use Rattle.bridge_wire.specs.Wire.{NamesPortOne, StopsRun, WiresText};
-ghost use Rattle.bridge_wire.specs.Departures.{RunsOneMore, EndsOrStops, RunsOrStops, is_overlong, IsRunning, IsUnderWay, no_count};
+ghost use Rattle.bridge_wire.specs.Departures.{RunsOneMore, EndsOrStops, is_overlong, IsRunning, IsUnderWay, no_count};
+ghost use Rattle.bridge_wire.specs.OpenQueues.{ContinuesOrStops, arrived_frame, packet_ahead, place_ahead, queue_reader, queue_state, with_frames};
 
 use crate::departures::send_due_frames;
+use crate::open_queue::OpenQueue;
 use crate::wire_count::WireCount;
 use bridge_capture::{
-    BufferPool, ByteSink, ByteSource, CaptureFault, CaptureReader, MAX_RECORDS, Packet, RunFault,
+    ByteSink, ByteSource, Capture, CaptureFault, CaptureReader, MAX_RECORDS, Packet, RunFault,
     Writer, run_fault,
 };
 use bridge_frame::{Speed, parse};
 use bridge_limits::{END_OF_TIME, MAX_CAPTURED_OCTETS};
-use bridge_port::{Item, LARGEST_ROOM, Port};
+use bridge_port::{Item, LARGEST_ROOM};
 use std::alloc::Allocator;
 
-/// Offers the next frame of a capture to the queue, after all starts before its arrival. A frame without a header is only counted.
+/// Offers the frame ahead to the queue, after all starts before its arrival at `time` ns. A frame without a header is only counted.
 #[inline(always)]
 fn offer_frame<W: ByteSink, A: Allocator + Copy>(
     speed: Speed,
-    port: &mut Port<Vec<u8, A>, A>,
+    time: u64,
+    queue: &mut OpenQueue<A>,
     writer: &mut Writer,
     sink: &mut W,
     count: &mut WireCount,
-    packet: Packet<A>,
-    spares: &mut BufferPool<A>,
 ) -> Result<(), RunFault>
-    requires time { (port.old.earliest ≤ packet.time) × (packet.time < END_OF_TIME) }
-    requires octets { (length packet.octets.items ≤ MAX_CAPTURED_OCTETS) × (length packet.octets.items ≤ packet.len) }
-    requires speed { port.old.speed ≡ speed }
-    requires within { count_queued is_overlong port.old ≡ 0 }
-    requires offered { port.old.offered ≤ count.old.frames }
-    requires few { count.old.frames < MAX_RECORDS }
-    requires sums { count.old.malformed + count.old.sent + count.old.full ≡ count.old.frames }
-    ensures continues { (room : ℕ) (frames : List CapturedFrame) (began : Option (List ℕ))
-        → IsRunning speed room frames port.old count.old began (W.contents sink.old)
-        → RunsOneMore speed room frames (packet_frame packet) port.new count.new began (W.contents sink.new) result }
-    ensures same { OnOk result ((port.new.speed ≡ speed) × (count_queued is_overlong port.new ≡ 0)) }
-    ensures early { OnOk result (port.new.earliest ≤ packet.time) }
-    ensures counts { OnOk result ((count.new.frames ≡ count.old.frames + 1) × (port.new.offered ≤ count.new.frames)
-        × (count.new.malformed + count.new.sent + count.new.full ≡ count.new.frames)) }
+    requires time { (queue.old.earliest ≤ time) × (time < END_OF_TIME) }
+    requires octets { (x : Item (Vec ℕ A)) → place_ahead queue.old ≡ Some x
+        → (length x.load.items ≤ MAX_CAPTURED_OCTETS) × (length x.load.items ≤ x.len) }
+    requires speed { queue.old.speed ≡ speed }
+    requires within { count_queued is_overlong (queue_state queue.old) ≡ 0 }
+    requires offered { queue.old.offered ≤ (with_frames count.old).frames }
+    requires few { (with_frames count.old).frames < MAX_RECORDS }
+    ensures continues { (x : Item (Vec ℕ A)) (room : ℕ) (frames : List CapturedFrame) (began : Option (List ℕ))
+        → place_ahead queue.old ≡ Some x
+        → IsRunning speed room frames (queue_state queue.old) (with_frames count.old) began (W.contents sink.old)
+        → RunsOneMore speed room frames (arrived_frame time x) (queue_state queue.new) (with_frames count.new) began
+        (W.contents sink.new) result }
+    ensures same { OnOk result ((queue.new.speed ≡ speed) × (count_queued is_overlong (queue_state queue.new) ≡ 0)) }
+    ensures early { OnOk result (queue.new.earliest ≤ time) }
+    ensures counts { OnOk result (((with_frames count.new).frames ≡ (with_frames count.old).frames + 1)
+        × (queue.new.offered ≤ (with_frames count.new).frames)) }
     ensures only { OnErr result (result ≡ Err (RunFault.Write 1)) }
     ensures fails { OnErr result (W.has_failed sink.new ≡ true) }
     ensures sound { W.never_fails sink.old ≡ true → OnErr result (W.ran_out sink.new ≡ true) }
     ensures holds { W.never_fails sink.old ≡ true → W.never_fails sink.new ≡ true }
 {
-    if let Err(fault) = send_due_frames(packet.time, port, writer, sink, spares) {
+    if let Err(fault) = send_due_frames(time, queue, writer, sink) {
         return Err(fault);
     }
-    count.frames += 1;
-    match parse(&packet.octets, packet.len) {
+    let ahead = queue.ahead();
+    match parse(&ahead.load, ahead.len) {
         Err(_) => count.malformed += 1,
         Ok(_) => {
-            let Packet {
-                len,
-                mut octets,
-                ..
-            } = packet;
-            // This removes nothing. It makes the vector's length a separate value, so that no load waits for the reader's last
-            // store.
-            octets.truncate(len as usize);
-            let item = Item { len, load: octets };
-            match port.offer(packet.time, 0, item) {
-                Ok(()) => count.sent += 1,
-                Err(_) => count.full += 1,
+            if queue.offer(time) {
+                count.sent += 1;
+            } else {
+                count.full += 1;
             }
         }
     }
     Ok(())
 }
 
-/// Offers a frame of a capture, and reads the next record ahead. Stops at the first fault of source or sink.
+/// Offers the frame ahead, which arrived at `time` ns, and reads the next record. Stops at the first fault of source or sink.
 #[inline(always)]
 fn process_frame<R: ByteSource, W: ByteSink, A: Allocator + Copy>(
     speed: Speed,
-    packet: Packet<A>,
-    lane: &mut CaptureReader<A>,
-    port: &mut Port<Vec<u8, A>, A>,
+    time: u64,
+    capture: &mut Capture,
+    queue: &mut OpenQueue<A>,
     writer: &mut Writer,
     count: &mut WireCount,
     source: &mut R,
     sink: &mut W,
-    spares: &mut BufferPool<A>,
-) -> Result<(), RunFault>
-    requires time { (port.old.earliest ≤ packet.time) × (packet.time < END_OF_TIME) }
-    requires octets { (length packet.octets.items ≤ MAX_CAPTURED_OCTETS) × (length packet.octets.items ≤ packet.len) }
-    requires speed { port.old.speed ≡ speed }
-    requires within { count_queued is_overlong port.old ≡ 0 }
-    requires offered { port.old.offered ≤ count.old.frames }
-    requires few { count.old.frames < MAX_RECORDS }
-    requires sums { count.old.malformed + count.old.sent + count.old.full ≡ count.old.frames }
-    requires reading { IsReading lane.old.capture }
-    requires latest { lane.old.capture.latest ≡ packet.time }
-    ensures goes { (room : ℕ) (text : List ℕ) (frames : List CapturedFrame) (began : Option (List ℕ))
-        → StandsFor lane.old.capture (R.remaining source.old) text (frames ++ packet_frame packet ∷ [])
-        → HasReadFrames text (frames ++ packet_frame packet ∷ [])
-        → IsRunning speed room frames port.old count.old began (W.contents sink.old)
-        → RunsOrStops speed room text (R.remaining source.new) lane.new port.new count.new began
+) -> Result<Option<u64>, RunFault>
+    requires time { (queue.old.earliest ≤ time) × (time < END_OF_TIME) }
+    requires octets { (x : Item (Vec ℕ A)) → place_ahead queue.old ≡ Some x
+        → (length x.load.items ≤ MAX_CAPTURED_OCTETS) × (length x.load.items ≤ x.len) }
+    requires speed { queue.old.speed ≡ speed }
+    requires within { count_queued is_overlong (queue_state queue.old) ≡ 0 }
+    requires offered { queue.old.offered ≤ (with_frames count.old).frames }
+    requires few { (with_frames count.old).frames < MAX_RECORDS }
+    requires reading { IsReading capture.old }
+    requires latest { capture.old.latest ≡ time }
+    ensures goes { (x : Item (Vec ℕ A)) (room : ℕ) (text : List ℕ) (frames : List CapturedFrame)
+        (began : Option (List ℕ)) → place_ahead queue.old ≡ Some x
+        → StandsFor capture.old (R.remaining source.old) text (frames ++ arrived_frame time x ∷ [])
+        → HasReadFrames text (frames ++ arrived_frame time x ∷ [])
+        → IsRunning speed room frames (queue_state queue.old) (with_frames count.old) began (W.contents sink.old)
+        → ContinuesOrStops speed room text (R.remaining source.new) capture.new queue.new (with_frames count.new)
+        began
         (W.contents sink.new) result }
-    ensures same { OnOk result ((port.new.speed ≡ speed) × (count_queued is_overlong port.new ≡ 0)) }
-    ensures lane { OnOk result (IsReader lane.new) }
-    ensures onward { OnOk result ((p : Packet A) → lane.new.ahead ≡ Some p → port.new.earliest ≤ p.time) }
-    ensures fewer { OnOk result (room_ahead lane.new ≤ records_left lane.old.capture) }
-    ensures counts { OnOk result ((count.new.frames ≡ count.old.frames + 1) × (port.new.offered ≤ count.new.frames)
-        × (count.new.malformed + count.new.sent + count.new.full ≡ count.new.frames)) }
+    ensures same { OnOk result ((queue.new.speed ≡ speed) × (count_queued is_overlong (queue_state queue.new) ≡ 0)) }
+    ensures lane { IfOk result (λ next. IsReader (queue_reader capture.new next queue.new)) }
+    ensures onward { IfOk result (λ next. (t : ℕ) → next ≡ Some t → queue.new.earliest ≤ t) }
+    ensures fewer { IfOk result (λ next. room_ahead (queue_reader capture.new next queue.new)
+        ≤ records_left capture.old) }
+    ensures counts { OnOk result (((with_frames count.new).frames ≡ (with_frames count.old).frames + 1)
+        × (queue.new.offered ≤ (with_frames count.new).frames)) }
     ensures one { IfErr result NamesPortOne }
     ensures read { (number : ℕ) → result ≡ Err (RunFault.Capture number CaptureFault.Read)
         → R.has_failed source.new ≡ true }
@@ -119,32 +115,34 @@ fn process_frame<R: ByteSource, W: ByteSink, A: Allocator + Copy>(
         → W.ran_out sink.new ≡ true }
     ensures holds { W.never_fails sink.old ≡ true → W.never_fails sink.new ≡ true }
 {
-    if let Err(fault) = offer_frame(speed, port, writer, sink, count, packet, spares) {
+    if let Err(fault) = offer_frame(speed, time, queue, writer, sink, count) {
         return Err(fault);
     }
-    match lane.read_ahead(spares.take(), source) {
-        Ok(()) => Ok(()),
+    match queue.read_ahead(capture, source) {
+        Ok(next) => Ok(next),
         Err(fault) => Err(run_fault(1, fault)),
     }
 }
 
-/// Sends all frames of a capture through a queue, writes all departures, and returns the counts. Stops at the first fault.
+/// Sends all frames of a capture through a queue, writes all departures, and returns the counts. The frame ahead arrived at `first` ns;
+/// `None` if there is none. Stops at the first fault.
 fn send_all<R: ByteSource, W: ByteSink, A: Allocator + Copy>(
     speed: Speed,
-    lane: &mut CaptureReader<A>,
-    port: &mut Port<Vec<u8, A>, A>,
+    first: Option<u64>,
+    capture: &mut Capture,
+    queue: &mut OpenQueue<A>,
     writer: &mut Writer,
     source: &mut R,
     sink: &mut W,
-    spares: &mut BufferPool<A>,
 ) -> Result<WireCount, RunFault>
-    requires new { (port.old.earliest ≡ 0) × (port.old.offered ≡ 0) }
-    requires speed { port.old.speed ≡ speed }
-    requires within { count_queued is_overlong port.old ≡ 0 }
-    requires lane { IsReader lane.old }
-    requires few { room_ahead lane.old ≤ MAX_RECORDS }
+    requires new { (queue.old.earliest ≡ 0) × (queue.old.offered ≡ 0) }
+    requires speed { queue.old.speed ≡ speed }
+    requires within { count_queued is_overlong (queue_state queue.old) ≡ 0 }
+    requires lane { IsReader (queue_reader capture.old first queue.old) }
+    requires few { room_ahead (queue_reader capture.old first queue.old) ≤ MAX_RECORDS }
     ensures ends { (room : ℕ) (text : List ℕ) (began : Option (List ℕ))
-        → IsUnderWay speed room text (R.remaining source.old) lane.old port.old no_count began (W.contents sink.old)
+        → IsUnderWay speed room text (R.remaining source.old) (queue_reader capture.old first queue.old)
+        (queue_state queue.old) no_count began (W.contents sink.old)
         → EndsOrStops speed room text (R.remaining source.new) began (W.contents sink.new) result }
     ensures sums { IfOk result (λ count. count.malformed + count.sent + count.full ≡ count.frames) }
     ensures few { IfOk result (λ count. count.frames ≤ MAX_RECORDS) }
@@ -163,17 +161,40 @@ fn send_all<R: ByteSource, W: ByteSink, A: Allocator + Copy>(
         sent: 0,
         full: 0,
     };
-    while let Some(packet) = lane.ahead.take() {
-        if let Err(fault) = process_frame(
-            speed, packet, lane, port, writer, &mut count, source, sink, spares,
+    let mut next = first;
+    while let Some(time) = next {
+        match process_frame(
+            speed, time, capture, queue, writer, &mut count, source, sink,
         ) {
-            return Err(fault);
+            Ok(after) => next = after,
+            Err(fault) => return Err(fault),
         }
     }
-    if let Err(fault) = send_due_frames(u64::MAX, port, writer, sink, spares) {
+    if let Err(fault) = send_due_frames(u64::MAX, queue, writer, sink) {
         return Err(fault);
     }
+    // Each frame has one of the other counts, so the loop needs no count of all frames.
+    count.frames = count.malformed + count.sent + count.full;
     Ok(count)
+}
+
+/// Returns the frame ahead as its arrival time in ns and an item; without a frame, an empty item.
+fn split_packet<A: Allocator + Copy>(
+    alloc: A,
+    ahead: Option<Packet<A>>,
+) -> (Option<u64>, Item<Vec<u8, A>>)
+    ensures { packet_ahead result.0 (Some result.1) ≡ ahead }
+{
+    match ahead {
+        Some(Packet { time, len, octets }) => (Some(time), Item { len, load: octets }),
+        None => (
+            None,
+            Item {
+                len: 0,
+                load: Vec::new(alloc),
+            },
+        ),
+    }
 }
 
 /// Sends the frames of a capture through one queue with capacity `room`, always open, on a link of speed `speed`. Writes the
@@ -208,36 +229,32 @@ pub fn wire<R: ByteSource, W: ByteSink, A: Allocator + Copy>(
     ensures sound { (port : ℕ) → W.never_fails sink.old ≡ true → result ≡ Err (RunFault.Write port)
         → W.ran_out sink.new ≡ true }
 {
-    let mut lane = match CaptureReader::begin(alloc, 1, source) {
+    let lane = match CaptureReader::begin(alloc, 1, source) {
         Ok(lane) => lane,
         Err(fault) => return Err(run_fault(1, fault)),
     };
-    let Ok(mut port) = Port::new(alloc, speed, None, [room, 1, 1, 1, 1, 1, 1, 1]) else {
-        drop(lane);
-        return Err(RunFault::NoMemory);
-    };
-    let Ok(mut spares) = BufferPool::new(alloc) else {
-        drop(lane);
-        drop(port);
+    let CaptureReader {
+        mut capture,
+        ahead,
+        ..
+    } = lane;
+    let (first, item) = split_packet(alloc, ahead);
+    let Ok(mut queue) = OpenQueue::new(alloc, speed, room, item) else {
         return Err(RunFault::NoMemory);
     };
     let Ok(mut writer) = Writer::begin(sink) else {
-        drop(lane);
-        drop(port);
-        drop(spares);
+        drop(queue);
         return Err(RunFault::Write { port: 1 });
     };
     let done = send_all(
         speed,
-        &mut lane,
-        &mut port,
+        first,
+        &mut capture,
+        &mut queue,
         &mut writer,
         source,
         sink,
-        &mut spares,
     );
-    drop(lane);
-    drop(port);
-    drop(spares);
+    drop(queue);
     done
 }
