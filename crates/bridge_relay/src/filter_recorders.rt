@@ -1,5 +1,5 @@
 //! The recorders of all filters, by filter number.
-ghost use Rattle.std.specs.Prelude.{◌≡◌, ◌<◌, true, ◌+◌, nat_eq, Some, OnOk, OnErr, IfOk, IfSome, IsSome, length, slice_get};
+ghost use Rattle.std.specs.Prelude.{◌≡◌, ◌<◌, ◌≤◌, true, ◌+◌, nat_eq, Some, OnOk, OnErr, IfOk, IfSome, IsSome, length, slice_get};
 ghost use Rattle.std.specs.Map.{keys_of, lookup};
 ghost use Rattle.bridge_filter.specs.Plans.{are_numbers_distinct, is_listed};
 ghost use Rattle.bridge_relay.specs.Records.{empty_recorder, empty_recorders, HasRecorded};
@@ -9,7 +9,7 @@ use crate::filter_recorder::{FilterRecord, FilterRecorder};
 use bridge_cycle::NoMemory;
 use bridge_filter::{FilterPlan, Verdict};
 use bridge_port::Refusal;
-use bridge_semantics::{Departure, Dropped, Origin};
+use bridge_semantics::{Origin, StoredDeparture, StoredDrop};
 use indexmap::IndexMap;
 use std::alloc::{AllocError, Allocator};
 use std::hash::{BuildHasherDefault, FoldHasher};
@@ -135,7 +135,7 @@ fn recorder_index_by_hint<A: Allocator + Copy>(
 pub fn record_departure<A: Allocator + Copy>(
     tables: &mut FilterRecorders<A>,
     flow: Option<u32>,
-    departure: Departure,
+    departure: StoredDeparture,
     delay: u64,
 )
     requires { IfSome flow (OwesCopy tables.old.entries) }
@@ -153,7 +153,7 @@ pub fn record_departure<A: Allocator + Copy>(
 pub fn record_answer<A: Allocator + Copy>(
     tables: &mut FilterRecorders<A>,
     flow: Option<u32>,
-    own: u64,
+    own: u32,
     port: u8,
     answer: Result<(), Refusal>,
 )
@@ -165,7 +165,7 @@ pub fn record_answer<A: Allocator + Copy>(
     {
         let place = recorder_index(tables, number);
         let (_, table) = tables.pair_mut(place);
-        table.record_drop(Dropped { own, port, refusal });
+        table.record_drop(StoredDrop::new(own, port, refusal));
     }
 }
 
@@ -200,8 +200,9 @@ pub fn record_verdict<A: Allocator + Copy>(
     hint: usize,
     verdict: Verdict,
     origin: Origin,
-) -> u64
-    requires { AwaitsVerdict tables.old.entries number }
+) -> u32
+    requires open { AwaitsVerdict tables.old.entries number }
+    requires port { 1 ≤ origin.port }
     ensures told { tables.new.entries ≡ update_number number (λ t. with_verdict t verdict origin) tables.old.entries }
     ensures own { (t : RecorderState) → lookup (nat_eq number) tables.old.entries ≡ Some t
         → result ≡ length t.verdicts + 1 }

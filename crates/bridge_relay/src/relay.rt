@@ -41,7 +41,7 @@ use bridge_frame::{Head, Tag, parse};
 use bridge_ident::Ident;
 use bridge_limits::{END_OF_TIME, LONGEST_FRAME, MAX_ARRIVALS, MAX_CAPTURED_OCTETS};
 use bridge_port::Item;
-use bridge_semantics::{Departure, Destination, Origin, QueuedFrame};
+use bridge_semantics::{Destination, Origin, QueuedFrame, StoredDeparture};
 use std::alloc::Allocator;
 use std::marker::Model;
 
@@ -186,12 +186,7 @@ impl<'a, G: Agenda + Drop, A: Allocator + Copy> Relay<'a, G, A> {
             own,
             octets,
         } = load;
-        let departure = Departure {
-            own,
-            port,
-            start,
-            done,
-        };
+        let departure = StoredDeparture::new(own, port, start, done);
         record_departure(&mut self.tables, flow, departure, done.saturating_sub(at));
         self.earliest = self.earliest.max(start + 1);
         Sent {
@@ -473,7 +468,7 @@ impl<'a, G: Agenda + Drop, A: Allocator + Copy> Relay<'a, G, A> {
         port: u8,
         call: FilterInput,
         found: Option<Route>,
-    ) -> Option<(Ruling, u64)>
+    ) -> Option<(Ruling, u32)>
         requires known { (s : PortState A) × (port_state self.old.ports port ≡ Some s) }
         requires from { 1 ≤ port }
         requires time { (self.old.earliest ≤ call.at) × (call.at < END_OF_TIME) }
