@@ -130,11 +130,13 @@ fn recorder_index_by_hint<A: Allocator + Copy>(
     }
 }
 
-/// Records that a copy of a filter's frame left, `delay` ns after the frame's arrival. Does nothing for an unfiltered frame.
+/// Records that a copy of a filter's frame left, `delay` ns after the frame's arrival. Tries the index `hint` first. Does nothing for an
+/// unfiltered frame.
 #[inline(always)]
 pub fn record_departure<A: Allocator + Copy>(
     tables: &mut FilterRecorders<A>,
     flow: Option<u32>,
+    hint: usize,
     departure: StoredDeparture,
     delay: u64,
 )
@@ -142,7 +144,7 @@ pub fn record_departure<A: Allocator + Copy>(
     ensures { tables.new.entries ≡ update_if_some flow (λ t. with_departure t departure delay) tables.old.entries }
 {
     if let Some(number) = flow {
-        let place = recorder_index(tables, number);
+        let place = recorder_index_by_hint(tables, hint, number);
         let (_, table) = tables.pair_mut(place);
         table.record_departure(departure, delay);
     }

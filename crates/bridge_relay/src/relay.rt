@@ -45,6 +45,9 @@ use bridge_semantics::{Destination, Origin, QueuedFrame, StoredDeparture};
 use std::alloc::Allocator;
 use std::marker::Model;
 
+/// Largest index of a recorder that a queued frame stores.
+const MAX_RECORDERS: usize = 4_294_967_295;
+
 /// Returns the stream handle of a frame, if a stream entry matches. Isn't inlined: its code would take registers from the loop of a run.
 #[inline(never)]
 fn stream_handle<A: Allocator + Copy>(
@@ -184,10 +187,17 @@ impl<'a, G: Agenda + Drop, A: Allocator + Copy> Relay<'a, G, A> {
             at,
             flow,
             own,
+            recorder,
             octets,
         } = load;
         let departure = StoredDeparture::new(own, port, start, done);
-        record_departure(&mut self.tables, flow, departure, done.saturating_sub(at));
+        record_departure(
+            &mut self.tables,
+            flow,
+            recorder as usize,
+            departure,
+            done.saturating_sub(at),
+        );
         self.earliest = self.earliest.max(start + 1);
         Sent {
             port,
@@ -345,6 +355,7 @@ impl<'a, G: Agenda + Drop, A: Allocator + Copy> Relay<'a, G, A> {
             at,
             flow,
             own,
+            recorder,
             octets,
         } = load;
         let octets = mark_if_eligible(octets, eligible);
@@ -356,6 +367,7 @@ impl<'a, G: Agenda + Drop, A: Allocator + Copy> Relay<'a, G, A> {
                 at,
                 flow,
                 own,
+                recorder,
                 octets,
             },
             spares,
@@ -396,6 +408,7 @@ impl<'a, G: Agenda + Drop, A: Allocator + Copy> Relay<'a, G, A> {
                     at: first.at,
                     flow: first.flow,
                     own: first.own,
+                    recorder: first.recorder,
                     octets,
                 };
                 self.offer_copy(set, number, priority, len, eligible, load, spares);
@@ -544,6 +557,7 @@ impl<'a, G: Agenda + Drop, A: Allocator + Copy> Relay<'a, G, A> {
                     at: time,
                     flow: None,
                     own: 0,
+                    recorder: 0,
                     octets,
                 };
                 self.offer_copies(set, call.priority, len, false, load, copies, spares);
@@ -554,6 +568,7 @@ impl<'a, G: Agenda + Drop, A: Allocator + Copy> Relay<'a, G, A> {
                         at: time,
                         flow: Some(filter),
                         own,
+                        recorder: route_index(found).min(MAX_RECORDERS) as u32,
                         octets,
                     };
                     self.offer_copies(

@@ -7,7 +7,7 @@ ghost use Rattle.bridge_text.specs.Growth.{HasGrown};
 use bridge_filter::Verdict;
 use bridge_limits::NoMemory;
 use bridge_port::Refusal;
-use bridge_semantics::{Dropped, Outcome, View};
+use bridge_semantics::{Outcome, StoredDrop, StoredVerdict, View};
 use bridge_text::TextBuilder;
 use std::alloc::Allocator;
 
@@ -74,34 +74,34 @@ fn has_reason(reason: Reason, verdict: Verdict) -> bool
 }
 
 /// Counts the frames that the filter refused for reason `reason`, by their verdicts.
-pub fn count_refused(reason: Reason, verdicts: &[Verdict]) -> u64
+pub fn count_refused(reason: Reason, verdicts: &[StoredVerdict]) -> u64
     ensures { result ≡ spec.refused_for reason verdicts.now }
 {
-    verdicts.iter().filter(|v| has_reason(reason, **v)).count() as u64
+    verdicts.iter().filter(|v| has_reason(reason, v.verdict())).count() as u64
 }
 
 /// Counts the copies that a port dropped because their queue was full.
-pub fn count_full(drops: &[Dropped]) -> usize
+pub fn count_full(drops: &[StoredDrop]) -> usize
     ensures { result ≡ count_full drops.now }
 {
     drops
         .iter()
-        .filter(|d| matches!(d.refusal, Refusal::Full))
+        .filter(|d| matches!(d.dropped().refusal, Refusal::Full))
         .count()
 }
 
 /// Counts the copies that a port dropped because they fit no window of their class.
-pub fn count_never_fitting(drops: &[Dropped]) -> usize
+pub fn count_never_fitting(drops: &[StoredDrop]) -> usize
     ensures { result ≡ count_never_fits drops.now }
 {
     drops
         .iter()
-        .filter(|d| matches!(d.refusal, Refusal::NeverFits))
+        .filter(|d| matches!(d.dropped().refusal, Refusal::NeverFits))
         .count()
 }
 
 /// Counts the refused frames and the dropped copies of a filter, by reason.
-fn count_losses(verdicts: &[Verdict], drops: &[Dropped]) -> Losses
+fn count_losses(verdicts: &[StoredVerdict], drops: &[StoredDrop]) -> Losses
     ensures { result ≡ spec.losses_of verdicts.now drops.now }
 {
     Losses {

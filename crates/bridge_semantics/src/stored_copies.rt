@@ -1,8 +1,9 @@
 //! Departures and drops as a run stores them.
-ghost use Rattle.std.specs.Prelude.{◌≡◌, ◌≤◌, ◌<◌, ◌+◌};
+ghost use Rattle.std.specs.Prelude.{◌≡◌, ◌≤◌, ◌<◌, ◌+◌, IfOk};
 
 use crate::outcome::{Departure, Dropped};
 use bridge_port::Refusal;
+use std::alloc::{AllocError, Allocator};
 use std::marker::Model;
 
 /// Number of values of 32 bits: the weight of the high half of a time.
@@ -108,4 +109,32 @@ impl StoredDrop {
             refusal: self.refusal,
         }
     }
+}
+
+/// Copies stored departures into a list of departures.
+pub fn unpack_departures<A: Allocator>(
+    alloc: A,
+    stored: &[StoredDeparture],
+) -> Result<Vec<Departure, A>, AllocError>
+    ensures { IfOk result (λ departures. departures.items ≡ stored.now) }
+{
+    let mut departures = Vec::with_capacity(alloc, stored.len())?;
+    for departure in stored {
+        departures.push(departure.departure())?;
+    }
+    Ok(departures)
+}
+
+/// Copies stored drops into a list of drops.
+pub fn unpack_drops<A: Allocator>(
+    alloc: A,
+    stored: &[StoredDrop],
+) -> Result<Vec<Dropped, A>, AllocError>
+    ensures { IfOk result (λ drops. drops.items ≡ stored.now) }
+{
+    let mut drops = Vec::with_capacity(alloc, stored.len())?;
+    for dropped in stored {
+        drops.push(dropped.dropped())?;
+    }
+    Ok(drops)
 }
