@@ -6,7 +6,6 @@ use Rattle.bridge_filter.specs.declared.Verdict.{Verdict}
 use Rattle.bridge_semantics.specs.declared.outcome.Departure.{Departure}
 use Rattle.bridge_semantics.specs.declared.outcome.Dropped.{Dropped}
 use Rattle.bridge_semantics.specs.declared.outcome.Origin.{Origin}
-use Rattle.bridge_semantics.specs.Stored.{Origins}
 
 -- The state of a recorder: verdicts, origins, departures, drops and longest delay. `owed` is the number of copies that have neither left nor been dropped. If
 -- `is_open` is true, a verdict will follow.
@@ -25,10 +24,10 @@ longer_delay None n = Some n
 longer_delay (Some m) n = Some (max m n)
 
 -- Holds if each list has capacity for the entries that the recorder owes, and a further frame's number has 32 bits.
-pub record HasRoom {A : Type 0} (verdicts : Vec Verdict A) (origins : Origins) (departures : Vec Departure A) (drops : Vec Dropped A) (owed : ℕ) (is_open : Bool) : Type 0 where
+pub record HasRoom {A : Type 0} (verdicts : Vec Verdict A) (origins : Vec Origin A) (departures : Vec Departure A) (drops : Vec Dropped A) (owed : ℕ) (is_open : Bool) : Type 0 where
   pub for_verdict : vec_len verdicts + (if is_open then 1 else 0) ≤ vec_capacity verdicts
   pub for_number : vec_len verdicts + (if is_open then 1 else 0) < 4294967296
-  pub for_origin : is_open ≡ true → origins.is_open ≡ true
+  pub for_origin : vec_len origins + (if is_open then 1 else 0) ≤ vec_capacity origins
   pub for_departures : vec_len departures + owed ≤ vec_capacity departures
   pub for_drops : vec_len drops + owed ≤ vec_capacity drops
 

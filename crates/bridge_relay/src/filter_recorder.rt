@@ -1,11 +1,12 @@
 //! The record of one filter during a run.
 ghost use Rattle.std.specs.Prelude.{◌≡◌, true, false, ◌<◌, ◌≤◌, ◌+◌, ◌-◌, ◌^◌, ◌++◌, ◌∷◌, [], Option, None, OnErr, OnOk, length};
+ghost use Rattle.bridge_filter.specs.Verdicts.{HasValidPriority};
 ghost use Rattle.bridge_relay.specs.Recorders.{RecorderState, longer_delay};
 ghost use Rattle.bridge_relay.specs.Records.{empty_recorder, HasRecorded};
 
 use bridge_cycle::NoMemory;
 use bridge_filter::Verdict;
-use bridge_semantics::{Origin, OriginList, StoredDeparture, StoredDrop, StoredVerdict};
+use bridge_semantics::{Origin, StoredDeparture, StoredDrop, StoredOrigin, StoredVerdict};
 use std::alloc::Allocator;
 use std::marker::Model;
 use std::mem;
@@ -19,7 +20,7 @@ pub struct FilterRecord<A: Allocator + Copy> {
     /// Verdict of each frame, in the order of arrival.
     pub verdicts: Vec<StoredVerdict, A>,
     /// Ingress port and arrival time of each frame.
-    pub origins: OriginList<A>,
+    pub origins: Vec<StoredOrigin, A>,
     /// Copies that left.
     pub departures: Vec<StoredDeparture, A>,
     /// Copies that ports dropped.
@@ -40,7 +41,7 @@ pub struct FilterRecorder<A: Allocator + Copy> {
     /// Verdict of each frame.
     verdicts: Vec<StoredVerdict, A>,
     /// Ingress port and arrival time of each frame.
-    origins: OriginList<A>,
+    origins: Vec<StoredOrigin, A>,
     /// Copies that left.
     departures: Vec<StoredDeparture, A>,
     /// Dropped copies.
@@ -83,7 +84,7 @@ impl<A: Allocator + Copy> FilterRecorder<A> {
             is_open: false,
             delay: None,
             verdicts: Vec::new(alloc),
-            origins: OriginList::new(alloc),
+            origins: Vec::new(alloc),
             departures: Vec::new(alloc),
             drops: Vec::new(alloc),
         }
@@ -103,7 +104,7 @@ impl<A: Allocator + Copy> FilterRecorder<A> {
         let Ok(()) = self.verdicts.reserve(1) else {
             return Err(NoMemory);
         };
-        let Ok(()) = self.origins.reserve() else {
+        let Ok(()) = self.origins.reserve(1) else {
             return Err(NoMemory);
         };
         let Ok(()) = self.departures.reserve(owed) else {
@@ -121,7 +122,7 @@ impl<A: Allocator + Copy> FilterRecorder<A> {
     #[inline(always)]
     pub fn record_verdict(&mut self, verdict: Verdict, origin: Origin) -> u32
         requires open { self.old.is_open ≡ true }
-        requires port { 1 ≤ origin.port }
+        requires priority { HasValidPriority verdict }
         ensures told { self.new ≡ record self.old {
           verdicts = self.old.verdicts ++ verdict ∷ [];
           origins = self.old.origins ++ origin ∷ [];
@@ -131,7 +132,7 @@ impl<A: Allocator + Copy> FilterRecorder<A> {
     {
         self.is_open = false;
         self.verdicts.push_reserved(StoredVerdict::new(verdict));
-        self.origins.push(origin);
+        self.origins.push_reserved(StoredOrigin::new(origin));
         self.verdicts.len() as u32
     }
 

@@ -1,6 +1,7 @@
 //! The recorders of all filters, by filter number.
-ghost use Rattle.std.specs.Prelude.{◌≡◌, ◌<◌, ◌≤◌, true, ◌+◌, nat_eq, Some, OnOk, OnErr, IfOk, IfSome, IsSome, length, slice_get};
+ghost use Rattle.std.specs.Prelude.{◌≡◌, ◌<◌, true, ◌+◌, nat_eq, Some, OnOk, OnErr, IfOk, IfSome, IsSome, length, slice_get};
 ghost use Rattle.std.specs.Map.{keys_of, lookup};
+ghost use Rattle.bridge_filter.specs.Verdicts.{HasValidPriority};
 ghost use Rattle.bridge_filter.specs.Plans.{are_numbers_distinct, is_listed};
 ghost use Rattle.bridge_relay.specs.Records.{empty_recorder, empty_recorders, HasRecorded};
 ghost use Rattle.bridge_relay.specs.Recorders.{RecorderState, update_number, update_if_some, recorders_with_answer, with_departure, with_verdict, without_room, with_room, AwaitsVerdict, CanReserve, OwesCopy, OwesCopies};
@@ -204,7 +205,7 @@ pub fn record_verdict<A: Allocator + Copy>(
     origin: Origin,
 ) -> u32
     requires open { AwaitsVerdict tables.old.entries number }
-    requires port { 1 ≤ origin.port }
+    requires priority { HasValidPriority verdict }
     ensures told { tables.new.entries ≡ update_number number (λ t. with_verdict t verdict origin) tables.old.entries }
     ensures own { (t : RecorderState) → lookup (nat_eq number) tables.old.entries ≡ Some t
         → result ≡ length t.verdicts + 1 }

@@ -1,12 +1,13 @@
 //! Verdicts as a run stores them.
-ghost use Rattle.std.specs.Prelude.{◌≡◌};
+ghost use Rattle.std.specs.Prelude.{◌≡◌, ◌≤◌, Some, true, false};
+ghost use Rattle.bridge_filter.specs.Verdicts.{HasValidPriority};
 ghost use Rattle.bridge_filter.specs.declared.Verdict.TheVariants.{Pass};
 ghost use Rattle.bridge_semantics.specs.Stored.{kind_verdict};
 
 use bridge_filter::Verdict;
 use std::marker::Model;
 
-/// Verdict without its internal priority value.
+/// Verdict without data: one octet. A frame that passes has its internal priority value, 0 to 7, in the name.
 #[derive(Clone, Copy, Debug, Drop)]
 pub enum VerdictKind {
     /// An earlier oversize frame blocked the filter.
@@ -25,23 +26,49 @@ pub enum VerdictKind {
     Red,
     /// The meter made the frame yellow, and the plan drops yellow frames.
     YellowDropped,
-    /// The frame passes.
+    /// The frame passes without an internal priority value.
     Pass,
-    /// The frame passes, marked drop eligible.
+    /// The frame passes without an internal priority value, marked drop eligible.
     PassEligible,
-    /// The frame passes with an internal priority value.
-    PassWithValue,
-    /// The frame passes with an internal priority value, marked drop eligible.
-    PassEligibleWithValue,
+    /// The frame passes with internal priority value 0.
+    Pass0,
+    /// The frame passes with internal priority value 1.
+    Pass1,
+    /// The frame passes with internal priority value 2.
+    Pass2,
+    /// The frame passes with internal priority value 3.
+    Pass3,
+    /// The frame passes with internal priority value 4.
+    Pass4,
+    /// The frame passes with internal priority value 5.
+    Pass5,
+    /// The frame passes with internal priority value 6.
+    Pass6,
+    /// The frame passes with internal priority value 7.
+    Pass7,
+    /// The frame passes with internal priority value 0, marked drop eligible.
+    PassEligible0,
+    /// The frame passes with internal priority value 1, marked drop eligible.
+    PassEligible1,
+    /// The frame passes with internal priority value 2, marked drop eligible.
+    PassEligible2,
+    /// The frame passes with internal priority value 3, marked drop eligible.
+    PassEligible3,
+    /// The frame passes with internal priority value 4, marked drop eligible.
+    PassEligible4,
+    /// The frame passes with internal priority value 5, marked drop eligible.
+    PassEligible5,
+    /// The frame passes with internal priority value 6, marked drop eligible.
+    PassEligible6,
+    /// The frame passes with internal priority value 7, marked drop eligible.
+    PassEligible7,
 }
 
-/// Verdict in two octets. A run stores one for each frame of a filter.
+/// Verdict in one octet. A run stores one for each frame of a filter.
 #[derive(Debug, Drop)]
 pub struct StoredVerdict {
-    /// The verdict without its internal priority value.
+    /// Kind that stands for the verdict.
     kind: VerdictKind,
-    /// Internal priority value, if the kind has one; otherwise 0.
-    ipv: u8,
 }
 
 impl Model for StoredVerdict {
@@ -50,27 +77,19 @@ impl Model for StoredVerdict {
 
     ghost Value = { Verdict };
 
-    ghost view = { λ v. kind_verdict v.kind v.ipv };
+    ghost view = { λ v. kind_verdict v.kind };
 }
 
 impl StoredVerdict {
-    /// Stores a verdict.
+    /// Stores a verdict, whose internal priority value is at most 7.
     #[inline(always)]
     pub fn new(verdict: Verdict) -> StoredVerdict
+        requires { HasValidPriority verdict }
         ensures { result ≡ verdict }
     {
-        let (kind, ipv) = match verdict {
-            Verdict::Blocked => (VerdictKind::Blocked, 0),
-            Verdict::Oversize => (VerdictKind::Oversize, 0),
-            Verdict::GateClosed => (VerdictKind::GateClosed, 0),
-            Verdict::ShutByRx => (VerdictKind::ShutByRx, 0),
-            Verdict::ShutByOctets => (VerdictKind::ShutByOctets, 0),
-            Verdict::OctetsExceeded => (VerdictKind::OctetsExceeded, 0),
-            Verdict::Red => (VerdictKind::Red, 0),
-            Verdict::YellowDropped => (VerdictKind::YellowDropped, 0),
-            Verdict::Pass { ipv, eligible } => pass_kind(ipv, eligible),
-        };
-        StoredVerdict { kind, ipv }
+        StoredVerdict {
+            kind: verdict_kind(verdict),
+        }
     }
 
     /// Returns the verdict.
@@ -78,8 +97,7 @@ impl StoredVerdict {
     pub fn verdict(&self) -> Verdict
         ensures { result ≡ self.now }
     {
-        let StoredVerdict { kind, ipv } = *self;
-        match kind {
+        match self.kind {
             VerdictKind::Blocked => Verdict::Blocked,
             VerdictKind::Oversize => Verdict::Oversize,
             VerdictKind::GateClosed => Verdict::GateClosed,
@@ -90,22 +108,23 @@ impl StoredVerdict {
             VerdictKind::YellowDropped => Verdict::YellowDropped,
             VerdictKind::Pass => pass(None, false),
             VerdictKind::PassEligible => pass(None, true),
-            VerdictKind::PassWithValue => pass(Some(ipv), false),
-            VerdictKind::PassEligibleWithValue => pass(Some(ipv), true),
+            VerdictKind::Pass0 => pass(Some(0), false),
+            VerdictKind::Pass1 => pass(Some(1), false),
+            VerdictKind::Pass2 => pass(Some(2), false),
+            VerdictKind::Pass3 => pass(Some(3), false),
+            VerdictKind::Pass4 => pass(Some(4), false),
+            VerdictKind::Pass5 => pass(Some(5), false),
+            VerdictKind::Pass6 => pass(Some(6), false),
+            VerdictKind::Pass7 => pass(Some(7), false),
+            VerdictKind::PassEligible0 => pass(Some(0), true),
+            VerdictKind::PassEligible1 => pass(Some(1), true),
+            VerdictKind::PassEligible2 => pass(Some(2), true),
+            VerdictKind::PassEligible3 => pass(Some(3), true),
+            VerdictKind::PassEligible4 => pass(Some(4), true),
+            VerdictKind::PassEligible5 => pass(Some(5), true),
+            VerdictKind::PassEligible6 => pass(Some(6), true),
+            VerdictKind::PassEligible7 => pass(Some(7), true),
         }
-    }
-}
-
-/// Returns kind and internal priority value, or 0, of a frame that passes.
-#[inline(always)]
-fn pass_kind(ipv: Option<u8>, eligible: bool) -> (VerdictKind, u8)
-    ensures { kind_verdict result.0 result.1 ≡ Pass ipv eligible }
-{
-    match (ipv, eligible) {
-        (None, false) => (VerdictKind::Pass, 0),
-        (None, true) => (VerdictKind::PassEligible, 0),
-        (Some(ipv), false) => (VerdictKind::PassWithValue, ipv),
-        (Some(ipv), true) => (VerdictKind::PassEligibleWithValue, ipv),
     }
 }
 
@@ -115,4 +134,74 @@ fn pass(ipv: Option<u8>, eligible: bool) -> Verdict
     ensures { result ≡ Pass ipv eligible }
 {
     Verdict::Pass { ipv, eligible }
+}
+
+/// Returns the kind that stands for a verdict.
+#[inline(always)]
+fn verdict_kind(verdict: Verdict) -> VerdictKind
+    requires { HasValidPriority verdict }
+    ensures { kind_verdict result ≡ verdict }
+{
+    match verdict {
+        Verdict::Blocked => VerdictKind::Blocked,
+        Verdict::Oversize => VerdictKind::Oversize,
+        Verdict::GateClosed => VerdictKind::GateClosed,
+        Verdict::ShutByRx => VerdictKind::ShutByRx,
+        Verdict::ShutByOctets => VerdictKind::ShutByOctets,
+        Verdict::OctetsExceeded => VerdictKind::OctetsExceeded,
+        Verdict::Red => VerdictKind::Red,
+        Verdict::YellowDropped => VerdictKind::YellowDropped,
+        Verdict::Pass {
+            ipv: None,
+            eligible: false,
+        } => VerdictKind::Pass,
+        Verdict::Pass {
+            ipv: None,
+            eligible: true,
+        } => VerdictKind::PassEligible,
+        Verdict::Pass {
+            ipv: Some(ipv),
+            eligible: false,
+        } => pass_kind(ipv),
+        Verdict::Pass {
+            ipv: Some(ipv),
+            eligible: true,
+        } => eligible_kind(ipv),
+    }
+}
+
+/// Returns the kind of a frame that passes with an internal priority value.
+#[inline(always)]
+fn pass_kind(ipv: u8) -> VerdictKind
+    requires { ipv ≤ 7 }
+    ensures { kind_verdict result ≡ Pass (Some ipv) false }
+{
+    match ipv {
+        0 => VerdictKind::Pass0,
+        1 => VerdictKind::Pass1,
+        2 => VerdictKind::Pass2,
+        3 => VerdictKind::Pass3,
+        4 => VerdictKind::Pass4,
+        5 => VerdictKind::Pass5,
+        6 => VerdictKind::Pass6,
+        _ => VerdictKind::Pass7,
+    }
+}
+
+/// Returns the kind of a frame that passes with an internal priority value, marked drop eligible.
+#[inline(always)]
+fn eligible_kind(ipv: u8) -> VerdictKind
+    requires { ipv ≤ 7 }
+    ensures { kind_verdict result ≡ Pass (Some ipv) true }
+{
+    match ipv {
+        0 => VerdictKind::PassEligible0,
+        1 => VerdictKind::PassEligible1,
+        2 => VerdictKind::PassEligible2,
+        3 => VerdictKind::PassEligible3,
+        4 => VerdictKind::PassEligible4,
+        5 => VerdictKind::PassEligible5,
+        6 => VerdictKind::PassEligible6,
+        _ => VerdictKind::PassEligible7,
+    }
 }

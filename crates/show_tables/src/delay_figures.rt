@@ -6,7 +6,7 @@ ghost use Rattle.show_tables.specs.DelayTable as spec;
 use crate::frame_rows::put_field;
 use bridge_limits::NoMemory;
 use bridge_report::{arrival_time, greatest_delay, least_delay, total_delay};
-use bridge_semantics::{Departure, Origin};
+use bridge_semantics::{Departure, Origin, StoredDeparture};
 use bridge_text::TextBuilder;
 use std::alloc::Allocator;
 
@@ -31,13 +31,13 @@ pub(crate) fn port_delays<A: Allocator>(
     alloc: A,
     origins: &[Origin],
     port: u8,
-    departures: &[Departure],
+    departures: &[StoredDeparture],
 ) -> Result<Vec<u64, A>, NoMemory>
     ensures { IfOk result (λ delays. delays.items ≡ spec.port_delays origins.now port departures.now) }
 {
     let mut delays = Vec::new(alloc);
     for departure in departures {
-        push_delay(&mut delays, origins, port, departure)?;
+        push_delay(&mut delays, origins, port, &departure.departure())?;
     }
     Ok(delays)
 }

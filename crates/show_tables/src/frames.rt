@@ -6,9 +6,8 @@ ghost use Rattle.show_tables.specs.FrameTable as spec;
 
 use crate::copies::{departures_by_frame, drops_by_frame, frame_departures, frame_drops};
 use crate::frame_rows::{FRAMES_HEADER, FilterFrame, put_copies, put_lone_row};
-use bridge_filter::Verdict;
 use bridge_limits::NoMemory;
-use bridge_semantics::{Departure, Dropped, Origin, Outcome, View};
+use bridge_semantics::{Departure, Dropped, Origin, Outcome, StoredVerdict, View};
 use bridge_text::TextBuilder;
 use std::alloc::Allocator;
 
@@ -52,7 +51,7 @@ fn put_frames<A: Allocator>(
     text: &mut TextBuilder<A>,
     filter: u32,
     origins: &[Origin],
-    verdicts: &[Verdict],
+    verdicts: &[StoredVerdict],
     departures: &[Departure],
     drops: &[Dropped],
 )
@@ -71,7 +70,7 @@ fn put_frames<A: Allocator>(
             filter,
             own,
             origin: *origin,
-            verdict: *verdict,
+            verdict: verdict.verdict(),
         };
         put_sorted_frame(text, &frame, departures, drops);
         own += 1;
@@ -97,10 +96,14 @@ fn put_filter_frames<A: Allocator + Copy>(
         text.discard();
         return;
     };
+    let Ok(origins) = view.origins.to_vec(alloc) else {
+        text.discard();
+        return;
+    };
     put_frames(
         text,
         filter,
-        &view.origins,
+        &origins,
         &view.verdicts,
         &departures,
         &drops,

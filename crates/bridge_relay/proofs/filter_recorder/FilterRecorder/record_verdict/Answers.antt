@@ -1,6 +1,6 @@
-use Rattle.std.proofs.Common.{◌≡◌, ◌∙◌, ◌++◌, ◌∷◌, [], List, ap, arith, sym, subst, true}
+use Rattle.std.proofs.Common.{◌≡◌, ◌∙◌, ◌++◌, ◌∷◌, [], ap, true}
 use Rattle.bridge_filter.specs.declared.Verdict.{Verdict}
-use Rattle.bridge_semantics.specs.Stored.{Origins}
+use Rattle.bridge_semantics.specs.declared.outcome.Origin.{Origin}
 use Rattle.bridge_relay.specs.Recorders.{RecorderState}
 use Rattle.bridge_relay.proofs.Rooms.{number_fits, room_closed, room_open}
 use Rattle.bridge_relay.proofs.Tabling.{judged_is}
@@ -9,8 +9,8 @@ use Rattle.bridge_relay.proofs.filter_recorder.FilterRecorder.record_verdict.Goa
 pub push_reserved-requires : goal.push_reserved-requires
 push_reserved-requires g c = room_open _ _ c.self.inside.is_open c.self.invariant.for_verdict (ap (λ (t : RecorderState). t.is_open) c.self.view_is ∙ c.requires.open)
 
-pub push-requires : goal.push-requires
-push-requires g c = record { «open» = c.self.invariant.for_origin (ap (λ (t : RecorderState). t.is_open) c.self.view_is ∙ c.requires.open); port = c.requires.port }
+pub push_reserved-requires-2 : goal.push_reserved-requires-2
+push_reserved-requires-2 g c = room_open _ _ c.self.inside.is_open c.self.invariant.for_origin (ap (λ (t : RecorderState). t.is_open) c.self.view_is ∙ c.requires.open)
 
 pub invariant_of-self : goal.invariant_of-self
 invariant_of-self g c =
@@ -19,7 +19,7 @@ invariant_of-self g c =
     record {
       for_verdict = room_closed _ _ _ _ c.self.inside.is_open was.for_verdict open_so c.push_reserved.ensures.len c.push_reserved.ensures.capacity;
       for_number = number_fits _ _ c.self.inside.is_open was.for_number open_so c.push_reserved.ensures.len;
-      for_origin = λ e. absurd (cc);
+      for_origin = room_closed _ _ _ _ c.self.inside.is_open was.for_origin open_so c.push_reserved-2.ensures.len c.push_reserved-2.ensures.capacity;
       for_departures = was.for_departures;
       for_drops = was.for_drops;
     }
@@ -27,4 +27,4 @@ invariant_of-self g c =
 pub returns-clause-told : goal.returns-clause-told
 returns-clause-told g c = judged_is _ c.args.self.now _ _ c.args.verdict c.args.origin c.self.view_is
     (c.push_reserved.ensures.items ∙ ap (λ (v : Verdict). c.self.inside.verdicts.items ++ v ∷ []) c.new.ensures)
-    (ap (λ (o : Origins). o.items) c.push.ensures)
+    (c.push_reserved-2.ensures.items ∙ ap (λ (o : Origin). c.self.inside.origins.items ++ o ∷ []) c.new-2.ensures)
