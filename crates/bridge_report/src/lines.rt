@@ -108,11 +108,7 @@ pub fn put_optional_buckets<T: ReportSink>(text: &mut T, buckets: Option<Buckets
 }
 
 /// Writes the line with the numbers of queued and dropped copies of a filter's frames.
-pub fn put_queued<T: ReportSink>(
-    text: &mut T,
-    departures: &[StoredDeparture],
-    drops: &[StoredDrop],
-)
+pub fn put_queued<T: ReportSink>(text: &mut T, departures: &[StoredDeparture], drops: &[StoredDrop])
     ensures { HasGrown T.contents text.old (queued_line departures.now drops.now) text.new }
 {
     text.put_number("queued ", departures.len() as u64);

@@ -77,7 +77,10 @@ fn has_reason(reason: Reason, verdict: Verdict) -> bool
 pub fn count_refused(reason: Reason, verdicts: &[StoredVerdict]) -> u64
     ensures { result ≡ spec.refused_for reason verdicts.now }
 {
-    verdicts.iter().filter(|v| has_reason(reason, v.verdict())).count() as u64
+    verdicts
+        .iter()
+        .filter(|v| has_reason(reason, v.verdict()))
+        .count() as u64
 }
 
 /// Counts the copies that a port dropped because their queue was full.

@@ -6,14 +6,14 @@ ghost use Rattle.show_tables.specs.DelayTable as spec;
 use crate::frame_rows::put_field;
 use bridge_limits::NoMemory;
 use bridge_report::{arrival_time, greatest_delay, least_delay, total_delay};
-use bridge_semantics::{Departure, Origin, StoredDeparture};
+use bridge_semantics::{Departure, StoredDeparture, StoredOrigin};
 use bridge_text::TextBuilder;
 use std::alloc::Allocator;
 
 /// Appends the delay of a copy in ns to `delays`, if the copy left by `port`.
 fn push_delay<A: Allocator>(
     delays: &mut Vec<u64, A>,
-    origins: &[Origin],
+    origins: &[StoredOrigin],
     port: u8,
     departure: &Departure,
 ) -> Result<(), NoMemory>
@@ -29,7 +29,7 @@ fn push_delay<A: Allocator>(
 /// Returns the delays in ns of the copies that left by `port`.
 pub(crate) fn port_delays<A: Allocator>(
     alloc: A,
-    origins: &[Origin],
+    origins: &[StoredOrigin],
     port: u8,
     departures: &[StoredDeparture],
 ) -> Result<Vec<u64, A>, NoMemory>

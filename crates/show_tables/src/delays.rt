@@ -10,7 +10,7 @@ use crate::port_bounds::{bound_by_port, port_bounds};
 use bridge_check::Accepted;
 use bridge_limits::NoMemory;
 use bridge_report::{count_full, count_never_fitting};
-use bridge_semantics::{Origin, Outcome, View};
+use bridge_semantics::{Outcome, View};
 use bridge_text::TextBuilder;
 use std::alloc::Allocator;
 
@@ -91,14 +91,12 @@ fn put_row_of_port<A: Allocator + Copy>(
     text: &mut TextBuilder<A>,
     filter: u32,
     view: &View<A>,
-    origins: &[Origin],
     bounds: &[Option<u64>],
     port: u8,
 )
-    requires { origins.now ≡ view.now.origins.items }
     ensures { HasGrown text.old (spec.row_of_port filter view.now bounds.now port) text.new }
 {
-    match port_delays(alloc, origins, port, &view.departures) {
+    match port_delays(alloc, &view.origins, port, &view.departures) {
         Ok(delays) => put_row_if_any(
             text,
             filter,
@@ -121,12 +119,8 @@ fn put_port_rows<A: Allocator + Copy>(
 )
     ensures { HasGrown text.old (spec.port_rows filter view.now bounds.now) text.new }
 {
-    let Ok(origins) = view.origins.to_vec(alloc) else {
-        text.discard();
-        return;
-    };
     for port in 1..17u8 {
-        put_row_of_port(alloc, text, filter, view, &origins, bounds, port);
+        put_row_of_port(alloc, text, filter, view, bounds, port);
     }
 }
 

@@ -7,7 +7,7 @@ ghost use Rattle.show_tables.specs.FrameTable as spec;
 use crate::copies::{departures_by_frame, drops_by_frame, frame_departures, frame_drops};
 use crate::frame_rows::{FRAMES_HEADER, FilterFrame, put_copies, put_lone_row};
 use bridge_limits::NoMemory;
-use bridge_semantics::{Departure, Dropped, Origin, Outcome, StoredVerdict, View};
+use bridge_semantics::{Departure, Dropped, Outcome, StoredOrigin, StoredVerdict, View};
 use bridge_text::TextBuilder;
 use std::alloc::Allocator;
 
@@ -50,7 +50,7 @@ fn put_sorted_frame<A: Allocator>(
 fn put_frames<A: Allocator>(
     text: &mut TextBuilder<A>,
     filter: u32,
-    origins: &[Origin],
+    origins: &[StoredOrigin],
     verdicts: &[StoredVerdict],
     departures: &[Departure],
     drops: &[Dropped],
@@ -69,7 +69,7 @@ fn put_frames<A: Allocator>(
         let frame = FilterFrame {
             filter,
             own,
-            origin: *origin,
+            origin: origin.origin(),
             verdict: verdict.verdict(),
         };
         put_sorted_frame(text, &frame, departures, drops);
@@ -96,14 +96,10 @@ fn put_filter_frames<A: Allocator + Copy>(
         text.discard();
         return;
     };
-    let Ok(origins) = view.origins.to_vec(alloc) else {
-        text.discard();
-        return;
-    };
     put_frames(
         text,
         filter,
-        &origins,
+        &view.origins,
         &view.verdicts,
         &departures,
         &drops,

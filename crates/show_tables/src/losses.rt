@@ -18,7 +18,7 @@ pub(crate) fn count_full_on_port(port: u8, drops: &[StoredDrop]) -> usize
 {
     drops
         .iter()
-        .filter(|d| is_full_drop(port, &d.dropped()))
+        .filter(|d| d.dropped().port == port && matches!(d.dropped().refusal, Refusal::Full))
         .count()
 }
 
@@ -28,12 +28,16 @@ pub(crate) fn count_never_on_port(port: u8, drops: &[StoredDrop]) -> usize
 {
     drops
         .iter()
-        .filter(|d| is_never_drop(port, &d.dropped()))
+        .filter(|d| d.dropped().port == port && matches!(d.dropped().refusal, Refusal::NeverFits))
         .count()
 }
 
 /// Writes the field with the number of frames refused for `reason`.
-fn put_refused_count<A: Allocator>(text: &mut TextBuilder<A>, reason: Reason, verdicts: &[StoredVerdict])
+fn put_refused_count<A: Allocator>(
+    text: &mut TextBuilder<A>,
+    reason: Reason,
+    verdicts: &[StoredVerdict],
+)
     ensures { HasGrown text.old (field (refused_for reason verdicts.now)) text.new }
 {
     put_field(text, count_refused(reason, verdicts));
