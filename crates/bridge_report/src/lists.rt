@@ -25,7 +25,7 @@ pub fn put_drops<T: ReportSink>(text: &mut T, drops: &[StoredDrop])
     ensures { HasGrown T.contents text.old (flat_map drop_line drops.now) text.new }
 {
     for dropped in drops {
-        put_drop(text, &dropped.dropped());
+        put_drop(text, &dropped.dropped_copy());
     }
 }
 

@@ -152,7 +152,7 @@ impl StoredDrop {
 
     /// Returns the drop.
     #[inline(always)]
-    pub fn dropped(&self) -> Dropped
+    pub fn dropped_copy(&self) -> Dropped
         ensures { result ≡ self.now }
     {
         Dropped {
@@ -186,7 +186,7 @@ pub fn unpack_drops<A: Allocator>(
 {
     let mut drops = Vec::with_capacity(alloc, stored.len())?;
     for dropped in stored {
-        drops.push(dropped.dropped())?;
+        drops.push(dropped.dropped_copy())?;
     }
     Ok(drops)
 }

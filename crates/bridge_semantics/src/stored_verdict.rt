@@ -92,6 +92,14 @@ impl StoredVerdict {
         }
     }
 
+    /// Returns the kind that stands for the verdict. Counting kinds is faster than counting verdicts.
+    #[inline(always)]
+    pub fn kind(&self) -> VerdictKind
+        ensures { kind_verdict result ≡ self.now }
+    {
+        self.kind
+    }
+
     /// Returns the verdict.
     #[inline(always)]
     pub fn verdict(&self) -> Verdict

@@ -129,7 +129,7 @@ fn count_drops(tallies: &mut [CopyCounts], roots: &[Option<SourceFrame>], drops:
     for dropped in drops {
         count_frame(
             tallies,
-            source_frame(roots, dropped.dropped().own),
+            source_frame(roots, dropped.dropped_copy().own),
             CopyFate::Refused,
         );
     }

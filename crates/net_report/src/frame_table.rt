@@ -184,9 +184,9 @@ fn put_drops<A: Allocator>(
             text,
             stream,
             hop,
-            source_frame(roots, dropped.dropped().own),
-            arrival_time(origins, dropped.dropped().own),
-            &dropped.dropped(),
+            source_frame(roots, dropped.dropped_copy().own),
+            arrival_time(origins, dropped.dropped_copy().own),
+            &dropped.dropped_copy(),
         );
     }
 }

@@ -182,14 +182,17 @@ fn count_yellow_dropped(verdicts: &[StoredVerdict]) -> usize
 fn count_full(drops: &[StoredDrop]) -> usize
     ensures { result ≡ count_by spec.is_full drops.now }
 {
-    drops.iter().filter(|d| is_full(&d.dropped())).count()
+    drops.iter().filter(|d| is_full(&d.dropped_copy())).count()
 }
 
 /// Returns the number of copies dropped because they fit at no time.
 fn count_never_fits(drops: &[StoredDrop]) -> usize
     ensures { result ≡ count_by spec.never_fits drops.now }
 {
-    drops.iter().filter(|d| never_fits(&d.dropped())).count()
+    drops
+        .iter()
+        .filter(|d| never_fits(&d.dropped_copy()))
+        .count()
 }
 
 /// Returns the number of copies that left by ports without next hop: the hop delivered them.

@@ -151,7 +151,7 @@ fn put_refused<A: Allocator>(picture: &mut RunPicture, view: &View<A>, y: u64) {
 /// Draws a mark at the frame's arrival time for each copy that a port of a hop dropped.
 fn put_dropped<A: Allocator>(picture: &mut RunPicture, view: &View<A>, y: u64) {
     for stored in &view.drops {
-        let dropped = stored.dropped();
+        let dropped = stored.dropped_copy();
         let at = arrival_time_or(&view.origins, dropped.own, 0);
         let mark = time_mark(picture, at, y, false);
         let numbers = [dropped.own, at, u64::from(dropped.port)];

@@ -242,7 +242,7 @@ impl FrameSelection {
         }
         frame.is_stopped = false;
         for stored in &view.drops {
-            let it = stored.dropped();
+            let it = stored.dropped_copy();
             (frame.own, frame.port) = (it.own, it.port);
             frame.cause = match it.refusal {
                 Refusal::Full => "queue full",

@@ -18,7 +18,8 @@ pub(crate) fn count_full_on_port(port: u8, drops: &[StoredDrop]) -> usize
 {
     drops
         .iter()
-        .filter(|d| d.dropped().port == port && matches!(d.dropped().refusal, Refusal::Full))
+        .filter(|d| d.dropped_copy().port == port
+            && matches!(d.dropped_copy().refusal, Refusal::Full))
         .count()
 }
 
@@ -28,7 +29,8 @@ pub(crate) fn count_never_on_port(port: u8, drops: &[StoredDrop]) -> usize
 {
     drops
         .iter()
-        .filter(|d| d.dropped().port == port && matches!(d.dropped().refusal, Refusal::NeverFits))
+        .filter(|d| d.dropped_copy().port == port
+            && matches!(d.dropped_copy().refusal, Refusal::NeverFits))
         .count()
 }
 

@@ -167,7 +167,7 @@ fn is_nowhere(figures: &[TrafficFigures], index: u32) -> bool {
 fn drops_against(figures: &[TrafficFigures], row: u32, view: &View<Global>) -> u64 {
     let mut drops = 0u64;
     for stored in &view.drops {
-        let dropped = stored.dropped();
+        let dropped = stored.dropped_copy();
         let passes = match port_timing(figures, row, dropped.port) {
             Some(timing) => timing.passes,
             None => true,
