@@ -33,12 +33,12 @@ pub(crate) fn last_frame(outcome: &Outcome<Global>) -> Option<Last> {
     let mut last = Last { came: 0, left: 0 };
     let mut frames = 0u64;
     for filter in &outcome.filters {
-        for origin in &filter.1.origins {
+        for stored in &filter.1.origins {
             frames = frames.saturating_add(1);
-            last.came = last.came.max(origin.at);
+            last.came = last.came.max(stored.origin().at);
         }
-        for departure in &filter.1.departures {
-            last.left = last.left.max(departure.done);
+        for stored in &filter.1.departures {
+            last.left = last.left.max(stored.departure().done);
         }
     }
     last.left = last.left.max(last.came);

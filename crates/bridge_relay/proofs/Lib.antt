@@ -28,3 +28,4 @@ pub mod Ended
 pub mod Clearing
 pub mod Firsts
 pub mod Found
+pub mod Times

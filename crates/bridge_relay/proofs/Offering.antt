@@ -497,7 +497,7 @@ out_not slots set k h = ap (λ (b : Bool). has_port set k && b) h ∙ and_false 
 pub out_yes : {A : Type 0} (slots : List (Option (PortState A))) (set k : ℕ) → has_port set k ≡ true → is_present (nth_port slots k) ≡ true → is_output slots set k ≡ true
 out_yes slots set k h e = ap (λ (b : Bool). b && is_present (nth_port slots k)) h ∙ e
 
-pub same_leaves : {A : Type 0} (load : QueuedFrame A) (octets : Vec ℕ A) (len : ℕ) (eligible : Bool) → octets.items ≡ load.octets.items → leaving_frame (record { at = load.at; flow = load.flow; own = load.own; octets = octets }) len eligible ≡ leaving_frame load len eligible
+pub same_leaves : {A : Type 0} (load : QueuedFrame A) (octets : Vec ℕ A) (len : ℕ) (eligible : Bool) → octets.items ≡ load.octets.items → leaving_frame (record { at = load.at; flow = load.flow; own = load.own; recorder = load.recorder; octets = octets }) len eligible ≡ leaving_frame load len eligible
 same_leaves load octets len eligible e = ap (λ (v : List ℕ). record { at = load.at; flow = load.flow; own = load.own; len = len; octets = leaving_octets eligible v }) e
 
 pub skipped : {G A : Type 0} (held : G → ℕ → Option ℕ) (first now : RelayState G A) (set priority : ℕ) (x : CarriedFrame) (k : ℕ) (octets : List ℕ) (copies : List (Vec ℕ A)) → 1 ≤ k → is_output now.ports.slots set k ≡ false → IsOfferingSet held first now set priority x k → HasCopies first.ports.slots set k octets copies → IsOfferingSet held first now set priority x (k + 1) × HasCopies first.ports.slots set (k + 1) octets copies

@@ -38,14 +38,19 @@ pub dropped_fits : (sent dropped offered : ℕ) → sent + dropped ≡ offered �
 dropped_fits sent dropped offered all few = omega arith
 
 -- An open recorder has capacity for a verdict.
-pub room_open : (n k cap : ℕ) (b : Bool) → n + k + (if b then 1 else 0) ≤ cap → b ≡ true → n + k < cap
-room_open n k cap true room open_so = omega arith
-room_open n k cap false room open_so = absurd (cc)
+pub room_open : (n cap : ℕ) (b : Bool) → n + (if b then 1 else 0) ≤ cap → b ≡ true → n < cap
+room_open n cap true room open_so = omega arith
+room_open n cap false room open_so = absurd (cc)
 
 -- After the verdict, the recorder is closed.
-pub room_closed : (n k cap m l more : ℕ) (b : Bool) → n + k + (if b then 1 else 0) ≤ cap → b ≡ true → m + l ≡ n + k + 1 → cap ≤ more → m + l + 0 ≤ more
-room_closed n k cap m l more true room open_so is kept = omega arith
-room_closed n k cap m l more false room open_so is kept = absurd (cc)
+pub room_closed : (n cap m more : ℕ) (b : Bool) → n + (if b then 1 else 0) ≤ cap → b ≡ true → m ≡ n + 1 → more ≡ cap → m + 0 ≤ more
+room_closed n cap m more true room open_so is kept = omega arith
+room_closed n cap m more false room open_so is kept = absurd (cc)
+
+-- The number of the verdict's frame has 32 bits.
+pub number_fits : (n m : ℕ) (b : Bool) → n + (if b then 1 else 0) < 4294967296 → b ≡ true → m ≡ n + 1 → m + 0 < 4294967296
+number_fits n m true few open_so is = omega arith
+number_fits n m false few open_so is = absurd (cc)
 
 pub same_few : (n k p : ℕ) → n ≡ k → k ≡ p → n ≤ p
 same_few n k p is at = omega arith

@@ -23,11 +23,12 @@ abbrev pub longer_delay : Option ℕ → ℕ → Option ℕ
 longer_delay None n = Some n
 longer_delay (Some m) n = Some (max m n)
 
--- Holds if each list has capacity for the entries that the recorder owes.
-pub record HasRoom {A : Type 0} (verdicts : Vec Verdict A) (newest_verdicts : List Verdict) (origins : Vec Origin A) (newest_origins : List Origin) (departures : Vec Departure A) (newest_departures : List Departure) (drops : Vec Dropped A) (owed : ℕ) (is_open : Bool) : Type 0 where
-  pub for_verdict : vec_len verdicts + length newest_verdicts + (if is_open then 1 else 0) ≤ vec_capacity verdicts
-  pub for_origin : vec_len origins + length newest_origins + (if is_open then 1 else 0) ≤ vec_capacity origins
-  pub for_departures : vec_len departures + length newest_departures + owed ≤ vec_capacity departures
+-- Holds if each list has capacity for the entries that the recorder owes, and a further frame's number has 32 bits.
+pub record HasRoom {A : Type 0} (verdicts : Vec Verdict A) (origins : Vec Origin A) (departures : Vec Departure A) (drops : Vec Dropped A) (owed : ℕ) (is_open : Bool) : Type 0 where
+  pub for_verdict : vec_len verdicts + (if is_open then 1 else 0) ≤ vec_capacity verdicts
+  pub for_number : vec_len verdicts + (if is_open then 1 else 0) < 4294967296
+  pub for_origin : vec_len origins + (if is_open then 1 else 0) ≤ vec_capacity origins
+  pub for_departures : vec_len departures + owed ≤ vec_capacity departures
   pub for_drops : vec_len drops + owed ≤ vec_capacity drops
 
 -- The recorder after a departure with delay `delay` in ns.

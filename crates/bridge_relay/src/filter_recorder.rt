@@ -1,38 +1,30 @@
 //! The record of one filter during a run.
 ghost use Rattle.std.specs.Prelude.{◌≡◌, true, false, ◌<◌, ◌≤◌, ◌+◌, ◌-◌, ◌^◌, ◌++◌, ◌∷◌, [], Option, None, OnErr, OnOk, length};
+ghost use Rattle.bridge_filter.specs.Verdicts.{HasValidPriority};
 ghost use Rattle.bridge_relay.specs.Recorders.{RecorderState, longer_delay};
 ghost use Rattle.bridge_relay.specs.Records.{empty_recorder, HasRecorded};
 
-use crate::item_buffer::ItemBuffer;
 use bridge_cycle::NoMemory;
 use bridge_filter::Verdict;
-use bridge_semantics::{Departure, Dropped, Origin};
+use bridge_semantics::{Origin, StoredDeparture, StoredDrop, StoredOrigin, StoredVerdict};
 use std::alloc::Allocator;
 use std::marker::Model;
 use std::mem;
 
-/// Fills unused slots of the buffer of origins.
-const NO_ORIGIN: Origin = Origin { port: 0, at: 0 };
-
-/// Fills unused slots of the buffer of departures.
-const NO_DEPARTURE: Departure = Departure {
-    own: 0,
-    port: 0,
-    start: 0,
-    done: 0,
-};
+/// Largest number of a filter's frames: frame numbers have 32 bits. A run has fewer frames.
+const MAX_FRAMES: usize = 4_294_967_295;
 
 /// Record of a filter, moved out of its recorder when a run ends.
 #[derive(Drop)]
 pub struct FilterRecord<A: Allocator + Copy> {
     /// Verdict of each frame, in the order of arrival.
-    pub verdicts: Vec<Verdict, A>,
+    pub verdicts: Vec<StoredVerdict, A>,
     /// Ingress port and arrival time of each frame.
-    pub origins: Vec<Origin, A>,
+    pub origins: Vec<StoredOrigin, A>,
     /// Copies that left.
-    pub departures: Vec<Departure, A>,
+    pub departures: Vec<StoredDeparture, A>,
     /// Copies that ports dropped.
-    pub drops: Vec<Dropped, A>,
+    pub drops: Vec<StoredDrop, A>,
     /// Longest delay in ns; `None` without departures.
     pub delay: Option<u64>,
 }
@@ -46,40 +38,32 @@ pub struct FilterRecorder<A: Allocator + Copy> {
     is_open: bool,
     /// Longest delay in ns so far.
     delay: Option<u64>,
-    /// Newest verdicts, not yet in `verdicts`.
-    newest_verdicts: ItemBuffer<Verdict>,
-    /// Newest origins, not yet in `origins`.
-    newest_origins: ItemBuffer<Origin>,
-    /// Newest departures, not yet in `departures`.
-    newest_departures: ItemBuffer<Departure>,
-    /// Older verdicts.
-    verdicts: Vec<Verdict, A>,
-    /// Older origins.
-    origins: Vec<Origin, A>,
-    /// Older departures.
-    departures: Vec<Departure, A>,
+    /// Verdict of each frame.
+    verdicts: Vec<StoredVerdict, A>,
+    /// Ingress port and arrival time of each frame.
+    origins: Vec<StoredOrigin, A>,
+    /// Copies that left.
+    departures: Vec<StoredDeparture, A>,
     /// Dropped copies.
-    drops: Vec<Dropped, A>,
+    drops: Vec<StoredDrop, A>,
 }
 
 impl<A: Allocator + Copy> Model for FilterRecorder<A> {
-    ghost use Rattle.std.specs.Prelude.{◌≤◌, ◌+◌, ◌++◌, if◌then◌else◌};
     ghost use Rattle.bridge_relay.specs.Recorders.{RecorderState, HasRoom};
 
     ghost Value = { RecorderState };
 
     ghost view = { λ t. record {
-      verdicts = t.verdicts.items ++ t.newest_verdicts;
-      origins = t.origins.items ++ t.newest_origins;
-      departures = t.departures.items ++ t.newest_departures;
+      verdicts = t.verdicts.items;
+      origins = t.origins.items;
+      departures = t.departures.items;
       drops = t.drops.items;
       delay = t.delay;
       owed = t.owed;
       is_open = t.is_open;
     } };
 
-    ghost invariant = { λ t. HasRoom t.verdicts t.newest_verdicts t.origins t.newest_origins t.departures
-        t.newest_departures t.drops t.owed t.is_open };
+    ghost invariant = { λ t. HasRoom t.verdicts t.origins t.departures t.drops t.owed t.is_open };
 }
 
 impl<A: Allocator + Copy> FilterRecorder<A> {
@@ -99,9 +83,6 @@ impl<A: Allocator + Copy> FilterRecorder<A> {
             owed: 0,
             is_open: false,
             delay: None,
-            newest_verdicts: ItemBuffer::empty(Verdict::Blocked),
-            newest_origins: ItemBuffer::empty(NO_ORIGIN),
-            newest_departures: ItemBuffer::empty(NO_DEPARTURE),
             verdicts: Vec::new(alloc),
             origins: Vec::new(alloc),
             departures: Vec::new(alloc),
@@ -117,13 +98,16 @@ impl<A: Allocator + Copy> FilterRecorder<A> {
         ensures err { OnErr result (self.new ≡ self.old) }
     {
         let owed = self.owed + copies;
-        let Ok(()) = self.verdicts.reserve(self.newest_verdicts.len() + 1) else {
+        if self.verdicts.len() >= MAX_FRAMES {
+            return Err(NoMemory);
+        }
+        let Ok(()) = self.verdicts.reserve(1) else {
             return Err(NoMemory);
         };
-        let Ok(()) = self.origins.reserve(self.newest_origins.len() + 1) else {
+        let Ok(()) = self.origins.reserve(1) else {
             return Err(NoMemory);
         };
-        let Ok(()) = self.departures.reserve(self.newest_departures.len() + owed) else {
+        let Ok(()) = self.departures.reserve(owed) else {
             return Err(NoMemory);
         };
         let Ok(()) = self.drops.reserve(owed) else {
@@ -136,8 +120,9 @@ impl<A: Allocator + Copy> FilterRecorder<A> {
 
     /// Appends a verdict and its frame's origin. Returns the frame's number, from 1.
     #[inline(always)]
-    pub fn record_verdict(&mut self, verdict: Verdict, origin: Origin) -> u64
-        requires { self.old.is_open ≡ true }
+    pub fn record_verdict(&mut self, verdict: Verdict, origin: Origin) -> u32
+        requires open { self.old.is_open ≡ true }
+        requires priority { HasValidPriority verdict }
         ensures told { self.new ≡ record self.old {
           verdicts = self.old.verdicts ++ verdict ∷ [];
           origins = self.old.origins ++ origin ∷ [];
@@ -146,9 +131,9 @@ impl<A: Allocator + Copy> FilterRecorder<A> {
         ensures own { result ≡ length self.old.verdicts + 1 }
     {
         self.is_open = false;
-        self.newest_verdicts.push(&mut self.verdicts, verdict);
-        self.newest_origins.push(&mut self.origins, origin);
-        (self.verdicts.len() + self.newest_verdicts.len()) as u64
+        self.verdicts.push_reserved(StoredVerdict::new(verdict));
+        self.origins.push_reserved(StoredOrigin::new(origin));
+        self.verdicts.len() as u32
     }
 
     /// Releases the reservation of `copies` copies of a frame that its filter refused: no port will be offered them.
@@ -160,7 +145,7 @@ impl<A: Allocator + Copy> FilterRecorder<A> {
     }
 
     /// Appends a dropped copy. Uses the capacity that `reserve_room` reserved, so it can't fail.
-    pub fn record_drop(&mut self, dropped: Dropped)
+    pub fn record_drop(&mut self, dropped: StoredDrop)
         requires { 0 < self.old.owed }
         ensures { self.new ≡ record self.old { drops = self.old.drops ++ dropped ∷ []; owed = self.old.owed - 1 } }
     {
@@ -170,7 +155,7 @@ impl<A: Allocator + Copy> FilterRecorder<A> {
 
     /// Appends a copy that left, `delay` ns after its frame's arrival.
     #[inline(always)]
-    pub fn record_departure(&mut self, departure: Departure, delay: u64)
+    pub fn record_departure(&mut self, departure: StoredDeparture, delay: u64)
         requires { 0 < self.old.owed }
         ensures { self.new ≡ record self.old {
           departures = self.old.departures ++ departure ∷ [];
@@ -179,7 +164,7 @@ impl<A: Allocator + Copy> FilterRecorder<A> {
         } }
     {
         self.owed -= 1;
-        self.newest_departures.push(&mut self.departures, departure);
+        self.departures.push_reserved(departure);
         self.delay = match self.delay {
             Some(longest) => Some(longest.max(delay)),
             None => Some(delay),
@@ -192,19 +177,13 @@ impl<A: Allocator + Copy> FilterRecorder<A> {
         ensures fresh { self.new ≡ empty_recorder }
     {
         let FilterRecorder {
-            newest_verdicts,
-            newest_origins,
-            newest_departures,
-            mut verdicts,
-            mut origins,
-            mut departures,
+            verdicts,
+            origins,
+            departures,
             drops,
             delay,
             ..
         } = mem::replace(self, FilterRecorder::new(alloc));
-        newest_verdicts.flush(&mut verdicts);
-        newest_origins.flush(&mut origins);
-        newest_departures.flush(&mut departures);
         FilterRecord {
             verdicts,
             origins,

@@ -1,6 +1,7 @@
 //! The recorders of all filters, by filter number.
 ghost use Rattle.std.specs.Prelude.{◌≡◌, ◌<◌, true, ◌+◌, nat_eq, Some, OnOk, OnErr, IfOk, IfSome, IsSome, length, slice_get};
 ghost use Rattle.std.specs.Map.{keys_of, lookup};
+ghost use Rattle.bridge_filter.specs.Verdicts.{HasValidPriority};
 ghost use Rattle.bridge_filter.specs.Plans.{are_numbers_distinct, is_listed};
 ghost use Rattle.bridge_relay.specs.Records.{empty_recorder, empty_recorders, HasRecorded};
 ghost use Rattle.bridge_relay.specs.Recorders.{RecorderState, update_number, update_if_some, recorders_with_answer, with_departure, with_verdict, without_room, with_room, AwaitsVerdict, CanReserve, OwesCopy, OwesCopies};
@@ -9,7 +10,7 @@ use crate::filter_recorder::{FilterRecord, FilterRecorder};
 use bridge_cycle::NoMemory;
 use bridge_filter::{FilterPlan, Verdict};
 use bridge_port::Refusal;
-use bridge_semantics::{Departure, Dropped, Origin};
+use bridge_semantics::{Origin, StoredDeparture, StoredDrop};
 use indexmap::IndexMap;
 use std::alloc::{AllocError, Allocator};
 use std::hash::{BuildHasherDefault, FoldHasher};
@@ -130,19 +131,21 @@ fn recorder_index_by_hint<A: Allocator + Copy>(
     }
 }
 
-/// Records that a copy of a filter's frame left, `delay` ns after the frame's arrival. Does nothing for an unfiltered frame.
+/// Records that a copy of a filter's frame left, `delay` ns after the frame's arrival. Tries the index `hint` first. Does nothing for an
+/// unfiltered frame.
 #[inline(always)]
 pub fn record_departure<A: Allocator + Copy>(
     tables: &mut FilterRecorders<A>,
     flow: Option<u32>,
-    departure: Departure,
+    hint: usize,
+    departure: StoredDeparture,
     delay: u64,
 )
     requires { IfSome flow (OwesCopy tables.old.entries) }
     ensures { tables.new.entries ≡ update_if_some flow (λ t. with_departure t departure delay) tables.old.entries }
 {
     if let Some(number) = flow {
-        let place = recorder_index(tables, number);
+        let place = recorder_index_by_hint(tables, hint, number);
         let (_, table) = tables.pair_mut(place);
         table.record_departure(departure, delay);
     }
@@ -153,7 +156,7 @@ pub fn record_departure<A: Allocator + Copy>(
 pub fn record_answer<A: Allocator + Copy>(
     tables: &mut FilterRecorders<A>,
     flow: Option<u32>,
-    own: u64,
+    own: u32,
     port: u8,
     answer: Result<(), Refusal>,
 )
@@ -165,7 +168,7 @@ pub fn record_answer<A: Allocator + Copy>(
     {
         let place = recorder_index(tables, number);
         let (_, table) = tables.pair_mut(place);
-        table.record_drop(Dropped { own, port, refusal });
+        table.record_drop(StoredDrop::new(own, port, refusal));
     }
 }
 
@@ -200,8 +203,9 @@ pub fn record_verdict<A: Allocator + Copy>(
     hint: usize,
     verdict: Verdict,
     origin: Origin,
-) -> u64
-    requires { AwaitsVerdict tables.old.entries number }
+) -> u32
+    requires open { AwaitsVerdict tables.old.entries number }
+    requires priority { HasValidPriority verdict }
     ensures told { tables.new.entries ≡ update_number number (λ t. with_verdict t verdict origin) tables.old.entries }
     ensures own { (t : RecorderState) → lookup (nat_eq number) tables.old.entries ≡ Some t
         → result ≡ length t.verdicts + 1 }

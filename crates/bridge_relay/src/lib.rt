@@ -6,7 +6,6 @@ pub mod copies;
 pub mod filter_recorder;
 pub mod filter_recorders;
 mod finish;
-mod item_buffer;
 mod new_relay;
 pub mod port_state;
 pub mod ports;

@@ -41,9 +41,12 @@ use bridge_frame::{Head, Tag, parse};
 use bridge_ident::Ident;
 use bridge_limits::{END_OF_TIME, LONGEST_FRAME, MAX_ARRIVALS, MAX_CAPTURED_OCTETS};
 use bridge_port::Item;
-use bridge_semantics::{Departure, Destination, Origin, QueuedFrame};
+use bridge_semantics::{Destination, Origin, QueuedFrame, StoredDeparture};
 use std::alloc::Allocator;
 use std::marker::Model;
+
+/// Largest index of a recorder that a queued frame stores.
+const MAX_RECORDERS: usize = 4_294_967_295;
 
 /// Returns the stream handle of a frame, if a stream entry matches. Isn't inlined: its code would take registers from the loop of a run.
 #[inline(never)]
@@ -184,15 +187,17 @@ impl<'a, G: Agenda + Drop, A: Allocator + Copy> Relay<'a, G, A> {
             at,
             flow,
             own,
+            recorder,
             octets,
         } = load;
-        let departure = Departure {
-            own,
-            port,
-            start,
-            done,
-        };
-        record_departure(&mut self.tables, flow, departure, done.saturating_sub(at));
+        let departure = StoredDeparture::new(own, port, start, done);
+        record_departure(
+            &mut self.tables,
+            flow,
+            recorder as usize,
+            departure,
+            done.saturating_sub(at),
+        );
         self.earliest = self.earliest.max(start + 1);
         Sent {
             port,
@@ -350,6 +355,7 @@ impl<'a, G: Agenda + Drop, A: Allocator + Copy> Relay<'a, G, A> {
             at,
             flow,
             own,
+            recorder,
             octets,
         } = load;
         let octets = mark_if_eligible(octets, eligible);
@@ -361,6 +367,7 @@ impl<'a, G: Agenda + Drop, A: Allocator + Copy> Relay<'a, G, A> {
                 at,
                 flow,
                 own,
+                recorder,
                 octets,
             },
             spares,
@@ -401,6 +408,7 @@ impl<'a, G: Agenda + Drop, A: Allocator + Copy> Relay<'a, G, A> {
                     at: first.at,
                     flow: first.flow,
                     own: first.own,
+                    recorder: first.recorder,
                     octets,
                 };
                 self.offer_copy(set, number, priority, len, eligible, load, spares);
@@ -473,7 +481,7 @@ impl<'a, G: Agenda + Drop, A: Allocator + Copy> Relay<'a, G, A> {
         port: u8,
         call: FilterInput,
         found: Option<Route>,
-    ) -> Option<(Ruling, u64)>
+    ) -> Option<(Ruling, u32)>
         requires known { (s : PortState A) × (port_state self.old.ports port ≡ Some s) }
         requires from { 1 ≤ port }
         requires time { (self.old.earliest ≤ call.at) × (call.at < END_OF_TIME) }
@@ -549,6 +557,7 @@ impl<'a, G: Agenda + Drop, A: Allocator + Copy> Relay<'a, G, A> {
                     at: time,
                     flow: None,
                     own: 0,
+                    recorder: 0,
                     octets,
                 };
                 self.offer_copies(set, call.priority, len, false, load, copies, spares);
@@ -559,6 +568,7 @@ impl<'a, G: Agenda + Drop, A: Allocator + Copy> Relay<'a, G, A> {
                         at: time,
                         flow: Some(filter),
                         own,
+                        recorder: route_index(found).min(MAX_RECORDERS) as u32,
                         octets,
                     };
                     self.offer_copies(

@@ -2,17 +2,17 @@
 ghost use Rattle.std.specs.Prelude.{◌≡◌, sum};
 ghost use Rattle.bridge_report.specs.Figures as spec;
 
-use bridge_semantics::Origin;
+use bridge_semantics::StoredOrigin;
 
 /// Returns the arrival time in ns of frame number `own`, counted from 1; 0 if no frame has this number.
-pub fn arrival_time(origins: &[Origin], own: u64) -> u64
+pub fn arrival_time(origins: &[StoredOrigin], own: u64) -> u64
     ensures { result ≡ spec.at_of origins.now own }
 {
     if own == 0 {
         return 0;
     }
     match origins.get((own - 1) as usize) {
-        Some(origin) => origin.at,
+        Some(origin) => origin.origin().at,
         None => 0,
     }
 }

@@ -1,15 +1,16 @@
 //! Writes the lines of a section to any report sink.
-ghost use Rattle.std.specs.Prelude.{Some};
+ghost use Rattle.std.specs.Prelude.{◌≡◌, ◌≤◌, ◌++◌, Some, codes, length};
+ghost use Rattle.bridge_report.specs.Words.{verdict_word};
 ghost use Rattle.bridge_report.specs.Growth.{HasGrown};
 ghost use Rattle.bridge_report.specs.Section.{bucket_line, counter_lines, delay_line, drop_line, all_flags, named_flag, flags_line, frame_line, header_line, matching_line, departure_line, queued_line, red_line, test_line};
 
 use crate::losses::{count_full, count_never_fitting};
 use crate::report_line::ReportLine;
 use crate::report_sink::{ReportSink, put_wide_number};
-use crate::words::{flag_word, kind_word, refusal_word, verdict_word};
+use crate::words::{flag_word, kind_word, refusal_word};
 use bridge_filter::{Counters, Flags, Verdict};
 use bridge_meter::Buckets;
-use bridge_semantics::{Departure, Dropped};
+use bridge_semantics::{Departure, Dropped, StoredDeparture, StoredDrop};
 
 /// Writes the header line: the filter's number, and whether it is protected.
 pub fn put_header<T: ReportSink>(text: &mut T, filter: u32, protected: bool)
@@ -107,7 +108,7 @@ pub fn put_optional_buckets<T: ReportSink>(text: &mut T, buckets: Option<Buckets
 }
 
 /// Writes the line with the numbers of queued and dropped copies of a filter's frames.
-pub fn put_queued<T: ReportSink>(text: &mut T, departures: &[Departure], drops: &[Dropped])
+pub fn put_queued<T: ReportSink>(text: &mut T, departures: &[StoredDeparture], drops: &[StoredDrop])
     ensures { HasGrown T.contents text.old (queued_line departures.now drops.now) text.new }
 {
     text.put_number("queued ", departures.len() as u64);
@@ -134,15 +135,42 @@ pub fn put_delay<T: ReportSink>(text: &mut T, delay: Option<u64>)
     }
 }
 
-/// Writes the line of a frame: its number and its verdict.
-pub fn put_frame<T: ReportSink>(text: &mut T, number: usize, verdict: Verdict)
+/// Writes the end of a frame's line: a space, the word for its verdict and a line feed.
+#[inline(always)]
+fn restart_with_verdict(line: &mut ReportLine, verdict: Verdict)
+    ensures text { line.new ≡ codes " " ++ (verdict_word verdict ++ codes "\n") }
+    ensures short { length line.new ≤ 17 }
+{
+    match verdict {
+        Verdict::Blocked => line.restart(" blocked\n"),
+        Verdict::Oversize => line.restart(" oversize\n"),
+        Verdict::GateClosed => line.restart(" gate-closed\n"),
+        Verdict::ShutByRx => line.restart(" shut-rx\n"),
+        Verdict::ShutByOctets => line.restart(" shut-octets\n"),
+        Verdict::OctetsExceeded => line.restart(" octets-exceeded\n"),
+        Verdict::Red => line.restart(" red\n"),
+        Verdict::YellowDropped => line.restart(" yellow-dropped\n"),
+        Verdict::Pass { eligible: true, .. } => line.restart(" pass-eligible\n"),
+        Verdict::Pass {
+            eligible: false,
+            ..
+        } => line.restart(" pass\n"),
+    }
+}
+
+/// Writes the line of a frame: its number and its verdict. Builds it in `line`.
+#[inline(always)]
+pub fn put_frame<T: ReportSink>(
+    text: &mut T,
+    line: &mut ReportLine,
+    number: usize,
+    verdict: Verdict,
+)
     ensures { HasGrown T.contents text.old (frame_line number verdict) text.new }
 {
-    let mut line = ReportLine::with_ending("\n");
-    line.prepend(verdict_word(verdict));
-    line.prepend(" ");
+    restart_with_verdict(line, verdict);
     line.prepend_number("frame ", number as u64);
-    text.put_line(&line);
+    text.put_line(line);
 }
 
 /// Writes the line of a dropped copy: its frame's number, the port and the reason.
@@ -157,8 +185,9 @@ pub fn put_drop<T: ReportSink>(text: &mut T, dropped: &Dropped)
     text.put("\n");
 }
 
-/// Writes the line of a copy that left: its frame's number, the port, and start and end of its transmission in ns.
-pub fn put_departure<T: ReportSink>(text: &mut T, departure: &Departure)
+/// Writes the line of a copy that left: its frame's number, the port, and start and end of its transmission in ns. Builds it in `line`.
+#[inline(always)]
+pub fn put_departure<T: ReportSink>(text: &mut T, line: &mut ReportLine, departure: &Departure)
     ensures { HasGrown T.contents text.old (departure_line departure.now) text.new }
 {
     let Departure {
@@ -167,10 +196,10 @@ pub fn put_departure<T: ReportSink>(text: &mut T, departure: &Departure)
         start,
         done,
     } = *departure;
-    let mut line = ReportLine::with_ending("\n");
+    line.restart("\n");
     line.prepend_number(" done ", done);
     line.prepend_number(" start ", start);
     line.prepend_number(" port ", u64::from(port));
     line.prepend_number("out ", own);
-    text.put_line(&line);
+    text.put_line(line);
 }

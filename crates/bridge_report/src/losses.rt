@@ -4,10 +4,9 @@ ghost use Rattle.bridge_report.specs.Losses as spec;
 ghost use Rattle.bridge_report.specs.Section.{count_full, count_never_fits};
 ghost use Rattle.bridge_text.specs.Growth.{HasGrown};
 
-use bridge_filter::Verdict;
 use bridge_limits::NoMemory;
 use bridge_port::Refusal;
-use bridge_semantics::{Dropped, Outcome, View};
+use bridge_semantics::{Outcome, StoredDrop, StoredVerdict, VerdictKind, View};
 use bridge_text::TextBuilder;
 use std::alloc::Allocator;
 
@@ -58,50 +57,50 @@ pub struct Losses {
 }
 
 /// Whether a filter refused a frame with verdict `verdict` for reason `reason`.
-fn has_reason(reason: Reason, verdict: Verdict) -> bool
-    ensures { result ≡ spec.is_for reason verdict }
+fn has_reason(reason: Reason, verdict: &StoredVerdict) -> bool
+    ensures { result ≡ spec.is_for reason verdict.now }
 {
     match reason {
-        Reason::Blocked => matches!(verdict, Verdict::Blocked),
-        Reason::Oversize => matches!(verdict, Verdict::Oversize),
-        Reason::GateClosed => matches!(verdict, Verdict::GateClosed),
-        Reason::ShutByRx => matches!(verdict, Verdict::ShutByRx),
-        Reason::ShutByOctets => matches!(verdict, Verdict::ShutByOctets),
-        Reason::OctetsExceeded => matches!(verdict, Verdict::OctetsExceeded),
-        Reason::Red => matches!(verdict, Verdict::Red),
-        Reason::YellowDropped => matches!(verdict, Verdict::YellowDropped),
+        Reason::Blocked => matches!(verdict.kind(), VerdictKind::Blocked),
+        Reason::Oversize => matches!(verdict.kind(), VerdictKind::Oversize),
+        Reason::GateClosed => matches!(verdict.kind(), VerdictKind::GateClosed),
+        Reason::ShutByRx => matches!(verdict.kind(), VerdictKind::ShutByRx),
+        Reason::ShutByOctets => matches!(verdict.kind(), VerdictKind::ShutByOctets),
+        Reason::OctetsExceeded => matches!(verdict.kind(), VerdictKind::OctetsExceeded),
+        Reason::Red => matches!(verdict.kind(), VerdictKind::Red),
+        Reason::YellowDropped => matches!(verdict.kind(), VerdictKind::YellowDropped),
     }
 }
 
 /// Counts the frames that the filter refused for reason `reason`, by their verdicts.
-pub fn count_refused(reason: Reason, verdicts: &[Verdict]) -> u64
+pub fn count_refused(reason: Reason, verdicts: &[StoredVerdict]) -> u64
     ensures { result ≡ spec.refused_for reason verdicts.now }
 {
-    verdicts.iter().filter(|v| has_reason(reason, **v)).count() as u64
+    verdicts.iter().filter(|v| has_reason(reason, *v)).count() as u64
 }
 
 /// Counts the copies that a port dropped because their queue was full.
-pub fn count_full(drops: &[Dropped]) -> usize
+pub fn count_full(drops: &[StoredDrop]) -> usize
     ensures { result ≡ count_full drops.now }
 {
     drops
         .iter()
-        .filter(|d| matches!(d.refusal, Refusal::Full))
+        .filter(|d| matches!(d.dropped_copy().refusal, Refusal::Full))
         .count()
 }
 
 /// Counts the copies that a port dropped because they fit no window of their class.
-pub fn count_never_fitting(drops: &[Dropped]) -> usize
+pub fn count_never_fitting(drops: &[StoredDrop]) -> usize
     ensures { result ≡ count_never_fits drops.now }
 {
     drops
         .iter()
-        .filter(|d| matches!(d.refusal, Refusal::NeverFits))
+        .filter(|d| matches!(d.dropped_copy().refusal, Refusal::NeverFits))
         .count()
 }
 
 /// Counts the refused frames and the dropped copies of a filter, by reason.
-fn count_losses(verdicts: &[Verdict], drops: &[Dropped]) -> Losses
+fn count_losses(verdicts: &[StoredVerdict], drops: &[StoredDrop]) -> Losses
     ensures { result ≡ spec.losses_of verdicts.now drops.now }
 {
     Losses {

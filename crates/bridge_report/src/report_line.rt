@@ -1,5 +1,5 @@
 //! Lines that are built from their end to their start.
-ghost use Rattle.std.specs.Prelude.{◌≡◌, ◌≤◌, ◌+◌, ◌++◌, decimal, length};
+ghost use Rattle.std.specs.Prelude.{◌≡◌, ◌≤◌, ◌+◌, ◌++◌, [], decimal, length};
 ghost use Rattle.std.specs.Str.{IsUtf8};
 
 use itoa::write_digits;
@@ -30,16 +30,25 @@ impl Model for ReportLine {
 }
 
 impl ReportLine {
-    /// Returns a line that consists of `end`; further pieces are written in front of it.
+    /// Returns an empty line.
+    pub fn new() -> ReportLine
+        ensures { result ≡ [] }
+    {
+        ReportLine {
+            octets: [0; LINE_WIDTH],
+            start: LINE_WIDTH,
+        }
+    }
+
+    /// Makes `end` the whole line; further pieces are written in front of it. Lines of one list use one buffer.
     #[inline(always)]
-    pub fn with_ending(end: &str) -> ReportLine
+    pub fn restart(&mut self, end: &str)
         requires { length end.now ≤ 128 }
-        ensures { result ≡ end.now }
+        ensures { self.new ≡ end.now }
     {
         let start = LINE_WIDTH - end.len();
-        let mut octets = [0u8; LINE_WIDTH];
-        octets[start..].copy_from_slice(end.as_bytes());
-        ReportLine { octets, start }
+        self.octets[start..].copy_from_slice(end.as_bytes());
+        self.start = start;
     }
 
     /// Writes `piece` in front of the line.

@@ -4,3 +4,4 @@ pub mod Runs
 pub mod Merge
 pub mod Outputs
 pub mod NextStarts
+pub mod Stored

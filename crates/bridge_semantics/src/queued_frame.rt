@@ -9,7 +9,9 @@ pub struct QueuedFrame<A: Allocator> {
     /// Number of the stream filter; `None` for an unfiltered frame.
     pub flow: Option<u32>,
     /// Number of the frame among its filter's frames, from 1; 0 without a filter.
-    pub own: u64,
+    pub own: u32,
+    /// Index at which the search for the filter's recorder begins.
+    pub recorder: u32,
     /// Octets to send.
     pub octets: Vec<u8, A>,
 }

@@ -71,7 +71,8 @@ fn put_view(alloc: Global, text: &mut TextBuilder<Global>, filter: u32, view: &V
         text,
         format!(in alloc; "filter {filter} origins {origins} buckets {buckets:?}\n"),
     );
-    for (verdict, origin) in view.verdicts.iter().zip(&view.origins) {
+    for (judged, came) in view.verdicts.iter().zip(&view.origins) {
+        let (verdict, origin) = (judged.verdict(), came.origin());
         add(
             text,
             format!(in alloc; "came to {filter} {origin:?} {verdict:?}\n"),

@@ -9,7 +9,7 @@ use crate::hops::{is_onward, onward_ports};
 use crate::sources::{SourceFrame, source_frame};
 use bridge_filter::Verdict;
 use bridge_limits::NoMemory;
-use bridge_semantics::{Departure, Dropped, View};
+use bridge_semantics::{Departure, StoredDeparture, StoredDrop, StoredVerdict, View};
 use net_model::Link;
 use std::alloc::Allocator;
 
@@ -109,25 +109,29 @@ fn count_departures(
     tallies: &mut [CopyCounts],
     roots: &[Option<SourceFrame>],
     ways: &[bool],
-    departures: &[Departure],
+    departures: &[StoredDeparture],
 )
     ensures { tallies.new ≡ spec.with_departures ways.now roots.now tallies.old departures.now }
 {
     for departure in departures {
         count_frame(
             tallies,
-            source_frame(roots, departure.own),
-            departure_fate(ways, departure),
+            source_frame(roots, departure.departure().own),
+            departure_fate(ways, &departure.departure()),
         );
     }
 }
 
 /// Counts the copies that a hop's ports dropped, each for its first-hop frame.
-fn count_drops(tallies: &mut [CopyCounts], roots: &[Option<SourceFrame>], drops: &[Dropped])
+fn count_drops(tallies: &mut [CopyCounts], roots: &[Option<SourceFrame>], drops: &[StoredDrop])
     ensures { tallies.new ≡ spec.with_drops roots.now tallies.old drops.now }
 {
     for dropped in drops {
-        count_frame(tallies, source_frame(roots, dropped.own), CopyFate::Refused);
+        count_frame(
+            tallies,
+            source_frame(roots, dropped.dropped_copy().own),
+            CopyFate::Refused,
+        );
     }
 }
 
@@ -141,13 +145,17 @@ fn count_verdict(tallies: &mut [CopyCounts], root: Option<SourceFrame>, verdict:
 }
 
 /// Counts the frames that a hop's filter refused, each for its first-hop frame. Frames are numbered from 1.
-fn count_verdicts(tallies: &mut [CopyCounts], roots: &[Option<SourceFrame>], verdicts: &[Verdict])
+fn count_verdicts(
+    tallies: &mut [CopyCounts],
+    roots: &[Option<SourceFrame>],
+    verdicts: &[StoredVerdict],
+)
     ensures { tallies.new ≡ spec.with_verdicts roots.now 1 tallies.old verdicts.now }
 {
     let mut left = verdicts;
     let mut own = 1u64;
     while let Some((first, rest)) = left.split_first() {
-        count_verdict(tallies, source_frame(roots, own), *first);
+        count_verdict(tallies, source_frame(roots, own), first.verdict());
         own += 1;
         left = rest;
     }

@@ -11,7 +11,9 @@ use crate::stream_table::put_number_with_suffix;
 use bridge_filter::Verdict;
 use bridge_limits::NoMemory;
 use bridge_report::{arrival_time, refusal_word, verdict_word};
-use bridge_semantics::{Departure, Dropped, Origin, View};
+use bridge_semantics::{
+    Departure, Dropped, StoredDeparture, StoredDrop, StoredOrigin, StoredVerdict, View,
+};
 use bridge_text::TextBuilder;
 use net_model::Link;
 use std::alloc::Allocator;
@@ -145,8 +147,8 @@ fn put_verdicts<A: Allocator>(
     stream: &str,
     hop: &str,
     roots: &[Option<SourceFrame>],
-    origins: &[Origin],
-    verdicts: &[Verdict],
+    origins: &[StoredOrigin],
+    verdicts: &[StoredVerdict],
 )
     ensures { HasGrown text.old (spec.verdict_lines stream.now hop.now roots.now origins.now 1 verdicts.now) text.new }
 {
@@ -159,7 +161,7 @@ fn put_verdicts<A: Allocator>(
             hop,
             source_frame(roots, own),
             arrival_time(origins, own),
-            *first,
+            first.verdict(),
         );
         own += 1;
         left = rest;
@@ -172,8 +174,8 @@ fn put_drops<A: Allocator>(
     stream: &str,
     hop: &str,
     roots: &[Option<SourceFrame>],
-    origins: &[Origin],
-    drops: &[Dropped],
+    origins: &[StoredOrigin],
+    drops: &[StoredDrop],
 )
     ensures { HasGrown text.old (spec.drop_lines stream.now hop.now roots.now origins.now drops.now) text.new }
 {
@@ -182,9 +184,9 @@ fn put_drops<A: Allocator>(
             text,
             stream,
             hop,
-            source_frame(roots, dropped.own),
-            arrival_time(origins, dropped.own),
-            dropped,
+            source_frame(roots, dropped.dropped_copy().own),
+            arrival_time(origins, dropped.dropped_copy().own),
+            &dropped.dropped_copy(),
         );
     }
 }
@@ -195,8 +197,8 @@ fn put_departures<A: Allocator>(
     stream: &str,
     hop: &str,
     roots: &[Option<SourceFrame>],
-    origins: &[Origin],
-    departures: &[Departure],
+    origins: &[StoredOrigin],
+    departures: &[StoredDeparture],
     ways: &[bool],
 )
     ensures { HasGrown text.old (spec.departure_lines stream.now hop.now roots.now origins.now ways.now departures.now)
@@ -207,10 +209,10 @@ fn put_departures<A: Allocator>(
             text,
             stream,
             hop,
-            source_frame(roots, departure.own),
-            arrival_time(origins, departure.own),
-            departure,
-            is_onward(ways, departure.port),
+            source_frame(roots, departure.departure().own),
+            arrival_time(origins, departure.departure().own),
+            &departure.departure(),
+            is_onward(ways, departure.departure().port),
         );
     }
 }

@@ -9,7 +9,7 @@ use crate::sources::{SourceFrame, source_frame};
 use bridge_filter::Verdict;
 use bridge_limits::NoMemory;
 use bridge_port::Refusal;
-use bridge_semantics::{Departure, Dropped, View};
+use bridge_semantics::{Departure, Dropped, StoredDeparture, StoredDrop, StoredVerdict, View};
 use net_model::Link;
 use std::alloc::Allocator;
 
@@ -108,82 +108,100 @@ fn never_fits(dropped: &Dropped) -> bool
 }
 
 /// Returns the number of frames refused as `Blocked`: an oversize frame before had blocked the filter.
-fn count_blocked(verdicts: &[Verdict]) -> usize
+fn count_blocked(verdicts: &[StoredVerdict]) -> usize
     ensures { result ≡ count_by spec.is_blocked verdicts.now }
 {
-    verdicts.iter().filter(|v| is_blocked(*v)).count()
+    verdicts.iter().filter(|v| is_blocked(&v.verdict())).count()
 }
 
 /// Returns the number of frames refused because their SDU was above the filter's maximum.
-fn count_oversize(verdicts: &[Verdict]) -> usize
+fn count_oversize(verdicts: &[StoredVerdict]) -> usize
     ensures { result ≡ count_by spec.is_oversize verdicts.now }
 {
-    verdicts.iter().filter(|v| is_oversize(*v)).count()
+    verdicts
+        .iter()
+        .filter(|v| is_oversize(&v.verdict()))
+        .count()
 }
 
 /// Returns the number of frames that arrived while the stream gate was closed.
-fn count_gate_closed(verdicts: &[Verdict]) -> usize
+fn count_gate_closed(verdicts: &[StoredVerdict]) -> usize
     ensures { result ≡ count_by spec.is_gate_closed verdicts.now }
 {
-    verdicts.iter().filter(|v| is_gate_closed(*v)).count()
+    verdicts
+        .iter()
+        .filter(|v| is_gate_closed(&v.verdict()))
+        .count()
 }
 
 /// Returns the number of frames that arrived after a frame had shut the stream gate (`ShutByRx`).
-fn count_shut_rx(verdicts: &[Verdict]) -> usize
+fn count_shut_rx(verdicts: &[StoredVerdict]) -> usize
     ensures { result ≡ count_by spec.is_shut_rx verdicts.now }
 {
-    verdicts.iter().filter(|v| is_shut_rx(*v)).count()
+    verdicts.iter().filter(|v| is_shut_rx(&v.verdict())).count()
 }
 
 /// Returns the number of frames that arrived after octets had shut the stream gate (`ShutByOctets`).
-fn count_shut_octets(verdicts: &[Verdict]) -> usize
+fn count_shut_octets(verdicts: &[StoredVerdict]) -> usize
     ensures { result ≡ count_by spec.is_shut_octets verdicts.now }
 {
-    verdicts.iter().filter(|v| is_shut_octets(*v)).count()
+    verdicts
+        .iter()
+        .filter(|v| is_shut_octets(&v.verdict()))
+        .count()
 }
 
 /// Returns the number of frames that exceeded an interval's octets.
-fn count_octets_exceeded(verdicts: &[Verdict]) -> usize
+fn count_octets_exceeded(verdicts: &[StoredVerdict]) -> usize
     ensures { result ≡ count_by spec.is_octets_exceeded verdicts.now }
 {
-    verdicts.iter().filter(|v| is_octets_exceeded(*v)).count()
+    verdicts
+        .iter()
+        .filter(|v| is_octets_exceeded(&v.verdict()))
+        .count()
 }
 
 /// Returns the number of frames refused because the meter coloured them red.
-fn count_red(verdicts: &[Verdict]) -> usize
+fn count_red(verdicts: &[StoredVerdict]) -> usize
     ensures { result ≡ count_by spec.is_red verdicts.now }
 {
-    verdicts.iter().filter(|v| is_red(*v)).count()
+    verdicts.iter().filter(|v| is_red(&v.verdict())).count()
 }
 
 /// Returns the number of yellow frames that the meter refused.
-fn count_yellow_dropped(verdicts: &[Verdict]) -> usize
+fn count_yellow_dropped(verdicts: &[StoredVerdict]) -> usize
     ensures { result ≡ count_by spec.is_yellow_dropped verdicts.now }
 {
-    verdicts.iter().filter(|v| is_yellow_dropped(*v)).count()
+    verdicts
+        .iter()
+        .filter(|v| is_yellow_dropped(&v.verdict()))
+        .count()
 }
 
 /// Returns the number of copies that found their queue full.
-fn count_full(drops: &[Dropped]) -> usize
+fn count_full(drops: &[StoredDrop]) -> usize
     ensures { result ≡ count_by spec.is_full drops.now }
 {
-    drops.iter().filter(|d| is_full(*d)).count()
+    drops.iter().filter(|d| is_full(&d.dropped_copy())).count()
 }
 
 /// Returns the number of copies dropped because they fit at no time.
-fn count_never_fits(drops: &[Dropped]) -> usize
+fn count_never_fits(drops: &[StoredDrop]) -> usize
     ensures { result ≡ count_by spec.never_fits drops.now }
 {
-    drops.iter().filter(|d| never_fits(*d)).count()
+    drops
+        .iter()
+        .filter(|d| never_fits(&d.dropped_copy()))
+        .count()
 }
 
 /// Returns the number of copies that left by ports without next hop: the hop delivered them.
-fn count_delivered(ways: &[bool], departures: &[Departure]) -> usize
+fn count_delivered(ways: &[bool], departures: &[StoredDeparture]) -> usize
     ensures { result ≡ count_by (spec.is_delivery ways.now) departures.now }
 {
     departures
         .iter()
-        .filter(|d| !is_onward(ways, d.port))
+        .filter(|d| !is_onward(ways, d.departure().port))
         .count()
 }
 
@@ -248,13 +266,13 @@ pub(crate) fn departure_delays<A: Allocator + Copy>(
     alloc: A,
     ways: &[bool],
     roots: &[Option<SourceFrame>],
-    departures: &[Departure],
+    departures: &[StoredDeparture],
 ) -> Result<Vec<u64, A>, NoMemory>
     ensures { IfOk result (λ delays. delays.items ≡ spec.departure_delays ways.now roots.now departures.now) }
 {
     let mut delays = Vec::new(alloc);
     for departure in departures {
-        push_delay(&mut delays, ways, roots, departure)?;
+        push_delay(&mut delays, ways, roots, &departure.departure())?;
     }
     Ok(delays)
 }

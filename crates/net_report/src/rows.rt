@@ -5,7 +5,7 @@ use crate::run_picture::{
     LEFT_MARGIN, RunPicture, TIME_WIDTH, bar_x_and_width, put_titled, row_y, time_x,
 };
 use bridge_report::{refusal_word, verdict_word};
-use bridge_semantics::{Departure, Origin, View};
+use bridge_semantics::{Departure, StoredOrigin, View};
 use net_model::{Link, find_sender};
 use show_svg::{Element, Mark, Point};
 use std::alloc::Allocator;
@@ -23,12 +23,12 @@ const REFUSED_WORDS: &str = "frame {0}, arrived at {1} ns: refused ({a})";
 const DROPPED_WORDS: &str = "frame {0}, arrived at {1} ns: dropped at port {2} ({a})";
 
 /// Returns the arrival time of a hop's frame with number `own`, from 1, or `other` if it is missing.
-fn arrival_time_or(origins: &[Origin], own: u64, other: u64) -> u64 {
+fn arrival_time_or(origins: &[StoredOrigin], own: u64, other: u64) -> u64 {
     if own == 0 {
         return other;
     }
     match origins.get((own - 1) as usize) {
-        Some(origin) => origin.at,
+        Some(origin) => origin.origin().at,
         None => other,
     }
 }
@@ -41,8 +41,11 @@ fn put_line(picture: &mut RunPicture, from: Point, to: Point) {
 
 /// Whether a frame arrived at a hop on this port at this time. Uses a binary search, because a hop's frames are in order of arrival.
 fn has_come<A: Allocator>(view: &View<A>, port: u8, at: u64) -> bool {
-    let first = view.origins.partition_point(|origin| origin.at < at);
-    for origin in view.origins.get(first..).unwrap_or(&[]) {
+    let first = view
+        .origins
+        .partition_point(|origin| origin.origin().at < at);
+    for stored in view.origins.get(first..).unwrap_or(&[]) {
+        let origin = stored.origin();
         if origin.at != at {
             return false;
         }
@@ -91,7 +94,12 @@ fn put_link<A: Allocator>(
 }
 
 /// Draws a copy that left a hop: a bar for its waiting time and a bar for its transmission time.
-fn put_departure(picture: &mut RunPicture, origins: &[Origin], y: u64, departure: &Departure) {
+fn put_departure(
+    picture: &mut RunPicture,
+    origins: &[StoredOrigin],
+    y: u64,
+    departure: &Departure,
+) {
     let Departure {
         own,
         port,
@@ -128,12 +136,13 @@ fn time_mark(picture: &RunPicture, at: u64, y: u64, is_refused: bool) -> Element
 /// Draws a mark at the arrival time of each frame that the filter of a hop refused.
 fn put_refused<A: Allocator>(picture: &mut RunPicture, view: &View<A>, y: u64) {
     let mut own = 0u64;
-    for verdict in &view.verdicts {
+    for stored in &view.verdicts {
         own = own.saturating_add(1);
-        if !is_pass(*verdict) {
+        let verdict = stored.verdict();
+        if !is_pass(verdict) {
             let at = arrival_time_or(&view.origins, own, 0);
             let mark = time_mark(picture, at, y, true);
-            let word = verdict_word(*verdict);
+            let word = verdict_word(verdict);
             put_titled(picture, "lost", mark, REFUSED_WORDS, &[own, at], word);
         }
     }
@@ -141,7 +150,8 @@ fn put_refused<A: Allocator>(picture: &mut RunPicture, view: &View<A>, y: u64) {
 
 /// Draws a mark at the frame's arrival time for each copy that a port of a hop dropped.
 fn put_dropped<A: Allocator>(picture: &mut RunPicture, view: &View<A>, y: u64) {
-    for dropped in &view.drops {
+    for stored in &view.drops {
+        let dropped = stored.dropped_copy();
         let at = arrival_time_or(&view.origins, dropped.own, 0);
         let mark = time_mark(picture, at, y, false);
         let numbers = [dropped.own, at, u64::from(dropped.port)];
@@ -165,9 +175,10 @@ pub(crate) fn put_hop<A: Allocator>(
     let row = Element::Level((LEFT_MARGIN, y), LEFT_MARGIN + TIME_WIDTH);
     picture.shapes.draw("row", row);
     picture.shapes.end_shape();
-    for departure in &hop.view.departures {
-        put_departure(picture, &hop.view.origins, y, departure);
-        put_link(picture, links, hops, hop.bridge, y, departure);
+    for stored in &hop.view.departures {
+        let departure = stored.departure();
+        put_departure(picture, &hop.view.origins, y, &departure);
+        put_link(picture, links, hops, hop.bridge, y, &departure);
     }
     put_refused(picture, hop.view, y);
     put_dropped(picture, hop.view, y);

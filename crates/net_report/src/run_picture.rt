@@ -66,12 +66,13 @@ fn widen_span<A: Allocator>(hops: &[HopRun<'_, A>], span: Span) -> Span {
 /// Returns the span widened to all times of a hop's record.
 fn widen_span_by_record<A: Allocator>(view: &View<A>, span: Span) -> Span {
     let Span { mut from, mut to } = span;
-    for origin in &view.origins {
+    for stored in &view.origins {
+        let origin = stored.origin();
         from = from.min(origin.at);
         to = to.max(origin.at);
     }
-    for departure in &view.departures {
-        to = to.max(departure.done);
+    for stored in &view.departures {
+        to = to.max(stored.departure().done);
     }
     Span { from, to }
 }

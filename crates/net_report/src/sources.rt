@@ -7,7 +7,7 @@ ghost use Rattle.net_report.specs.SourceFrames as spec;
 
 use crate::copy_counting::HopRun;
 use bridge_limits::NoMemory;
-use bridge_semantics::{Departure, Origin};
+use bridge_semantics::{Departure, Origin, StoredDeparture, StoredOrigin};
 use net_model::{Link, Sender, find_sender};
 use std::alloc::Allocator;
 
@@ -21,7 +21,7 @@ pub struct SourceFrame {
 /// Returns the sources of the first hop's frames: each frame is its own source.
 fn first_hop_sources<A: Allocator + Copy>(
     alloc: A,
-    origins: &[Origin],
+    origins: &[StoredOrigin],
 ) -> Result<Vec<Option<SourceFrame>, A>, NoMemory>
     ensures { IfOk result (λ roots. spec.AreFirstHopSources origins.now roots.items) }
 {
@@ -30,7 +30,7 @@ fn first_hop_sources<A: Allocator + Copy>(
         let number = roots.len() as u64 + 1;
         roots.push(Some(SourceFrame {
             number,
-            came: origin.at,
+            came: origin.origin().at,
         }))?;
     }
     Ok(roots)
@@ -39,7 +39,7 @@ fn first_hop_sources<A: Allocator + Copy>(
 /// Returns one unknown source (`None`) for each of a hop's frames. Tracing replaces them.
 fn unknown_sources<A: Allocator + Copy>(
     alloc: A,
-    origins: &[Origin],
+    origins: &[StoredOrigin],
 ) -> Result<Vec<Option<SourceFrame>, A>, NoMemory>
     ensures { IfOk result (λ roots. spec.AreOpen origins.now roots.items) }
 {
@@ -55,7 +55,7 @@ fn unknown_sources<A: Allocator + Copy>(
 fn initial_sources_of_hop<A: Allocator + Copy>(
     alloc: A,
     is_first: bool,
-    origins: &[Origin],
+    origins: &[StoredOrigin],
 ) -> Result<Vec<Option<SourceFrame>, A>, NoMemory>
     ensures { IfOk result (λ roots. spec.AreInitialSourcesOfHop is_first origins.now roots.items) }
 {
@@ -94,12 +94,17 @@ fn is_due(departure: &Departure, port: u8, delay: u64, at: u64) -> bool
 
 /// Returns the copies from the first one on that left by this port and arrives over its link at time `at` or later. Earlier copies are
 /// skipped.
-fn due_departures(departures: &[Departure], port: u8, delay: u64, at: u64) -> &[Departure]
+fn due_departures(
+    departures: &[StoredDeparture],
+    port: u8,
+    delay: u64,
+    at: u64,
+) -> &[StoredDeparture]
     ensures { result.now ≡ spec.due_departures port delay at departures.entry.now }
 {
     let mut left = departures;
     while let Some((first, rest)) = left.split_first() {
-        if is_due(first, port, delay, at) {
+        if is_due(&first.departure(), port, delay, at) {
             return left;
         }
         left = rest;
@@ -123,7 +128,7 @@ pub fn source_frame(roots: &[Option<SourceFrame>], own: u64) -> Option<SourceFra
 /// Returns the source of the first copy if it arrives over the link exactly at time `at`, otherwise `None`.
 fn source_over_link(
     roots: &[Option<SourceFrame>],
-    departures: &[Departure],
+    departures: &[StoredDeparture],
     delay: u64,
     at: u64,
 ) -> Option<SourceFrame>
@@ -132,6 +137,7 @@ fn source_over_link(
     match departures.first() {
         None => None,
         Some(first) => {
+            let first = first.departure();
             if first.done as u128 + delay as u128 == at as u128 {
                 source_frame(roots, first.own)
             } else {
@@ -145,11 +151,11 @@ fn source_over_link(
 /// searches all copies again.
 fn resume_due_departures<'a>(
     sender: Sender,
-    sent: &'a [Departure],
-    left: &'a [Departure],
+    sent: &'a [StoredDeparture],
+    left: &'a [StoredDeparture],
     since: u64,
     at: u64,
-) -> &'a [Departure]
+) -> &'a [StoredDeparture]
     requires { spec.IsRestEnough (sender_value sender) sent.now left.now since }
     ensures { result.now ≡ spec.due_departures sender.from.port sender.delay at sent.entry.now }
 {
@@ -163,14 +169,14 @@ fn resume_due_departures<'a>(
 /// port then don't search all copies again.
 fn trace_frame<'a>(
     sender: Sender,
-    sent: &'a [Departure],
-    left: &'a [Departure],
+    sent: &'a [StoredDeparture],
+    left: &'a [StoredDeparture],
     since: u64,
     sent_roots: &[Option<SourceFrame>],
     port: u8,
     origin: &Origin,
     root: Option<SourceFrame>,
-) -> (Option<SourceFrame>, &'a [Departure], u64)
+) -> (Option<SourceFrame>, &'a [StoredDeparture], u64)
     requires { spec.IsRestEnough (sender_value sender) sent.now left.now since }
     ensures root { result.0 ≡ spec.source_after_tracing (sender_value sender) sent.entry.now sent_roots.now port
         origin.now root }
@@ -194,10 +200,10 @@ fn trace_frame<'a>(
 fn trace_from_sender<A: Allocator + Copy>(
     alloc: A,
     sender: Sender,
-    sent: &[Departure],
+    sent: &[StoredDeparture],
     sent_roots: &[Option<SourceFrame>],
     port: u8,
-    origins: &[Origin],
+    origins: &[StoredOrigin],
     roots: &[Option<SourceFrame>],
 ) -> Result<Vec<Option<SourceFrame>, A>, NoMemory>
     ensures { IfOk result (λ made. spec.AreTraced
@@ -217,7 +223,7 @@ fn trace_from_sender<A: Allocator + Copy>(
             since,
             sent_roots,
             port,
-            &origins[place],
+            &origins[place].origin(),
             roots[place],
         );
         left = due;

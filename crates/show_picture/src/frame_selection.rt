@@ -4,7 +4,7 @@ use crate::picture::Picture;
 use crate::selection::Selection;
 use bridge_filter::Verdict;
 use bridge_port::Refusal;
-use bridge_semantics::{Origin, Outcome, View};
+use bridge_semantics::{Outcome, StoredOrigin, View};
 use show_svg::{AXIS_LEFT, AXIS_WIDTH, Span};
 use std::alloc::{Allocator, Global};
 
@@ -172,10 +172,11 @@ impl Picture {
 impl FrameSelection {
     /// Visits a frame: completes its arrival time, then extends the span, counts the frame or selects it, by the current pass. Ignores
     /// frames outside the requested part.
-    fn visit_frame(&mut self, part: &Selection, origins: &[Origin], frame: DrawnFrame) {
-        let Some(origin) = origins.get(frame.own.saturating_sub(1) as usize) else {
+    fn visit_frame(&mut self, part: &Selection, origins: &[StoredOrigin], frame: DrawnFrame) {
+        let Some(stored) = origins.get(frame.own.saturating_sub(1) as usize) else {
             return;
         };
+        let origin = stored.origin();
         let mut seen = frame;
         seen.arrival = origin.at;
         if !frame.cause.is_empty() {
@@ -225,7 +226,8 @@ impl FrameSelection {
             done: 0,
             cause: "",
         };
-        for it in &view.departures {
+        for stored in &view.departures {
+            let it = stored.departure();
             (frame.own, frame.port) = (it.own, it.port);
             (frame.start, frame.done) = (it.start, it.done);
             self.visit_frame(part, &view.origins, frame);
@@ -233,13 +235,14 @@ impl FrameSelection {
         (frame.own, frame.is_stopped) = (0, true);
         for verdict in &view.verdicts {
             frame.own = frame.own.saturating_add(1);
-            frame.cause = refusal_cause(*verdict);
+            frame.cause = refusal_cause(verdict.verdict());
             if !frame.cause.is_empty() {
                 self.visit_frame(part, &view.origins, frame);
             }
         }
         frame.is_stopped = false;
-        for it in &view.drops {
+        for stored in &view.drops {
+            let it = stored.dropped_copy();
             (frame.own, frame.port) = (it.own, it.port);
             frame.cause = match it.refusal {
                 Refusal::Full => "queue full",

@@ -8,7 +8,7 @@ use crate::selection::Selection;
 use bridge_bounds::queue_bound;
 use bridge_check::Accepted;
 use bridge_limits::NoMemory;
-use bridge_semantics::{Departure, Origin, Outcome};
+use bridge_semantics::{Outcome, StoredDeparture, StoredOrigin};
 use show_lint::Hypercycle;
 use show_svg::{AXIS_LEFT, AXIS_WIDTH, Bar, Element, Mark, Span};
 use std::alloc::{Allocator, Global};
@@ -40,13 +40,20 @@ fn longest_delay<A: Allocator + Copy>(
 }
 
 /// Whether the picture draws at least one frame of a filter, an arrival or a departure. Only then the legend has the filter.
-fn is_drawn(span: Span, part: &Selection, origins: &[Origin], departures: &[Departure]) -> bool {
-    for it in departures {
+fn is_drawn(
+    span: Span,
+    part: &Selection,
+    origins: &[StoredOrigin],
+    departures: &[StoredDeparture],
+) -> bool {
+    for stored in departures {
+        let it = stored.departure();
         if part.has_port(it.port) && span.has_overlap(it.start, it.done) {
             return true;
         }
     }
-    for it in origins {
+    for stored in origins {
+        let it = stored.origin();
         if part.has_port(it.port) && span.has_overlap(it.at, it.at.saturating_add(1)) {
             return true;
         }

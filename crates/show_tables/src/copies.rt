@@ -4,19 +4,21 @@ ghost use Rattle.std.specs.List.Sorted.{IsNonDecreasingBy};
 ghost use Rattle.show_tables.specs.FrameTable.{frame_drops, frame_departures};
 
 use bridge_limits::NoMemory;
-use bridge_semantics::{Departure, Dropped};
+use bridge_semantics::{
+    Departure, Dropped, StoredDeparture, StoredDrop, unpack_departures, unpack_drops,
+};
 use std::alloc::Allocator;
 
 /// Returns the departures sorted by rising frame number. Departures of one frame keep their order.
 pub(crate) fn departures_by_frame<A: Allocator>(
     alloc: A,
-    departures: &[Departure],
+    departures: &[StoredDeparture],
 ) -> Result<Vec<Departure, A>, NoMemory>
     ensures rising { IfOk result (λ sorted. IsNonDecreasingBy (λ (d : Departure). d.own) sorted.items) }
     ensures same { (own : ℕ) → IfOk result (λ sorted. frame_departures own sorted.items
         ≡ frame_departures own departures.now) }
 {
-    let mut sorted = Vec::from_slice(alloc, departures)?;
+    let mut sorted = unpack_departures(alloc, departures)?;
     sorted.sort_by_key(|d| d.own)?;
     Ok(sorted)
 }
@@ -24,12 +26,12 @@ pub(crate) fn departures_by_frame<A: Allocator>(
 /// Returns the drops sorted by rising frame number. Drops of one frame keep their order.
 pub(crate) fn drops_by_frame<A: Allocator>(
     alloc: A,
-    drops: &[Dropped],
+    drops: &[StoredDrop],
 ) -> Result<Vec<Dropped, A>, NoMemory>
     ensures rising { IfOk result (λ sorted. IsNonDecreasingBy (λ (d : Dropped). d.own) sorted.items) }
     ensures same { (own : ℕ) → IfOk result (λ sorted. frame_drops own sorted.items ≡ frame_drops own drops.now) }
 {
-    let mut sorted = Vec::from_slice(alloc, drops)?;
+    let mut sorted = unpack_drops(alloc, drops)?;
     sorted.sort_by_key(|d| d.own)?;
     Ok(sorted)
 }

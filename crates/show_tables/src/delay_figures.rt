@@ -6,14 +6,14 @@ ghost use Rattle.show_tables.specs.DelayTable as spec;
 use crate::frame_rows::put_field;
 use bridge_limits::NoMemory;
 use bridge_report::{arrival_time, greatest_delay, least_delay, total_delay};
-use bridge_semantics::{Departure, Origin};
+use bridge_semantics::{Departure, StoredDeparture, StoredOrigin};
 use bridge_text::TextBuilder;
 use std::alloc::Allocator;
 
 /// Appends the delay of a copy in ns to `delays`, if the copy left by `port`.
 fn push_delay<A: Allocator>(
     delays: &mut Vec<u64, A>,
-    origins: &[Origin],
+    origins: &[StoredOrigin],
     port: u8,
     departure: &Departure,
 ) -> Result<(), NoMemory>
@@ -29,15 +29,15 @@ fn push_delay<A: Allocator>(
 /// Returns the delays in ns of the copies that left by `port`.
 pub(crate) fn port_delays<A: Allocator>(
     alloc: A,
-    origins: &[Origin],
+    origins: &[StoredOrigin],
     port: u8,
-    departures: &[Departure],
+    departures: &[StoredDeparture],
 ) -> Result<Vec<u64, A>, NoMemory>
     ensures { IfOk result (λ delays. delays.items ≡ spec.port_delays origins.now port departures.now) }
 {
     let mut delays = Vec::new(alloc);
     for departure in departures {
-        push_delay(&mut delays, origins, port, departure)?;
+        push_delay(&mut delays, origins, port, &departure.departure())?;
     }
     Ok(delays)
 }

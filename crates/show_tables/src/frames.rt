@@ -6,9 +6,8 @@ ghost use Rattle.show_tables.specs.FrameTable as spec;
 
 use crate::copies::{departures_by_frame, drops_by_frame, frame_departures, frame_drops};
 use crate::frame_rows::{FRAMES_HEADER, FilterFrame, put_copies, put_lone_row};
-use bridge_filter::Verdict;
 use bridge_limits::NoMemory;
-use bridge_semantics::{Departure, Dropped, Origin, Outcome, View};
+use bridge_semantics::{Departure, Dropped, Outcome, StoredOrigin, StoredVerdict, View};
 use bridge_text::TextBuilder;
 use std::alloc::Allocator;
 
@@ -51,8 +50,8 @@ fn put_sorted_frame<A: Allocator>(
 fn put_frames<A: Allocator>(
     text: &mut TextBuilder<A>,
     filter: u32,
-    origins: &[Origin],
-    verdicts: &[Verdict],
+    origins: &[StoredOrigin],
+    verdicts: &[StoredVerdict],
     departures: &[Departure],
     drops: &[Dropped],
 )
@@ -70,8 +69,8 @@ fn put_frames<A: Allocator>(
         let frame = FilterFrame {
             filter,
             own,
-            origin: *origin,
-            verdict: *verdict,
+            origin: origin.origin(),
+            verdict: verdict.verdict(),
         };
         put_sorted_frame(text, &frame, departures, drops);
         own += 1;

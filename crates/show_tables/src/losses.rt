@@ -6,42 +6,47 @@ ghost use Rattle.show_tables.specs.FrameTable.{field};
 ghost use Rattle.show_tables.specs.Losses as spec;
 
 use crate::frame_rows::{put_field, put_last_field};
-use bridge_filter::Verdict;
 use bridge_port::Refusal;
 use bridge_report::{Reason, count_refused};
-use bridge_semantics::Dropped;
+use bridge_semantics::{StoredDrop, StoredVerdict};
 use bridge_text::TextBuilder;
 use std::alloc::Allocator;
 
 /// Returns how many copies `port` dropped because their queues were full.
-pub(crate) fn count_full_on_port(port: u8, drops: &[Dropped]) -> usize
+pub(crate) fn count_full_on_port(port: u8, drops: &[StoredDrop]) -> usize
     ensures { result ≡ spec.count_full_on_port port drops.now }
 {
     drops
         .iter()
-        .filter(|d| d.port == port && matches!(d.refusal, Refusal::Full))
+        .filter(|d| d.dropped_copy().port == port
+            && matches!(d.dropped_copy().refusal, Refusal::Full))
         .count()
 }
 
 /// Returns how many copies `port` dropped because they fit no window.
-pub(crate) fn count_never_on_port(port: u8, drops: &[Dropped]) -> usize
+pub(crate) fn count_never_on_port(port: u8, drops: &[StoredDrop]) -> usize
     ensures { result ≡ spec.count_never_on_port port drops.now }
 {
     drops
         .iter()
-        .filter(|d| d.port == port && matches!(d.refusal, Refusal::NeverFits))
+        .filter(|d| d.dropped_copy().port == port
+            && matches!(d.dropped_copy().refusal, Refusal::NeverFits))
         .count()
 }
 
 /// Writes the field with the number of frames refused for `reason`.
-fn put_refused_count<A: Allocator>(text: &mut TextBuilder<A>, reason: Reason, verdicts: &[Verdict])
+fn put_refused_count<A: Allocator>(
+    text: &mut TextBuilder<A>,
+    reason: Reason,
+    verdicts: &[StoredVerdict],
+)
     ensures { HasGrown text.old (field (refused_for reason verdicts.now)) text.new }
 {
     put_field(text, count_refused(reason, verdicts));
 }
 
 /// Writes the fields of frames that the filter itself refused, by reason.
-fn put_filter_losses<A: Allocator>(text: &mut TextBuilder<A>, verdicts: &[Verdict])
+fn put_filter_losses<A: Allocator>(text: &mut TextBuilder<A>, verdicts: &[StoredVerdict])
     ensures { HasGrown text.old (spec.filter_fields verdicts.now) text.new }
 {
     put_refused_count(text, Reason::Blocked, verdicts);
@@ -49,7 +54,7 @@ fn put_filter_losses<A: Allocator>(text: &mut TextBuilder<A>, verdicts: &[Verdic
 }
 
 /// Writes the fields of frames that the stream gate refused, by reason.
-fn put_gate_losses<A: Allocator>(text: &mut TextBuilder<A>, verdicts: &[Verdict])
+fn put_gate_losses<A: Allocator>(text: &mut TextBuilder<A>, verdicts: &[StoredVerdict])
     ensures { HasGrown text.old (spec.gate_fields verdicts.now) text.new }
 {
     put_refused_count(text, Reason::GateClosed, verdicts);
@@ -59,7 +64,7 @@ fn put_gate_losses<A: Allocator>(text: &mut TextBuilder<A>, verdicts: &[Verdict]
 }
 
 /// Writes the fields of frames that the meter discarded, by reason.
-fn put_meter_losses<A: Allocator>(text: &mut TextBuilder<A>, verdicts: &[Verdict])
+fn put_meter_losses<A: Allocator>(text: &mut TextBuilder<A>, verdicts: &[StoredVerdict])
     ensures { HasGrown text.old (spec.meter_fields verdicts.now) text.new }
 {
     put_refused_count(text, Reason::Red, verdicts);
@@ -69,7 +74,7 @@ fn put_meter_losses<A: Allocator>(text: &mut TextBuilder<A>, verdicts: &[Verdict
 /// Writes the end of a row: fields of refused frames and dropped copies.
 pub(crate) fn put_losses<A: Allocator>(
     text: &mut TextBuilder<A>,
-    verdicts: &[Verdict],
+    verdicts: &[StoredVerdict],
     full: usize,
     never: usize,
 )

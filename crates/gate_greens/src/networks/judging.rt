@@ -81,7 +81,8 @@ impl<'a> Run<'a> {
     fn sender(&self, bridge: u64, origin: &Origin) -> Option<(u64, u64)> {
         let (far, delay) = far_end(self.net, bridge, u64::from(origin.port))?;
         let view = self.view(far.0)?;
-        for departure in &view.departures {
+        for stored in &view.departures {
+            let departure = stored.departure();
             let arrives = departure.done.saturating_add(delay);
             if u64::from(departure.port) == far.1 && arrives == origin.at {
                 return Some((far.0, departure.own));
@@ -96,11 +97,11 @@ impl<'a> Run<'a> {
         let mut own = own;
         for _ in 0..4 {
             let view = self.view(bridge)?;
-            let origin = view.origins.get(own.saturating_sub(1) as usize)?;
+            let origin = view.origins.get(own.saturating_sub(1) as usize)?.origin();
             if self.bridge_hop(bridge) == Some(0) {
                 return Some(origin.at);
             }
-            let before = self.sender(bridge, origin)?;
+            let before = self.sender(bridge, &origin)?;
             bridge = before.0;
             own = before.1;
         }
@@ -147,9 +148,10 @@ impl<'a> Run<'a> {
         };
         let lost = count_lost(view);
         seen.lost = seen.lost.saturating_add(lost);
-        for departure in &view.departures {
+        for stored in &view.departures {
+            let departure = stored.departure();
             if !self.is_route_port(hop.bridge, departure.port) {
-                self.judge_delivery(hop.bridge, departure, seen);
+                self.judge_delivery(hop.bridge, &departure, seen);
             }
         }
         if self.line.passes() {
@@ -170,7 +172,7 @@ impl<'a> Run<'a> {
 fn count_lost(view: &View<Global>) -> u64 {
     let mut lost = view.drops.len() as u64;
     for verdict in &view.verdicts {
-        add_if(&mut lost, !is_pass(*verdict));
+        add_if(&mut lost, !is_pass(verdict.verdict()));
     }
     lost
 }
@@ -179,7 +181,8 @@ fn count_lost(view: &View<Global>) -> u64 {
 fn count_strays(net: &Net, route: &Route, ingress: u64, view: &View<Global>) -> u64 {
     let mut strays = 0u64;
     let mut earlier = None;
-    for origin in &view.origins {
+    for stored in &view.origins {
+        let origin = stored.origin();
         if u64::from(origin.port) != ingress {
             continue;
         }

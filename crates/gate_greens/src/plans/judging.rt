@@ -2,7 +2,7 @@
 use crate::runs::filter_view;
 use bridge_core::{Outcome, View};
 use bridge_filter::Verdict;
-use bridge_semantics::{Departure, Origin};
+use bridge_semantics::{Departure, StoredOrigin};
 use net_file::TrafficRow;
 use net_latency::{QueueBound, QueueTiming, TrafficFigures};
 use std::alloc::Global;
@@ -50,9 +50,9 @@ pub fn add_if(count: &mut u64, holds: bool) {
 }
 
 /// Returns arrival and end of transmission of a departure.
-fn departure_passage(origins: &[Origin], departure: &Departure) -> Option<Passage> {
+fn departure_passage(origins: &[StoredOrigin], departure: &Departure) -> Option<Passage> {
     let index = departure.own.checked_sub(1)?;
-    let origin = origins.get(index as usize)?;
+    let origin = origins.get(index as usize)?.origin();
     Some(Passage {
         at: origin.at,
         done: departure.done,
@@ -117,7 +117,8 @@ fn keeps(row: &TrafficRow, at: u64) -> bool {
 fn count_strays(row: &TrafficRow, view: &View<Global>) -> u64 {
     let mut strays = 0u64;
     let mut earlier = None;
-    for origin in &view.origins {
+    for stored in &view.origins {
+        let origin = stored.origin();
         let period = Some(origin.at / row.traffic.period.max(1));
         add_if(&mut strays, !keeps(row, origin.at) || period == earlier);
         earlier = period;
@@ -134,7 +135,7 @@ pub fn is_pass(verdict: Verdict) -> bool {
 fn count_refused(view: &View<Global>) -> u64 {
     let mut refused = 0u64;
     for verdict in &view.verdicts {
-        add_if(&mut refused, !is_pass(*verdict));
+        add_if(&mut refused, !is_pass(verdict.verdict()));
     }
     refused
 }
@@ -165,7 +166,8 @@ fn is_nowhere(figures: &[TrafficFigures], index: u32) -> bool {
 /// Returns the number of dropped copies of a row, without ports at which its figures admit a loss.
 fn drops_against(figures: &[TrafficFigures], row: u32, view: &View<Global>) -> u64 {
     let mut drops = 0u64;
-    for dropped in &view.drops {
+    for stored in &view.drops {
+        let dropped = stored.dropped_copy();
         let passes = match port_timing(figures, row, dropped.port) {
             Some(timing) => timing.passes,
             None => true,
@@ -183,9 +185,10 @@ fn departures_against(
     view: &View<Global>,
 ) -> u64 {
     let mut count = 0u64;
-    for departure in &view.departures {
+    for stored in &view.departures {
+        let departure = stored.departure();
         let timing = port_timing(figures, index, departure.port);
-        let agrees = match (timing, departure_passage(&view.origins, departure)) {
+        let agrees = match (timing, departure_passage(&view.origins, &departure)) {
             (Some(timing), Some(passage)) => agrees(timing, row, passage),
             _ => false,
         };
@@ -230,9 +233,10 @@ fn port_bound(bounds: &[QueueBound], filter: u32, port: u8) -> Option<u64> {
 /// Returns the number of departures of a protected filter that exceed their port's bound, or have no bound.
 fn count_late(bounds: &[QueueBound], filter: u32, view: &View<Global>) -> u64 {
     let mut late = 0u64;
-    for departure in &view.departures {
+    for stored in &view.departures {
+        let departure = stored.departure();
         let bound = port_bound(bounds, filter, departure.port);
-        let is_late = match (bound, departure_passage(&view.origins, departure)) {
+        let is_late = match (bound, departure_passage(&view.origins, &departure)) {
             (Some(bound), Some(passage)) => bound < passage.delay(),
             _ => true,
         };
@@ -268,9 +272,10 @@ pub fn judge(case: Case<'_>, outcome: &Outcome<Global>, shown: &mut Shown) {
 pub fn delay_range(outcome: &Outcome<Global>, filter: u32, port: u8) -> Option<(u64, u64)> {
     let view = filter_view(outcome, filter)?;
     let mut delays: Option<(u64, u64)> = None;
-    for departure in &view.departures {
+    for stored in &view.departures {
+        let departure = stored.departure();
         if departure.port == port {
-            let delay = departure_passage(&view.origins, departure)?.delay();
+            let delay = departure_passage(&view.origins, &departure)?.delay();
             delays = match delays {
                 None => Some((delay, delay)),
                 Some((least, most)) => Some((least.min(delay), most.max(delay))),

@@ -7,7 +7,7 @@ use bridge_capture::RunFault;
 use bridge_check::Accepted;
 use bridge_core::Departure;
 use bridge_limits::NoMemory;
-use bridge_semantics::Origin;
+use bridge_semantics::StoredOrigin;
 use net_run::BridgeResult;
 use std::alloc::Global;
 
@@ -15,12 +15,12 @@ use std::alloc::Global;
 const RUNS: u64 = 200;
 
 /// Returns the delay in ns of a copy that left by `port`, or 0 if it left by another port.
-fn departure_delay(origins: &[Origin], departure: &Departure, port: u8) -> u64 {
+fn departure_delay(origins: &[StoredOrigin], departure: &Departure, port: u8) -> u64 {
     if departure.port != port {
         return 0;
     }
     match origins.get(departure.own.saturating_sub(1) as usize) {
-        Some(origin) => departure.done.saturating_sub(origin.at),
+        Some(origin) => departure.done.saturating_sub(origin.origin().at),
         None => 0,
     }
 }
@@ -32,7 +32,7 @@ fn longest_delay(ran: &BridgeResult<Global>, filter: u32, port: u8) -> u64 {
     };
     let mut longest = 0;
     for departure in &view.departures {
-        longest = longest.max(departure_delay(&view.origins, departure, port));
+        longest = longest.max(departure_delay(&view.origins, &departure.departure(), port));
     }
     longest
 }
@@ -139,7 +139,8 @@ pub fn done_times(ran: &BridgeResult<Global>, filter: u32, port: u8) -> (u64, u6
     let mut first = None;
     let mut last = 0;
     if let Some(view) = find_view(ran, filter) {
-        for departure in &view.departures {
+        for stored in &view.departures {
+            let departure = stored.departure();
             if departure.port == port {
                 first = first.or(Some(departure.done));
                 last = departure.done;

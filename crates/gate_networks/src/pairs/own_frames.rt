@@ -13,7 +13,8 @@ fn mark_own_frames(own: &mut OwnFrames, ran: &BridgeResult<Global>, filter: u32)
     let Some(view) = find_view(ran, filter) else {
         return;
     };
-    for origin in &view.origins {
+    for stored in &view.origins {
+        let origin = stored.origin();
         if let Some(place) = own.get_mut(frame_number(origin.at) as usize) {
             *place = true;
         }
@@ -66,7 +67,8 @@ pub fn count_foreign_taken(
         return 0;
     };
     let mut count = 0u64;
-    for origin in &view.origins {
+    for stored in &view.origins {
+        let origin = stored.origin();
         if origin.port == port && is_foreign_if_sent(sent, origin.at, own) {
             count = count.saturating_add(1);
         }

@@ -77,7 +77,14 @@ fn is_same_result(
 /// Whether the frames of a filter arrived at equal times and ports in another run.
 fn has_same_arrivals(ran: &BridgeResult<Global>, filter: u32, one: &View<Global>) -> bool {
     match find_view(ran, filter) {
-        Some(other) => one.origins.as_slice() == other.origins.as_slice(),
+        Some(other) => {
+            one.origins.len() == other.origins.len()
+                && one
+                    .origins
+                    .iter()
+                    .zip(&other.origins)
+                    .all(|(a, b)| a.origin() == b.origin())
+        }
         None => false,
     }
 }

@@ -20,14 +20,15 @@ pub struct Meetings {
 /// Whether frame `own` of a filter, numbered from 1, arrived before `moment`.
 fn has_earlier_arrival(view: &View<Global>, own: u64, moment: u64) -> bool {
     match view.origins.get(own.saturating_sub(1) as usize) {
-        Some(origin) => origin.at < moment,
+        Some(origin) => origin.origin().at < moment,
         None => false,
     }
 }
 
 /// Whether a copy of a filter's frame started at `moment` and the frame had arrived before.
 fn has_start_in_record(view: &View<Global>, moment: u64) -> bool {
-    for departure in &view.departures {
+    for stored in &view.departures {
+        let departure = stored.departure();
         if departure.start == moment && has_earlier_arrival(view, departure.own, moment) {
             return true;
         }
@@ -57,7 +58,8 @@ fn has_command_at_time(commands: &[Command], moment: u64) -> bool {
 
 /// Whether a frame of a filter arrived at the time of `one`, at another port.
 fn has_arrival_in_record(view: &View<Global>, one: Origin) -> bool {
-    for origin in &view.origins {
+    for stored in &view.origins {
+        let origin = stored.origin();
         if origin.at == one.at && origin.port != one.port {
             return true;
         }
@@ -99,9 +101,10 @@ fn filter_meetings(
     before: Meetings,
 ) -> Meetings {
     let mut meetings = before;
-    for origin in &view.origins {
+    for stored in &view.origins {
+        let origin = stored.origin();
         if is_linked(links, bridge as usize, origin.port) {
-            meetings = frame_meetings(outcome, commands, *origin, meetings);
+            meetings = frame_meetings(outcome, commands, origin, meetings);
         }
     }
     meetings

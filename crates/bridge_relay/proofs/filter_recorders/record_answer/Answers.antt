@@ -1,6 +1,7 @@
-use Rattle.std.proofs.Common.{ℕ, ◌<◌, ◌∙◌, ap, sym, subst, Option}
+use Rattle.std.proofs.Common.{◌≡◌, ℕ, ◌<◌, ◌∙◌, ap, sym, subst, Option}
 use Rattle.std.specs.Prelude.{IfSome}
 use Rattle.std.proofs.lemmas.Option.{same_Some}
+use Rattle.bridge_semantics.specs.declared.outcome.Dropped.{Dropped}
 use Rattle.bridge_relay.specs.Recorders.{OwesCopy, RecorderState, recorders_with_answer, update_if_some, with_drop}
 use Rattle.bridge_relay.proofs.Changing.{change_at, own_at, place_within, there_by}
 use Rattle.bridge_relay.proofs.filter_recorders.record_answer.Goals as goal
@@ -18,7 +19,7 @@ returns-in-Some g c =
     let at = c.pair_mut-table in
     let m = c.args.tables.now in
     let f : RecorderState → RecorderState = λ t. with_drop t (record { own = c.args.own; port = c.args.port; refusal = c.in-Err.refusal }) in
-    change_at m c.recorder_index-place.result at.result.0.now c.in-Some.number f at.result.1.now c.record_drop.new.self at.ensures.unique at.ensures.value c.recorder_index-place.ensures c.record_drop.ensures
+    change_at m c.recorder_index-place.result at.result.0.now c.in-Some.number f at.result.1.now c.record_drop.new.self at.ensures.unique at.ensures.value c.recorder_index-place.ensures (subst (λ (d : Dropped). c.record_drop.new.self ≡ with_drop at.result.1.now d) c.new.ensures c.record_drop.ensures)
     ∙ (sym (ap (λ (o : Option ℕ). update_if_some o f m.entries) c.in-Some.is)
     ∙ sym (ap (recorders_with_answer m.entries c.args.flow c.args.own c.args.port) c.in-Err.is))
 

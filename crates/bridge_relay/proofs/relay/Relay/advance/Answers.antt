@@ -1,12 +1,14 @@
 use Rattle.bridge_events.specs.Least.{IsLeast}
 use Rattle.std.proofs.Common.{◌≡◌, ℕ, [], ◌∷◌, ◌++◌, ◌+◌, arith, sym, subst, ap, ◌∙◌, refl, Some, true}
 use Rattle.std.specs.Prelude.{nat_eq, if◌then◌else◌}
+use Rattle.bridge_relay.specs.Recorders.{RecorderState, update_if_some, with_departure}
 use Rattle.bridge_relay.specs.RelayState.{RelayState, count_all_items, with_sent_frame, count_waiting_copies, IsSent, RelayStandsFor}
 use Rattle.bridge_relay.specs.declared.relay.Sent.{Sent}
 use Rattle.bridge_relay.proofs.Advancing.{count_started, right_item, short_item, owes_by, is_sent}
 use Rattle.bridge_semantics.specs.declared.outcome.Departure.{Departure}
 use Rattle.bridge_relay.proofs.Sound.{sound_started}
 use Rattle.bridge_relay.proofs.Standing.{stands_started}
+use Rattle.bridge_relay.proofs.Times.{short_time}
 use Rattle.bridge_relay.proofs.Nexts.{made_after, made_at, reaches_start, sends_head}
 use Rattle.bridge_relay.proofs.relay.Relay.advance.Goals as goal
 
@@ -25,7 +27,8 @@ invariant_of-self g c =
     let old : RelayState _ _ = record { plan = b.plan.now; streams = b.ident; police = b.police; ports = b.ports; tables = b.tables.entries; arrived = b.arrived; earliest = b.earliest } in
     let r = c.start-port.result in
     let d : Departure = record { own = r.2.item.load.own; port = r.0; start = r.1; done = r.2.done } in
-    sound_started g.G.Agenda.held old c.start-port.new.self c.record_departure.new.tables.entries c.max-self-inside.result r.0 r.1 s.0 r.2 d c.saturating_sub.result c.self.invariant s.1 s.1.from c.start-port.ensures.which.0 c.start-port.ensures.later refl refl c.record_departure.ensures c.max-self-inside.ensures
+    let told = subst (λ (e : Departure). c.record_departure.new.tables.entries ≡ update_if_some r.2.item.load.flow (λ (t : RecorderState). with_departure t e c.saturating_sub.result) b.tables.entries) c.new-departure.ensures c.record_departure.ensures in
+    sound_started g.G.Agenda.held old c.start-port.new.self c.record_departure.new.tables.entries c.max-self-inside.result r.0 r.1 s.0 r.2 d c.saturating_sub.result c.self.invariant s.1 s.1.from c.start-port.ensures.which.0 c.start-port.ensures.later refl refl told c.max-self-inside.ensures
 
 pub returns-clause-stands : goal.returns-clause-stands
 returns-clause-stands g c = λ p es left st.
@@ -34,9 +37,10 @@ returns-clause-stands g c = λ p es left st.
     let old : RelayState _ _ = record { plan = b.plan.now; streams = b.ident; police = b.police; ports = b.ports; tables = b.tables.entries; arrived = b.arrived; earliest = b.earliest } in
     let r = c.start-port.result in
     let d : Departure = record { own = r.2.item.load.own; port = r.0; start = r.1; done = r.2.done } in
+    let told = subst (λ (e : Departure). c.record_departure.new.tables.entries ≡ update_if_some r.2.item.load.flow (λ (t : RecorderState). with_departure t e c.saturating_sub.result) b.tables.entries) c.new-departure.ensures c.record_departure.ensures in
     let sent : Sent _ = record { port = r.0; class = r.2.class; start = r.1; done = r.2.done; len = r.2.item.len; octets = r.2.item.load.octets } in
-    let sound = sound_started g.G.Agenda.held old c.start-port.new.self c.record_departure.new.tables.entries c.max-self-inside.result r.0 r.1 s.0 r.2 d c.saturating_sub.result c.self.invariant s.1 s.1.from c.start-port.ensures.which.0 c.start-port.ensures.later refl refl c.record_departure.ensures c.max-self-inside.ensures in
-    stands_started g.G.Agenda.held old c.start-port.new.self c.record_departure.new.tables.entries c.max-self-inside.result r.0 r.1 s.0 r.2 d c.saturating_sub.result c.self.invariant sound s.1 refl refl refl refl c.saturating_sub.ensures c.record_departure.ensures p es left (with_sent_frame left sent) (λ q. ap (λ (t : ℕ). if nat_eq q r.0 then left q ++ (record { time = t; len = r.2.item.len; octets = r.2.item.load.octets.items }) ∷ [] else left q) s.1.done) (subst (λ (v : RelayState _ _). RelayStandsFor p v es left) (sym c.self.view_is) st)
+    let sound = sound_started g.G.Agenda.held old c.start-port.new.self c.record_departure.new.tables.entries c.max-self-inside.result r.0 r.1 s.0 r.2 d c.saturating_sub.result c.self.invariant s.1 s.1.from c.start-port.ensures.which.0 c.start-port.ensures.later refl refl told c.max-self-inside.ensures in
+    stands_started g.G.Agenda.held old c.start-port.new.self c.record_departure.new.tables.entries c.max-self-inside.result r.0 r.1 s.0 r.2 d c.saturating_sub.result c.self.invariant sound s.1 refl refl refl refl c.saturating_sub.ensures told p es left (with_sent_frame left sent) (λ q. ap (λ (t : ℕ). if nat_eq q r.0 then left q ++ (record { time = t; len = r.2.item.len; octets = r.2.item.load.octets.items }) ∷ [] else left q) s.1.done) (subst (λ (v : RelayState _ _). RelayStandsFor p v es left) (sym c.self.view_is) st)
 
 pub returns-clause-reaches : goal.returns-clause-reaches
 returns-clause-reaches g c = λ p es left st.
@@ -45,9 +49,10 @@ returns-clause-reaches g c = λ p es left st.
     let old : RelayState _ _ = record { plan = b.plan.now; streams = b.ident; police = b.police; ports = b.ports; tables = b.tables.entries; arrived = b.arrived; earliest = b.earliest } in
     let r = c.start-port.result in
     let d : Departure = record { own = r.2.item.load.own; port = r.0; start = r.1; done = r.2.done } in
+    let told = subst (λ (e : Departure). c.record_departure.new.tables.entries ≡ update_if_some r.2.item.load.flow (λ (t : RecorderState). with_departure t e c.saturating_sub.result) b.tables.entries) c.new-departure.ensures c.record_departure.ensures in
     let sent : Sent _ = record { port = r.0; class = r.2.class; start = r.1; done = r.2.done; len = r.2.item.len; octets = r.2.item.load.octets } in
-    let sound = sound_started g.G.Agenda.held old c.start-port.new.self c.record_departure.new.tables.entries c.max-self-inside.result r.0 r.1 s.0 r.2 d c.saturating_sub.result c.self.invariant s.1 s.1.from c.start-port.ensures.which.0 c.start-port.ensures.later refl refl c.record_departure.ensures c.max-self-inside.ensures in
-    let stood = stands_started g.G.Agenda.held old c.start-port.new.self c.record_departure.new.tables.entries c.max-self-inside.result r.0 r.1 s.0 r.2 d c.saturating_sub.result c.self.invariant sound s.1 refl refl refl refl c.saturating_sub.ensures c.record_departure.ensures p es left (with_sent_frame left sent) (λ q. ap (λ (t : ℕ). if nat_eq q r.0 then left q ++ (record { time = t; len = r.2.item.len; octets = r.2.item.load.octets.items }) ∷ [] else left q) s.1.done) (subst (λ (v : RelayState _ _). RelayStandsFor p v es left) (sym c.self.view_is) st) in
+    let sound = sound_started g.G.Agenda.held old c.start-port.new.self c.record_departure.new.tables.entries c.max-self-inside.result r.0 r.1 s.0 r.2 d c.saturating_sub.result c.self.invariant s.1 s.1.from c.start-port.ensures.which.0 c.start-port.ensures.later refl refl told c.max-self-inside.ensures in
+    let stood = stands_started g.G.Agenda.held old c.start-port.new.self c.record_departure.new.tables.entries c.max-self-inside.result r.0 r.1 s.0 r.2 d c.saturating_sub.result c.self.invariant sound s.1 refl refl refl refl c.saturating_sub.ensures told p es left (with_sent_frame left sent) (λ q. ap (λ (t : ℕ). if nat_eq q r.0 then left q ++ (record { time = t; len = r.2.item.len; octets = r.2.item.load.octets.items }) ∷ [] else left q) s.1.done) (subst (λ (v : RelayState _ _). RelayStandsFor p v es left) (sym c.self.view_is) st) in
     let new : RelayState _ _ = record old { ports = c.start-port.new.self; tables = c.record_departure.new.tables.entries; earliest = c.max-self-inside.result } in
     reaches_start g.G.Agenda.held p new es (with_sent_frame left sent) r.0 r.1 stood sound c.start-port.ensures.keeps (made_after g.G.Agenda.held old c.start-port.new.self c.record_departure.new.tables.entries c.max-self-inside.result r.0 r.1 s.0 r.2 c.self.invariant s.1 s.1.from c.start-port.ensures.which.0 c.start-port.ensures.later)
 
@@ -94,3 +99,10 @@ returns-clause-which g c = subst (λ (v : RelayState _ _). IsLeast (g.G.Agenda.h
 
 pub start-port-requires : goal.start-port-requires
 start-port-requires g c = (c.requires.0, c.requires.1, ap (λ (v : RelayState _ _). g.G.Agenda.held v.ports.agenda c.requires.0) c.self.view_is ∙ c.requires.2)
+
+pub new-departure-requires : goal.new-departure-requires
+new-departure-requires g c =
+    let s = c.start-port.ensures.started in
+    let short = short_time c.start-port.result.2.item.len s.0.speed s.1.short in
+    let done = s.1.done in
+    record { ordered = omega (arith, done); short = omega (arith, done, short) }

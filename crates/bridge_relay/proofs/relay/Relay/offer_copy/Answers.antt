@@ -42,7 +42,7 @@ returns g c = record {
       let now = c.args.self.now in
       let x = leaving_frame c.args.load c.args.len c.args.eligible in
       let there = some_there (port_state now.ports k) (and_right (has_port c.args.set k) (is_present (port_state now.ports k)) c.requires.goes) in
-      let item : Item (QueuedFrame _) = record { len = c.args.len; load = record { at = c.args.load.at; flow = c.args.load.flow; own = c.args.load.own; octets = c.mark_if_eligible-octets.result } } in
+      let item : Item (QueuedFrame _) = record { len = c.args.len; load = record { at = c.args.load.at; flow = c.args.load.flow; own = c.args.load.own; recorder = c.args.load.recorder; octets = c.mark_if_eligible-octets.result } } in
       let same : carried_frame item ≡ x = ap (λ (v : List ℕ). record { at = c.args.load.at; flow = c.args.load.flow; own = c.args.load.own; len = c.args.len; octets = v }) c.mark_if_eligible-octets.ensures.marked in
       offering_more g.G.Agenda.held b now c.offer_queued_frame.new.self c.args.set c.args.priority x k there.0 item a c.requires.from c.requires.to c.requires.goes there.1 same (c.offer_queued_frame.ensures.offered there.0 there.1) c.offer_queued_frame.ensures.sound c.offer_queued_frame.ensures.due;
 }

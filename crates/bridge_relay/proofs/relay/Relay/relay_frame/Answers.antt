@@ -23,7 +23,7 @@ offer_copies-requires-clause-along g c =
     let call = c.args.call in
     let none = numbered_none old.tables z.2.0 z.2.2 in
     let h : HasPoliced old now c.args.port s call None = subst (HasPoliced old now c.args.port s call) none z.2.1 in
-    may_offer g.G.Agenda.held old now c.args.port s call None c.args.set call.priority (leaving_frame (record { at = c.args.packet.time; flow = None; own = 0; octets = c.args.packet.octets }) c.args.packet.len false) c.requires.sound c.police_frame.ensures.sound c.requires.fresh h z.1 c.requires.from refl c.requires.short.0 c.requires.short.1 c.requires.time.1 c.requires.at c.requires.due tt
+    may_offer g.G.Agenda.held old now c.args.port s call None c.args.set call.priority (leaving_frame (record { at = c.args.packet.time; flow = None; own = 0; recorder = 0; octets = c.args.packet.octets }) c.args.packet.len false) c.requires.sound c.police_frame.ensures.sound c.requires.fresh h z.1 c.requires.from refl c.requires.short.0 c.requires.short.1 c.requires.time.1 c.requires.at c.requires.due tt
 
 pub offer_copies-requires-clause-copies : goal.offer_copies-requires-clause-copies
 offer_copies-requires-clause-copies g c =
@@ -48,7 +48,7 @@ returns-in-None-clause-stands g c = λ p es left way st.
     let a = arrival c.args.packet.time c.args.port c.args.packet.octets.items c.args.packet.len in
     let po : IsPoliced p es a c.args.set call None = record { way = way; answer = h.answer (plan_police p) (filter_inputs p es) st.police } in
     let came = c.requires.fresh.calls in
-    stands_offered g.G.Agenda.held p es left a old now c.offer_copies.new.self s c.args.set call None call.priority (leaving_frame (record { at = c.args.packet.time; flow = None; own = 0; octets = c.args.packet.octets }) c.args.packet.len false) c.requires.sound st po h z.1 c.requires.from (omega (arith, came)) c.offer_copies.ensures.offered (λ out. offers_unfiltered p out a es c.args.set call po)
+    stands_offered g.G.Agenda.held p es left a old now c.offer_copies.new.self s c.args.set call None call.priority (leaving_frame (record { at = c.args.packet.time; flow = None; own = 0; recorder = 0; octets = c.args.packet.octets }) c.args.packet.len false) c.requires.sound st po h z.1 c.requires.from (omega (arith, came)) c.offer_copies.ensures.offered (λ out. offers_unfiltered p out a es c.args.set call po)
 
 pub offer_copies-requires-in-Pass-clause-along : goal.offer_copies-requires-in-Pass-clause-along
 offer_copies-requires-in-Pass-clause-along g c =
@@ -64,7 +64,7 @@ offer_copies-requires-in-Pass-clause-along g c =
     let outward = count_outputs old.ports.slots c.args.set 16 in
     let spare : OwesSpareCopies old outward r.filter = subst (λ (o : Option ℕ). IfSome o (OwesSpareCopies old outward)) (sym h.number) c.requires.spare in
     let right : is_filter_unknown old.plan.filters (Some r.filter) ≡ false = subst (λ (o : Option ℕ). is_filter_unknown old.plan.filters o ≡ false) (sym h.number) c.requires.right in
-    may_offer g.G.Agenda.held old now c.args.port s call (Some r) c.args.set c.unwrap_or.result (leaving_frame (record { at = c.args.packet.time; flow = Some r.filter; own = own; octets = c.args.packet.octets }) c.args.packet.len c.in-Pass.eligible) c.requires.sound c.police_frame.ensures.sound c.requires.fresh h z.1 c.requires.from right c.requires.short.0 (within c.in-Pass.eligible c.args.packet.octets.items c.args.packet.len c.requires.short.1) c.requires.time.1 c.requires.at c.requires.due
+    may_offer g.G.Agenda.held old now c.args.port s call (Some r) c.args.set c.unwrap_or.result (leaving_frame (record { at = c.args.packet.time; flow = Some r.filter; own = own; recorder = 0; octets = c.args.packet.octets }) c.args.packet.len c.in-Pass.eligible) c.requires.sound c.police_frame.ensures.sound c.requires.fresh h z.1 c.requires.from right c.requires.short.0 (within c.in-Pass.eligible c.args.packet.octets.items c.args.packet.len c.requires.short.1) c.requires.time.1 c.requires.at c.requires.due
     (pending_ruled g.G.Agenda.held old now c.args.port s call r outward own c.requires.sound h z.1 spare j.1) where
       within : (b : Bool) (octets : List ℕ) (len : ℕ) → length octets ≤ len → length (leaving_octets b octets) ≤ len
       within b octets len l = let e = leaving_length b octets in omega (arith, l, e)
@@ -104,9 +104,9 @@ returns-in-Pass-clause-stands g c = λ p es left way st.
     let is : r ≡ record { filter = r.filter; verdict = verdict.Pass ipv eligible } = ap (λ (v : Verdict). record { filter = r.filter; verdict = v }) c.in-Pass.is in
     let passed : IsPoliced p es a c.args.set call (Some (record { filter = r.filter; verdict = verdict.Pass ipv eligible })) = subst (λ (x : Ruling). IsPoliced p es a c.args.set call (Some x)) is po in
     let came = c.requires.fresh.calls in
-    stands_offered g.G.Agenda.held p es left a old now c.offer_copies-in-Pass.new.self s c.args.set call (Some r) c.unwrap_or.result (leaving_frame (record { at = c.args.packet.time; flow = Some r.filter; own = own; octets = c.args.packet.octets }) c.args.packet.len c.in-Pass.eligible) c.requires.sound st po h z.1 c.requires.from (omega (arith, came)) c.offer_copies-in-Pass.ensures.offered
+    stands_offered g.G.Agenda.held p es left a old now c.offer_copies-in-Pass.new.self s c.args.set call (Some r) c.unwrap_or.result (leaving_frame (record { at = c.args.packet.time; flow = Some r.filter; own = own; recorder = 0; octets = c.args.packet.octets }) c.args.packet.len c.in-Pass.eligible) c.requires.sound st po h z.1 c.requires.from (omega (arith, came)) c.offer_copies-in-Pass.ensures.offered
     (λ out. offers_passed p out a es c.args.set call r.filter own ipv eligible passed (own_is p old es left r.filter own outward st spare j.1)
-    ∙ ap (λ (k : ℕ). priority_offer out k (leaving_frame (record { at = c.args.packet.time; flow = Some r.filter; own = own; octets = c.args.packet.octets }) c.args.packet.len c.in-Pass.eligible) ∷ []) (sym c.unwrap_or.ensures))
+    ∙ ap (λ (k : ℕ). priority_offer out k (leaving_frame (record { at = c.args.packet.time; flow = Some r.filter; own = own; recorder = 0; octets = c.args.packet.octets }) c.args.packet.len c.in-Pass.eligible) ∷ []) (sym c.unwrap_or.ensures))
 
 pub release_room-requires : goal.release_room-requires
 release_room-requires g c =
