@@ -4,3 +4,5 @@ pub mod Runs
 pub mod Merge
 pub mod Outputs
 pub mod NextStarts
+pub mod Groups
+pub mod GroupExamples
