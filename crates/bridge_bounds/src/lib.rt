@@ -7,5 +7,5 @@ mod longest_time;
 mod queue_bounds;
 mod tight_bound;
 
-pub use queue_bounds::{find_filter, queue_bound};
+pub use queue_bounds::{class_bound, find_filter, queue_bound};
 pub use tight_bound::tight_queue_bound;
