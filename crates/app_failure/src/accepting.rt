@@ -1,6 +1,6 @@
-//! Accepted plans, and the line that counts their protected filters.
+//! Accepted plans, and the line that counts their protected and grouped filters.
 ghost use Rattle.std.specs.Prelude.{◌≡◌, ◌+◌, IfOk, IfErr, None, string_bytes};
-ghost use Rattle.app_failure.specs.Accepting.{accepted_line, count_protected};
+ghost use Rattle.app_failure.specs.Accepting.{accepted_line, count_grouped, count_protected, counts_line};
 ghost use Rattle.bridge_check.specs.Faults.{first_fault};
 ghost use Rattle.app_failure.specs.Jobs.{Accepts, RefusesCheck, RefusesPlan};
 
@@ -11,7 +11,7 @@ use bridge_filter::FilterPlan;
 use bridge_limits::NoMemory;
 use std::alloc::{Allocator, Global};
 
-/// Returns the plan of a text, if it isolates each of its protected filters.
+/// Returns the plan of a text, if it isolates each of its protected filters and groups.
 ///
 /// Fails with `Plan` and the text's first fault, or with `Check` and the plan's first fault.
 pub fn accepted_plan<A: Allocator + Copy>(
@@ -29,7 +29,7 @@ pub fn accepted_plan<A: Allocator + Copy>(
     check_isolation(alloc, plan)
 }
 
-/// Accepts a plan that isolates each of its protected filters. Otherwise fails with `Check` and the plan's first fault.
+/// Accepts a plan that isolates each of its protected filters and groups. Otherwise fails with `Check` and the plan's first fault.
 pub fn check_isolation<A: Allocator + Copy>(alloc: A, plan: Plan<A>) -> Result<Accepted<A>, Failure>
     ensures ok { IfOk result (λ accepted. (accepted ≡ plan) × (first_fault plan ≡ None)) }
     ensures err { IfErr result (RefusesCheck plan) }
@@ -47,7 +47,32 @@ fn count_protected(filters: &[(u32, FilterPlan)]) -> usize
     filters.iter().filter(|f| f.1.protected).count()
 }
 
-/// Returns the line for an accepted plan, with its line feed: numbers of protected filters and of all filters.
+/// Returns the number of filters that have a group, for the line of an accepted plan.
+fn count_grouped(filters: &[(u32, FilterPlan)]) -> usize
+    ensures { result ≡ count_grouped filters.now }
+{
+    filters.iter().filter(|f| f.1.group.is_some()).count()
+}
+
+/// Returns the line of an accepted plan with these numbers of filters. Without grouped filters, the line doesn't count them.
+fn counts_line<A: Allocator + Copy>(
+    alloc: A,
+    protected: usize,
+    grouped: usize,
+    all: usize,
+) -> Result<String<A>, NoMemory>
+    ensures { IfOk result (λ line. string_bytes line ≡ counts_line protected grouped all) }
+{
+    if grouped == 0 {
+        return Ok(format!(in alloc; "accepted: {protected} protected of {all} filters\n")?);
+    }
+    Ok(format!(in alloc;
+        "accepted: {protected} protected and {grouped} grouped of {all} filters\n"
+    )?)
+}
+
+/// Returns the line for an accepted plan, with its line feed: numbers of protected filters, of grouped filters if there are any, and of all
+/// filters.
 pub fn check_line<A: Allocator + Copy>(
     alloc: A,
     accepted: &Accepted<A>,
@@ -56,6 +81,5 @@ pub fn check_line<A: Allocator + Copy>(
 {
     let filters = accepted.plan().filters();
     let protected = count_protected(filters);
-    let all = filters.len();
-    Ok(format!(in alloc; "accepted: {protected} protected of {all} filters\n")?)
+    counts_line(alloc, protected, count_grouped(filters), filters.len())
 }

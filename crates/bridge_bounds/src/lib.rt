@@ -15,7 +15,7 @@ mod traffic;
 mod waits;
 
 pub use passing::{longest_sdu, passes};
-pub use queue_bounds::{find_filter, queue_bound};
+pub use queue_bounds::{class_bound, find_filter, queue_bound};
 pub use tight_bound::tight_queue_bound;
 pub use timing::{Phases, Timing, queue_timing};
 pub use traffic::Traffic;

@@ -30,7 +30,7 @@ pub fn find_filter(filters: &[(u32, FilterPlan)], number: u32) -> Option<FilterP
 }
 
 /// Returns the delay bound in ns of a queue by its capacity, for frames with a service data unit of at most `sdu` octets.
-pub(crate) fn class_bound<A: Allocator + Copy>(port: &PortPlan<A>, class: u8, sdu: u32) -> u64
+pub fn class_bound<A: Allocator + Copy>(port: &PortPlan<A>, class: u8, sdu: u32) -> u64
     requires class { class < 8 }
     requires sdu { sdu ≤ 65535 }
     requires ever { lists_can_fit port.now.list class (transmission_time (longest_frame sdu) port.now.speed) ≡ true }

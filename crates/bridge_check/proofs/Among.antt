@@ -7,7 +7,7 @@ use Rattle.bridge_limits.proofs.Cases.{by_bool}
 use Rattle.bridge_filter.specs.declared.FilterPlan.{FilterPlan}
 use Rattle.bridge_config.specs.Model.{Plan}
 use Rattle.bridge_check.specs.declared.check_fault.CheckFault.{CheckFault}
-use Rattle.bridge_check.specs.Faults.{all_faults, failed_tests, filter_failures, filter_fault, first_fault, first_test_fault, least_fault, lesser_fault, numbered_fault, filter_tests}
+use Rattle.bridge_check.specs.Faults.{all_faults, failed_tests, filter_failures, first_fault, first_test_fault, is_tested, kind_tests, least_fault, lesser_fault, numbered_fault}
 use Rattle.bridge_check.proofs.Least.{neither, no_fault, no_first, Numbered}
 
 -- THE TESTS OF A FILTER
@@ -30,13 +30,13 @@ fails_as n es x h (Some e) is =
     subst (λ y. IsMember y (failed_tests es)) (ap (λ (y : Numbered). y.1) same) (first_fails es e is)
 
 here_by : {A : Type 0} (p : Plan A) (f : ℕ × FilterPlan) (x : Numbered) → numbered_fault p f ≡ Some x → IsMember x.1 (filter_failures p f)
-here_by p f x h = by_bool f.1.protected
-    (λ is. rw is (fails_as f.0 (filter_tests p f.0 f.1) x (rw is at h) (filter_fault p f.0 f.1) refl))
+here_by p f x h = by_bool (is_tested f.1)
+    (λ is. rw is (fails_as f.0 (kind_tests p f.0 f.1) x (rw is at h) (first_test_fault (kind_tests p f.0 f.1)) refl))
     (λ is. absurd (let no : None ≡ Some x = rw is at h in cc))
 
 none_here : {A : Type 0} (p : Plan A) (f : ℕ × FilterPlan) → numbered_fault p f ≡ None → filter_failures p f ≡ []
-none_here p f h = by_bool f.1.protected
-    (λ is. rw is (none_fails (filter_tests p f.0 f.1) (no_fault f.0 (filter_fault p f.0 f.1) (rw is at h))))
+none_here p f h = by_bool (is_tested f.1)
+    (λ is. rw is (none_fails (kind_tests p f.0 f.1) (no_fault f.0 (first_test_fault (kind_tests p f.0 f.1)) (rw is at h))))
     (λ is. rw is refl)
 
 -- THE FAULTS OF A LIST OF FILTERS

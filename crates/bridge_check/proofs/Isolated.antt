@@ -13,7 +13,7 @@ use Rattle.bridge_limits.proofs.Options.{some_of}
 use Rattle.bridge_limits.proofs.Members.{each_passes, each_in}
 use Rattle.bridge_limits.proofs.Orders.{same_eq}
 use Rattle.bridge_limits.proofs.Cases.{left_false}
-use Rattle.bridge_cycle.specs.Fits.{is_open}
+use Rattle.bridge_cycle.specs.Fits.{Fits, is_open}
 use Rattle.bridge_cycle.specs.Opens.{turn_opens}
 use Rattle.bridge_cycle.specs.declared.timeline.Turn.{Turn}
 use Rattle.bridge_cycle.specs.declared.gate_control_lists.Egress.{Egress}
@@ -33,7 +33,7 @@ use Rattle.bridge_check.specs.declared.check_fault.CheckFault.{CheckFault}
 use Rattle.bridge_check.specs.declared.check_fault.CheckFault.TheVariants as fault
 use Rattle.bridge_check.specs.Reach.{some_number_passes, reaches_queue, reaches_class, reaches_port, reaches_priority}
 use Rattle.bridge_check.specs.Windows.{is_shared, shared_phase, list_shared_phase, port_shared_phase, longest_frame, can_ever_fit}
-use Rattle.bridge_check.specs.Faults.{first_option, first_among_numbers, fault_unless, is_gate_shared, is_meter_shared, is_same_meter, is_greatest_number, has_catch_all, other_in_queue, shared_phase_if_port, can_never_fit, filter_fault, first_fault_in_reach}
+use Rattle.bridge_check.specs.Faults.{first_option, first_among_numbers, fault_unless, is_gate_shared, is_meter_shared, is_same_meter, is_greatest_number, has_catch_all, other_in_queue, shared_phase_if_port, can_never_fit, filter_fault, first_fault_in_reach, window_fault, size_fault}
 use Rattle.bridge_check.specs.Acceptable.{IsIsolated}
 
 -- TESTS
@@ -112,7 +112,7 @@ classed p f (Some port) c h =
     let (opened, same) = and_parts (reaches_priority p f k) (nat_eq (slice_index port.classes k) c) passes in
     (port, refl, k, lt, eqb-true (slice_index port.classes k) c same)
 
-reached : {A : Type 0} (p : Plan A) (f : FilterPlan) (q c : ℕ) → IsPlan p → reaches_queue p f q c ≡ true → IsReached p q c
+pub reached : {A : Type 0} (p : Plan A) (f : FilterPlan) (q c : ℕ) → IsPlan p → reaches_queue p f q c ≡ true → IsReached p q c
 reached p f q c plan h =
     let (out, class) = and_parts (reaches_port p f.handle q) (reaches_class p f (find_port p.ports q) c) h in
     let (port, at, k, lt, same) = classed p f (find_port p.ports q) c class in
@@ -131,7 +131,7 @@ pub class_few : {A : Type 0} (p : Plan A) (f : FilterPlan) (q c : ℕ) (out : Po
 class_few p f q c out plan at reach = (reached p f q c plan reach).class
 
 -- If a test of queues finds no fault, each reachable queue passes the test.
-not_told : {A : Type 0} (p : Plan A) (f : FilterPlan) (q c : ℕ) (tell : ℕ → ℕ → Option CheckFault) → first_fault_in_reach p f tell ≡ None → IsReached p q c → reaches_queue p f q c ≡ true → tell q c ≡ None
+pub not_told : {A : Type 0} (p : Plan A) (f : FilterPlan) (q c : ℕ) (tell : ℕ → ℕ → Option CheckFault) → first_fault_in_reach p f tell ≡ None → IsReached p q c → reaches_queue p f q c ≡ true → tell q c ≡ None
 not_told p f q c tell h r is =
     let before : q - 1 < 16 = omega (arith, r.from, r.to) in
     let back : (q - 1) + 1 ≡ q = omega (arith, r.from) in
@@ -146,7 +146,7 @@ lesser_is_some : (m : ℕ) (o : Option ℕ) → lesser_number (Some m) o ≡ Non
 lesser_is_some m None h = absurd (cc)
 lesser_is_some m (Some n) h = absurd (cc)
 
-passed_over : (b : Bool) (m : ℕ) (o : Option ℕ) → cond b (lesser_number (Some m) o) o ≡ None → (b ≡ false) × (o ≡ None)
+pub passed_over : (b : Bool) (m : ℕ) (o : Option ℕ) → cond b (lesser_number (Some m) o) o ≡ None → (b ≡ false) × (o ≡ None)
 passed_over true m o h = absurd (lesser_is_some m o h)
 passed_over false m o h = (refl, h)
 
@@ -168,19 +168,19 @@ no_other p (y ∷ ys) n q c k g h (inr i) r =
     let (not_it, rest) = passed_over (not (nat_eq y.0 n) && reaches_queue p y.1 q c) y.0 (other_in_queue p ys n q c) h in
     no_other p ys n q c k g rest i r
 
-only_gate : (fs : List (ℕ × FilterPlan)) (n : ℕ) (f : FilterPlan) (k : ℕ) (g : FilterPlan) → is_gate_shared fs n f ≡ false → IsMember (k, g) fs → g.gate ≡ f.gate → k ≡ n
+pub only_gate : (fs : List (ℕ × FilterPlan)) (n : ℕ) (f : FilterPlan) (k : ℕ) (g : FilterPlan) → is_gate_shared fs n f ≡ false → IsMember (k, g) fs → g.gate ≡ f.gate → k ≡ n
 only_gate fs n f k g h i e =
     let none : (not (nat_eq k n) && nat_eq g.gate f.gate) ≡ false = none_passes (λ (x : ℕ × FilterPlan). not (nat_eq x.0 n) && nat_eq x.1.gate f.gate) fs (k, g) h i in
     let same : nat_eq g.gate f.gate ≡ true = rw e (same_eq f.gate) in
     eqb-true k n (not-false (nat_eq k n) (left_false (not (nat_eq k n)) (nat_eq g.gate f.gate) none same))
 
-only_meter : (fs : List (ℕ × FilterPlan)) (n : ℕ) (f : FilterPlan) (k m : ℕ) (g : FilterPlan) → is_meter_shared fs n f ≡ false → f.meter ≡ Some m → IsMember (k, g) fs → g.meter ≡ Some m → k ≡ n
+pub only_meter : (fs : List (ℕ × FilterPlan)) (n : ℕ) (f : FilterPlan) (k m : ℕ) (g : FilterPlan) → is_meter_shared fs n f ≡ false → f.meter ≡ Some m → IsMember (k, g) fs → g.meter ≡ Some m → k ≡ n
 only_meter fs n f k m g h own i e =
     let none : (not (nat_eq k n) && is_same_meter g.meter f.meter) ≡ false = none_passes (λ (x : ℕ × FilterPlan). not (nat_eq x.0 n) && is_same_meter x.1.meter f.meter) fs (k, g) h i in
     let same : is_same_meter g.meter f.meter ≡ true = rw (e, own) (same_eq m) in
     eqb-true k n (not-false (nat_eq k n) (left_false (not (nat_eq k n)) (is_same_meter g.meter f.meter) none same))
 
-caught : (fs : List (ℕ × FilterPlan)) → has_catch_all fs ≡ true → (k : ℕ) × (g : FilterPlan) × IsMember (k, g) fs × (g.handle ≡ None) × (g.priority ≡ None) × ((j : ℕ) (e : FilterPlan) → IsMember (j, e) fs → j ≤ k)
+pub caught : (fs : List (ℕ × FilterPlan)) → has_catch_all fs ≡ true → (k : ℕ) × (g : FilterPlan) × IsMember (k, g) fs × (g.handle ≡ None) × (g.priority ≡ None) × ((j : ℕ) (e : FilterPlan) → IsMember (j, e) fs → j ≤ k)
 caught fs h =
     let (x, i, passes) = one_passes (λ (x : ℕ × FilterPlan). is_greatest_number fs x.0 && not (is_some x.1.handle) && not (is_some x.1.priority)) fs h in
     let (first, priority) = and_parts (is_greatest_number fs x.0 && not (is_some x.1.handle)) (not (is_some x.1.priority)) passes in
@@ -252,6 +252,30 @@ made None is = tt
 made (Some (egress.Cyclic l)) is = (is (egress.Cyclic l) refl).lawful
 made (Some (egress.Joined j)) is = let (old, new) = is (egress.Joined j) refl in record { old = old.lawful; new = new.lawful }
 
+-- If no reachable window is shared, no other class is open together with a reachable class.
+pub window_alone : {A : Type 0} (p : Plan A) (n q c d u : ℕ) (f : FilterPlan) (port : PortPlan A) → IsPlan p → window_fault p n f ≡ None → find_port p.ports q ≡ Some port → reaches_queue p f q c ≡ true → lists_open port.list c u ≡ true → lists_open port.list d u ≡ true → d ≡ c
+window_alone p n q c d u f port plan passes at own oc od =
+    let r = reached p f q c plan own in
+    let told : option_map (fault.WindowShared n q c) (shared_phase_if_port (find_port p.ports q) c) ≡ None = not_told p f q c (λ q c. option_map (fault.WindowShared n q c) (shared_phase_if_port (find_port p.ports q) c)) passes r own in
+    let none : port_shared_phase port.list c ≡ None = subst (λ (o : Option (PortPlan _)). shared_phase_if_port o c ≡ None) at (told_none (fault.WindowShared n q c) (shared_phase_if_port (find_port p.ports q) c) told) in
+    let (is, number) = port_is p.ports q port plan.ports at in
+    open_alone port.list c d u is.list none oc od
+
+-- If no reachable queue lacks a window for the longest frame, each of them can fit this frame.
+pub size_suits : {A : Type 0} (p : Plan A) (n q c m : ℕ) (f : FilterPlan) (port : PortPlan A) → IsPlan p → size_fault p n f ≡ None → find_port p.ports q ≡ Some port → reaches_queue p f q c ≡ true → f.max_sdu ≡ Some m → can_ever_fit port c m ≡ true
+size_suits p n q c m f port plan passes at own e =
+    let r = reached p f q c plan own in
+    let told : fault_unless (not (can_never_fit (find_port p.ports q) c f.max_sdu)) (fault.MaxSduNeverFits n q c) ≡ None = not_told p f q c (λ q c. fault_unless (not (can_never_fit (find_port p.ports q) c f.max_sdu)) (fault.MaxSduNeverFits n q c)) passes r own in
+    let fitting : can_never_fit (find_port p.ports q) c f.max_sdu ≡ false = not-true (can_never_fit (find_port p.ports q) c f.max_sdu) (holds (not (can_never_fit (find_port p.ports q) c f.max_sdu)) _ told) in
+    let ever : not (can_ever_fit port c m) ≡ false = subst (λ (o : Option (PortPlan _)). can_never_fit o c (Some m) ≡ false) at (subst (λ (s : Option ℕ). can_never_fit (find_port p.ports q) c s ≡ false) e fitting) in
+    not-false (can_ever_fit port c m) ever
+
+-- A frame that a queue can fit fits at some time.
+pub fits_at_some_time : {A : Type 0} (p : Plan A) (q c m : ℕ) (port : PortPlan A) → IsPlan p → find_port p.ports q ≡ Some port → can_ever_fit port c m ≡ true → (t : ℕ) × Fits (lists_open port.list c) (transmission_time (longest_frame m) port.speed) t
+fits_at_some_time p q c m port plan at can =
+    let (is, number) = port_is p.ports q port plan.ports at in
+    opening.ever_fits (gate_schedule port.list) c (transmission_time (longest_frame m) port.speed) (made port.list is.list) can
+
 pub isolated : {A : Type 0} (p : Plan A) (n : ℕ) (f : FilterPlan) → IsPlan p → IsMember (n, f) p.filters → filter_fault p n f ≡ None → IsIsolated p n f
 isolated p n f plan listed h =
     let (handle, h1) = both_none _ _ h in
@@ -269,17 +293,6 @@ isolated p n f plan listed h =
       meter = λ k m g own i e. only_meter p.filters n f k m g (not-true (is_meter_shared p.filters n f) (holds (not (is_meter_shared p.filters n f)) _ meter)) own i e;
       catches = caught p.filters (holds (has_catch_all p.filters) _ catches);
       queue = λ k q c g i own other. no_other p p.filters n q c k g (told_none (fault.QueueShared n q c) (other_in_queue p p.filters n q c) (not_told p f q c (λ q c. option_map (fault.QueueShared n q c) (other_in_queue p p.filters n q c)) queue (reached p f q c plan own) own)) i other;
-      window = λ q c port at own d u oc od.
-          let r = reached p f q c plan own in
-          let told : option_map (fault.WindowShared n q c) (shared_phase_if_port (find_port p.ports q) c) ≡ None = not_told p f q c (λ q c. option_map (fault.WindowShared n q c) (shared_phase_if_port (find_port p.ports q) c)) window r own in
-          let none : port_shared_phase port.list c ≡ None = subst (λ (o : Option (PortPlan _)). shared_phase_if_port o c ≡ None) at (told_none (fault.WindowShared n q c) (shared_phase_if_port (find_port p.ports q) c) told) in
-          let (is, number) = port_is p.ports q port plan.ports at in
-          open_alone port.list c d u is.list none oc od;
-      fits = λ q c m port at own e.
-          let r = reached p f q c plan own in
-          let told : fault_unless (not (can_never_fit (find_port p.ports q) c f.max_sdu)) (fault.MaxSduNeverFits n q c) ≡ None = not_told p f q c (λ q c. fault_unless (not (can_never_fit (find_port p.ports q) c f.max_sdu)) (fault.MaxSduNeverFits n q c)) size r own in
-          let fitting : can_never_fit (find_port p.ports q) c f.max_sdu ≡ false = not-true (can_never_fit (find_port p.ports q) c f.max_sdu) (holds (not (can_never_fit (find_port p.ports q) c f.max_sdu)) _ told) in
-          let ever : not (can_ever_fit port c m) ≡ false = subst (λ (o : Option (PortPlan _)). can_never_fit o c (Some m) ≡ false) at (subst (λ (s : Option ℕ). can_never_fit (find_port p.ports q) c s ≡ false) e fitting) in
-          let (is, number) = port_is p.ports q port plan.ports at in
-          opening.ever_fits (gate_schedule port.list) c (transmission_time (longest_frame m) port.speed) (made port.list is.list) (not-false (can_ever_fit port c m) ever);
+      window = λ q c port at own d u oc od. window_alone p n q c d u f port plan window at own oc od;
+      fits = λ q c m port at own e. fits_at_some_time p q c m port plan at (size_suits p n q c m f port plan size at own e);
     }

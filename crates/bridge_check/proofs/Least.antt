@@ -6,9 +6,11 @@ use Rattle.bridge_limits.specs.Members.{IsMember}
 use Rattle.bridge_limits.proofs.Cases.{by_bool}
 use Rattle.bridge_filter.specs.declared.FilterPlan.{FilterPlan}
 use Rattle.bridge_config.specs.Model.{Plan}
+use Rattle.bridge_config.specs.Rules.{IsPlan}
 use Rattle.bridge_check.specs.declared.check_fault.CheckFault.{CheckFault}
-use Rattle.bridge_check.specs.Faults.{lesser_fault, filter_fault, numbered_fault, least_fault, first_fault}
-use Rattle.bridge_check.specs.Acceptable.{IsAcceptable}
+use Rattle.bridge_check.specs.Faults.{lesser_fault, filter_fault, member_fault, numbered_fault, least_fault, first_fault}
+use Rattle.bridge_check.specs.Acceptable.{HasAcceptableGroups, IsAcceptable}
+use Rattle.bridge_check.proofs.Grouped.{alone_in_group}
 
 abbrev pub Numbered : Type 0
 Numbered = ℕ × CheckFault
@@ -45,20 +47,28 @@ pub no_fault : (n : ℕ) (o : Option CheckFault) → option_map {U = Numbered} (
 no_fault n None h = refl
 no_fault n (Some e) h = absurd (cc)
 
--- If no filter has a fault, no protected filter fails a test.
-none_of : {A : Type 0} (p : Plan A) (fs : List (ℕ × FilterPlan)) → least_fault p fs ≡ None → (n : ℕ) (f : FilterPlan) → IsMember (n, f) fs → f.protected ≡ true → filter_fault p n f ≡ None
-none_of p [] h n f i is = absurd i
-none_of p (g ∷ gs) h n f (inl e) is =
-    let (here, rest) = neither (numbered_fault p g) (least_fault p gs) h in
-    let own : numbered_fault p (n, f) ≡ None = ap (numbered_fault p) e ∙ here in
-    no_fault n (filter_fault p n f) (rw is at own)
-none_of p (g ∷ gs) h n f (inr i) is =
-    let (here, rest) = neither (numbered_fault p g) (least_fault p gs) h in
-    none_of p gs rest n f i is
+-- If no filter of a list has a fault, a given one has none.
+none_of : {A : Type 0} (p : Plan A) (fs : List (ℕ × FilterPlan)) → least_fault p fs ≡ None → (n : ℕ) (f : FilterPlan) → IsMember (n, f) fs → numbered_fault p (n, f) ≡ None
+none_of p [] h n f i = absurd i
+none_of p (g ∷ gs) h n f (inl e) = let (here, rest) = neither (numbered_fault p g) (least_fault p gs) h in ap (numbered_fault p) e ∙ here
+none_of p (g ∷ gs) h n f (inr i) = let (here, rest) = neither (numbered_fault p g) (least_fault p gs) h in none_of p gs rest n f i
 
 pub no_first : (o : Option Numbered) → option_map (λ x. x.1) o ≡ None → o ≡ None
 no_first None h = refl
 no_first (Some x) h = absurd (cc)
 
+none_of_plan : {A : Type 0} (p : Plan A) → first_fault p ≡ None → (n : ℕ) (f : FilterPlan) → IsMember (n, f) p.filters → numbered_fault p (n, f) ≡ None
+none_of_plan p h = none_of p p.filters (no_first (least_fault p p.filters) h)
+
 pub acceptable : {A : Type 0} (p : Plan A) → first_fault p ≡ None → IsAcceptable p
-acceptable p h = none_of p p.filters (no_first (least_fault p p.filters) h)
+acceptable p h n f i is =
+    let own : numbered_fault p (n, f) ≡ None = none_of_plan p h n f i in
+    no_fault n (filter_fault p n f) (rw is at own)
+
+-- A protected filter that passes its tests also passes those of a group, so it makes no exception.
+pub acceptable_groups : {A : Type 0} (p : Plan A) → IsPlan p → first_fault p ≡ None → HasAcceptableGroups p
+acceptable_groups p plan h k n f i grouped = by_bool f.protected
+    (λ is. alone_in_group p k n f plan i grouped (acceptable p h n f i is))
+    (λ is.
+    let own : numbered_fault p (n, f) ≡ None = none_of_plan p h n f i in
+    no_fault n (member_fault p k n f) (rw (is, grouped) at own))

@@ -7,6 +7,7 @@ mod Passed
 pub mod Least
 pub mod Among
 pub mod Isolated
+pub mod Grouped
 pub mod Sound
 pub mod Heads
 pub mod Apart

@@ -10,8 +10,8 @@ use Rattle.bridge_config.specs.declared.ports.PortPlan.{PortPlan}
 use Rattle.bridge_config.specs.Model.{Plan}
 use Rattle.bridge_config.specs.Rules.{find_port}
 use Rattle.bridge_check.specs.Reach.{reaches_port, reaches_queue}
-use Rattle.bridge_check.specs.Faults.{other_in_queue, first_option, first_among_numbers}
-use Rattle.bridge_check.specs.ReachTables.{test_results, filter_reach, has_queue, all_reaches, least_other_filter, reached_queue_fault}
+use Rattle.bridge_check.specs.Faults.{other_in_queue, outsider_in_queue, first_option, first_among_numbers, tests_in_group}
+use Rattle.bridge_check.specs.ReachTables.{test_results, filter_reach, has_queue, all_reaches, least_outsider, other_or_outsider, case_tests, reached_queue_fault}
 use Rattle.bridge_check.specs.declared.filter_tests.QueueTest.{QueueTest}
 
 told_length : (n : ℕ) (test : ℕ → Bool) → length (test_results n test) ≡ n
@@ -46,9 +46,23 @@ in_reach p f q c port from to at =
     rw (at, out) refl
 
 -- The lowest other filter in a queue, by the tables of reaches.
-pub others : {A : Type 0} (p : Plan A) (fs : List (ℕ × FilterPlan)) (n q c : ℕ) (port : PortPlan A) → 1 ≤ q → q ≤ 16 → find_port p.ports q ≡ Some port → least_other_filter (all_reaches p fs) n q port.classes c ≡ other_in_queue p fs n q c
+others : {A : Type 0} (p : Plan A) (fs : List (ℕ × FilterPlan)) (n q c : ℕ) (port : PortPlan A) → 1 ≤ q → q ≤ 16 → find_port p.ports q ≡ Some port → least_outsider (all_reaches p fs) None n q port.classes c ≡ other_in_queue p fs n q c
 others p [] n q c port from to at = refl
 others p (g ∷ gs) n q c port from to at = rw (in_reach p g.1 q c port from to at, others p gs n q c port from to at) refl
+
+-- The lowest filter outside a group in a queue, by the tables of reaches.
+outsiders : {A : Type 0} (p : Plan A) (fs : List (ℕ × FilterPlan)) (k n q c : ℕ) (port : PortPlan A) → 1 ≤ q → q ≤ 16 → find_port p.ports q ≡ Some port → least_outsider (all_reaches p fs) (Some k) n q port.classes c ≡ outsider_in_queue p fs k q c
+outsiders p [] k n q c port from to at = refl
+outsiders p (g ∷ gs) k n q c port from to at = rw (in_reach p g.1 q c port from to at, outsiders p gs k n q c port from to at) refl
+
+pub others_or_outsiders : {A : Type 0} (p : Plan A) (group : Option ℕ) (n q c : ℕ) (port : PortPlan A) → 1 ≤ q → q ≤ 16 → find_port p.ports q ≡ Some port → least_outsider (all_reaches p p.filters) group n q port.classes c ≡ other_or_outsider p group n q c
+others_or_outsiders p None n q c port from to at = others p p.filters n q c port from to at
+others_or_outsiders p (Some k) n q c port from to at = outsiders p p.filters k n q c port from to at
+
+-- The results of the code are those of the definition.
+pub tests_of_group : {A : Type 0} (p : Plan A) (group : Option ℕ) (n : ℕ) (f : FilterPlan) → case_tests p group n f ≡ tests_in_group p group n f
+tests_of_group p None n f = refl
+tests_of_group p (Some k) n f = refl
 
 -- No queue of a missing port is reachable.
 pub unreached : {A : Type 0} (p : Plan A) (f : FilterPlan) (q c : ℕ) → find_port p.ports q ≡ None → reaches_queue p f q c ≡ false

@@ -15,7 +15,7 @@ fault_code (fault.WindowShared filter port class at) = 7
 fault_code (fault.MaxSduNeverFits filter port class) = 8
 fault_code fault.NoMemory = 9
 
--- The number of the protected filter that fails the test; `None` if memory ran out.
+-- The number of the filter that fails the test; `None` if memory ran out.
 abbrev pub fault_filter : CheckFault → Option ℕ
 fault_filter (fault.ProtectedWildcard filter) = Some filter
 fault_filter (fault.NoMaxSdu filter) = Some filter

@@ -1,5 +1,5 @@
--- Faults of a plan that doesn't isolate a protected filter: eight tests in order, over ports and classes in rising order.
-use Rattle.std.specs.Prelude.{ℕ, zero, suc, ◌+◌, Bool, true, false, not, ◌&&◌, List, [], ◌∷◌, Option, Some, None, filter_map, flat_map, is_some, option_map, nat_eq, nat_le, nat_lt, if◌then◌else◌}
+-- Faults of a plan that doesn't isolate a protected or grouped filter: eight tests in order, over ports and classes in rising order.
+use Rattle.std.specs.Prelude.{ℕ, zero, suc, ◌+◌, Bool, true, false, not, ◌&&◌, ◌||◌, List, [], ◌∷◌, Option, Some, None, filter_map, flat_map, is_some, option_map, nat_eq, nat_le, nat_lt, if◌then◌else◌}
 use Rattle.std.specs.List.{list_any, list_all}
 use Rattle.bridge_filter.specs.declared.FilterPlan.{FilterPlan}
 use Rattle.bridge_filter.specs.Routes.{lesser_number}
@@ -43,6 +43,17 @@ has_catch_all filters = list_any (λ g. is_greatest_number filters g.0 && not (i
 abbrev pub other_in_queue : {A : Type 0} → Plan A → List (ℕ × FilterPlan) → ℕ → ℕ → ℕ → Option ℕ
 other_in_queue p [] n q c = None
 other_in_queue p (g ∷ gs) n q c = if not (nat_eq g.0 n) && reaches_queue p g.1 q c then lesser_number (Some g.0) (other_in_queue p gs n q c) else other_in_queue p gs n q c
+
+-- True if the optional group number of a filter is present and equal to `k`; false for a filter without a group.
+abbrev pub is_in_group : ℕ → Option ℕ → Bool
+is_in_group k None = false
+is_in_group k (Some g) = nat_eq g k
+
+-- The least number of a filter in the list, outside group `k`, whose reachable queues include class `c` at port `q`, or
+-- `None`.
+abbrev pub outsider_in_queue : {A : Type 0} → Plan A → List (ℕ × FilterPlan) → ℕ → ℕ → ℕ → Option ℕ
+outsider_in_queue p [] k q c = None
+outsider_in_queue p (g ∷ gs) k q c = if not (is_in_group k g.1.group) && reaches_queue p g.1 q c then lesser_number (Some g.0) (outsider_in_queue p gs k q c) else outsider_in_queue p gs k q c
 
 -- The first optional value if it is present, otherwise the second one, which may be `None`.
 abbrev pub first_option : {X : Type 0} → Option X → Option X → Option X
@@ -136,13 +147,59 @@ filter_tests p n f =
 abbrev pub filter_fault : {A : Type 0} → Plan A → ℕ → FilterPlan → Option CheckFault
 filter_fault p n f = first_test_fault (filter_tests p n f)
 
+-- GROUPED FILTERS
+
+-- Test 6 of a grouped filter returns QueueShared for the first reachable queue of filter `f` that is also reachable for
+-- a filter outside group `k`; otherwise `None`.
+abbrev pub outsider_fault : {A : Type 0} → Plan A → ℕ → ℕ → FilterPlan → Option CheckFault
+outsider_fault p k n f = first_fault_in_reach p f (λ q c. option_map (fault.QueueShared n q c) (outsider_in_queue p p.filters k q c))
+
+-- The eight test results for filter `f` with number `n` in group `k`, in the order of the tests. Only test 6 differs
+-- from the tests of a protected filter.
+abbrev pub member_tests : {A : Type 0} → Plan A → ℕ → ℕ → FilterPlan → List (Option CheckFault)
+member_tests p k n f =
+    wildcard_fault n f
+    ∷ max_sdu_fault n f
+    ∷ gate_fault p n f
+    ∷ meter_fault p n f
+    ∷ catch_all_fault p n
+    ∷ outsider_fault p k n f
+    ∷ window_fault p n f
+    ∷ size_fault p n f
+    ∷ []
+
+-- The fault of the first of eight tests that filter `f` with number `n` in group `k` fails; `None` if it passes all
+-- eight.
+abbrev pub member_fault : {A : Type 0} → Plan A → ℕ → ℕ → FilterPlan → Option CheckFault
+member_fault p k n f = first_test_fault (member_tests p k n f)
+
+-- ALL FILTERS
+
+-- True if `check` tests the filter: it is protected, or it has a group.
+abbrev pub is_tested : FilterPlan → Bool
+is_tested f = f.protected || is_some f.group
+
+-- The group whose filters may share queues with the filter; `None` for a protected filter, which shares none.
+abbrev pub queue_group : FilterPlan → Option ℕ
+queue_group f = if f.protected then None else f.group
+
+-- The eight test results for filter `f` with number `n`; it may share queues with the given group, or with no other
+-- filter (`None`).
+abbrev pub tests_in_group : {A : Type 0} → Plan A → Option ℕ → ℕ → FilterPlan → List (Option CheckFault)
+tests_in_group p None n f = filter_tests p n f
+tests_in_group p (Some k) n f = member_tests p k n f
+
+-- The test results for filter `f` with number `n`, by its kind: protected or grouped.
+abbrev pub kind_tests : {A : Type 0} → Plan A → ℕ → FilterPlan → List (Option CheckFault)
+kind_tests p n f = tests_in_group p (queue_group f) n f
+
 -- The faults in a list of test results, in order. A passed test gives none.
 abbrev pub failed_tests : List (Option CheckFault) → List CheckFault
 failed_tests tests = filter_map (λ told. told) tests
 
--- The faults of a numbered filter, in test order; the empty list if the filter is unprotected.
+-- The faults of a numbered filter, in test order; the empty list if the filter is neither protected nor grouped.
 abbrev pub filter_failures : {A : Type 0} → Plan A → ℕ × FilterPlan → List CheckFault
-filter_failures p f = if f.1.protected then failed_tests (filter_tests p f.0 f.1) else []
+filter_failures p f = if is_tested f.1 then failed_tests (kind_tests p f.0 f.1) else []
 
 -- All faults of plan `p`: filters in plan order, tests in test order.
 abbrev pub all_faults : {A : Type 0} → Plan A → List CheckFault
@@ -155,16 +212,17 @@ lesser_fault None b = b
 lesser_fault (Some a) None = Some a
 lesser_fault (Some a) (Some b) = if nat_lt b.0 a.0 then Some b else Some a
 
--- The number of filter `f`, paired with its first fault; `None` if the filter is unprotected or passes all eight tests.
+-- The number of filter `f`, paired with its first fault; `None` if the filter is neither protected nor grouped, or
+-- passes all eight tests.
 abbrev pub numbered_fault : {A : Type 0} → Plan A → ℕ × FilterPlan → Option (ℕ × CheckFault)
-numbered_fault p f = if f.1.protected then option_map (λ e. (f.0, e)) (filter_fault p f.0 f.1) else None
+numbered_fault p f = if is_tested f.1 then option_map (λ e. (f.0, e)) (first_test_fault (kind_tests p f.0 f.1)) else None
 
--- The number and the first fault of the lowest-numbered faulty protected filter in the list, as a pair, or `None`.
+-- The number and the first fault of the lowest-numbered faulty filter in the list, as a pair, or `None`.
 abbrev pub least_fault : {A : Type 0} → Plan A → List (ℕ × FilterPlan) → Option (ℕ × CheckFault)
 least_fault p [] = None
 least_fault p (f ∷ fs) = lesser_fault (numbered_fault p f) (least_fault p fs)
 
--- The fault that `check` reports for plan `p`, or `None`: the first fault of the lowest-numbered faulty protected
--- filter.
+-- The fault that `check` reports for plan `p`, or `None`: the first fault of the lowest-numbered faulty filter, protected
+-- or grouped.
 abbrev pub first_fault : {A : Type 0} → Plan A → Option CheckFault
 first_fault p = option_map (λ x. x.1) (least_fault p p.filters)

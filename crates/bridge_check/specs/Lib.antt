@@ -5,3 +5,4 @@ pub mod Acceptable
 pub mod ReachTables
 pub mod FrameInput
 pub mod FaultCodes
+pub mod Examples

@@ -1,4 +1,4 @@
-//! Faults of a plan that doesn't isolate a protected filter.
+//! Faults of a plan that doesn't isolate a protected or grouped filter.
 ghost use Rattle.std.specs.Prelude.{◌≡◌};
 ghost use Rattle.bridge_check.specs.declared.check_fault.CheckFault.TheVariants.{NoMemory};
 ghost use Rattle.bridge_check.specs.FaultCodes.{fault_filter, fault_code};
@@ -6,7 +6,7 @@ ghost use Rattle.bridge_check.specs.FaultCodes.{fault_filter, fault_code};
 use std::alloc::{AllocError, AllocFailed};
 use thiserror::Error;
 
-/// Why a plan doesn't isolate a protected filter, in the order of the tests. `filter` and `other` are filter numbers, `port` is 1 to 16,
+/// Why a plan doesn't isolate a protected or grouped filter, in the order of the tests. `filter` and `other` are filter numbers, `port` is 1 to 16,
 /// `class` 0 to 7.
 #[derive(Clone, Copy, Debug, PartialEq, Eq, Error)]
 pub enum CheckFault {
@@ -35,7 +35,8 @@ pub enum CheckFault {
     NoCatchAll {
         filter: u32,
     },
-    /// Frames of another filter can enter a reachable queue of the filter. `other` is the lowest number of these filters.
+    /// Frames of another filter can enter a reachable queue of the filter; for a grouped filter, of a filter outside its group. `other` is
+    /// the lowest number of these filters.
     #[error("its queue is shared with another filter")]
     QueueShared {
         filter: u32,
@@ -82,7 +83,7 @@ impl CheckFault {
         }
     }
 
-    /// Returns the number of the protected filter that fails the test; `None` if memory ran out.
+    /// Returns the number of the filter that fails the test; `None` if memory ran out.
     pub fn filter(self) -> Option<u32>
         ensures { result ≡ fault_filter self }
     {

@@ -5,9 +5,8 @@ ghost use Rattle.bridge_check.specs.Faults.{all_faults, failed_tests, filter_fai
 ghost use Rattle.bridge_check.specs.ReachTables.{all_reaches};
 
 use crate::check_fault::CheckFault;
-use crate::filter_tests::{has_catch_all, test_filter};
-use crate::reach::Reach;
-use crate::reaches::all_reaches;
+use crate::filter_tests::{has_catch_all, is_tested, test_filter};
+use crate::reaches::{FilterReach, all_reaches};
 use bridge_config::Plan;
 use bridge_filter::FilterPlan;
 use bridge_limits::NoMemory;
@@ -30,11 +29,12 @@ fn push_failing<A: Allocator>(
     Ok(())
 }
 
-/// Appends the faults of filter `number` to `faults`, if the filter is protected. `reaches` and `catches` were computed once for the plan.
+/// Appends the faults of filter `number` to `faults`, if the filter is protected or grouped. `reaches` and `catches` were computed once
+/// for the plan.
 fn push_filter_faults<A: Allocator + Copy>(
     faults: &mut Vec<CheckFault, A>,
     plan: &Plan<A>,
-    reaches: &[(u32, Reach)],
+    reaches: &[FilterReach],
     catches: bool,
     number: u32,
     filter: FilterPlan,
@@ -44,7 +44,7 @@ fn push_filter_faults<A: Allocator + Copy>(
     requires sdu { ForSome filter.max_sdu (λ n. n ≤ 65535) }
     ensures { OnOk result (faults.new.items ≡ faults.old.items ++ filter_failures plan.now (number, filter)) }
 {
-    if !filter.protected {
+    if !is_tested(&filter) {
         return Ok(());
     }
     push_failing(faults, &test_filter(plan, reaches, catches, number, filter))

@@ -1,4 +1,4 @@
-//! The eight tests of a protected filter.
+//! The eight tests of a protected or grouped filter.
 ghost use Rattle.std.specs.Prelude.{◌≡◌, ◌≤◌, ◌<◌, ◌+◌, Some};
 ghost use Rattle.std.specs.Option.{ForSome};
 ghost use Rattle.bridge_config.specs.Rules.{find_port};
@@ -8,7 +8,7 @@ ghost use Rattle.bridge_check.specs.ReachTables as reached;
 
 use crate::check_fault::CheckFault;
 use crate::reach::{Reach, filter_reach};
-use crate::reaches::least_other_filter;
+use crate::reaches::{FilterReach, least_outsider};
 use crate::windows::{can_ever_fit, port_shared_phase};
 use bridge_config::{Plan, PortPlan};
 use bridge_filter::FilterPlan;
@@ -17,7 +17,7 @@ use std::alloc::Allocator;
 /// Which of the three tests of a filter's reachable queues is made.
 #[derive(Clone, Copy)]
 pub(crate) enum QueueTest {
-    /// Test 6: can another filter reach the queue?
+    /// Test 6: can another filter reach the queue, or for a grouped filter an outsider?
     Shared,
     /// Test 7: does the port open another class together with the queue's class?
     Window,
@@ -25,13 +25,13 @@ pub(crate) enum QueueTest {
     Size,
 }
 
-/// Protected filter with the data that its tests use.
+/// Protected or grouped filter with the data that its tests use.
 #[derive(Drop)]
 struct FilterCase<'a, A: Allocator + Copy> {
     /// Plan that has the filter.
     plan: &'a Plan<A>,
-    /// Reach of every filter, with the filter's number.
-    reaches: &'a [(u32, Reach)],
+    /// Reach of every filter, with the filter's number and group.
+    reaches: &'a [FilterReach],
     /// Whether the plan has a catch-all filter.
     catches: bool,
     /// Number of the filter.
@@ -84,17 +84,33 @@ pub(crate) fn has_catch_all(filters: &[(u32, FilterPlan)]) -> bool
     })
 }
 
+/// Whether `check` tests a filter.
+pub(crate) fn is_tested(filter: &FilterPlan) -> bool
+    ensures { result ≡ spec.is_tested filter.now }
+{
+    filter.protected || filter.group.is_some()
+}
+
+/// Returns the group whose filters may share queues with a filter; `None` for a protected filter.
+fn queue_group(filter: &FilterPlan) -> Option<u32>
+    ensures { result ≡ spec.queue_group filter.now }
+{
+    if filter.protected { None } else { filter.group }
+}
+
 impl<'a, A: Allocator + Copy> FilterCase<'a, A> {
-    /// Returns the lowest number of another filter that can reach class `class` at `port`, which has number `q`; `None` if no other filter
-    /// can.
+    /// Returns the lowest number of a filter that can reach class `class` at `port`, which has number `q`, but may not share this queue;
+    /// `None` if no such filter can.
     fn other_filter_in_queue(&self, port: &PortPlan<A>, q: u8, class: u8) -> Option<u32>
         requires port { find_port self.now.plan.now.ports q ≡ Some port.now }
         requires from { 1 ≤ q }
         requires to { q ≤ 16 }
         requires case { reached.IsCase self.now }
-        ensures { result ≡ spec.other_in_queue self.now.plan.now self.now.plan.now.filters self.now.number q class }
+        ensures { result ≡ reached.other_or_outsider self.now.plan.now (spec.queue_group self.now.filter) self.now.number q
+            class }
     {
-        least_other_filter(self.reaches, self.number, q, &port.classes, class)
+        let group = queue_group(&self.filter);
+        least_outsider(self.reaches, group, self.number, q, &port.classes, class)
     }
 
     /// Returns the fault if class `class` at `port`, which has number `q`, fails `test`; otherwise `None`.
@@ -295,7 +311,8 @@ impl<'a, A: Allocator + Copy> FilterCase<'a, A> {
     /// Returns the results of the eight tests, in order; `None` for a passed test.
     fn run_tests(&self) -> [Option<CheckFault>; 8]
         requires { reached.IsCase self.now }
-        ensures { result ≡ spec.filter_tests self.now.plan.now self.now.number self.now.filter }
+        ensures { result ≡ reached.case_tests self.now.plan.now (spec.queue_group self.now.filter) self.now.number
+            self.now.filter }
     {
         let filter = self.number;
         let filters = self.plan.filters();
@@ -324,7 +341,7 @@ impl<'a, A: Allocator + Copy> FilterCase<'a, A> {
 /// once for the plan.
 pub(crate) fn test_filter<A: Allocator + Copy>(
     plan: &Plan<A>,
-    reaches: &[(u32, Reach)],
+    reaches: &[FilterReach],
     catches: bool,
     number: u32,
     filter: FilterPlan,
@@ -332,7 +349,7 @@ pub(crate) fn test_filter<A: Allocator + Copy>(
     requires reaches { reaches.now ≡ reached.all_reaches plan.now plan.now.filters }
     requires catches { catches ≡ spec.has_catch_all plan.now.filters }
     requires sdu { ForSome filter.max_sdu (λ n. n ≤ 65535) }
-    ensures { result ≡ spec.filter_tests plan.now number filter }
+    ensures { result ≡ spec.kind_tests plan.now number filter }
 {
     let case = FilterCase {
         plan,

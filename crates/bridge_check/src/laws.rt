@@ -16,9 +16,9 @@ ghost use Rattle.bridge_config.specs.Model.{Plan};
 ghost use Rattle.bridge_config.specs.Rules.{IsPlan, find_port};
 ghost use Rattle.bridge_check.specs.Reach.{reaches_queue};
 ghost use Rattle.bridge_check.specs.FrameInput.{frame_vid, frame_priority, frame_input, frame_class};
-ghost use Rattle.bridge_check.specs.Acceptable.{IsIsolated};
+ghost use Rattle.bridge_check.specs.Acceptable.{IsIsolated, IsIsolatedMember};
 ghost use Rattle.bridge_check.specs.declared.check_fault.CheckFault.{CheckFault};
-ghost use Rattle.bridge_check.specs.Faults.{all_faults, filter_fault, first_fault};
+ghost use Rattle.bridge_check.specs.Faults.{all_faults, filter_fault, first_fault, member_fault};
 
 use std::alloc::Allocator;
 
@@ -30,6 +30,16 @@ pub fn without_fault_is_isolated<A: Allocator + Copy>()
         → IsMember (n, f) p.filters
         → filter_fault p n f ≡ None
         → IsIsolated p n f }
+{}
+
+/// A grouped filter that fails no test has its stream gate, meter and windows for itself, and shares its queues only with its group. Its
+/// longest frame fits, and every forwarded frame matches some filter.
+pub fn without_fault_is_isolated_member<A: Allocator + Copy>()
+    ensures { (p : Plan A) (k n : ℕ) (f : FilterPlan)
+        → IsPlan p
+        → IsMember (n, f) p.filters
+        → member_fault p k n f ≡ None
+        → IsIsolatedMember p k n f }
 {}
 
 /// A frame that its filter passes enters a reachable queue at every egress port, at any time and after any earlier events. Its internal

@@ -6,18 +6,17 @@ ghost use Rattle.bridge_check.specs.declared.check_fault.CheckFault.TheVariants 
 ghost use Rattle.bridge_check.specs.Faults as faults;
 ghost use Rattle.bridge_check.specs.Faults.{first_fault};
 ghost use Rattle.bridge_check.specs.ReachTables.{all_reaches};
-ghost use Rattle.bridge_check.specs.Acceptable.{IsAcceptable};
+ghost use Rattle.bridge_check.specs.Acceptable.{HasAcceptableGroups, IsAcceptable};
 
 use crate::check_fault::CheckFault;
-use crate::filter_tests::{first_test_fault, has_catch_all, test_filter};
-use crate::reach::Reach;
-use crate::reaches::all_reaches;
+use crate::filter_tests::{first_test_fault, has_catch_all, is_tested, test_filter};
+use crate::reaches::{FilterReach, all_reaches};
 use bridge_config::Plan;
 use bridge_filter::FilterPlan;
 use std::alloc::{AllocError, Allocator};
 use std::marker::Model;
 
-/// Plan that isolates each of its protected filters. Only `check` creates a value of this type.
+/// Plan that isolates each of its protected filters and groups. Only `check` creates a value of this type.
 #[derive(Drop)]
 pub struct Accepted<A: Allocator + Copy> {
     /// Plan that passed `check`.
@@ -27,13 +26,13 @@ pub struct Accepted<A: Allocator + Copy> {
 impl<A: Allocator + Copy> Model for Accepted<A> {
     ghost use Rattle.bridge_config.specs.Model.{Plan};
     ghost use Rattle.bridge_config.specs.Rules.{IsPlan};
-    ghost use Rattle.bridge_check.specs.Acceptable.{IsAcceptable};
+    ghost use Rattle.bridge_check.specs.Acceptable.{HasAcceptableGroups, IsAcceptable};
 
     ghost Value = { Plan A };
 
     ghost view = { λ a. a.plan };
 
-    ghost invariant = { λ a. IsPlan a.plan × IsAcceptable a.plan };
+    ghost invariant = { λ a. IsPlan a.plan × IsAcceptable a.plan × HasAcceptableGroups a.plan };
 }
 
 impl<A: Allocator + Copy> Accepted<A> {
@@ -41,6 +40,7 @@ impl<A: Allocator + Copy> Accepted<A> {
     pub fn plan(&self) -> &Plan<A>
         ensures plan { result.now ≡ self.now }
         ensures acceptable { IsAcceptable self.now }
+        ensures grouped { HasAcceptableGroups self.now }
         ensures rules { IsPlan self.now }
     {
         &self.plan
@@ -70,10 +70,10 @@ fn lesser_fault(
     }
 }
 
-/// Returns the number and the first fault of `filter`; `None` if the filter is unprotected or passes every test.
+/// Returns the number and the first fault of `filter`; `None` if the filter is neither protected nor grouped, or passes every test.
 fn numbered_fault<A: Allocator + Copy>(
     plan: &Plan<A>,
-    reaches: &[(u32, Reach)],
+    reaches: &[FilterReach],
     catches: bool,
     number: u32,
     filter: FilterPlan,
@@ -83,7 +83,7 @@ fn numbered_fault<A: Allocator + Copy>(
     requires sdu { ForSome filter.max_sdu (λ n. n ≤ 65535) }
     ensures { result ≡ faults.numbered_fault plan.now (number, filter) }
 {
-    if !filter.protected {
+    if !is_tested(&filter) {
         return None;
     }
     match first_test_fault(&test_filter(plan, reaches, catches, number, filter)) {
@@ -92,11 +92,11 @@ fn numbered_fault<A: Allocator + Copy>(
     }
 }
 
-/// Returns the first fault of the lowest-numbered faulty protected filter, with the filter's number; `None` if no protected filter is
-/// faulty.
+/// Returns the first fault of the lowest-numbered faulty filter, protected or grouped, with the filter's number; `None` if no such filter
+/// is faulty.
 fn least_fault<A: Allocator + Copy>(
     plan: &Plan<A>,
-    reaches: &[(u32, Reach)],
+    reaches: &[FilterReach],
 ) -> Option<(u32, CheckFault)>
     requires { reaches.now ≡ all_reaches plan.now plan.now.filters }
     ensures { result ≡ faults.least_fault plan.now plan.now.filters }
@@ -110,7 +110,7 @@ fn least_fault<A: Allocator + Copy>(
     least
 }
 
-/// Returns the fault that `check` reports; `None` if the plan isolates its protected filters. Fails only if memory runs out.
+/// Returns the fault that `check` reports; `None` if the plan isolates its protected filters and groups. Fails only if memory runs out.
 fn first_fault<A: Allocator + Copy>(
     alloc: A,
     plan: &Plan<A>,
@@ -126,11 +126,12 @@ fn first_fault<A: Allocator + Copy>(
     }
 }
 
-/// Accepts a plan that isolates each of its protected filters. Otherwise refuses it with the first fault, by rising filter number, then in
+/// Accepts a plan that isolates each of its protected filters and groups. Otherwise refuses it with the first fault, by rising filter number, then in
 /// test order, then by rising port and class.
 pub fn check<A: Allocator + Copy>(alloc: A, plan: Plan<A>) -> Result<Accepted<A>, Refused<A>>
     ensures accepted { IfOk result (λ a. (a ≡ plan) × (first_fault plan ≡ None)) }
     ensures acceptable { IfOk result IsAcceptable }
+    ensures grouped { IfOk result HasAcceptableGroups }
     ensures refused { IfErr result (λ r. (r.plan ≡ plan)
         × ((r.fault ≡ the_fault.NoMemory) ⊎ (first_fault plan ≡ Some r.fault))) }
 {

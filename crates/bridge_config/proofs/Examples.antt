@@ -81,8 +81,8 @@ seen (Err e) = ([], [], [])
 base : seen (plan (ports ++ forwarding ++ rest)) ≡ (
   1 ∷ 2 ∷ 3 ∷ [],
   1 ∷ 99 ∷ [],
-  (10, record { handle = Some 1; priority = None; gate = 1; max_sdu = Some 500; meter = None; block_oversize = false; protected = true })
-      ∷ (99, record { handle = None; priority = None; gate = 99; max_sdu = None; meter = None; block_oversize = false; protected = false }) ∷ [],
+  (10, record { handle = Some 1; priority = None; gate = 1; max_sdu = Some 500; meter = None; block_oversize = false; protected = true; group = None })
+      ∷ (99, record { handle = None; priority = None; gate = 99; max_sdu = None; meter = None; block_oversize = false; protected = false; group = None }) ∷ [],
 )
 unfolding toml_on_literals utf8_valid_len is_utf8 chars read_document read_arrays read_plan read_policing read_change read_change_time read_list_parts read_port_by_lookup read_port_lists read_vlan read_static read_stream_by_lookup read_gate read_gate_lists read_meter read_filter_by_lookup read_required read_optional read_or_default number_in_range switch known_number speed text_value number_array number_set eight_in_range known_ports read_list parse_address
 base = refl

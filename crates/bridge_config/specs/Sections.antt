@@ -298,9 +298,11 @@ read_meter meters index members =
 
 -- Filter.
 
--- True if the table has only keys of a filter.
+-- True if the table has only keys of a filter. Only a table without the key `protected` may have the key `group`.
 abbrev pub has_filter_keys : Members → Bool
-has_filter_keys members = has_known_keys (field.Number ∷ field.Handle ∷ field.Priority ∷ field.Gate ∷ field.MaxSdu ∷ field.Meter ∷ field.BlockOversize ∷ field.Protected ∷ []) members
+has_filter_keys members =
+    has_known_keys (field.Number ∷ field.Handle ∷ field.Priority ∷ field.Gate ∷ field.MaxSdu ∷ field.Meter ∷ field.BlockOversize ∷ field.Protected
+    ∷ keys_if_absent field.Protected (field.Group ∷ []) members) members
 
 -- Reads a filter with its number. The three tests say whether a gate, a meter or an earlier filter has a number.
 unfoldable pub read_filter_by_lookup : (ℕ → Bool) → (ℕ → Bool) → (ℕ → Bool) → ℕ → Members → Result (ℕ × FilterPlan) PlanFault
@@ -315,8 +317,9 @@ read_filter_by_lookup is_gate is_meter is_filter index members =
       meter ← read_optional (at field.Meter) field.Meter (known_number is_meter 0 LARGEST_NUMBER) members
       block_oversize ← read_or_default false (at field.BlockOversize) field.BlockOversize switch members
       protected ← read_or_default false (at field.Protected) field.Protected switch members
+      group ← read_optional (at field.Group) field.Group (number_in_range 0 LARGEST_NUMBER) members
       own ← no_duplicate section.Filter index (is_filter number)
-      Ok (number, record { handle = handle; priority = priority; gate = gate; max_sdu = max_sdu; meter = meter; block_oversize = block_oversize; protected = protected })
+      Ok (number, record { handle = handle; priority = priority; gate = gate; max_sdu = max_sdu; meter = meter; block_oversize = block_oversize; protected = protected; group = group })
 
 -- Reads a filter with its number, after the earlier filters, for these gates and meters.
 abbrev pub read_filter : {A : Type 0} → List (ℕ × GatePlan A) → List (ℕ × MeterPlan) → List (ℕ × FilterPlan) → ℕ → Members → Result (ℕ × FilterPlan) PlanFault

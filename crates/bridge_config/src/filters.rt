@@ -66,6 +66,7 @@ fn read_filter_by_lookup<G: NumberLookup + Copy, M: NumberLookup + Copy, F: Numb
     let meter = first.read_optional(row, Field::Meter, &known_meters);
     let block_oversize = first.read_or_default(row, Field::BlockOversize, &Switch, false);
     let protected = first.read_or_default(row, Field::Protected, &Switch, false);
+    let group = first.read_optional(row, Field::Group, &NUMBER);
     first.expect(
         !filters.has(number),
         PlanFault::Duplicate(Section::Filter, index),
@@ -78,6 +79,7 @@ fn read_filter_by_lookup<G: NumberLookup + Copy, M: NumberLookup + Copy, F: Numb
         meter: optional_u32(meter),
         block_oversize,
         protected,
+        group: optional_u32(group),
     };
     first.finish((number as u32, plan))
 }

@@ -14,14 +14,15 @@ use Rattle.bridge_config.specs.Model.{Plan}
 use Rattle.bridge_config.specs.Rules.{IsPlan, find_port}
 use Rattle.bridge_capture.specs.declared.fault.RunFault.{RunFault}
 use Rattle.bridge_capture.specs.declared.fault.RunFault.TheVariants as run
-use Rattle.bridge_check.specs.Acceptable.{IsAcceptable}
+use Rattle.bridge_check.specs.Acceptable.{HasAcceptableGroups, IsAcceptable}
 use Rattle.bridge_relay.specs.RelayState.{RelayState, RelayStandsFor}
 use Rattle.bridge_semantics.specs.declared.outcome.Outcome.{Outcome}
 use Rattle.bridge_semantics.specs.Events.{Event}
 use Rattle.bridge_semantics.specs.Merge.{Input, inputs_by_rank, commands_of, input_streams}
 use Rattle.bridge_semantics.specs.Outputs.{EndsRun}
 use Rattle.bridge_semantics.proofs.Headline.{protected_alone, two_runs}
-use Rattle.bridge_semantics.proofs.Merging.{own_ports}
+use Rattle.bridge_semantics.proofs.Grouped as grouped
+use Rattle.bridge_semantics.proofs.Merging.{group_ports, own_ports}
 use Rattle.bridge_core.proofs.Beginning.{covered, gave_none, known}
 use Rattle.bridge_config.proofs.Sorted.{rising_numbers}
 use Rattle.bridge_core.proofs.Steps.{lane_at, number_at, source_of}
@@ -29,7 +30,7 @@ use Rattle.bridge_capture.specs.declared.capture_reader.CaptureReader.{CaptureRe
 use Rattle.bridge_capture.specs.CaptureReaders.{AreOneAhead, AreReaders, HaveRests, HaveTexts, FailsToBegin, FindsNext, port_numbers, total_frames_left}
 use Rattle.bridge_capture.proofs.Looks.{untaken, begins_well}
 use Rattle.bridge_core.specs.CaptureWriters.{AreWritten, StopsAtHeaders}
-use Rattle.bridge_core.specs.WholeRuns.{ArePortNumbers, HaveSoundStarts, IsolatesFilters, OthersChangeNothing, IsWholeRun, StopsRun, LacksMemory}
+use Rattle.bridge_core.specs.WholeRuns.{ArePortNumbers, HaveSoundStarts, IsolatesFilters, IsolatesGroups, OthersChangeNothing, IsWholeRun, StopsRun, LacksMemory}
 use Rattle.bridge_capture.specs.declared.capture_fault.CaptureFault.{CaptureFault}
 use Rattle.bridge_core.specs.Running.{IsCaptureFault, FollowsInputs, IsFinishedRun, IsUnderWay, CanTakeFrames, StopsInCommands}
 
@@ -164,3 +165,20 @@ others_change_nothing p ports commands texts contents olds news o rules good ran
     two_runs p n f _ _ ran.ends.lists also.ends.lists o other u v rules good told.listed told.protected
     (own_ports p n f (input_streams (commands_of commands) ran.frames) (input_streams (commands_of other_commands) also.frames) ran.inputs also.inputs ran.merged also.merged same)
     ran.ends.outcome also.ends.outcome told.told there.told
+
+-- A run isolates each group: outsiders change nothing in its records, and members change no verdict of each other.
+pub isolates_groups : {A W : Type 0} (p : Plan A) (ports : List ℕ) (commands : List Command) (texts : ℕ → List ℕ) (contents : W → Option (List ℕ)) (olds news : List W) (o : Outcome A) → IsPlan p → HasAcceptableGroups p → IsolatesGroups p ports commands texts contents olds news o
+isolates_groups p ports commands texts contents olds news o rules good = record {
+  members = λ ran group n f v told. (
+    grouped.members_alone p group rules good n f told.member _ ran.ends.lists o v ran.ends.outcome told.told,
+    grouped.own_police p group rules good n f told.member _ ran.ends.lists o v ran.ends.outcome told.told,
+  );
+  outsiders = λ ran other_commands other_texts other_olds other_news other also group n f u v told there same.
+      grouped.two_runs p group rules good n f told.member _ _ ran.ends.lists also.ends.lists o other u v
+      (group_ports p group (input_streams (commands_of commands) ran.frames) (input_streams (commands_of other_commands) also.frames) ran.inputs also.inputs ran.merged also.merged same)
+      ran.ends.outcome also.ends.outcome told.told there.told;
+  verdicts = λ ran other_commands other_texts other_olds other_news other also group n f u v told there same.
+      grouped.police_alone p group rules good n f told.member _ _ ran.ends.lists also.ends.lists o other u v
+      (own_ports p n f (input_streams (commands_of commands) ran.frames) (input_streams (commands_of other_commands) also.frames) ran.inputs also.inputs ran.merged also.merged same)
+      ran.ends.outcome also.ends.outcome told.told there.told;
+}

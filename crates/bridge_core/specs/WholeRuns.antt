@@ -16,6 +16,7 @@ use Rattle.bridge_semantics.specs.declared.outcome.Outcome.{Outcome}
 use Rattle.bridge_semantics.specs.declared.outcome.View.{View}
 use Rattle.bridge_semantics.specs.Events.{arrivals, own_events}
 use Rattle.bridge_semantics.specs.Merge.{Input, IsMerged, input_events, own_inputs, commands_of, input_streams}
+use Rattle.bridge_semantics.specs.Groups.{IsGroupMember, IsPoliceRecord, HaveSamePoliceRecords, group_events, group_inputs}
 use Rattle.bridge_semantics.specs.Outputs.{EndsRun}
 use Rattle.bridge_semantics.specs.Runs.{IsSoloView, AreSameViews}
 use Rattle.bridge_core.specs.declared.simulation.RunLists.{RunLists}
@@ -126,3 +127,52 @@ OthersChangeNothing {A} {W} p ports commands texts contents olds news o =
     → HasProtectedView p n f o u → HasProtectedView p n f other v
     → HaveSameOwnInputs p n f (input_streams (commands_of commands) ran.frames) (input_streams (commands_of other_commands) also.frames)
     → AreSameViews u v
+
+-- Holds if plan `p` has the filter `f` with number `n` in the group, and `v` is the record of this filter in the result
+-- `o`.
+pub record HasGroupedView {A : Type 0} (p : Plan A) (group n : ℕ) (f : FilterPlan) (o : Outcome A) (v : View A) : Type 0 where
+  pub member : IsGroupMember p group n f
+  pub told : lookup (nat_eq n) o.filters.items ≡ Some v
+
+-- Holds if the group's own frames on each port, and its own commands, are equal in `input_streams` and in `others`.
+abbrev pub HaveSameGroupInputs : {A : Type 0} → Plan A → ℕ → (ℕ → List Input) → (ℕ → List Input) → Type 0
+HaveSameGroupInputs p group input_streams others = (q : ℕ) → group_inputs p group (input_streams q) ≡ group_inputs p group (others q)
+
+-- Holds if each grouped filter's record in `o` results from its group's own frames and commands only, as if each queue
+-- had its port to itself. Its verdicts, counters, flags and buckets result from its own frames and commands only.
+abbrev pub IsolatesMembers : {A W : Type 0} → Plan A → List ℕ → List Command → (ℕ → List ℕ) → (W → Option (List ℕ)) → List W → List W → Outcome A → Type 0
+IsolatesMembers {A} p ports commands texts contents olds news o =
+    (ran : IsWholeRun p ports commands texts contents olds news o) (group n : ℕ) (f : FilterPlan) (v : View A)
+    → HasGroupedView p group n f o v
+    → IsSoloView p n f (group_events p group (input_events ran.inputs)) v × IsPoliceRecord p n f (own_events p n f (input_events ran.inputs)) v
+
+-- Holds if a grouped filter has equal records in any two runs of the plan that have equal own frames and commands of its
+-- group. All other frames and commands may differ.
+abbrev pub OutsidersChangeNothing : {A W : Type 0} → Plan A → List ℕ → List Command → (ℕ → List ℕ) → (W → Option (List ℕ)) → List W → List W → Outcome A → Type 0
+OutsidersChangeNothing {A} {W} p ports commands texts contents olds news o =
+    (ran : IsWholeRun p ports commands texts contents olds news o)
+    (other_commands : List Command) (other_texts : ℕ → List ℕ) (other_olds other_news : List W) (other : Outcome A)
+    (also : IsWholeRun p ports other_commands other_texts contents other_olds other_news other)
+    (group n : ℕ) (f : FilterPlan) (u v : View A)
+    → HasGroupedView p group n f o u → HasGroupedView p group n f other v
+    → HaveSameGroupInputs p group (input_streams (commands_of commands) ran.frames) (input_streams (commands_of other_commands) also.frames)
+    → AreSameViews u v
+
+-- Holds if a grouped filter has equal verdicts, counters, flags and buckets in any two runs of the plan that have equal
+-- own frames and commands of this filter. Also frames of its group may differ.
+abbrev pub MembersChangeNoVerdict : {A W : Type 0} → Plan A → List ℕ → List Command → (ℕ → List ℕ) → (W → Option (List ℕ)) → List W → List W → Outcome A → Type 0
+MembersChangeNoVerdict {A} {W} p ports commands texts contents olds news o =
+    (ran : IsWholeRun p ports commands texts contents olds news o)
+    (other_commands : List Command) (other_texts : ℕ → List ℕ) (other_olds other_news : List W) (other : Outcome A)
+    (also : IsWholeRun p ports other_commands other_texts contents other_olds other_news other)
+    (group n : ℕ) (f : FilterPlan) (u v : View A)
+    → HasGroupedView p group n f o u → HasGroupedView p group n f other v
+    → HaveSameOwnInputs p n f (input_streams (commands_of commands) ran.frames) (input_streams (commands_of other_commands) also.frames)
+    → HaveSamePoliceRecords u v
+
+-- Holds if the run isolates each group: its own frames and commands decide its filters' records, and each filter's own
+-- ones decide its verdicts.
+pub record IsolatesGroups {A W : Type 0} (p : Plan A) (ports : List ℕ) (commands : List Command) (texts : ℕ → List ℕ) (contents : W → Option (List ℕ)) (olds news : List W) (o : Outcome A) : Type 0 where
+  pub members : IsolatesMembers p ports commands texts contents olds news o
+  pub outsiders : OutsidersChangeNothing p ports commands texts contents olds news o
+  pub verdicts : MembersChangeNoVerdict p ports commands texts contents olds news o

@@ -4,7 +4,7 @@ ghost use Rattle.bridge_config.specs.Commands.{AreCommands};
 ghost use Rattle.bridge_capture.specs.Devices.{HasFailed, AreUnfailing};
 ghost use Rattle.bridge_capture.specs.CaptureReaders.{AreOneAhead, HaveRests, HaveTexts};
 ghost use Rattle.bridge_core.specs.CaptureWriters.{IsOutOfMemory};
-ghost use Rattle.bridge_core.specs.WholeRuns.{AreRunLists, ArePortNumbers, IsReadyToRun, IsolatesFilters, OthersChangeNothing, IsWholeRun, StopsRun, WritesFew};
+ghost use Rattle.bridge_core.specs.WholeRuns.{AreRunLists, ArePortNumbers, IsReadyToRun, IsolatesFilters, IsolatesGroups, OthersChangeNothing, IsWholeRun, StopsRun, WritesFew};
 
 use crate::capture_writer::{CaptureWriter, begin_writers};
 use crate::run::{make_heads, run};
@@ -145,7 +145,7 @@ fn run_prepared<R: ByteSource, W: ByteSink, G: Agenda + Drop, A: Allocator + Cop
 /// Runs captures and commands through the bridge of an accepted plan, with agenda type `G`. Captures stand by rising port. Writes one
 /// capture for each port; a frame's time is its end of transmission.
 ///
-/// A protected filter's record depends on its own frames and commands only.
+/// A protected filter's record depends on its own frames and commands only, a grouped filter's record on those of its group only.
 pub fn simulate_with_agenda<R: ByteSource, W: ByteSink, G: Agenda + Drop, A: Allocator + Copy>(
     alloc: A,
     accepted: &Accepted<A>,
@@ -168,6 +168,8 @@ pub fn simulate_with_agenda<R: ByteSource, W: ByteSink, G: Agenda + Drop, A: All
         IfOk result (IsolatesFilters accepted.now ports commands.now texts W.contents sinks.old sinks.new) }
     ensures others_change_nothing { (ports : List ℕ) (texts : ℕ → List ℕ) →
         IfOk result (OthersChangeNothing accepted.now ports commands.now texts W.contents sinks.old sinks.new) }
+    ensures isolated_groups { (ports : List ℕ) (texts : ℕ → List ℕ) →
+        IfOk result (IsolatesGroups accepted.now ports commands.now texts W.contents sinks.old sinks.new) }
     ensures few { (ports : List ℕ) (texts : ℕ → List ℕ) →
         IfOk result (WritesFew accepted.now ports commands.now texts W.contents sinks.old sinks.new) }
     ensures read { (ports : List ℕ) (port : ℕ) → ArePortNumbers accepted.now ports →
@@ -227,6 +229,8 @@ pub fn simulate<R: ByteSource, W: ByteSink, A: Allocator + Copy>(
         IfOk result (IsolatesFilters accepted.now ports commands.now texts W.contents sinks.old sinks.new) }
     ensures others_change_nothing { (ports : List ℕ) (texts : ℕ → List ℕ) →
         IfOk result (OthersChangeNothing accepted.now ports commands.now texts W.contents sinks.old sinks.new) }
+    ensures isolated_groups { (ports : List ℕ) (texts : ℕ → List ℕ) →
+        IfOk result (IsolatesGroups accepted.now ports commands.now texts W.contents sinks.old sinks.new) }
     ensures few { (ports : List ℕ) (texts : ℕ → List ℕ) →
         IfOk result (WritesFew accepted.now ports commands.now texts W.contents sinks.old sinks.new) }
     ensures read { (ports : List ℕ) (port : ℕ) → ArePortNumbers accepted.now ports →

@@ -33,6 +33,8 @@ pub struct FilterPlan {
     pub block_oversize: bool,
     /// Whether the plan asks for isolation of this filter. It changes no verdict.
     pub protected: bool,
+    /// Number of the group with which the filter shares queues; `None` without a group. It changes no verdict.
+    pub group: Option<u32>,
 }
 
 /// Frame that the stream filters judge (IEEE 802.1Q-2018, 8.6.5.1.1).

@@ -12,7 +12,7 @@ abbrev pub is_allowed_presence : Bool → Members → Presence → Bool
 is_allowed_presence change ms presence.Required = true
 is_allowed_presence change ms presence.Optional = true
 is_allowed_presence change ms (presence.WithList list) = has_key list ms
-is_allowed_presence change ms (presence.WithoutList list) = not (has_key list ms)
+is_allowed_presence change ms (presence.WithoutKey other) = not (has_key other ms)
 is_allowed_presence change ms (presence.WithListInChange list) = has_key list ms && change
 is_allowed_presence change ms (presence.WithNextList list next) = has_key list ms && (change && has_key next ms)
 

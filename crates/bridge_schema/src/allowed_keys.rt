@@ -41,9 +41,9 @@ pub fn find_conflict(presence: Presence, has_change: bool, table: &Table) -> Opt
     match presence {
         Presence::Required | Presence::Optional => None,
         Presence::WithList(list) => find_lack(table, list),
-        Presence::WithoutList(list) => {
-            if has_key(table, list) {
-                Some(KeyConflict::Has(list))
+        Presence::WithoutKey(other) => {
+            if has_key(table, other) {
+                Some(KeyConflict::Has(other))
             } else {
                 None
             }

@@ -64,8 +64,8 @@ pub enum Presence {
     Optional,
     /// Allowed only if the table has this list.
     WithList(Field),
-    /// Allowed only if the table lacks this list.
-    WithoutList(Field),
+    /// Allowed only if the table lacks this key.
+    WithoutKey(Field),
     /// Allowed only if the table has the list and the plan has a schedule change.
     WithListInChange(Field),
     /// Allowed only if the table has the list and the next list, and the plan has a schedule change.
@@ -115,7 +115,7 @@ pub const NEXT_GATE_LIST: ListKeys = ListKeys {
     entries: Field::NextEntries,
 };
 
-/// Allowed numbers of instances, stream handles and octet limits.
+/// Allowed numbers of instances, stream handles, groups and octet limits.
 const NUMBER_VALUE: AllowedValue = AllowedValue::Between(NUMBER);
 
 /// Allowed VLAN identifiers.
@@ -143,7 +143,10 @@ const WITH_ENTRIES: Presence = Presence::WithList(Field::Entries);
 const WITH_NEXT_ENTRIES: Presence = Presence::WithNextList(Field::Entries, Field::NextEntries);
 
 /// Rule of the keys that only a stream gate without a list has.
-const WITHOUT_ENTRIES: Presence = Presence::WithoutList(Field::Entries);
+const WITHOUT_ENTRIES: Presence = Presence::WithoutKey(Field::Entries);
+
+/// Rule of the key `group`: a filter is protected or grouped, not both.
+const WITHOUT_PROTECTED: Presence = Presence::WithoutKey(Field::Protected);
 
 /// Keys of a `[[change]]` table, the schedule change, with their rules.
 pub const CHANGE_KEYS: [KeyRule; 1] = [KeyRule(Field::At, TIME_VALUE, Presence::Required)];
@@ -258,7 +261,7 @@ pub const METER_KEYS: [KeyRule; 9] = [
 ];
 
 /// Keys of a `[[filter]]` table, with their rules.
-pub const FILTER_KEYS: [KeyRule; 8] = [
+pub const FILTER_KEYS: [KeyRule; 9] = [
     KeyRule(Field::Number, NUMBER_VALUE, Presence::Required),
     KeyRule(Field::Handle, NUMBER_VALUE, Presence::Optional),
     KeyRule(Field::Priority, PRIORITY_VALUE, Presence::Optional),
@@ -283,6 +286,7 @@ pub const FILTER_KEYS: [KeyRule; 8] = [
         Presence::Optional,
     ),
     KeyRule(Field::Protected, AllowedValue::Switch, Presence::Optional),
+    KeyRule(Field::Group, NUMBER_VALUE, WITHOUT_PROTECTED),
 ];
 
 /// Keys of a `[[command]]` table, with their rules.

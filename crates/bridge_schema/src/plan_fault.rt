@@ -138,6 +138,8 @@ pub enum Field {
     BlockOversize,
     /// Whether a filter is protected.
     Protected,
+    /// Group of a filter.
+    Group,
     /// Time in ns of a command or of the schedule change.
     At,
     /// Flag that a command clears.
@@ -145,7 +147,7 @@ pub enum Field {
 }
 
 /// Names of the keys, in the order of the variants of `Field`.
-const KEYS: [&str; 43] = [
+const KEYS: [&str; 44] = [
     "number",
     "mbps",
     "vid",
@@ -187,6 +189,7 @@ const KEYS: [&str; 43] = [
     "meter",
     "block_oversize",
     "protected",
+    "group",
     "at",
     "clear",
 ];

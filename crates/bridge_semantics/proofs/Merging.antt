@@ -9,6 +9,7 @@ use Rattle.bridge_semantics.specs.Events.{Event, Arrived, Cleared, is_own_event,
 use Rattle.bridge_limits.specs.Members.{RelatesToEach, IsOrdered}
 use Rattle.bridge_limits.proofs.Cases.{by_bool}
 use Rattle.bridge_limits.proofs.Orders.{same_eq}
+use Rattle.bridge_semantics.specs.Groups.{group_events, group_inputs, is_group_event}
 use Rattle.bridge_semantics.specs.Merge.{Input, FollowsInput, inputs_by_rank, IsMerged, input_events, own_inputs}
 use Rattle.bridge_semantics.proofs.Views.{after_all, cons_is}
 
@@ -84,3 +85,30 @@ own_ports p n f captures others xs ys a b same =
     let one : own_inputs p n f xs ≡ own_inputs p n f ys = one_list (own_inputs p n f xs) (own_inputs p n f ys) (rising_own p n f FollowsInput xs a.in_order) (rising_own p n f FollowsInput ys b.in_order)
     (λ q. own_of_rank p n f q xs ∙ (ap (own_inputs p n f) (a.each q) ∙ (same q ∙ sym (own_of_rank p n f q ys ∙ ap (own_inputs p n f) (b.each q))))) in
     events_own p n f xs ∙ (ap input_events one ∙ sym (events_own p n f ys))
+
+-- THE FRAMES OF A GROUP
+
+after_group : {A : Type 0} (p : Plan A) (group : ℕ) (R : Input → Input → Type 0) (a : Input) (xs : List Input) → RelatesToEach R a xs → RelatesToEach R a (group_inputs p group xs)
+after_group p group R a [] h = tt
+after_group p group R a (x ∷ xs) h = by_bool (is_group_event p group x.event) (λ k. rw k (h.0, after_group p group R a xs h.1)) (λ k. rw k (after_group p group R a xs h.1))
+
+rising_group : {A : Type 0} (p : Plan A) (group : ℕ) (R : Input → Input → Type 0) (xs : List Input) → IsOrdered R xs → IsOrdered R (group_inputs p group xs)
+rising_group p group R [] h = tt
+rising_group p group R (x ∷ xs) h = by_bool (is_group_event p group x.event) (λ k. rw k (after_group p group R x xs h.0, rising_group p group R xs h.1)) (λ k. rw k (rising_group p group R xs h.1))
+
+group_of_rank : {A : Type 0} (p : Plan A) (group : ℕ) (q : ℕ) (xs : List Input) → inputs_by_rank q (group_inputs p group xs) ≡ group_inputs p group (inputs_by_rank q xs)
+group_of_rank p group q [] = refl
+group_of_rank p group q (x ∷ xs) = by_bool (is_group_event p group x.event)
+    (λ k. by_bool (nat_eq x.rank q) (λ j. rw (k, j, k, group_of_rank p group q xs) refl) (λ j. rw (k, j) (group_of_rank p group q xs)))
+    (λ k. by_bool (nat_eq x.rank q) (λ j. rw (k, j, k) (group_of_rank p group q xs)) (λ j. rw (k, j) (group_of_rank p group q xs)))
+
+events_of_group : {A : Type 0} (p : Plan A) (group : ℕ) (xs : List Input) → group_events p group (input_events xs) ≡ input_events (group_inputs p group xs)
+events_of_group p group [] = refl
+events_of_group p group (x ∷ xs) = by_bool (is_group_event p group x.event) (λ k. rw (k, events_of_group p group xs) refl) (λ k. rw k (events_of_group p group xs))
+
+-- Equal inputs of the group at each port give equal own events of the group.
+pub group_ports : {A : Type 0} (p : Plan A) (group : ℕ) (captures others : ℕ → List Input) (xs ys : List Input) → IsMerged captures xs → IsMerged others ys → ((q : ℕ) → group_inputs p group (captures q) ≡ group_inputs p group (others q)) → group_events p group (input_events xs) ≡ group_events p group (input_events ys)
+group_ports p group captures others xs ys a b same =
+    let one : group_inputs p group xs ≡ group_inputs p group ys = one_list (group_inputs p group xs) (group_inputs p group ys) (rising_group p group FollowsInput xs a.in_order) (rising_group p group FollowsInput ys b.in_order)
+    (λ q. group_of_rank p group q xs ∙ (ap (group_inputs p group) (a.each q) ∙ (same q ∙ sym (group_of_rank p group q ys ∙ ap (group_inputs p group) (b.each q))))) in
+    events_of_group p group xs ∙ (ap input_events one ∙ sym (events_of_group p group ys))

@@ -5,3 +5,5 @@ pub mod Merge
 pub mod Outputs
 pub mod NextStarts
 pub mod Stored
+pub mod Groups
+pub mod GroupExamples

@@ -9,7 +9,7 @@ ghost use Rattle.bridge_filter.specs.declared.FilterPlan.{FilterPlan};
 ghost use Rattle.bridge_config.specs.Model.{Plan};
 ghost use Rattle.bridge_config.specs.declared.ports.PortPlan.{PortPlan};
 ghost use Rattle.bridge_config.specs.Rules.{IsPlan, find_port};
-ghost use Rattle.bridge_check.specs.Acceptable.{IsAcceptable};
+ghost use Rattle.bridge_check.specs.Acceptable.{HasAcceptableGroups, IsAcceptable};
 ghost use Rattle.bridge_check.specs.Reach.{reaches_queue};
 ghost use Rattle.bridge_semantics.specs.declared.outcome.View.{View};
 ghost use Rattle.bridge_semantics.specs.declared.outcome.Outcome.{Outcome};
@@ -22,6 +22,7 @@ ghost use Rattle.bridge_semantics.specs.NextStarts.{ReachesStart};
 ghost use Rattle.bridge_semantics.specs.Outputs.{EndsRun, ReachesTime};
 ghost use Rattle.bridge_semantics.specs.Runs.{AreOwnQueues, AreFinished, IsOnLink, IsOutcome, IsRun, IsSoloView, AreSameViews};
 ghost use Rattle.bridge_semantics.specs.Merge.{Input, IsMerged, input_events, own_inputs};
+ghost use Rattle.bridge_semantics.specs.Groups.{IsGroupMember, IsGroupQueue, IsGroupCopy, IsPoliceRecord, HaveSamePoliceRecords, group_events, group_inputs};
 
 use std::alloc::Allocator;
 
@@ -186,4 +187,94 @@ pub fn own_by_stream<A: Allocator + Copy>()
         → IsMerged others ys
         → ((q : ℕ) → own_inputs p n f (streams q) ≡ own_inputs p n f (others q))
         → own_events p n f (input_events xs) ≡ own_events p n f (input_events ys) }
+{}
+
+/// A copy of a grouped filter is in a queue that this filter can reach (`reach`). A queue that the group can reach holds only copies of
+/// the group (`members`).
+pub fn group_queues_hold_members<A: Allocator + Copy>()
+    ensures reach { (p : Plan A) (group n : ℕ) (f : FilterPlan) (es : List Event) (moments : ℕ → ℕ)
+        (lists : ℕ → List (Copy CarriedFrame)) (q : ℕ) (out : PortPlan A) (x : Copy CarriedFrame)
+        → IsPlan p
+        → HasAcceptableGroups p
+        → IsGroupMember p group n f
+        → IsRun p es moments lists
+        → find_port p.ports q ≡ Some out
+        → IsMember x (lists q)
+        → x.item.flow ≡ Some n
+        → reaches_queue p f q x.class ≡ true }
+    ensures members { (p : Plan A) (group : ℕ) (es : List Event) (moments : ℕ → ℕ)
+        (lists : ℕ → List (Copy CarriedFrame)) (q : ℕ) (out : PortPlan A) (x : Copy CarriedFrame)
+        → IsPlan p
+        → HasAcceptableGroups p
+        → IsRun p es moments lists
+        → find_port p.ports q ≡ Some out
+        → IsMember x (lists q)
+        → IsGroupQueue p group q x.class
+        → IsGroupCopy p group x }
+{}
+
+/// The record of a grouped filter in a run equals its record if only the group's own events arrive and each queue has its port to itself.
+/// Other traffic changes nothing of it.
+pub fn group_is_isolated<A: Allocator + Copy>()
+    ensures { (p : Plan A) (group n : ℕ) (f : FilterPlan) (es : List Event) (lists : ℕ → List (Copy CarriedFrame))
+        (o : Outcome A) (v : View A)
+        → IsPlan p
+        → HasAcceptableGroups p
+        → IsGroupMember p group n f
+        → IsOutcome p es lists o
+        → lookup (nat_eq n) o.filters.items ≡ Some v
+        → IsSoloView p n f (group_events p group es) v }
+{}
+
+/// A grouped filter's verdicts, counters, flags and buckets are those that its own events alone give.
+pub fn member_decides_alone<A: Allocator + Copy>()
+    ensures { (p : Plan A) (group n : ℕ) (f : FilterPlan) (es : List Event) (lists : ℕ → List (Copy CarriedFrame))
+        (o : Outcome A) (v : View A)
+        → IsPlan p
+        → HasAcceptableGroups p
+        → IsGroupMember p group n f
+        → IsOutcome p es lists o
+        → lookup (nat_eq n) o.filters.items ≡ Some v
+        → IsPoliceRecord p n f (own_events p n f es) v }
+{}
+
+/// If two runs have equal own events of a group, the records of its filters are equal, whatever else arrived.
+pub fn outsiders_change_nothing<A: Allocator + Copy>()
+    ensures { (p : Plan A) (group n : ℕ) (f : FilterPlan) (es others : List Event)
+        (lists more : ℕ → List (Copy CarriedFrame)) (o q : Outcome A) (u v : View A)
+        → IsPlan p
+        → HasAcceptableGroups p
+        → IsGroupMember p group n f
+        → group_events p group es ≡ group_events p group others
+        → IsOutcome p es lists o
+        → IsOutcome p others more q
+        → lookup (nat_eq n) o.filters.items ≡ Some u
+        → lookup (nat_eq n) q.filters.items ≡ Some v
+        → AreSameViews u v }
+{}
+
+/// If two runs have equal own events of one grouped filter, its verdicts, counters, flags and buckets are equal. Other filters of the
+/// group can't change them.
+pub fn members_change_no_verdict<A: Allocator + Copy>()
+    ensures { (p : Plan A) (group n : ℕ) (f : FilterPlan) (es others : List Event)
+        (lists more : ℕ → List (Copy CarriedFrame)) (o q : Outcome A) (u v : View A)
+        → IsPlan p
+        → HasAcceptableGroups p
+        → IsGroupMember p group n f
+        → own_events p n f es ≡ own_events p n f others
+        → IsOutcome p es lists o
+        → IsOutcome p others more q
+        → lookup (nat_eq n) o.filters.items ≡ Some u
+        → lookup (nat_eq n) q.filters.items ≡ Some v
+        → HaveSamePoliceRecords u v }
+{}
+
+/// A group's own inputs of each stream determine its own events. If two sets of captures differ only in frames of outsiders, the own
+/// events are equal.
+pub fn group_by_stream<A: Allocator + Copy>()
+    ensures { (p : Plan A) (group : ℕ) (streams others : ℕ → List Input) (xs ys : List Input)
+        → IsMerged streams xs
+        → IsMerged others ys
+        → ((q : ℕ) → group_inputs p group (streams q) ≡ group_inputs p group (others q))
+        → group_events p group (input_events xs) ≡ group_events p group (input_events ys) }
 {}

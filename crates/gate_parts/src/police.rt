@@ -29,6 +29,7 @@ fn parse_filter(line: &str) -> Option<(u32, FilterPlan)> {
         meter: number_by_name(line, "meter"),
         block_oversize: has_word(line, "block_oversize"),
         protected: has_word(line, "protected"),
+        group: None,
     };
     Some((u32_or_max(line, 1), plan))
 }

@@ -99,6 +99,7 @@ a_filter handle gate protected = record {
   meter = None;
   block_oversize = false;
   protected = protected;
+  group = None;
 }
 
 module _ (A : Type 0) where

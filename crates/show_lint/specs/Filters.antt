@@ -2,6 +2,7 @@
 use Rattle.std.specs.Prelude.{ℕ, Bool, true, false, not, ◌&&◌, ◌||◌, List, [], ◌∷◌, Option, Some, None, nat_eq, nat_lt, if◌then◌else◌}
 use Rattle.bridge_filter.specs.declared.FilterPlan.{FilterPlan}
 use Rattle.bridge_filter.specs.Verdicts.{is_priority_match}
+use Rattle.bridge_check.specs.Faults.{is_tested}
 
 -- True if a key of filter `one` matches every frame that the key of filter `other` matches: it is absent, or both are equal.
 abbrev pub covers : Option ℕ → Option ℕ → Bool
@@ -69,7 +70,7 @@ is_used gate (f ∷ fs) = nat_eq f.1.gate gate || is_used gate fs
 abbrev pub is_decision : ℕ → List (ℕ × FilterPlan) → Bool
 is_decision gate fs = is_used gate fs && not (is_number (protected_with gate fs))
 
--- True if a filter is protected.
-abbrev pub has_protected : List (ℕ × FilterPlan) → Bool
-has_protected [] = false
-has_protected (f ∷ fs) = f.1.protected || has_protected fs
+-- True if a filter is protected or grouped.
+abbrev pub has_tested : List (ℕ × FilterPlan) → Bool
+has_tested [] = false
+has_tested (f ∷ fs) = is_tested f.1 || has_tested fs

@@ -19,22 +19,23 @@ use bridge_text::{
 use std::alloc::{Allocator, Global};
 
 const NO_HANDLE: &str =
-    "Filter {0} is protected but has no `handle`, so it matches every stream.\nAdd the `handle` of its stream, or remove `protected`.\n";
+    "Filter {0} is {a} but has no `handle`, so it matches every stream.\nAdd the `handle` of its stream, or remove `{b}`.\n";
 
 const NO_LENGTH: &str =
-    "Filter {0} is protected but has no `max_sdu`. Without it, nobody can tell whether its longest frame fits its windows.\nAdd a `max_sdu`.\n";
+    "Filter {0} is {a} but has no `max_sdu`. Without it, nobody can tell whether its longest frame fits its windows.\nAdd a `max_sdu`.\n";
 
 const GATE_SHARED: &str =
-    "Filters {0} (protected) and {1} ({a}) share gate {2}. Frames of filter {1} can use up its octets, or shut it.\nGive filter {0} a gate of its own.\n";
+    "Filters {0} ({b}) and {1} ({a}) share gate {2}. Frames of filter {1} can use up its octets, or shut it.\nGive filter {0} a gate of its own.\n";
 
 const METER_SHARED: &str =
-    "Filters {0} (protected) and {1} ({a}) share meter {2}. Frames of filter {1} can use up its tokens.\nGive filter {0} a meter of its own, or remove its `meter`.\n";
+    "Filters {0} ({b}) and {1} ({a}) share meter {2}. Frames of filter {1} can use up its tokens.\nGive filter {0} a meter of its own, or remove its `meter`.\n";
 
 const NO_CATCH_ALL: &str =
     "Filter {1} has the greatest number but doesn't match every frame, so some frames may bypass the filters and enter the queues of filter {0}.\nAdd a filter with a number above {1}, without `handle` and `priority`. Give it a gate of its own, with an `ipv` of another class.\n";
 
-const QUEUE_SHARED: &str =
-    "Filters {0} (protected) and {1} ({a}) share a queue: port {2}, class {3}.\n";
+const QUEUE_SHARED: &str = "Filters {0} ({b}) and {1} ({a}) share a queue: port {2}, class {3}.\n";
+
+const JOIN_GROUP: &str = "Add filter {1} to the group by `group = {4}`, or keep the queues apart. ";
 
 const SEPARATE_QUEUES: &str =
     "Give one of them another class, by `ipv` in its gate, by its `priority`, or by the `classes` of the port. Or give one of them another route.\n";
@@ -53,7 +54,7 @@ const NO_WINDOW: &str =
 const TOO_LONG: &str =
     "Filter {0}'s longest frame doesn't fit. It has {1} octets (`max_sdu` {2} and 16 octets of header; no frame exceeds {3}) and needs {5} ns at port {4}.\nClass {6} there is ";
 
-/// Explains why a plan doesn't isolate its protected filters: `fault`, then every other failed test, and what to change. Each finding
+/// Explains why a plan doesn't isolate its protected filters and groups: `fault`, then every other failed test, and what to change. Each finding
 /// begins with `path` and the filter's line, if known.
 pub fn explain_check(
     alloc: Global,
@@ -121,7 +122,7 @@ fn put_finding<A: Allocator + Copy>(
     }
 }
 
-/// Writes the explanation of a test that a protected filter fails, by the function for this test.
+/// Writes the explanation of a test that a protected or grouped filter fails, by the function for this test.
 fn put_check<A: Allocator + Copy>(
     said: &mut LintText,
     text: &[u8],
@@ -135,9 +136,13 @@ fn put_check<A: Allocator + Copy>(
         CheckFault::ProtectedWildcard { .. } => said.put_template(
             NO_HANDLE,
             &[u64::from(number)],
-            &[],
+            &[kind_word(filter), kind_key(filter)],
         ),
-        CheckFault::NoMaxSdu { .. } => said.put_template(NO_LENGTH, &[u64::from(number)], &[]),
+        CheckFault::NoMaxSdu { .. } => said.put_template(
+            NO_LENGTH,
+            &[u64::from(number)],
+            &[kind_word(filter)],
+        ),
         CheckFault::GateShared { .. } => put_shared_gate(said, filters, number, filter.gate),
         CheckFault::MeterShared { .. } => put_shared_meter(said, filters, number, filter.meter),
         CheckFault::NoCatchAll { .. } => put_no_catch_all(said, filters, number),
@@ -168,7 +173,7 @@ fn put_check<A: Allocator + Copy>(
     }
 }
 
-/// Explains that frames without a matching filter would pass unfiltered: a catch-all filter is missing. `number` is the protected filter's.
+/// Explains that frames without a matching filter would pass unfiltered: a catch-all filter is missing. `number` is the tested filter's.
 fn put_no_catch_all(said: &mut LintText, filters: &[(u32, FilterPlan)], number: u32) {
     let greatest = greatest_filter_number(filters);
     put_shared_part(said, filters, NO_CATCH_ALL, number, greatest, 0);
@@ -217,16 +222,35 @@ fn greatest_filter_number(filters: &[(u32, FilterPlan)]) -> u32 {
     last
 }
 
-/// Returns `protected` or `unprotected` for filter `number`.
-fn protection_word(filters: &[(u32, FilterPlan)], number: u32) -> &'static str {
-    match find_filter(filters, number) {
-        Some(filter) if filter.protected => "protected",
-        _ => "unprotected",
+/// Returns the word for a filter's kind: `protected`, `grouped` or `unprotected`.
+fn kind_word(filter: &FilterPlan) -> &'static str {
+    if filter.protected {
+        "protected"
+    } else if filter.group.is_some() {
+        "grouped"
+    } else {
+        "unprotected"
     }
 }
 
-/// Writes a sentence about two filters and the stream gate or meter `own` that both use. The sentence states whether filter `other` is
-/// protected.
+/// Returns the key for which `check` tests a filter: `protected` or `group`.
+fn kind_key(filter: &FilterPlan) -> &'static str {
+    if filter.protected {
+        "protected"
+    } else {
+        "group"
+    }
+}
+
+/// Returns the word for the kind of filter `number`; `unprotected` if the plan lacks it.
+fn kind_of_number(filters: &[(u32, FilterPlan)], number: u32) -> &'static str {
+    match find_filter(filters, number) {
+        Some(filter) => kind_word(&filter),
+        None => "unprotected",
+    }
+}
+
+/// Writes a sentence about two filters and the stream gate or meter `own` that both use. The sentence states the kinds of both filters.
 fn put_shared_part(
     said: &mut LintText,
     filters: &[(u32, FilterPlan)],
@@ -236,7 +260,11 @@ fn put_shared_part(
     own: u32,
 ) {
     let numbers = [u64::from(number), u64::from(other), u64::from(own)];
-    said.put_template(template, &numbers, &[protection_word(filters, other)]);
+    let kinds = [
+        kind_of_number(filters, other),
+        kind_of_number(filters, number),
+    ];
+    said.put_template(template, &numbers, &kinds);
 }
 
 /// Writes the explanation of a stream gate that two filters share.
@@ -272,12 +300,16 @@ fn put_shared_queue<A: Allocator + Copy>(
         u64::from(other),
         u64::from(port),
         u64::from(class),
+        u64::from(filter.group.unwrap_or(0)),
     ];
-    let guard = protection_word(plan.filters(), other);
-    said.put_template(QUEUE_SHARED, &numbers, &[guard]);
+    let kinds = [kind_of_number(plan.filters(), other), kind_word(filter)];
+    said.put_template(QUEUE_SHARED, &numbers, &kinds);
     put_route(said, plan, number, filter, port);
     if let Some(found) = find_filter(plan.filters(), other) {
         put_route(said, plan, other, &found, port);
+    }
+    if !filter.protected {
+        said.put_template(JOIN_GROUP, &numbers, &[]);
     }
     said.put(SEPARATE_QUEUES);
 }

@@ -19,8 +19,8 @@ const BOUND: &str =
 
 const TIGHT: &str = "With the octet limit of its gate the bound is {0} ns.\n";
 
-/// Describes an accepted plan: for each protected filter its queues, their windows, the longest frame that fits and the delay bound; then
-/// all warnings. `idle` is the line of a schedule change without effect (`idle_change`).
+/// Describes an accepted plan: for each protected or grouped filter its queues, their windows, the longest frame that fits and, if it is
+/// protected, the delay bound; then all warnings. `idle` is the line of a schedule change without effect (`idle_change`).
 pub fn describe_plan<A: Allocator + Copy>(
     alloc: Global,
     accepted: &Accepted<A>,
@@ -63,11 +63,19 @@ fn put_warnings<A: Allocator + Copy>(
     }
 }
 
-/// Writes the queues of each protected filter, with windows and bounds. Other filters have no bounds.
+/// Writes the queues of each protected or grouped filter with windows, and the bounds of protected filters.
 fn put_filters<A: Allocator + Copy>(said: &mut LintText, accepted: &Accepted<A>) {
     for (number, filter) in accepted.plan().filters() {
+        let own = u64::from(*number);
         if filter.protected {
-            said.put_template("Filter {0} is protected.\n", &[u64::from(*number)], &[]);
+            said.put_template("Filter {0} is protected.\n", &[own], &[]);
+            put_ports(said, accepted, *number, filter);
+        } else if let Some(group) = filter.group {
+            said.put_template(
+                "Filter {0} is in group {1}.\n",
+                &[own, u64::from(group)],
+                &[],
+            );
             put_ports(said, accepted, *number, filter);
         }
     }

@@ -21,24 +21,24 @@ pub(crate) const SHORTEST: u64 = 64;
 /// SDU octets of the shortest frame: its EtherType.
 const LEAST_SDU: u32 = 2;
 
-/// Whether at least one filter is protected. Without one, the plan has no guarantee.
-fn has_protected(filters: &[(u32, FilterPlan)]) -> bool
-    ensures { result ≡ spec.has_protected filters.now }
+/// Whether at least one filter is protected or grouped. Without one, the plan has no guarantee.
+fn has_tested(filters: &[(u32, FilterPlan)]) -> bool
+    ensures { result ≡ spec.has_tested filters.now }
 {
     for filter in filters {
-        if filter.1.protected {
+        if filter.1.protected || filter.1.group.is_some() {
             return true;
         }
     }
     false
 }
 
-/// Adds a warning if no filter is protected: the plan then has no isolated filter and no bound.
+/// Adds a warning if no filter is protected or grouped: the plan then has no isolated filter and no bound.
 pub(crate) fn find_unprotected(
     found: &mut Vec<Warning>,
     filters: &[(u32, FilterPlan)],
 ) -> Result<(), AllocError> {
-    if has_protected(filters) {
+    if has_tested(filters) {
         return Ok(());
     }
     push_warning(found, Warning::NoneProtected)

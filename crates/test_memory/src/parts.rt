@@ -41,6 +41,7 @@ const FILTER: FilterPlan = FilterPlan {
     meter: Some(5),
     block_oversize: true,
     protected: true,
+    group: None,
 };
 
 /// Meter with an excess bucket of 64 octets, and no rate.

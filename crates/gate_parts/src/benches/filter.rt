@@ -118,6 +118,7 @@ fn make_filters(alloc: Global, count: u32) -> Result<Vec<(u32, FilterPlan)>, All
             meter: Some(number),
             block_oversize: true,
             protected: true,
+            group: None,
         };
         filters.push((number, plan))?;
     }

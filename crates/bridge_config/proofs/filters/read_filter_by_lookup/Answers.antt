@@ -15,6 +15,9 @@ optional_u32-requires-2 g c n is = let (above, below) = c.read_optional-max_sdu.
 pub optional_u32-requires-3 : goal.optional_u32-requires-3
 optional_u32-requires-3 g c n is = let (above, below, there) = c.read_optional-meter.ensures.fits n is in below
 
+pub optional_u32-requires-4 : goal.optional_u32-requires-4
+optional_u32-requires-4 g c n is = (c.read_optional-group.ensures.fits n is).1
+
 pub overflow_cast-plan : goal.overflow_cast-plan
 overflow_cast-plan g c =
     let (above, below) = known_in_range _ _ _ c.read_required-gate.ensures.takes c.read_required-gate.ensures.fits (omega arith) (omega arith) in
@@ -35,8 +38,9 @@ returns-clause-reads g c =
     let read = taken _ c.read_optional-meter.ensures.takes read in
     let read = taken _ c.read_or_default-block_oversize.ensures.takes read in
     let read = taken _ c.read_or_default-protected.ensures.takes read in
+    let read = taken _ c.read_optional-group.ensures.takes read in
     let read = tested _ _ c.expect.ensures (ap not c.has.ensures.among) read in
-    told c.finish.ensures (rw (c.optional_u32.ensures, c.optional_u8.ensures, c.optional_u32-2.ensures, c.optional_u32-3.ensures) read)
+    told c.finish.ensures (rw (c.optional_u32.ensures, c.optional_u8.ensures, c.optional_u32-2.ensures, c.optional_u32-3.ensures, c.optional_u32-4.ensures) read)
 
 pub returns-clause-own : goal.returns-clause-own
 returns-clause-own g c = own _ c.expect.ensures c.has.ensures.among c.finish.ensures
@@ -49,7 +53,7 @@ returns-clause-filter g c = made _ c.finish.ensures (record {
 
 pub returns-clause-gate : goal.returns-clause-gate
 returns-clause-gate g c = made_if _ c.finish.ensures (λ none.
-    let last = before c.read_or_default-block_oversize.ensures.takes (before c.read_or_default-protected.ensures.takes (before_test c.expect.ensures none)) in
+    let last = before c.read_or_default-block_oversize.ensures.takes (before c.read_or_default-protected.ensures.takes (before c.read_optional-group.ensures.takes (before_test c.expect.ensures none))) in
     let still = before c.read_optional-max_sdu.ensures.takes (before c.read_optional-meter.ensures.takes last) in
     let (above, below, there) = fits_if _ c.read_required-gate.ensures.takes c.read_required-gate.ensures.fits still in
     there)

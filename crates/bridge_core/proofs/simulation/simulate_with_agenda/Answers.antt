@@ -7,7 +7,7 @@ use Rattle.bridge_capture.specs.CaptureReaders.{HaveRests, HaveTexts, FailsToBeg
 use Rattle.bridge_core.specs.WholeRuns.{IsReadyToRun, IsWholeRun, StopsRun, AreRunLists, ArePortNumbers}
 use Rattle.bridge_core.proofs.Beginning.{one_order}
 use Rattle.bridge_core.proofs.Faults.{memory_read, memory_written}
-use Rattle.bridge_core.proofs.Simulating.{each_ok, begin_well, isolates, lanes_many, others_change_nothing, ports_many, stops_look, wants_first}
+use Rattle.bridge_core.proofs.Simulating.{each_ok, begin_well, isolates, isolates_groups, lanes_many, others_change_nothing, ports_many, stops_look, wants_first}
 use Rattle.bridge_config.proofs.Sorted.{rising_numbers}
 use Rattle.bridge_core.proofs.Taken.{err_is}
 use Rattle.bridge_core.proofs.simulation.simulate_with_agenda.Goals as goal
@@ -166,6 +166,9 @@ returns-clause-isolated g c = λ ports texts. each_ok c.run_prepared.result _ (�
 
 pub returns-clause-others_change_nothing : goal.returns-clause-others_change_nothing
 returns-clause-others_change_nothing g c = λ ports texts. each_ok c.run_prepared.result _ (λ o. others_change_nothing c.args.accepted.now ports c.args.commands.now texts g.W.ByteSink.contents c.args.sinks.now c.run_prepared.new.sinks o c.plan.ensures.rules c.plan.ensures.acceptable)
+
+pub returns-clause-isolated_groups : goal.returns-clause-isolated_groups
+returns-clause-isolated_groups g c = λ ports texts. each_ok c.run_prepared.result _ (λ o. isolates_groups c.args.accepted.now ports c.args.commands.now texts g.W.ByteSink.contents c.args.sinks.now c.run_prepared.new.sinks o c.plan.ensures.rules c.plan.ensures.grouped)
 
 pub returns-clause-few : goal.returns-clause-few
 returns-clause-few g c = λ ports texts. each_ok c.run_prepared.result _ (λ o ran q out at. few_leave c.args.accepted.now (input_events ran.inputs) ran.left o q out ran.ends at)

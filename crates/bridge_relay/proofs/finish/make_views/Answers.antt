@@ -5,7 +5,7 @@ use Rattle.bridge_relay.proofs.Viewing.{there_at, table_next, viewing_start, vie
 use Rattle.bridge_relay.proofs.finish.make_views.Goals as goal
 
 none : ℕ × FilterPlan
-none = (0, record { handle = None; priority = None; gate = 0; max_sdu = None; meter = None; block_oversize = false; protected = false })
+none = (0, record { handle = None; priority = None; gate = 0; max_sdu = None; meter = None; block_oversize = false; protected = false; group = None })
 
 pub loop-entry-init : goal.loop-entry-init
 loop-entry-init g c =

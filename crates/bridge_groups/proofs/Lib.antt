@@ -1,0 +1,11 @@
+pub mod Shares
+pub mod Sums
+pub mod Sharing
+pub mod Passing
+pub mod Delivered
+pub mod Turns
+pub mod Limits
+pub mod Costs
+pub mod Departures
+pub mod MergedOrder
+pub mod MeterCurves

@@ -1,0 +1,305 @@
+//! Laws of groups of filters that share queues. Each law is the contract of a function that does nothing.
+ghost use Rattle.std.specs.Prelude.{◌≡◌, ◌≢◌, ◌≤◌, ◌+◌, ◌-◌, ◌*◌, ◌<◌, ◌/◌, ◌∷◌, ◌++◌, ℕ, List, None, Some, true};
+ghost use Rattle.bridge_limits.specs.Members.{IsMember};
+ghost use Rattle.bridge_forward.specs.Ports.{has_port};
+ghost use Rattle.bridge_filter.specs.declared.FilterInput.{FilterInput};
+ghost use Rattle.bridge_filter.specs.declared.FilterPlan.{FilterPlan};
+ghost use Rattle.bridge_filter.specs.Verdicts.{frame_filter};
+ghost use Rattle.bridge_frame.specs.Link.{transmission_time};
+ghost use Rattle.bridge_cycle.specs.ChangingList.{Joined};
+ghost use Rattle.bridge_port.specs.GateSchedule.{Changing, gate_schedule, list_opens, lists_open};
+ghost use Rattle.bridge_port.specs.Schedule.{Copy, Full, Started};
+ghost use Rattle.bridge_port.specs.Solo.{class_copies};
+ghost use Rattle.bridge_config.specs.Model.{Plan};
+ghost use Rattle.bridge_config.specs.declared.ports.PortPlan.{PortPlan};
+ghost use Rattle.bridge_config.specs.Rules.{IsPlan, find_port};
+ghost use Rattle.bridge_check.specs.Acceptable.{HasAcceptableGroups};
+ghost use Rattle.bridge_check.specs.Reach.{reaches_queue};
+ghost use Rattle.bridge_check.specs.Windows.{longest_frame};
+ghost use Rattle.bridge_semantics.specs.declared.destination.Destination.TheVariants.{Forwarded};
+ghost use Rattle.bridge_semantics.specs.Events.{Arrival, Arrived, Event, count_filter_frames, frame_destination, metered_octets, plan_police};
+ghost use Rattle.bridge_semantics.specs.Offers.{CarriedFrame, egress_rules};
+ghost use Rattle.bridge_semantics.specs.Groups.{IsGroupMember, IsGroupQueue};
+ghost use Rattle.bridge_semantics.specs.Runs.{AreFinished, IsRun};
+ghost use Rattle.bridge_bounds.specs.Bounds.{IsLongestTime};
+ghost use Rattle.bridge_work.specs.Work.{IsDelayBound, HasCountCurve, HasWorkCurve};
+ghost use Rattle.bridge_cycle.specs.Fits.{Fits, IsFirstFit};
+ghost use Rattle.bridge_meter.specs.Colours.{octet_units};
+ghost use Rattle.bridge_work.specs.MeterAllowance.{meter_allowance};
+ghost use Rattle.bridge_groups.specs.QueueBounds.{HasCurveRoom, IsCurveBound};
+ghost use Rattle.bridge_groups.specs.Costs.{HasFilterCostCurve, frame_cost};
+ghost use Rattle.bridge_capture.specs.Grammar.{CapturedFrame};
+ghost use Rattle.bridge_config.specs.declared.command.Command.{Command};
+ghost use Rattle.bridge_semantics.specs.Merge.{Input, IsMerged, commands_of, input_events, input_streams};
+ghost use Rattle.bridge_groups.specs.Departures.{HaveConformingDepartures, filter_passages};
+ghost use Rattle.bridge_groups.specs.Curves.{AreArrivalsInOrder, HaveMeters, HasNoRunts, AreSharers, HasFilterCurve, curve_sum, optional_burst, sharers_curve, gate_curve, sharers_frame_limit, meter_curve, optional_rate};
+ghost use Rattle.bridge_gate.specs.Gates.{GateEvent, GateRules, gate_steps, last_frame_time};
+ghost use Rattle.bridge_groups.specs.GateLimits.{AreGateFramesInOrder, HasOctetLimits, octet_budget, recent_passed_octets};
+ghost use Rattle.bridge_groups.specs.Talkers.{IsDelivered, AdmitsTalker, IsConformingTalker};
+
+use std::alloc::Allocator;
+
+/// If frames arrive in order, a shared queue has the work curve and the count curve of its sharers' meters.
+pub fn queue_has_meter_curves<A: Allocator + Copy>()
+    ensures { (p : Plan A) (group : ℕ) (sharers : List (ℕ × FilterPlan)) (q c sdu : ℕ) (out : PortPlan A) (es : List Event)
+        (moments : ℕ → ℕ) (lists : ℕ → List (Copy CarriedFrame))
+        → IsPlan p
+        → HasAcceptableGroups p
+        → find_port p.ports q ≡ Some out
+        → IsGroupQueue p group q c
+        → AreSharers p group q c sdu sharers
+        → HaveMeters sharers
+        → IsRun p es moments lists
+        → AreFinished lists
+        → AreArrivalsInOrder es
+        → HasWorkCurve (egress_rules out) (sharers_curve p sharers out.speed) (class_copies c (lists q))
+        × HasCountCurve (sharers_frame_limit p sharers) (class_copies c (lists q)) }
+{}
+
+/// Each copy that starts leaves a queue of the group at most `b` ns after its arrival, whatever any talker sends. `b` is the delay bound of
+/// the meters' curve.
+pub fn group_leaves_in_time<A: Allocator + Copy>()
+    ensures { (p : Plan A) (group : ℕ) (sharers : List (ℕ × FilterPlan)) (q c sdu b s : ℕ) (out : PortPlan A)
+        (es : List Event) (moments : ℕ → ℕ) (lists : ℕ → List (Copy CarriedFrame)) (x : Copy CarriedFrame)
+        → IsPlan p
+        → HasAcceptableGroups p
+        → find_port p.ports q ≡ Some out
+        → IsGroupQueue p group q c
+        → AreSharers p group q c sdu sharers
+        → HaveMeters sharers
+        → IsRun p es moments lists
+        → AreFinished lists
+        → AreArrivalsInOrder es
+        → IsCurveBound out c sdu (sharers_curve p sharers out.speed) b
+        → IsMember x (lists q)
+        → x.class ≡ c
+        → x.fate ≡ Started s
+        → s + transmission_time x.item.len out.speed ≤ x.at + b }
+{}
+
+/// If the capacity suffices for the meters' curves, the queue drops no copy of the group as full, whatever any talker sends.
+pub fn group_queue_is_never_full<A: Allocator + Copy>()
+    ensures { (p : Plan A) (group : ℕ) (sharers : List (ℕ × FilterPlan)) (q c sdu : ℕ) (out : PortPlan A) (es : List Event)
+        (moments : ℕ → ℕ) (lists : ℕ → List (Copy CarriedFrame)) (x : Copy CarriedFrame)
+        → IsPlan p
+        → HasAcceptableGroups p
+        → find_port p.ports q ≡ Some out
+        → IsGroupQueue p group q c
+        → AreSharers p group q c sdu sharers
+        → HaveMeters sharers
+        → IsRun p es moments lists
+        → AreFinished lists
+        → AreArrivalsInOrder es
+        → HasCurveRoom out c sdu (sharers_curve p sharers out.speed) (sharers_frame_limit p sharers)
+        → IsMember x (lists q)
+        → x.class ≡ c
+        → x.fate ≢ Full }
+{}
+
+/// If a filter admits a conforming talker, each of its frames leaves each egress port within the delay bound `b`, whatever all others
+/// send. The capacities are sufficient.
+pub fn conforming_frame_is_delivered<A: Allocator + Copy>()
+    ensures { (p : Plan A) (group : ℕ) (n m most burst rate q set sdu b : ℕ) (f : FilterPlan)
+        (sharers : ℕ → List (ℕ × FilterPlan)) (out : PortPlan A) (a : Arrival)
+        (newer older : List Event) (c : FilterInput)
+        (moments : ℕ → ℕ) (lists : ℕ → List (Copy CarriedFrame))
+        → IsPlan p
+        → HasAcceptableGroups p
+        → IsGroupMember p group n f
+        → AdmitsTalker p f m most burst rate
+        → IsRun p (newer ++ Arrived a ∷ older) moments lists
+        → AreFinished lists
+        → AreArrivalsInOrder (newer ++ Arrived a ∷ older)
+        → IsConformingTalker p n most burst rate (newer ++ Arrived a ∷ older)
+        → frame_destination p a ≡ Forwarded set c
+        → frame_filter p.filters c ≡ Some (n, f)
+        → has_port set q ≡ true
+        → find_port p.ports q ≡ Some out
+        → ((k : ℕ) → reaches_queue p f q k ≡ true → AreSharers p group q k sdu (sharers k))
+        → ((k : ℕ) → reaches_queue p f q k ≡ true → HaveMeters (sharers k))
+        → ((k : ℕ) → reaches_queue p f q k ≡ true
+        → IsCurveBound out k sdu (sharers_curve p (sharers k) out.speed) b)
+        → ((k : ℕ) → reaches_queue p f q k ≡ true
+        → HasCurveRoom out k sdu (sharers_curve p (sharers k) out.speed) (sharers_frame_limit p (sharers k)))
+        → IsDelivered out (lists q) a n (count_filter_frames p n older + 1) b }
+{}
+
+/// In any `w` ns a stream gate with octet limits passes at most the octets of the intervals that overlap these `w` ns.
+pub fn gate_limits_octets()
+    ensures { (r : GateRules) (u w : ℕ) (es : List GateEvent)
+        → HasOctetLimits r.turn_at
+        → AreGateFramesInOrder es
+        → last_frame_time es ≤ u + w
+        → recent_passed_octets u (gate_steps r es) ≤ octet_budget r.turn_at u w }
+{}
+
+/// A filter's offers to a class have the arrival curve of its meter (`meter`). They have the curve of its stream gate if the gate has
+/// octet limits (`gate`).
+pub fn filter_has_curve<A: Allocator + Copy>()
+    ensures meter { (p : Plan A) (out : PortPlan A) (c n m : ℕ) (f : FilterPlan)
+        → IsPlan p
+        → IsMember (n, f) p.filters
+        → f.meter ≡ Some m
+        → HasFilterCurve p out c n (meter_curve ((plan_police p).meters m) out.speed) }
+    ensures gate { (p : Plan A) (out : PortPlan A) (c n : ℕ) (f : FilterPlan) (octets : ℕ → ℕ)
+        → IsPlan p
+        → IsMember (n, f) p.filters
+        → HasOctetLimits ((plan_police p).gates f.gate).turn_at
+        → ((u w : ℕ) → octet_budget ((plan_police p).gates f.gate).turn_at u w ≤ octets w)
+        → HasFilterCurve p out c n (gate_curve octets out.speed) }
+{}
+
+/// If each sharer has an arrival curve by its meter or gate, copies leave in time (`done`). A sufficient capacity drops none as full
+/// (`room`).
+pub fn group_leaves_in_time_by_curves<A: Allocator + Copy>()
+    ensures done { (p : Plan A) (group : ℕ) (sharers : List (ℕ × FilterPlan)) (curves : ℕ → ℕ → ℕ) (q c sdu b s : ℕ)
+        (out : PortPlan A) (es : List Event) (moments : ℕ → ℕ) (lists : ℕ → List (Copy CarriedFrame))
+        (x : Copy CarriedFrame)
+        → IsPlan p
+        → HasAcceptableGroups p
+        → find_port p.ports q ≡ Some out
+        → IsGroupQueue p group q c
+        → AreSharers p group q c sdu sharers
+        → ((n : ℕ) (f : FilterPlan) → IsMember (n, f) sharers → HasFilterCurve p out c n (curves n))
+        → IsRun p es moments lists
+        → AreFinished lists
+        → AreArrivalsInOrder es
+        → HasNoRunts es
+        → IsCurveBound out c sdu (curve_sum curves sharers) b
+        → IsMember x (lists q)
+        → x.class ≡ c
+        → x.fate ≡ Started s
+        → s + transmission_time x.item.len out.speed ≤ x.at + b }
+    ensures room { (p : Plan A) (group : ℕ) (sharers : List (ℕ × FilterPlan)) (curves : ℕ → ℕ → ℕ) (q c sdu : ℕ)
+        (out : PortPlan A) (es : List Event) (moments : ℕ → ℕ) (lists : ℕ → List (Copy CarriedFrame))
+        (x : Copy CarriedFrame)
+        → IsPlan p
+        → HasAcceptableGroups p
+        → find_port p.ports q ≡ Some out
+        → IsGroupQueue p group q c
+        → AreSharers p group q c sdu sharers
+        → ((n : ℕ) (f : FilterPlan) → IsMember (n, f) sharers → HasFilterCurve p out c n (curves n))
+        → IsRun p es moments lists
+        → AreFinished lists
+        → AreArrivalsInOrder es
+        → HasNoRunts es
+        → HasCurveRoom out c sdu (curve_sum curves sharers)
+        (λ w. curve_sum curves sharers w / transmission_time 60 out.speed)
+        → IsMember x (lists q)
+        → x.class ≡ c
+        → x.fate ≢ Full }
+{}
+
+/// Each copy that starts leaves a queue of the group within the bound by capacity, also without meters. The lesser of this bound and the bound
+/// by curves holds.
+pub fn group_leaves_in_time_by_room<A: Allocator + Copy>()
+    ensures { (p : Plan A) (group : ℕ) (sharers : List (ℕ × FilterPlan)) (q c sdu d s : ℕ) (out : PortPlan A)
+        (es : List Event) (moments : ℕ → ℕ) (lists : ℕ → List (Copy CarriedFrame)) (x : Copy CarriedFrame)
+        → IsPlan p
+        → HasAcceptableGroups p
+        → find_port p.ports q ≡ Some out
+        → IsGroupQueue p group q c
+        → AreSharers p group q c sdu sharers
+        → IsRun p es moments lists
+        → AreFinished lists
+        → IsLongestTime (lists_open out.list c) (transmission_time (longest_frame sdu) out.speed)
+        ((egress_rules out).room c) d
+        → IsMember x (lists q)
+        → x.class ≡ c
+        → x.fate ≡ Started s
+        → s + transmission_time x.item.len out.speed
+        ≤ x.at + (transmission_time (longest_frame sdu) out.speed - 1) + d }
+{}
+
+/// A filter with a meter has a cost curve by the greatest cost of an octet (`meter`). If the sharers have cost curves, copies leave in
+/// time (`done`).
+pub fn group_leaves_in_time_by_cost<A: Allocator + Copy>()
+    ensures meter { (p : Plan A) (out : PortPlan A) (c n m sdu num den : ℕ) (f : FilterPlan) (cost : ℕ → ℕ)
+        → IsPlan p
+        → IsMember (n, f) p.filters
+        → f.meter ≡ Some m
+        → f.max_sdu ≡ Some sdu
+        → 0 < den
+        → ((len : ℕ) → len ≤ longest_frame sdu → den * cost len ≤ num * metered_octets len)
+        → HasFilterCostCurve p out c n cost
+        (λ w. num * meter_allowance ((plan_police p).meters m) w / (den * octet_units)) }
+    ensures done { (p : Plan A) (group : ℕ) (sharers : List (ℕ × FilterPlan)) (q c sdu fit b s : ℕ) (out : PortPlan A)
+        (curves : ℕ → ℕ → ℕ) (es : List Event) (moments : ℕ → ℕ) (lists : ℕ → List (Copy CarriedFrame))
+        (x : Copy CarriedFrame)
+        → IsPlan p
+        → HasAcceptableGroups p
+        → find_port p.ports q ≡ Some out
+        → IsGroupQueue p group q c
+        → AreSharers p group q c sdu sharers
+        → ((n : ℕ) (f : FilterPlan) → IsMember (n, f) sharers
+        → HasFilterCostCurve p out c n (frame_cost fit out.speed) (curves n))
+        → IsRun p es moments lists
+        → AreFinished lists
+        → AreArrivalsInOrder es
+        → 1 ≤ fit
+        → ((v : ℕ) → ¬ Fits (lists_open out.list c) fit v
+        → Fits (lists_open out.list c) fit (v + 1)
+        → Fits (lists_open out.list c) (transmission_time (longest_frame sdu) out.speed) (v + 1))
+        → IsDelayBound (lists_open out.list c) fit (transmission_time 60 out.speed) (curve_sum curves sharers) b
+        → IsMember x (lists q)
+        → x.class ≡ c
+        → x.fate ≡ Started s
+        → s + transmission_time x.item.len out.speed ≤ x.at + b }
+{}
+
+/// At a schedule change, the bound adds the old lists' bound `b1`, a longest frame, and the new lists' bound `b2` for a shifted curve.
+pub fn group_leaves_in_time_over_change<A: Allocator + Copy>()
+    ensures { (p : Plan A) (group : ℕ) (sharers : List (ℕ × FilterPlan)) (q c sdu b1 b2 s : ℕ) (out : PortPlan A)
+        (j : Joined ℕ) (es : List Event) (moments : ℕ → ℕ) (lists : ℕ → List (Copy CarriedFrame))
+        (x : Copy CarriedFrame)
+        → IsPlan p
+        → HasAcceptableGroups p
+        → find_port p.ports q ≡ Some out
+        → IsGroupQueue p group q c
+        → AreSharers p group q c sdu sharers
+        → HaveMeters sharers
+        → IsRun p es moments lists
+        → AreFinished lists
+        → AreArrivalsInOrder es
+        → gate_schedule out.list ≡ Changing j
+        → ((u : ℕ) → (v : ℕ) × IsFirstFit (lists_open out.list c) (transmission_time (longest_frame sdu) out.speed) u v)
+        → IsDelayBound (list_opens j.old c) (transmission_time (longest_frame sdu) out.speed)
+        (transmission_time 60 out.speed) (sharers_curve p sharers out.speed) b1
+        → IsDelayBound (list_opens j.new c) (transmission_time (longest_frame sdu) out.speed)
+        (transmission_time 60 out.speed)
+        (λ w. sharers_curve p sharers out.speed (w + (b1 + transmission_time (longest_frame sdu) out.speed))) b2
+        → IsMember x (lists q)
+        → x.class ≡ c
+        → x.fate ≡ Started s
+        → s + transmission_time x.item.len out.speed
+        ≤ x.at + ((b1 + transmission_time (longest_frame sdu) out.speed) + b2) }
+{}
+
+/// Frames of a filter leave a shared queue with the meter's burst and rate. The burst grows by what the rate gives in the queue's
+/// greatest difference of delays.
+pub fn departures_conform<A: Allocator + Copy>()
+    ensures { (p : Plan A) (group : ℕ) (sharers : List (ℕ × FilterPlan)) (q c sdu n m b : ℕ) (f : FilterPlan)
+        (out : PortPlan A) (es : List Event) (moments : ℕ → ℕ) (lists : ℕ → List (Copy CarriedFrame))
+        → IsPlan p
+        → HasAcceptableGroups p
+        → find_port p.ports q ≡ Some out
+        → IsGroupQueue p group q c
+        → AreSharers p group q c sdu sharers
+        → HaveMeters sharers
+        → IsMember (n, f) sharers
+        → f.meter ≡ Some m
+        → IsRun p es moments lists
+        → AreFinished lists
+        → AreArrivalsInOrder es
+        → IsCurveBound out c sdu (sharers_curve p sharers out.speed) b
+        → HaveConformingDepartures (optional_burst (plan_police p).meters f.meter)
+        (optional_rate (plan_police p).meters f.meter)
+        (b - transmission_time 60 out.speed) (filter_passages n out.speed (class_copies c (lists q))) }
+{}
+
+/// Merged captures and commands arrive in order, as the laws of bounds demand.
+pub fn merged_arrivals_are_in_order()
+    ensures { (cs : List Command) (frames : ℕ → List CapturedFrame) (xs : List Input)
+        → IsMerged (input_streams (commands_of cs) frames) xs
+        → AreArrivalsInOrder (input_events xs) }
+{}

@@ -1,0 +1,9 @@
+pub mod Work
+pub mod MeterAllowance
+pub mod Hops
+pub mod TalkerFrames
+pub mod Examples
+pub mod LinearCurves
+pub mod FitRuns
+pub mod SpanSearches
+pub mod Rooms
