@@ -1,8 +1,9 @@
 #![tactic(auto)]
-//! Tries to refute the words `passes`, `met` and `nowhere`, delays and bounds. Runs many random plans and networks over conforming and
-//! hostile frames.
+//! Tries to refute the words `passes`, `met` and `nowhere`, delays, bounds and capacities. Runs many random plans, groups and networks
+//! over conforming and hostile frames.
 
 mod frames;
+mod groups;
 mod networks;
 mod numbers;
 mod plans;
@@ -41,9 +42,10 @@ fn print_said(rt: &(impl AllocGlobal + Print), said: TextBuilder<Global>) -> Res
     }
 }
 
-/// Tries plans, then networks.
+/// Tries plans, then groups, then networks.
 fn try_all(alloc: Global, said: &mut TextBuilder<Global>) -> Result<bool, RunFault> {
     let are_plans_right = plans::run(alloc, said)?;
+    let are_groups_right = groups::run(alloc, said)?;
     let are_networks_right = networks::run(alloc, said)?;
-    Ok(are_plans_right && are_networks_right)
+    Ok(are_plans_right && are_groups_right && are_networks_right)
 }

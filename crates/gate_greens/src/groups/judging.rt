@@ -1,0 +1,117 @@
+//! Judges whether a run refutes the bounds and capacities of its plan.
+use crate::groups::shape::{EGRESS, Member, Shape};
+use crate::plans::{add_if, is_pass};
+use crate::runs::filter_view;
+use bridge_core::{Outcome, View};
+use bridge_groups::SharedQueue;
+use bridge_port::Refusal;
+use std::alloc::Global;
+
+/// Counts over the runs of a plan.
+#[derive(Clone, Copy, Default)]
+pub struct Shown {
+    /// Number of frames of the groups.
+    pub frames: u64,
+    /// Number of copies that queues without a sufficient capacity dropped as full.
+    pub full: u64,
+    /// Number of facts that contradict a bound, a capacity or a promise.
+    pub refuted: u64,
+}
+
+/// Whether the queue's capacity is sufficient, so that it drops no copy as full.
+pub fn has_room(queue: &SharedQueue) -> bool {
+    match queue.room {
+        Some(room) => room <= queue.capacity,
+        None => false,
+    }
+}
+
+/// Returns the queue of a member's group at the egress port.
+fn member_queue<'a>(queues: &'a [SharedQueue], member: &Member) -> Option<&'a SharedQueue> {
+    for queue in queues {
+        if u64::from(queue.group) == member.group && u64::from(queue.port) == EGRESS {
+            return Some(queue);
+        }
+    }
+    None
+}
+
+/// Returns the greatest delay in ns of a filter's departures. They all leave by the egress port.
+fn greatest_delay(view: &View<Global>) -> u64 {
+    let mut greatest = 0u64;
+    for stored in &view.departures {
+        let departure = stored.departure();
+        let index = departure.own.saturating_sub(1);
+        if let Some(origin) = view.origins.get(index as usize) {
+            let delay = departure.done.saturating_sub(origin.origin().at);
+            greatest = greatest.max(delay);
+        }
+    }
+    greatest
+}
+
+/// Returns the number of copies of a filter that a full queue dropped.
+fn count_full(view: &View<Global>) -> u64 {
+    let mut full = 0u64;
+    for stored in &view.drops {
+        add_if(&mut full, stored.dropped_copy().refusal == Refusal::Full);
+    }
+    full
+}
+
+/// Returns the number of frames that a filter refused.
+fn count_refused(view: &View<Global>) -> u64 {
+    let mut refused = 0u64;
+    for verdict in &view.verdicts {
+        add_if(&mut refused, !is_pass(verdict.verdict()));
+    }
+    refused
+}
+
+/// Adds the counts of a member in a run. `conforms` is true if its talker conforms to its meter.
+fn judge_member(queue: &SharedQueue, view: &View<Global>, conforms: bool, shown: &mut Shown) {
+    let full = count_full(view);
+    let refused = count_refused(view);
+    shown.frames = shown.frames.saturating_add(view.origins.len() as u64);
+    add_if(&mut shown.refuted, queue.bound < greatest_delay(view));
+    add_if(&mut shown.refuted, conforms && refused > 0);
+    if has_room(queue) {
+        shown.refuted = shown.refuted.saturating_add(full);
+    } else {
+        shown.full = shown.full.saturating_add(full);
+    }
+}
+
+/// Adds the counts of a run. `conforming` is the index of a stream whose talker conforms; all talkers conform if `is_calm` is true.
+pub fn judge(
+    queues: &[SharedQueue],
+    shape: &Shape,
+    outcome: &Outcome<Global>,
+    conforming: u64,
+    is_calm: bool,
+    shown: &mut Shown,
+) {
+    for member in &shape.members {
+        let view = filter_view(outcome, member.filter() as u32);
+        match (member_queue(queues, member), view) {
+            (Some(queue), Some(view)) => {
+                let conforms = member.meter.is_some() && (is_calm || member.place == conforming);
+                judge_member(queue, view, conforms, shown);
+            }
+            _ => add_if(&mut shown.refuted, true),
+        }
+    }
+}
+
+/// Returns the greatest delay of a queue's group in a run, in thousandths of the queue's bound.
+pub fn bound_share(queue: &SharedQueue, shape: &Shape, outcome: &Outcome<Global>) -> u64 {
+    let mut greatest = 0u64;
+    for member in &shape.members {
+        if member.group == u64::from(queue.group) {
+            if let Some(view) = filter_view(outcome, member.filter() as u32) {
+                greatest = greatest.max(greatest_delay(view));
+            }
+        }
+    }
+    greatest.saturating_mul(1_000) / queue.bound.max(1)
+}
