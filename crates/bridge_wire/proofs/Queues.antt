@@ -29,7 +29,7 @@ only_first items zero y others e = omega arith
 only_first {X} items (suc d) y others e = absurd (let z : [] ≡ y ∷ others = sym (none_in_others 7 d) ∙ e in cc)
 
 -- The oldest item starts as soon as the link is free and the next offer may arrive.
-pub starts_oldest : {T : Type 0} (speed : Speed) (room : ℕ) (x : Item T) (rest : List (Item T)) (free earliest offered started : ℕ) → IsNextStart (one_queue_state speed room (x ∷ rest) free earliest offered started) (max free earliest) 0 x
+starts_oldest : {T : Type 0} (speed : Speed) (room : ℕ) (x : Item T) (rest : List (Item T)) (free earliest offered started : ℕ) → IsNextStart (one_queue_state speed room (x ∷ rest) free earliest offered started) (max free earliest) 0 x
 starts_oldest speed room x rest free earliest offered started = record {
   rest = rest;
   is_head = refl;
@@ -50,10 +50,6 @@ starts_item {T} speed room (y ∷ rest) free earliest offered started x e =
 pub has_next : {T : Type 0} (speed : Speed) (room : ℕ) (items : List (Item T)) (free earliest offered started : ℕ) → 0 < length items → (c : ℕ) × (x : Item T) × IsNextStart (one_queue_state speed room items free earliest offered started) (max free earliest) c x
 has_next speed room [] free earliest offered started l = absurd (omega arith)
 has_next speed room (x ∷ rest) free earliest offered started l = (0, x, starts_oldest speed room x rest free earliest offered started)
-
--- A port without queued items is idle.
-pub is_idle : {T : Type 0} (speed : Speed) (room free earliest offered started : ℕ) (c : ℕ) → slice_index_or (one_queue_state {T = T} speed room [] free earliest offered started).queues c [] ≡ []
-is_idle speed room free earliest offered started c = none_in_others 8 c
 
 -- The oldest item obeys what all queued items obey.
 pub oldest_of_all : {X : Type 0} (P : X → Type 0) (items : List X) (x : X) → slice_get items 0 ≡ Some x → All P items → P x
@@ -105,6 +101,3 @@ begins_ahead {A} lane next q remaining text e begun = record {
   stands = subst (λ (a : Option (Packet A)). StandsForFrames lane.capture remaining text ([] ++ frame_ahead a)) (sym e) begun.stands;
   finds = subst (λ (a : Option (Packet A)). FindsNext text [] a) (sym e) begun.finds;
 }
-
-pub begins_sound : {A : Type 0} (lane : CaptureReader A) (next : Option ℕ) (q : OpenQueue A) → packet_ahead next (place_ahead q) ≡ lane.ahead → IsReader lane → IsReader (queue_reader lane.capture next q)
-begins_sound lane next q e sound = λ p h. let f = sound p (sym e ∙ h) in record { reading = f.reading; latest = f.latest; early = f.early; small = f.small; within = f.within }

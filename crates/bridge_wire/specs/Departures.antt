@@ -99,11 +99,6 @@ pub record IsUnderWay {A : Type 0} (speed : Speed) (room : ℕ) (text : List ℕ
   pub ahead : IsOneAhead lane remaining text frames
   pub running : IsRunning speed room frames p count began now
 
--- Statement: The result is Ok and the run continues, or the result is the fault with which the run stopped.
-abbrev pub RunsOrStops : {A : Type 0} → Speed → ℕ → List ℕ → Option (List ℕ) → CaptureReader A → EgressState (Vec ℕ A) → WireCount → Option (List ℕ) → Option (List ℕ) → Result (Unit {0}) RunFault → Type 0
-RunsOrStops speed room text remaining lane p count began now (Ok u) = IsUnderWay speed room text remaining lane p count began now
-RunsOrStops speed room text remaining lane p count began now (Err fault) = StopsRun speed room text remaining began now fault
-
 -- Statement: The result is Ok and the run is complete, or the result is the fault with which the run stopped.
 abbrev pub EndsOrStops : Speed → ℕ → List ℕ → Option (List ℕ) → Option (List ℕ) → Option (List ℕ) → Result WireCount RunFault → Type 0
 EndsOrStops speed room text rest old new (Ok count) = WiresText speed room text old new count

@@ -16,6 +16,9 @@ use std::alloc::Allocator;
 
 /// Queue of frames for a link, first in, first out, with one more place for the frame ahead. The reader stores that frame in its place,
 /// so offering and starting it moves no octets.
+///
+/// It obeys the rules of a `Port` whose gates are always open. The oldest frame starts as soon as the link is free, so no call computes
+/// when a frame fits.
 #[derive(Drop)]
 pub struct OpenQueue<A: Allocator + Copy> {
     /// Speed of the link.
@@ -48,7 +51,7 @@ impl<A: Allocator + Copy> OpenQueue<A> {
     ghost use Rattle.bridge_port.specs.declared.item.Item.{Item};
     ghost use Rattle.bridge_wire.specs.OpenQueues.{ReadsPlace, place_ahead, queue_reader, queue_state};
 
-    /// Makes an empty queue for `room` frames, with a frame ahead. Allocates memory once; the frames' octets need more.
+    /// Makes an empty queue for `room` frames, with a frame ahead. Allocates memory once; readers allocate memory for octets.
     pub fn new(
         alloc: A,
         speed: Speed,
