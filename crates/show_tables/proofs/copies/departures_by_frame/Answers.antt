@@ -11,4 +11,4 @@ returns-clause-rising g c = IsNonDecreasingBy-from_sort_by_key (λ (d : Departur
 pub returns-clause-same : goal.returns-clause-same
 returns-clause-same g c = λ own.
     same_of (λ (d : Departure). d.own) (record { own = own; port = 0; start = 0; done = 0 }) _ _ (c.sort_by_key.ensures.stable (λ (d : Departure). d.own) (answers_always _ _ _ (λ f a r q h. search rules)))
-    ∙ ap (frame_departures own) c.in_ok-sorted.ensures.items
+    ∙ ap (frame_departures own) c.in_ok-sorted.ensures

@@ -12,4 +12,4 @@ returns-clause-rising g c = IsNonDecreasingBy-from_sort_by_key (λ (d : Dropped)
 pub returns-clause-same : goal.returns-clause-same
 returns-clause-same g c = λ own.
     same_of (λ (d : Dropped). d.own) (record { own = own; port = 0; refusal = Full }) _ _ (c.sort_by_key.ensures.stable (λ (d : Dropped). d.own) (answers_always _ _ _ (λ f a r q h. search rules)))
-    ∙ ap (frame_drops own) c.in_ok-sorted.ensures.items
+    ∙ ap (frame_drops own) c.in_ok-sorted.ensures
