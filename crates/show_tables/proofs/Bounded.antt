@@ -1,8 +1,10 @@
 -- Bounds of classes and ports, one more at a time.
-use Rattle.std.proofs.Common.{◌≡◌, ◌∙◌, inl, inr, ℕ, ◌+◌, List, [], ◌∷◌, ◌++◌, Option, None, length, ap, sym, subst, refl, arith, fold}
+use Rattle.std.proofs.Common.{◌≡◌, ◌∙◌, inl, inr, ℕ, ◌+◌, List, [], ◌∷◌, ◌++◌, Option, None, Some, length, slice_get, ap, sym, subst, refl, arith, fold}
 use Rattle.std.proofs.lemmas.List.{length-append}
 use Rattle.bridge_limits.proofs.Lists.{pushed}
 use Rattle.bridge_config.specs.Model.{Plan}
+use Rattle.bridge_groups.specs.declared.shared_queues.SharedQueue.{SharedQueue}
+use Rattle.show_tables.specs.GroupBounds.{AreGroupBoundsByPort, group_bound}
 use Rattle.show_tables.specs.PortBounds.{AreBoundsByPort, IsClassBound, IsGreatestBound, IsPortBound, greater_bound}
 
 folded : (bounds : List (Option ℕ)) (a b : Option ℕ) → fold greater_bound a (bounds ++ b ∷ []) ≡ greater_bound (fold greater_bound a bounds) b
@@ -27,9 +29,18 @@ class_more p n q c bound b new before this is = record {
   is = is ∙ (ap (λ a. greater_bound a b) before.is ∙ sym (folded before.bounds None b));
 }
 
+-- A property of the values by position from 1, with one value more.
+value_more : (P : ℕ → Option ℕ → Type 0) (q : ℕ) (bounds : List (Option ℕ)) (b : Option ℕ) → length bounds + 1 ≡ q → P q b
+    → ((i : ℕ) (x : Option ℕ) → slice_get bounds i ≡ Some x → P (i + 1) x) → (i : ℕ) (x : Option ℕ) → slice_get (bounds ++ b ∷ []) i ≡ Some x → P (i + 1) x
+value_more P q bounds b at this are i x e = elim (pushed bounds b x i e) [
+  | inl there ↦ are i x there
+  | inr here ↦ subst (P (i + 1)) here.1 (subst (λ m. P m b) (let last = here.0 in omega (arith, at, last)) this)
+]
+
 -- The bounds with one port more.
 pub port_more : {A : Type 0} (p : Plan A) (n q : ℕ) (bounds : List (Option ℕ)) (b : Option ℕ) → length bounds + 1 ≡ q → IsPortBound p n q b → AreBoundsByPort p n bounds → AreBoundsByPort p n (bounds ++ b ∷ [])
-port_more p n q bounds b at this are i x e = elim (pushed bounds b x i e) [
-  | inl there ↦ are i x there
-  | inr here ↦ subst (IsPortBound p n (i + 1)) here.1 (subst (λ m. IsPortBound p n m b) (let last = here.0 in omega (arith, at, last)) this)
-]
+port_more p n = value_more (IsPortBound p n)
+
+-- The bounds of a group with one port more.
+pub group_port_more : (queues : List SharedQueue) (group q : ℕ) (bounds : List (Option ℕ)) (b : Option ℕ) → length bounds + 1 ≡ q → b ≡ group_bound queues group q → AreGroupBoundsByPort queues group bounds → AreGroupBoundsByPort queues group (bounds ++ b ∷ [])
+group_port_more queues group = value_more (λ q b. b ≡ group_bound queues group q)

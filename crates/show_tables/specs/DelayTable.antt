@@ -9,7 +9,8 @@ use Rattle.bridge_report.specs.Figures.{at_of, greatest_of, least_of}
 use Rattle.bridge_report.specs.Section.{count_full, count_never_fits}
 use Rattle.show_tables.specs.FrameTable.{field}
 use Rattle.show_tables.specs.Losses.{count_full_on_port, loss_fields, count_never_on_port}
-use Rattle.show_tables.specs.PortBounds.{ArePortBounds, bound_by_port}
+use Rattle.show_tables.specs.PortBounds.{bound_by_port}
+use Rattle.show_tables.specs.GroupBounds.{AreFilterBounds}
 
 -- The header line of the table of delays.
 abbrev pub delays_header : List ℕ
@@ -62,7 +63,7 @@ rows_or_unsent filter v (octet ∷ more) = octet ∷ more
 
 -- Holds if `rows` has the rows of a filter, with the delay bounds of its ports.
 abbrev pub AreFilterRows : {A B : Type 0} → Plan A → ℕ → View B → List ℕ → Type 0
-AreFilterRows p filter v rows = (bounds : List (Option ℕ)) × ArePortBounds p filter bounds × (rows ≡ rows_or_unsent filter v (port_rows filter v bounds))
+AreFilterRows p filter v rows = (bounds : List (Option ℕ)) × AreFilterBounds p filter bounds × (rows ≡ rows_or_unsent filter v (port_rows filter v bounds))
 
 -- Holds if `rows` has the rows of all filters in the list, in list order.
 abbrev pub AreFiltersRows : {A B : Type 0} → Plan A → List (ℕ × View B) → List ℕ → Type 0

@@ -10,6 +10,8 @@ use Rattle.bridge_semantics.specs.declared.outcome.View.{View}
 use Rattle.show_tables.specs.FrameTable.{drop_row, make_frame, frame_rows, row_start, departure_row, lone_row}
 use Rattle.show_tables.specs.Losses.{filter_fields, gate_fields, loss_fields, meter_fields}
 use Rattle.show_tables.specs.PortBounds.{greatest_bound}
+use Rattle.show_tables.specs.GroupBounds.{group_bound}
+use Rattle.bridge_groups.specs.declared.shared_queues.SharedQueue.{SharedQueue}
 use Rattle.show_tables.specs.DelayTable.{port_delays, figure_fields, port_row, unsent_row}
 
 -- The origin of frames of 64 octets that arrived at port 1 at 1,000 Mb/s, by arrival time.
@@ -23,6 +25,10 @@ left = record { own = 2; port = 3; start = 200000; done = 200672 } ∷ record { 
 -- A copy that was dropped by a full queue.
 abbrev lost : List Dropped
 lost = record { own = 3; port = 3; refusal = refusal.Full } ∷ []
+
+-- A shared queue of class 6, by its group, port and bound in ns.
+abbrev queue : ℕ → ℕ → ℕ → SharedQueue
+queue group port bound = record { group = group; port = port; class = 6; bound = bound; is_metered = true; room = None; capacity = 16 }
 
 -- Each copy has a row, by rising port.
 pub two_copies : frame_rows (make_frame 10 1 (came 100000) (verdict.Pass None false)) left lost ≡ codes "10,1,1,100000,pass,3,300000,300672,200672,\n10,1,1,100000,pass,4,300000,300672,200672,\n"
@@ -50,6 +56,10 @@ figures = refl
 -- The greatest bound of several classes.
 pub greatest : greatest_bound (None ∷ Some 5 ∷ Some 7 ∷ None ∷ Some 3 ∷ []) ≡ Some 7
 greatest = refl
+
+-- The greatest bound of a group at port 5: a queue of another group or of another port doesn't count.
+pub shared : group_bound (queue 1 5 300 ∷ queue 2 5 900 ∷ queue 1 4 800 ∷ queue 1 5 700 ∷ []) 1 5 ≡ Some 700
+shared = refl
 
 -- The row of a filter with two frames, one of which left by port 3.
 pub one_left : {A : Type 0} (v : View A) → v.verdicts.items ≡ verdict.Pass None false ∷ verdict.GateClosed ∷ [] → v.drops.items ≡ []

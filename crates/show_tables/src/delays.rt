@@ -1,13 +1,16 @@
 //! The table of delays: the delays of each filter's frames at each egress port, and its losses.
 ghost use Rattle.std.specs.Prelude.{IfOk, OnOk, List, ℕ, string_bytes};
 ghost use Rattle.bridge_text.specs.Growth.{HasGrown};
+ghost use Rattle.bridge_groups.specs.GroupRows.{AreSharedQueues};
 ghost use Rattle.show_tables.specs.DelayTable as spec;
 
 use crate::delay_figures::{port_delays, put_figures};
 use crate::frame_rows::put_field;
+use crate::group_bounds::filter_bounds;
 use crate::losses::{count_full_on_port, count_never_on_port, put_losses};
-use crate::port_bounds::{bound_by_port, port_bounds};
+use crate::port_bounds::bound_by_port;
 use bridge_check::Accepted;
+use bridge_groups::{SharedQueue, plan_shared_queues};
 use bridge_limits::NoMemory;
 use bridge_report::{count_full, count_never_fitting};
 use bridge_semantics::{Outcome, View};
@@ -146,14 +149,16 @@ fn put_filter_rows<A: Allocator + Copy>(
 fn put_filter_with_bounds<A: Allocator + Copy>(
     alloc: A,
     accepted: &Accepted<A>,
+    queues: &[SharedQueue],
     text: &mut TextBuilder<A>,
     filter: u32,
     view: &View<A>,
 ) -> Result<(), NoMemory>
+    requires shared { AreSharedQueues accepted.now queues.now }
     ensures { OnOk result ((rows : List ℕ) × spec.AreFilterRows accepted.now filter view.now rows
         × HasGrown text.old rows text.new) }
 {
-    let bounds = port_bounds(alloc, accepted, filter)?;
+    let bounds = filter_bounds(alloc, accepted, queues, filter)?;
     put_filter_rows(alloc, text, filter, view, &bounds);
     Ok(())
 }
@@ -162,15 +167,17 @@ fn put_filter_with_bounds<A: Allocator + Copy>(
 fn put_filters<A: Allocator + Copy>(
     alloc: A,
     accepted: &Accepted<A>,
+    queues: &[SharedQueue],
     text: &mut TextBuilder<A>,
     filters: &[(u32, View<A>)],
 ) -> Result<(), NoMemory>
+    requires shared { AreSharedQueues accepted.now queues.now }
     ensures { OnOk result ((rows : List ℕ) × spec.AreFiltersRows accepted.now filters.now rows
         × HasGrown text.old rows text.new) }
 {
     let mut left = filters;
     while let Some((first, rest)) = left.split_first() {
-        put_filter_with_bounds(alloc, accepted, text, first.0, &first.1)?;
+        put_filter_with_bounds(alloc, accepted, queues, text, first.0, &first.1)?;
         left = rest;
     }
     Ok(())
@@ -185,8 +192,9 @@ pub fn delay_table<A: Allocator + Copy>(
 ) -> Result<String<A>, NoMemory>
     ensures { IfOk result (λ table. spec.IsDelayTable accepted.now outcome.now.filters.items (string_bytes table)) }
 {
+    let queues = plan_shared_queues(alloc, accepted)?;
     let mut text = TextBuilder::new(alloc);
     text.put(DELAYS_HEADER);
-    put_filters(alloc, accepted, &mut text, &outcome.filters)?;
+    put_filters(alloc, accepted, &queues, &mut text, &outcome.filters)?;
     text.finish()
 }

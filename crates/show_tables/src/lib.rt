@@ -6,6 +6,7 @@ mod delay_figures;
 mod delays;
 mod frame_rows;
 mod frames;
+mod group_bounds;
 mod losses;
 mod port_bounds;
 

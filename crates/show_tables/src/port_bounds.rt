@@ -8,7 +8,7 @@ use bridge_limits::NoMemory;
 use std::alloc::Allocator;
 
 /// Returns the greater of two optional bounds; a missing bound (`None`) counts as less.
-fn greater_bound(one: Option<u64>, other: Option<u64>) -> Option<u64>
+pub(crate) fn greater_bound(one: Option<u64>, other: Option<u64>) -> Option<u64>
     ensures { result ≡ spec.greater_bound one other }
 {
     match (one, other) {
