@@ -9,3 +9,6 @@ pub mod Costs
 pub mod Departures
 pub mod MergedOrder
 pub mod MeterCurves
+pub mod SharedQueues
+pub mod SharedRuns
+pub mod Rows

@@ -16,6 +16,8 @@ use Rattle.bridge_groups.specs.Costs.{frame_cost, recent_filter_cost, recent_off
 use Rattle.bridge_groups.specs.Curves.{burst_sum, count_filter_offers, count_recent_offers, count_sharer_offers, curve_sum, frame_limit, gate_curve, has_filter_number, last_arrival_time, meter_curve, optional_burst, rate_sum, recent_filter_octets, recent_filter_work, recent_offer_work, recent_sharer_octets, recent_sharer_work}
 use Rattle.bridge_groups.specs.Departures.{filter_passages}
 use Rattle.bridge_groups.specs.GateLimits.{is_same_turn, octet_budget, recent_passed_octets, turn_limit}
+use Rattle.bridge_groups.specs.GroupRows.{group_from, least_group}
+use Rattle.bridge_groups.specs.Sharers.{are_metered, longest_sdu, sdu_or_zero}
 use Rattle.bridge_groups.specs.Talkers.{IsAlwaysOpen}
 
 -- 20 STREAMS
@@ -39,6 +41,24 @@ filters (suc n) first kind = (first, filter first kind) ∷ filters n (suc first
 
 abbrev twenty : List (ℕ × FilterPlan)
 twenty = filters 8 1 1 ++ filters 6 9 2 ++ filters 6 15 3
+
+pub longest_of_twenty : longest_sdu twenty ≡ 1500
+longest_of_twenty = refl
+
+pub no_limit : sdu_or_zero None ≡ 0
+no_limit = refl
+
+pub all_metered : are_metered twenty ≡ true
+all_metered = refl
+
+pub first_group : least_group 0 twenty ≡ Some 1
+first_group = refl
+
+pub no_later_group : least_group 2 twenty ≡ None
+no_later_group = refl
+
+pub group_below : group_from 2 (Some 1) ≡ None
+group_below = refl
 
 pub burst_without_a_meter : optional_burst meters None ≡ 0
 burst_without_a_meter = refl

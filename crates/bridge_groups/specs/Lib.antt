@@ -5,4 +5,6 @@ pub mod Costs
 pub mod Departures
 pub mod QueueBounds
 pub mod Sharers
+pub mod SharedQueues
+pub mod GroupRows
 pub mod Examples

@@ -1,6 +1,6 @@
 -- Filters of a group that share a queue, and the curves of their meters.
 use Rattle.std.specs.Prelude.{◌≡◌, ℕ, Bool, ◌+◌, ◌*◌, ◌/◌, ◌&&◌, max, is_some, List, [], ◌∷◌, Option, Some, None, map, if◌then◌else◌}
-use Rattle.std.specs.List.{list_all}
+use Rattle.std.specs.List.{list_all, list_any}
 use Rattle.bridge_frame.specs.declared.Speed.{Speed}
 use Rattle.bridge_meter.specs.Colours.{octet_units}
 use Rattle.bridge_filter.specs.declared.FilterPlan.{FilterPlan}
@@ -26,6 +26,10 @@ is_sharer p group q c f = is_in_group group f.group && reaches_queue p f q c
 abbrev pub queue_sharers : {A : Type 0} → Plan A → ℕ → ℕ → ℕ → List (ℕ × FilterPlan) → List (ℕ × FilterPlan)
 queue_sharers p group q c [] = []
 queue_sharers p group q c (g ∷ gs) = if is_sharer p group q c g.1 then g ∷ queue_sharers p group q c gs else queue_sharers p group q c gs
+
+-- True if some filter of the list is in the group and can reach the queue of class `c` at port `q`.
+abbrev pub has_sharer : {A : Type 0} → Plan A → ℕ → ℕ → ℕ → List (ℕ × FilterPlan) → Bool
+has_sharer p group q c fs = list_any (λ f. is_sharer p group q c f.1) fs
 
 -- The optional limit of SDU octets; 0 without a limit.
 abbrev pub sdu_or_zero : Option ℕ → ℕ

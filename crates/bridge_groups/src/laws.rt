@@ -35,6 +35,8 @@ ghost use Rattle.bridge_groups.specs.Departures.{HaveConformingDepartures, filte
 ghost use Rattle.bridge_groups.specs.Curves.{AreArrivalsInOrder, HaveMeters, HasNoRunts, AreSharers, HasFilterCurve, curve_sum, optional_burst, sharers_curve, gate_curve, sharers_frame_limit, meter_curve, optional_rate};
 ghost use Rattle.bridge_gate.specs.Gates.{GateEvent, GateRules, gate_steps, last_frame_time};
 ghost use Rattle.bridge_groups.specs.GateLimits.{AreGateFramesInOrder, HasOctetLimits, octet_budget, recent_passed_octets};
+ghost use Rattle.bridge_groups.specs.SharedQueues.{IsSharedQueue};
+ghost use Rattle.bridge_groups.specs.declared.shared_queues.SharedQueue.{SharedQueue};
 ghost use Rattle.bridge_groups.specs.Talkers.{IsDelivered, AdmitsTalker, IsConformingTalker};
 
 use std::alloc::Allocator;
@@ -302,4 +304,36 @@ pub fn merged_arrivals_are_in_order()
     ensures { (cs : List Command) (frames : ℕ → List CapturedFrame) (xs : List Input)
         → IsMerged (input_streams (commands_of cs) frames) xs
         → AreArrivalsInOrder (input_events xs) }
+{}
+
+/// Each copy that starts leaves a shared queue within the bound that `shared_queue` returns, in every run, whatever any talker sends.
+pub fn shared_queue_leaves_in_time<A: Allocator + Copy>()
+    ensures { (p : Plan A) (s : SharedQueue) (is : IsSharedQueue p s) (start : ℕ) (es : List Event) (moments : ℕ → ℕ)
+        (lists : ℕ → List (Copy CarriedFrame)) (x : Copy CarriedFrame)
+        → IsPlan p
+        → HasAcceptableGroups p
+        → IsRun p es moments lists
+        → AreFinished lists
+        → AreArrivalsInOrder es
+        → IsMember x (lists s.port)
+        → x.class ≡ s.class
+        → x.fate ≡ Started start
+        → start + transmission_time x.item.len is.out.speed ≤ x.at + s.bound }
+{}
+
+/// If the capacity of a shared queue is at least the one that `shared_queue` finds sufficient, the queue drops no copy as full in any run.
+pub fn shared_queue_is_never_full<A: Allocator + Copy>()
+    ensures { (p : Plan A) (s : SharedQueue) (room : ℕ) (es : List Event) (moments : ℕ → ℕ)
+        (lists : ℕ → List (Copy CarriedFrame)) (x : Copy CarriedFrame)
+        → IsPlan p
+        → HasAcceptableGroups p
+        → IsSharedQueue p s
+        → s.room ≡ Some room
+        → room ≤ s.capacity
+        → IsRun p es moments lists
+        → AreFinished lists
+        → AreArrivalsInOrder es
+        → IsMember x (lists s.port)
+        → x.class ≡ s.class
+        → x.fate ≢ Full }
 {}

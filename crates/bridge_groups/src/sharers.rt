@@ -27,7 +27,7 @@ pub fn plan_reaches<A: Allocator + Copy>(
 }
 
 /// Whether a filter is in the group and can reach the queue of class `class` at `port`.
-fn is_sharer<A: Allocator + Copy>(
+pub(crate) fn is_sharer<A: Allocator + Copy>(
     plan: &Plan<A>,
     group: u32,
     port: &PortPlan<A>,

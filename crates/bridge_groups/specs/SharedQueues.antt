@@ -1,0 +1,67 @@
+-- Delay bounds and capacities of the queues that a plan's groups share.
+use Rattle.std.specs.Prelude.{◌≡◌, ◌⊎◌, ℕ, true, ◌+◌, List, Option, Some, IfSome}
+use Rattle.bridge_cycle.specs.ChangingList.{Joined}
+use Rattle.bridge_cycle.specs.declared.gate_control_lists.Egress.{Egress}
+use Rattle.bridge_frame.specs.Link.{transmission_time}
+use Rattle.bridge_filter.specs.declared.FilterPlan.{FilterPlan}
+use Rattle.bridge_port.specs.GateSchedule.{Changing, gate_schedule, list_opens, lists_open}
+use Rattle.bridge_config.specs.declared.ports.PortPlan.{PortPlan}
+use Rattle.bridge_config.specs.Model.{Plan}
+use Rattle.bridge_config.specs.Rules.{find_port}
+use Rattle.bridge_check.specs.Windows.{longest_frame}
+use Rattle.bridge_semantics.specs.Groups.{IsGroupQueue}
+use Rattle.bridge_semantics.specs.Offers.{egress_rules}
+use Rattle.bridge_bounds.specs.Bounds.{IsRoomBound}
+use Rattle.bridge_work.specs.Work.{IsDelayBound, IsSufficientRoom}
+use Rattle.bridge_groups.specs.Curves.{sharers_curve, sharers_frame_limit}
+use Rattle.bridge_groups.specs.Sharers.{are_metered, longest_sdu, queue_sharers}
+use Rattle.bridge_groups.specs.declared.shared_queues.SharedQueue.{SharedQueue}
+
+-- Holds if `b` ns adds the bounds of both lists of a schedule change, and `occ` ns. The new list's bound is that of a
+-- curve shifted by the other two.
+pub record IsSumOfBounds (lists : Joined ℕ) (c occ least : ℕ) (curve : ℕ → ℕ) (b : ℕ) : Type 0 where
+  pub before : ℕ
+  pub after : ℕ
+  pub old_bound : IsDelayBound (list_opens lists.old c) occ least curve before
+  pub new_bound : IsDelayBound (list_opens lists.new c) occ least (λ w. curve (w + (before + occ))) after
+  pub sum : b ≡ (before + occ) + after
+
+-- Holds if `b` ns is a sum of bounds for the schedule change of these gate control lists.
+pub record IsChangeBound {A : Type 0} (list : Option (Egress A)) (c occ least : ℕ) (curve : ℕ → ℕ) (b : ℕ) : Type 0 where
+  pub lists : Joined ℕ
+  pub changes : gate_schedule list ≡ Changing lists
+  pub sum : IsSumOfBounds lists c occ least curve b
+
+-- Holds if `b` ns bounds the delays of a queue under these gate control lists, by the arrival curve of its frames.
+abbrev pub IsListsBound : {A : Type 0} → Option (Egress A) → ℕ → ℕ → ℕ → (ℕ → ℕ) → ℕ → Type 0
+IsListsBound list c occ least curve b = IsDelayBound (lists_open list c) occ least curve b ⊎ IsChangeBound list c occ least curve b
+
+-- Holds if `b` ns bounds the delays of the class-`c` queue at port `out` by the meters of the filters that share it.
+pub record IsMeterBound {A : Type 0} (p : Plan A) (out : PortPlan A) (sharers : List (ℕ × FilterPlan)) (c b : ℕ) : Type 0 where
+  pub metered : are_metered sharers ≡ true
+  pub bound : IsListsBound out.list c (transmission_time (longest_frame (longest_sdu sharers)) out.speed) (transmission_time 60 out.speed) (sharers_curve p sharers out.speed) b
+
+-- Holds if `b` ns bounds the delays of a queue by the meters of the filters that share it, or by its capacity.
+abbrev pub IsSharedBound : {A : Type 0} → Plan A → PortPlan A → List (ℕ × FilterPlan) → ℕ → ℕ → Type 0
+IsSharedBound p out sharers c b = IsMeterBound p out sharers c b ⊎ IsRoomBound out c (longest_sdu sharers) b
+
+-- Holds if a capacity of `room` frames suffices for the class-`c` queue at port `out`, by the meters of the filters that share it.
+pub record IsSharedRoom {A : Type 0} (p : Plan A) (out : PortPlan A) (sharers : List (ℕ × FilterPlan)) (c room : ℕ) : Type 0 where
+  pub metered : are_metered sharers ≡ true
+  pub sufficient : IsSufficientRoom (lists_open out.list c) (transmission_time (longest_frame (longest_sdu sharers)) out.speed) (transmission_time 60 out.speed) (sharers_curve p sharers out.speed) (sharers_frame_limit p sharers) room
+
+-- Holds if `s` describes a queue that its group shares: a bound of its delays, a capacity that suffices, and its own capacity.
+pub record IsSharedQueue {A : Type 0} (p : Plan A) (s : SharedQueue) : Type 0 where
+  pub out : PortPlan A
+  pub at : find_port p.ports s.port ≡ Some out
+  pub reached : IsGroupQueue p s.group s.port s.class
+  pub bound : IsSharedBound p out (queue_sharers p s.group s.port s.class p.filters) s.class s.bound
+  pub room : IfSome s.room (IsSharedRoom p out (queue_sharers p s.group s.port s.class p.filters) s.class)
+  pub capacity : s.capacity ≡ (egress_rules out).room s.class
+
+-- Holds if row `s` describes the queue of class `c` at port `q`, which the group shares.
+pub record IsRowOf {A : Type 0} (p : Plan A) (group q c : ℕ) (s : SharedQueue) : Type 0 where
+  pub is : IsSharedQueue p s
+  pub group_is : s.group ≡ group
+  pub port_is : s.port ≡ q
+  pub class_is : s.class ≡ c

@@ -1,0 +1,174 @@
+//! All queues that the groups of a plan share.
+ghost use Rattle.std.specs.Prelude.{◌≡◌, ◌≤◌, ◌<◌, ◌+◌, [], IfOk, OnOk, Some};
+ghost use Rattle.bridge_filter.specs.Routes.{lesser_number};
+ghost use Rattle.bridge_config.specs.Rules.{find_port};
+ghost use Rattle.bridge_groups.specs.Sharers.{has_sharer, plan_reaches};
+ghost use Rattle.bridge_groups.specs.GroupRows as spec;
+
+use crate::shared_queues::{SharedQueue, shared_queue};
+use crate::sharers::{is_sharer, plan_reaches};
+use bridge_check::{Accepted, Reach};
+use bridge_config::{Plan, PortPlan};
+use bridge_filter::FilterPlan;
+use bridge_limits::NoMemory;
+use std::alloc::Allocator;
+
+/// Number of queues at 16 ports.
+const QUEUES: u8 = 128;
+
+/// Whether a filter of the group can reach the queue of class `class` at `port`.
+fn is_group_queue<A: Allocator + Copy>(
+    plan: &Plan<A>,
+    reaches: &[Reach],
+    group: u32,
+    port: &PortPlan<A>,
+    class: u8,
+) -> bool
+    requires from { 1 ≤ port.now.number }
+    requires to { port.now.number ≤ 16 }
+    requires port { find_port plan.now.ports port.now.number ≡ Some port.now }
+    requires reaches { reaches.now ≡ plan_reaches plan.now plan.now.filters }
+    ensures { result ≡ has_sharer plan.now group port.now.number class plan.now.filters }
+{
+    let filters = plan.filters();
+    for at in 0..filters.len() {
+        if is_sharer(plan, group, port, class, &filters[at].1, &reaches[at]) {
+            return true;
+        }
+    }
+    false
+}
+
+/// Returns the group if it is at least `from`, otherwise `None`.
+fn group_from(from: u64, group: Option<u32>) -> Option<u32>
+    ensures { result ≡ spec.group_from from group }
+{
+    match group {
+        Some(group) => if from <= u64::from(group) {
+            Some(group)
+        } else {
+            None
+        },
+        None => None,
+    }
+}
+
+/// Returns the lesser one of two groups; the other one if one is `None`.
+fn lesser_group(a: Option<u32>, b: Option<u32>) -> Option<u32>
+    ensures { result ≡ lesser_number a b }
+{
+    match (a, b) {
+        (None, b) => b,
+        (Some(a), None) => Some(a),
+        (Some(a), Some(b)) => Some(a.min(b)),
+    }
+}
+
+/// Returns the least group of the filters from `from` on; `None` if no filter has such a group.
+fn least_group(filters: &[(u32, FilterPlan)], from: u64) -> Option<u32>
+    ensures { result ≡ spec.least_group from filters.now }
+{
+    let mut least = None;
+    for filter in filters {
+        least = lesser_group(least, group_from(from, filter.1.group));
+    }
+    least
+}
+
+/// Appends to `rows` the row of the queue with index `place` (0 to 127), if the group shares this queue.
+fn put_row<A: Allocator + Copy>(
+    alloc: A,
+    accepted: &Accepted<A>,
+    reaches: &[Reach],
+    group: u32,
+    place: u8,
+    rows: &mut Vec<SharedQueue, A>,
+) -> Result<(), NoMemory>
+    requires place { place < 128 }
+    requires reaches { reaches.now ≡ plan_reaches accepted.now accepted.now.filters }
+    requires so_far { spec.AreRowsSoFar accepted.now group place rows.old.items }
+    ensures one_more { OnOk result (spec.AreRowsSoFar accepted.now group (place + 1) rows.new.items) }
+{
+    let plan = accepted.plan();
+    let class = place % 8;
+    let Some(port) = plan.port(place / 8 + 1) else {
+        return Ok(());
+    };
+    if !is_group_queue(plan, reaches, group, port, class) {
+        return Ok(());
+    }
+    let Ok(row) = shared_queue(alloc, accepted, reaches, group, port, class) else {
+        return Err(NoMemory);
+    };
+    rows.push(row)?;
+    Ok(())
+}
+
+/// Appends to `rows` the rows of all queues that a group shares, by rising port and class.
+fn put_group_rows<A: Allocator + Copy>(
+    alloc: A,
+    accepted: &Accepted<A>,
+    reaches: &[Reach],
+    group: u32,
+    rows: &mut Vec<SharedQueue, A>,
+) -> Result<(), NoMemory>
+    requires reaches { reaches.now ≡ plan_reaches accepted.now accepted.now.filters }
+    requires so_far { spec.AreRowsSoFar accepted.now group 0 rows.old.items }
+    ensures one_more { OnOk result (spec.AreRowsSoFar accepted.now (group + 1) 0 rows.new.items) }
+{
+    for place in 0..QUEUES {
+        let Ok(()) = put_row(alloc, accepted, reaches, group, place, rows) else {
+            return Err(NoMemory);
+        };
+    }
+    Ok(())
+}
+
+/// Returns the number after a group, from which the search for the next group goes on.
+fn number_after(group: u32) -> u64
+    ensures next { result ≡ group + 1 }
+    ensures few { result ≤ 4_294_967_296 }
+{
+    u64::from(group) + 1
+}
+
+/// Appends to `rows` the rows of all groups, by rising group.
+fn put_all_rows<A: Allocator + Copy>(
+    alloc: A,
+    accepted: &Accepted<A>,
+    reaches: &[Reach],
+    rows: &mut Vec<SharedQueue, A>,
+) -> Result<(), NoMemory>
+    requires reaches { reaches.now ≡ plan_reaches accepted.now accepted.now.filters }
+    requires none { rows.old.items ≡ [] }
+    ensures all { OnOk result (spec.AreSharedQueues accepted.now rows.new.items) }
+{
+    let filters = accepted.plan().filters();
+    let mut from = 0u64;
+    'groups: loop {
+        let Some(group) = least_group(filters, from) else {
+            return Ok(());
+        };
+        let Ok(()) = put_group_rows(alloc, accepted, reaches, group, rows) else {
+            return Err(NoMemory);
+        };
+        from = number_after(group);
+    }
+}
+
+/// Returns the delay bounds and capacities of all queues that the groups of a plan share, by rising group, port and class.
+pub fn plan_shared_queues<A: Allocator + Copy>(
+    alloc: A,
+    accepted: &Accepted<A>,
+) -> Result<Vec<SharedQueue, A>, NoMemory>
+    ensures { IfOk result (λ rows. spec.AreSharedQueues accepted.now rows.items) }
+{
+    let Ok(reaches) = plan_reaches(alloc, accepted.plan()) else {
+        return Err(NoMemory);
+    };
+    let mut rows = Vec::new(alloc);
+    let Ok(()) = put_all_rows(alloc, accepted, &reaches, &mut rows) else {
+        return Err(NoMemory);
+    };
+    Ok(rows)
+}
