@@ -1,6 +1,6 @@
 -- Rows of shared queues, one after another.
 use Rattle.std.proofs.Common.{◌≡◌, ◌<◌, ◌≤◌, ◌+◌, ◌-◌, ◌*◌, ◌/◌, ◌%◌, ◌⊎◌, ℕ, true, false, List, [], ◌∷◌, ◌++◌, Option, Some, None, nat_le, refl, sym, ap, ◌∙◌, subst, arith, inl, inr}
-use Rattle.std.proofs.lemmas.Bool.{and_parts, cases_lt, false≢true}
+use Rattle.std.proofs.lemmas.Bool.{and_parts, cases_lt, false≢true, or_cases}
 use Rattle.std.proofs.lemmas.Bool.Decides.{nat_tests}
 use Rattle.bridge_limits.specs.Members.{IsMember}
 use Rattle.bridge_limits.proofs.Cases.{by_bool}
@@ -16,7 +16,7 @@ use Rattle.bridge_check.specs.Reach.{reaches_queue}
 use Rattle.bridge_check.proofs.Told.{unreached}
 use Rattle.bridge_semantics.specs.Groups.{IsGroupQueue}
 use Rattle.bridge_check.specs.Faults.{is_in_group}
-use Rattle.bridge_semantics.proofs.GroupMembers.{any_passes, grouped_as, passes_any}
+use Rattle.bridge_semantics.proofs.GroupMembers.{grouped_as}
 use Rattle.bridge_groups.specs.Sharers.{has_sharer, is_sharer}
 use Rattle.bridge_groups.specs.SharedQueues.{IsRowOf, IsSharedQueue}
 use Rattle.bridge_groups.specs.GroupRows.{AreRowsSoFar, AreSharedQueues, group_from, least_group}
@@ -161,10 +161,24 @@ module _ {A : Type 0} (p : Plan A) where
   pub no_port : (group q c : ℕ) → find_port p.ports q ≡ None → IsGroupQueue p group q c → ⊥
   no_port group q c none reached = false≢true (sym (unreached p reached.filter q c none) ∙ reached.reaches)
 
+  -- If some filter of a list is a sharer, it is found.
+  found_sharer : (group q c : ℕ) (fs : List (ℕ × FilterPlan)) → has_sharer p group q c fs ≡ true → (x : ℕ × FilterPlan) × IsMember x fs × (is_sharer p group q c x.1 ≡ true)
+  found_sharer group q c [] h = absurd (false≢true h)
+  found_sharer group q c (f ∷ fs) h = elim (or_cases (is_sharer p group q c f.1) (has_sharer p group q c fs) h) [
+    | inl k ↦ (f, inl refl, k)
+    | inr k ↦ let (x, i, own) = found_sharer group q c fs k in (x, inr i, own)
+  ]
+
+  -- If a filter of a list is a sharer, the list has one.
+  known_sharer : (group q c : ℕ) (fs : List (ℕ × FilterPlan)) (x : ℕ × FilterPlan) → IsMember x fs → is_sharer p group q c x.1 ≡ true → has_sharer p group q c fs ≡ true
+  known_sharer group q c [] x i h = absurd i
+  known_sharer group q c (f ∷ fs) x (inl e) h = let own : is_sharer p group q c f.1 ≡ true = subst (λ (z : ℕ × FilterPlan). is_sharer p group q c z.1 ≡ true) e h in rw own refl
+  known_sharer group q c (f ∷ fs) x (inr i) h = by_bool (is_sharer p group q c f.1) (λ k. rw k refl) (λ k. rw k (known_sharer group q c fs x i h))
+
   -- The group shares a queue exactly if some filter is a sharer.
   pub shares : (group q c : ℕ) → has_sharer p group q c p.filters ≡ true → IsGroupQueue p group q c
   shares group q c h =
-      let (x, i, is) = any_passes (λ (f : ℕ × FilterPlan). is_sharer p group q c f.1) p.filters h in
+      let (x, i, is) = found_sharer group q c p.filters h in
       let (grouped, reach) = and_parts (is_in_group group x.1.group) (reaches_queue p x.1 q c) is in
       record { number = x.0; filter = x.1; member = record { listed = i; grouped = grouped_as group x.1.group grouped }; reaches = reach }
 
@@ -173,7 +187,7 @@ module _ {A : Type 0} (p : Plan A) where
       let m = reached.member in
       let grouped : is_in_group group reached.filter.group ≡ true = rw m.grouped (same_eq group) in
       let is : is_sharer p group q c reached.filter ≡ true = rw (grouped, reached.reaches) refl in
-      false≢true (sym h ∙ passes_any (λ (f : ℕ × FilterPlan). is_sharer p group q c f.1) p.filters (reached.number, reached.filter) m.listed is)
+      false≢true (sym h ∙ known_sharer group q c p.filters (reached.number, reached.filter) m.listed is)
 
   -- A port that the plan finds has this number, from 1 to 16.
   pub record IsFound (q : ℕ) (port : PortPlan A) : Type 0 where

@@ -54,12 +54,12 @@ grouped_as group None h = absurd (false≢true h)
 grouped_as group (Some k) h = ap Some (eqb-true k group h)
 
 -- If an item passes a test, some item of the list passes it.
-pub passes_any : {X : Type 0} (t : X → Bool) (xs : List X) (x : X) → IsMember x xs → t x ≡ true → list_any t xs ≡ true
+passes_any : {X : Type 0} (t : X → Bool) (xs : List X) (x : X) → IsMember x xs → t x ≡ true → list_any t xs ≡ true
 passes_any t [] x i h = absurd i
 passes_any t (y ∷ ys) x (inl e) h = let own : t y ≡ true = subst (λ z. t z ≡ true) e h in rw own refl
 passes_any t (y ∷ ys) x (inr i) h = by_bool (t y) (λ k. rw k refl) (λ k. rw k (passes_any t ys x i h))
 
-pub any_passes : {X : Type 0} (t : X → Bool) (xs : List X) → list_any t xs ≡ true → (x : X) × IsMember x xs × (t x ≡ true)
+any_passes : {X : Type 0} (t : X → Bool) (xs : List X) → list_any t xs ≡ true → (x : X) × IsMember x xs × (t x ≡ true)
 any_passes t [] h = absurd (false≢true h)
 any_passes t (y ∷ ys) h = elim (or_cases (t y) (list_any t ys) h) [
   | inl k ↦ (y, inl refl, k)
