@@ -5,6 +5,7 @@ pub mod Entering
 pub mod Examples
 pub mod Bounds
 pub mod Phased
+pub mod SharedLines
 pub mod Printing
 pub mod Streams
 pub mod Talkers

@@ -3,7 +3,10 @@ use Rattle.std.specs.Prelude.{◌≡◌, ℕ, List, ◌++◌, flat_map, codes, d
 use Rattle.bridge_config.specs.Model.{Plan}
 use Rattle.app_failure.specs.Jobs.{Accepts}
 use Rattle.net_latency.specs.declared.bounds.QueueBound.{QueueBound}
+use Rattle.bridge_groups.specs.declared.shared_queues.SharedQueue.{SharedQueue}
+use Rattle.bridge_groups.specs.GroupRows.{AreSharedQueues}
 use Rattle.net_latency.specs.Bounds.{AreTightBounds}
+use Rattle.net_latency.specs.SharedLines.{shared_text}
 
 -- The line of a queue's delay bound.
 unfoldable pub bound_line : QueueBound → List ℕ
@@ -13,9 +16,9 @@ bound_line r = codes "filter " ++ (decimal r.filter ++ (codes " port " ++ (decim
 abbrev pub bounds_text : List QueueBound → List ℕ
 bounds_text rows = flat_map bound_line rows
 
--- Holds if `lines` has the lines of all tight bounds of a plan.
+-- Holds if `lines` has the lines of all tight bounds of a plan, then those of all queues that groups share.
 abbrev pub AreBoundLines : {A : Type 0} → Plan A → List ℕ → Type 0
-AreBoundLines p lines = (rows : List QueueBound) × AreTightBounds p rows × (lines ≡ bounds_text rows)
+AreBoundLines p lines = (rows : List QueueBound) × (shared : List SharedQueue) × AreTightBounds p rows × AreSharedQueues p shared × (lines ≡ bounds_text rows ++ shared_text shared)
 
 -- Holds if `input` is the file of an accepted plan, and `lines` has the lines of its tight bounds.
 abbrev pub PrintsBounds : (A : Type 0) → List ℕ → List ℕ → Type 0

@@ -13,6 +13,7 @@ mod printing;
 mod queue_exit;
 mod refusable;
 mod reporting;
+mod shared_lines;
 mod streams;
 mod talkers;
 mod texts;

@@ -4,9 +4,11 @@ ghost use Rattle.app_failure.specs.Jobs.{EndsCheck};
 ghost use Rattle.net_latency.specs.Printing.{AreBoundLines, PrintsBounds, bound_line, bounds_text};
 
 use crate::bounds::QueueBound;
+use crate::shared_lines::push_shared_text;
 use crate::tight::tight_queue_bounds;
 use app_failure::{Failure, read_accepted_plan};
 use bridge_check::Accepted;
+use bridge_groups::plan_shared_queues;
 use bridge_limits::NoMemory;
 use std::alloc::{AllocError, Allocator, Global};
 use std::io::Read;
@@ -47,7 +49,8 @@ pub fn bounds_text<A: Allocator + Copy>(
     Ok(text)
 }
 
-/// Returns the lines of all tight bounds of an accepted plan: the output of `bounds`, with traffic or without.
+/// Returns the lines of all tight bounds of an accepted plan, then those of its shared queues: the output of `bounds`, with traffic or
+/// without.
 pub(crate) fn bound_lines<A: Allocator + Copy>(
     alloc: A,
     accepted: &Accepted<A>,
@@ -57,10 +60,19 @@ pub(crate) fn bound_lines<A: Allocator + Copy>(
     let Ok(rows) = tight_queue_bounds(alloc, accepted) else {
         return Err(NoMemory);
     };
-    bounds_text(alloc, &rows)
+    let Ok(shared) = plan_shared_queues(alloc, accepted) else {
+        return Err(NoMemory);
+    };
+    let Ok(mut text) = bounds_text(alloc, &rows) else {
+        return Err(NoMemory);
+    };
+    let Ok(()) = push_shared_text(&mut text, &shared) else {
+        return Err(NoMemory);
+    };
+    Ok(text)
 }
 
-/// Returns the output of `bounds` for a plan: a line for each reachable queue of protected filters. Reads at most 1,048,577 octets. Faults
+/// Returns the output of `bounds` for a plan: a line for each reachable queue of protected filters, and for each shared queue. Reads at most 1,048,577 octets. Faults
 /// are the faults of a plan's check.
 pub fn bounds_job<R: Read + Drop, A: Allocator + Copy>(
     alloc: A,

@@ -1,0 +1,26 @@
+-- Lines of the queues that groups share.
+use Rattle.std.specs.Prelude.{◌≡◌, ℕ, Bool, true, false, List, [], ◌++◌, Option, Some, None, flat_map, codes, decimal, nat_lt, if◌then◌else◌}
+use Rattle.bridge_groups.specs.declared.shared_queues.SharedQueue.{SharedQueue}
+
+-- True if no capacity is known with which the queue drops no copy as full, or if its own capacity is less.
+abbrev pub is_lossy : Option ℕ → ℕ → Bool
+is_lossy None capacity = true
+is_lossy (Some room) capacity = nat_lt capacity room
+
+-- The mark of a shared queue: ` unmetered` if only its capacity bounds it, ` lossy` if it may drop copies as full, or
+-- nothing.
+abbrev pub shared_mark : SharedQueue → List ℕ
+shared_mark s = if s.is_metered then (if is_lossy s.room s.capacity then codes " lossy" else []) else codes " unmetered"
+
+-- The capacity that suffices, and the queue's own capacity; nothing if none is known.
+abbrev pub room_words : Option ℕ → ℕ → List ℕ
+room_words None capacity = []
+room_words (Some room) capacity = codes " room " ++ (decimal room ++ (codes " of " ++ decimal capacity))
+
+-- The line of a shared queue.
+unfoldable pub shared_line : SharedQueue → List ℕ
+shared_line s = codes "group " ++ (decimal s.group ++ (codes " port " ++ (decimal s.port ++ (codes " class " ++ (decimal s.class ++ (shared_mark s ++ (codes " bound " ++ (decimal s.bound ++ (room_words s.room s.capacity ++ codes "\n")))))))))
+
+-- One line for each shared queue.
+abbrev pub shared_text : List SharedQueue → List ℕ
+shared_text rows = flat_map shared_line rows

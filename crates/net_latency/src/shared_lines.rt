@@ -1,0 +1,86 @@
+//! Lines of the queues that groups share.
+ghost use Rattle.std.specs.Prelude.{◌≡◌, ◌++◌, OnOk, string_bytes};
+ghost use Rattle.net_latency.specs.SharedLines.{is_lossy, room_words, shared_line, shared_mark, shared_text};
+
+use bridge_groups::SharedQueue;
+use bridge_limits::NoMemory;
+use std::alloc::{AllocError, Allocator};
+
+/// Whether no capacity is known with which a queue drops no copy as full, or its own capacity is less.
+fn is_lossy(room: Option<u16>, capacity: u16) -> bool
+    ensures { result ≡ is_lossy room capacity }
+{
+    match room {
+        Some(room) => capacity < room,
+        None => true,
+    }
+}
+
+/// Returns the mark of a shared queue, with a blank before it; empty for a queue that is metered and loses no copy.
+fn shared_mark(row: &SharedQueue) -> &'static str
+    ensures { result.now ≡ shared_mark row.now }
+{
+    if !row.is_metered {
+        return " unmetered";
+    }
+    if is_lossy(row.room, row.capacity) {
+        " lossy"
+    } else {
+        ""
+    }
+}
+
+/// Appends the capacity that suffices for a queue and its own capacity; nothing if none is known.
+fn push_room<A: Allocator + Copy>(
+    text: &mut String<A>,
+    room: Option<u16>,
+    capacity: u16,
+) -> Result<(), AllocError>
+    ensures { OnOk result (string_bytes text.new ≡ string_bytes text.old ++ room_words room capacity) }
+{
+    match room {
+        Some(room) => write!(text, " room {room} of {capacity}"),
+        None => Ok(()),
+    }
+}
+
+/// Appends the line of a shared queue, such as `group 1 port 3 class 6 bound 351055 room 134 of 256`.
+#[tactic(auto, unfolding(crate::specs::SharedLines::shared_line))]
+fn push_shared_line<A: Allocator + Copy>(
+    text: &mut String<A>,
+    row: &SharedQueue,
+) -> Result<(), AllocError>
+    ensures { OnOk result (string_bytes text.new ≡ string_bytes text.old ++ shared_line row.now) }
+{
+    let SharedQueue {
+        group,
+        port,
+        class,
+        bound,
+        room,
+        capacity,
+        ..
+    } = *row;
+    let mark = shared_mark(row);
+    write!(
+        text,
+        "group {group} port {port} class {class}{mark} bound {bound}"
+    )?;
+    push_room(text, room, capacity)?;
+    text.push_str("\n")
+}
+
+/// Appends one line for each shared queue, in the order of `rows`.
+pub(crate) fn push_shared_text<A: Allocator + Copy>(
+    text: &mut String<A>,
+    rows: &[SharedQueue],
+) -> Result<(), NoMemory>
+    ensures { OnOk result (string_bytes text.new ≡ string_bytes text.old ++ shared_text rows.now) }
+{
+    for row in rows {
+        let Ok(()) = push_shared_line(text, row) else {
+            return Err(NoMemory);
+        };
+    }
+    Ok(())
+}
