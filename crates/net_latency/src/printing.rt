@@ -72,8 +72,8 @@ pub(crate) fn bound_lines<A: Allocator + Copy>(
     Ok(text)
 }
 
-/// Returns the output of `bounds` for a plan: a line for each reachable queue of protected filters, and for each shared queue. Reads at most 1,048,577 octets. Faults
-/// are the faults of a plan's check.
+/// Returns the output of `bounds` for a plan: a line for each reachable queue of protected filters, and for each shared queue. Reads at
+/// most 1,048,577 octets. Faults are the faults of a plan's check.
 pub fn bounds_job<R: Read + Drop, A: Allocator + Copy>(
     alloc: A,
     heap: Global,
