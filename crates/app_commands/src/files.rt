@@ -102,8 +102,8 @@ fn wire_to_output<R: Read + Drop, H: AllocGlobal + Print + Files>(
     }
 }
 
-/// Sends a reader's capture through one queue of `room` frames (1 to 4,096) into a writer. Returns the line of counts as a message, and the
-/// writer.
+/// Sends a reader's capture through one queue of `room` frames into `writer`. `output` is the path in faults; `-` sends the counts to
+/// standard error. Contracts name the returned writer's contents.
 pub fn wire_streams<R: Read + Drop, W: Write + Drop>(
     alloc: Global,
     speed: Speed,

@@ -234,7 +234,8 @@ impl<R: Read, H: Clock + Eprint> Read for WatchedReader<'_, R, H> {
     }
 }
 
-/// Returns watched readers of all inputs, in list order.
+/// Wraps each capture's reader in a `WatchedReader`, in list order. Then one progress line counts the octets of all inputs of the command
+/// `run`.
 pub(crate) fn watched_readers<'a, R: Read + Drop, H: Clock + Eprint>(
     alloc: Global,
     readers: Vec<R>,

@@ -88,7 +88,7 @@ pub fn open_file_id(file: &impl OpenFile) -> Option<FileId> {
     }
 }
 
-/// Returns the identity of the file at `path`. Returns `None` if it doesn't exist or the system doesn't provide it.
+/// Returns the identity of the file at `path`, or `None` if the file doesn't exist or the system provides no identity.
 pub fn path_file_id(rt: &impl Files, path: &str) -> Option<FileId> {
     match fs::metadata(rt, path) {
         Ok(metadata) => Some(metadata_file_id(&metadata)),
@@ -143,7 +143,7 @@ pub fn has_file(files: &[FileId], file: Option<FileId>) -> bool
 pub enum Said {
     /// For standard output.
     Printed(String),
-    /// For standard error, because standard output has other contents.
+    /// For standard error, because the capture goes to standard output.
     Noted(String),
 }
 

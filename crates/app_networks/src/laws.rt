@@ -35,8 +35,8 @@ ghost use Rattle.app_networks.specs.InTime.{AreHopRuns, AreHopsBounded, ComeFrom
 
 use std::alloc::Allocator;
 
-/// The legs of a frame's route are the links by which it arrived. A frame that is `n` links after its first hop has a route of `n` legs
-/// (`there`), and conversely (`back`).
+/// A frame has a source over `n` links exactly if it has this source over a route of `n` legs. A leg is an earlier hop with its link's
+/// delay. Delay laws need legs.
 pub fn legs_are_links<A: Allocator + Copy>()
     ensures there { (links : List Link) (hops : List (HopRun A)) (r : SourceFrame) (n i k : ℕ)
         → HasSource links hops r n i k

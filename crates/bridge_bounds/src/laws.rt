@@ -85,8 +85,8 @@ pub fn lets_seldom()
         → AreSeldom w k (pass_times (gate_steps r es)) }
 {}
 
-/// The bound is at most `occ - 1` ns above a delay that occurs. If the longest time is attained, copies that fill an empty queue at once
-/// reach it.
+/// A queue's bound exceeds a possible delay by at most `occ - 1` ns. If `room` frames can need `d` ns, a burst that fills the empty queue
+/// has a copy delayed by `d` ns.
 pub fn nearly_attained<X: Drop>()
     ensures { (r : PortRules X) (c d : ℕ) (item : X)
         → r.ever c (r.occ item) ≡ true

@@ -51,8 +51,8 @@ fn frames_end<A: Allocator + Copy>(
     end
 }
 
-/// Follows frames that wait from `from` on, until one starts whole cycles after the first or `room` frames have left. Returns their number
-/// and their end in ns.
+/// Returns the number of frames, at most `room`, that leave before a frame starts whole cycles after the first, and their end in ns.
+/// `end_after_rounds` skips rounds of these frames.
 fn repeating_round<A: Allocator + Copy>(
     list: &CyclicList<u8, A>,
     class: u8,

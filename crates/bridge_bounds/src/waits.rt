@@ -70,7 +70,8 @@ fn longest_wait<A: Allocator + Copy>(
     longest
 }
 
-/// Returns the fits and waits in a class for a gate control list that repeats with the period.
+/// Returns first fits and longest wait under one gate control list, for transmission times from `short` to `long` ns. `port_waits` calls it
+/// if the cycle time divides the talker's period.
 fn list_waits<A: Allocator + Copy>(
     list: &CyclicList<u8, A>,
     class: u8,

@@ -35,8 +35,8 @@ pub enum CheckFault {
     NoCatchAll {
         filter: u32,
     },
-    /// Frames of another filter can enter a reachable queue of the filter; for a grouped filter, of a filter outside its group. `other` is
-    /// the lowest number of these filters.
+    /// Frames of filter `other` can enter a reachable queue of filter `filter`. For a grouped filter, only filters outside its group count.
+    /// If several count, `other` is the lowest number.
     #[error("its queue is shared with another filter")]
     QueueShared {
         filter: u32,

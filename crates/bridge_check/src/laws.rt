@@ -42,8 +42,8 @@ pub fn without_fault_is_isolated_member<A: Allocator + Copy>()
         → IsIsolatedMember p k n f }
 {}
 
-/// A frame that its filter passes enters a reachable queue at every egress port, at any time and after any earlier events. Its internal
-/// priority value, or else its priority, selects the class.
+/// A copy of a frame that its filter passes goes only to a queue that `reaches_queue` finds, at any time and after any events. Therefore
+/// `check` tests only these queues of a filter.
 pub fn reach_is_sound<A: Allocator + Copy>()
     ensures { (p : Plan A) (port out : PortPlan A) (frame : List ℕ) (len : ℕ) (head : Head)
         (at octets n : ℕ) (f : FilterPlan) (ss : List FilterStep) (ipv : Option ℕ) (eligible : Bool)

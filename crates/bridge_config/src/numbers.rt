@@ -1,4 +1,4 @@
-//! Numbers of instances, and numbers in fewer bits.
+//! Looks up the numbers of gates, meters and filters, and converts tested numbers of a plan to 32 or 8 bits.
 ghost use Rattle.std.specs.Prelude.{◌≡◌, ◌≤◌, ◌<◌};
 ghost use Rattle.std.specs.Option.{ForSome};
 ghost use Rattle.bridge_config.specs.Sections as sections;

@@ -231,7 +231,8 @@ fn process_earlier_frames<R: ByteSource, W: ByteSink, G: Agenda + Drop, A: Alloc
     Ok(())
 }
 
-/// Carries out a command. Earlier frames and starts precede it; frames at its time follow it.
+/// Handles all frames before the command's time, writes due frames to `sinks`, and clears the command's flag. `run` calls it for each
+/// command. Frames at the command's time follow.
 fn process_command<R: ByteSource, W: ByteSink, G: Agenda + Drop, A: Allocator + Copy>(
     command: Command,
     relay: &mut Relay<'_, G, A>,

@@ -211,7 +211,8 @@ fn interval_ends<S: Copy, A: Allocator + Copy>(
     Ok(ends)
 }
 
-/// Returns the number of entries per ns of the intervals, times 2^32, from the ends of the intervals.
+/// Returns the mean number of entries per ns, times 2^32, from the ends of the intervals. `CyclicList::new` stores it. A search guesses an
+/// index by it; binary search corrects a bad guess.
 fn entry_density(ends: &[u64]) -> u64 {
     let total = match ends.last() {
         Some(end) => (*end).max(1),

@@ -123,7 +123,7 @@ impl<A: Allocator + Copy> StreamGate<A> {
         turn
     }
 
-    /// Clears the receive flag, for a command: the gate then answers by its schedule.
+    /// Clears the receive flag, for a command. The gate then answers by its schedule, unless the octets flag is set.
     pub fn clear_rx(&mut self)
         ensures stands { (r : GateRules) (es : List GateEvent)
             → StandsFor r self.old es

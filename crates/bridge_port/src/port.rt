@@ -273,7 +273,8 @@ impl<T: Drop, A: Allocator + Copy> Port<T, A> {
         self.earliest
     }
 
-    /// Returns the time in ns from which the link is free: the end of the last transmission, or 0.
+    /// Returns the end of the last transmission in ns, gap included, or 0 before the first. The relay reads it after each start as the
+    /// frame's end of transmission.
     pub fn free_time(&self) -> u64
         ensures free { result ≡ self.now.free }
         ensures bounded { result ≤ time_limit self.now.started }

@@ -209,7 +209,7 @@ pub record IsPrepared {G A : Type 0} (held : G → ℕ → Option ℕ) (b : Rela
 abbrev pub relay_with_release : {G A : Type 0} → RelayState G A → ℕ → ℕ → RelayState G A
 relay_with_release b n k = record b { tables = update_number n (λ t. without_room t k) b.tables }
 
--- Holds if a frame that its port counts this way isn't forwarded.
+-- Holds if a port counts a frame as `Malformed` or `Nowhere`, and the frame's destination `w` agrees with this count.
 abbrev pub IsUnforwarded : Ingress → Destination → Type 0
 IsUnforwarded came.Malformed w = w ≡ Malformed
 IsUnforwarded came.Nowhere w = w ≡ Nowhere

@@ -22,7 +22,8 @@ one_queue_state speed room items free earliest offered started = record {
   started = started;
 }
 
--- Statement: Index `tail` is `queued` places after index `head` in a ring of `count` places, of which at least one isn't queued.
+-- Holds if index `tail` is `queued` places after index `head` in a ring of `count` places, and at least one place is
+-- free.
 pub record IsRing (count head tail queued : ℕ) : Type 0 where
   pub from : head < count
   pub to : tail < count

@@ -102,8 +102,8 @@ pub fn few_spans_suffice()
         → IsSpanBound opens occ least curve b u w }
 {}
 
-/// If no more work arrives in a cycle than it has fits, the spans of one cycle give the bound (`bound`). Each cycle has equally many fits
-/// (`fits`).
+/// Spans that start in one cycle and are shorter than it prove a delay bound, if the cycle has fits for all arriving work (`bound`). All
+/// cycles have equally many fits (`fits`).
 pub fn one_cycle_suffices()
     ensures bound { (opens : ℕ → Bool) (occ least b cycle n : ℕ) (curve : ℕ → ℕ)
         → IsPeriodic opens cycle

@@ -81,7 +81,8 @@ are_handed plans links hops queues = list_all (is_handed plans links hops) queue
 abbrev pub handed_course : Bool → StreamLatency → StreamLatency
 handed_course handed x = record { passes = x.passes && handed; worst = x.worst; best = x.best; phases = x.phases }
 
--- The delays of a stream, if they are known and only its frames get its handles.
+-- The delays of a stream, with the flag `passes` cleared if `handed` is false. `None` if they are unknown, or if other
+-- frames can get the stream's handles (`once` is false).
 abbrev pub tested_course : Bool → Bool → Option StreamLatency → Option StreamLatency
 tested_course once handed None = None
 tested_course true handed (Some x) = Some (handed_course handed x)

@@ -335,7 +335,8 @@ fn put_row_line<A: Allocator>(text: &mut TextBuilder<A>, figures: &TrafficFigure
     }
 }
 
-/// Returns the lines of these rows: one for each queue, or a single line for a row without queue.
+/// Returns the lines of `timings`: one for each queue, or one for a row without reachable queue. `bounds --traffic` prints them after the
+/// lines of bounds.
 pub fn timings_text<A: Allocator + Copy>(
     alloc: A,
     timings: &[TrafficFigures],

@@ -292,7 +292,8 @@ fn trace_pair<A: Allocator + Copy>(
     Ok(true)
 }
 
-/// Whether at least one of two values is true. Loops fold by it whether a pass found more sources.
+/// Whether `one` or `other` is true. Loops over hops and ports gather by it whether a pass found more sources. Their proofs need its
+/// clauses, which `||` lacks.
 fn either(one: bool, other: bool) -> bool
     ensures one { result ≡ false → one ≡ false }
     ensures other { result ≡ false → other ≡ false }

@@ -125,7 +125,8 @@ fn put_allowed(said: &mut Said, instance: Instance<'_>, field: NetField) {
     }
 }
 
-/// Returns the number of an instance's key, or `None` if it is missing or not allowed: it can't limit another key then.
+/// Returns the value of an instance's numeric key, or `None` if the value is missing or not allowed. `lower_limit` and `upper_limit` then
+/// ignore the key.
 fn allowed_number(instance: Instance<'_>, field: NetField) -> Option<u64> {
     let number = unsigned_number(instance.value(field.key()))?;
     let (NetAllowed::Number(range) | NetAllowed::Time(range) | NetAllowed::Octets(range)) =

@@ -70,7 +70,7 @@ impl Picture {
         self.page.begin_text_line("t", 220);
     }
 
-    /// Writes that the picture shows only a port or filter, and whether the plan lacks it.
+    /// Writes one port or filter of the selection: `only port 3` first, `, filter 10` later. Adds a note if the plan lacks the number.
     fn put_selected(&mut self, form: &str, number: u32, is_first: bool, is_there: bool) {
         let lead = choose_word(is_first, "only ", ", ");
         self.page.add_piece(form, &[u64::from(number)], lead);

@@ -26,7 +26,8 @@ fn push_delay<A: Allocator>(
     Ok(())
 }
 
-/// Returns the delays in ns of the copies that left by `port`.
+/// Returns the delays of a filter's copies that left by `port`, in ns from arrival to the end of transmission. The filter's row in the
+/// table of `run --delays` needs them.
 pub(crate) fn port_delays<A: Allocator>(
     alloc: A,
     origins: &[StoredOrigin],
