@@ -30,7 +30,7 @@ fn shared_mark(row: &SharedQueue) -> &'static str
     }
 }
 
-/// Appends the capacity that suffices for a queue and its own capacity; nothing if none is known.
+/// Appends the capacity that suffices for a queue, `none` if none is known, and the queue's own capacity.
 fn push_room<A: Allocator + Copy>(
     text: &mut String<A>,
     room: Option<u16>,
@@ -40,7 +40,7 @@ fn push_room<A: Allocator + Copy>(
 {
     match room {
         Some(room) => write!(text, " room {room} of {capacity}"),
-        None => Ok(()),
+        None => write!(text, " room none of {capacity}"),
     }
 }
 

@@ -1,6 +1,6 @@
 -- The delay bounds of a filter's ports: those of a protected filter, or those of the queues that its group shares.
 use Rattle.std.specs.Prelude.{◌≡◌, ℕ, ◌+◌, ◌&&◌, nat_eq, Option, None, Some, MatchOption, List, fold, length, slice_get, if◌then◌else◌}
-use Rattle.std.specs.List.{lookup}
+use Rattle.std.specs.Map.{lookup}
 use Rattle.bridge_filter.specs.declared.FilterPlan.{FilterPlan}
 use Rattle.bridge_config.specs.Model.{Plan}
 use Rattle.bridge_groups.specs.GroupRows.{AreSharedQueues}

@@ -1,6 +1,6 @@
 //! Delay bounds of the ports by which a filter's frames can leave, of protected filters and of filters that share queues.
 ghost use Rattle.std.specs.Prelude.{◌≡◌, nat_eq, IfOk};
-ghost use Rattle.std.specs.List.{lookup};
+ghost use Rattle.std.specs.Map.{lookup};
 ghost use Rattle.bridge_groups.specs.GroupRows.{AreSharedQueues};
 ghost use Rattle.show_tables.specs.GroupBounds as spec;
 

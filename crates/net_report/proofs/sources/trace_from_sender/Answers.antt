@@ -1,4 +1,4 @@
-use Rattle.std.proofs.Common.{◌∷◌, [], List, Option, length, sym, ap, subst, ◌∙◌, arith}
+use Rattle.std.proofs.Common.{◌∷◌, [], List, Option, Some, length, sym, ap, subst, ◌∙◌, arith}
 use Rattle.std.specs.Prelude.{slice_get}
 use Rattle.std.proofs.lemmas.List.{length-append}
 use Rattle.std.proofs.lemmas.Option.{slice_get-get_or}
@@ -35,7 +35,7 @@ loop-place-preserved g c =
       each = subst (λ (l : List (Option SourceFrame)). IsTracedByFrame (sender_value c.args.sender) c.args.sent.now c.args.sent_roots.now c.args.port c.args.origins.now c.args.roots.now l) (sym items)
           (traced_more (sender_value c.args.sender) c.args.sent.now c.args.sent_roots.now c.args.port c.args.origins.now c.args.roots.now c.loop-place.made.items _ _ c.trace_frame-root.result.0
           (ap (slice_get c.args.roots.now) many ∙ slice_get-get_or c.args.roots.now c.loop-place.place _ (omega (arith, within)))
-          (ap (slice_get c.args.origins.now) many ∙ slice_get-get_or c.args.origins.now c.loop-place.place _ (omega (arith, inside)))
+          (ap (slice_get c.args.origins.now) many ∙ (slice_get-get_or c.args.origins.now c.loop-place.place c.index-origins-place.result (omega (arith, inside)) ∙ ap (λ o. Some o) (sym (c.origin.ensures ∙ c.index-origins-place.is))))
           c.trace_frame-root.ensures.root c.loop-place.invariant.each);
     }
 
