@@ -106,8 +106,8 @@ impl<'a, A: Allocator + Copy> FilterCase<'a, A> {
         requires from { 1 ≤ q }
         requires to { q ≤ 16 }
         requires case { reached.IsCase self.now }
-        ensures { result ≡ reached.other_or_outsider self.now.plan.now (spec.queue_group self.now.filter) self.now.number q
-            class }
+        ensures { result ≡ reached.other_or_outsider self.now.plan.now (spec.queue_group self.now.filter)
+            self.now.number q class }
     {
         let group = queue_group(&self.filter);
         least_outsider(self.reaches, group, self.number, q, &port.classes, class)

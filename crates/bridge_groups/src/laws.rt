@@ -43,8 +43,8 @@ use std::alloc::Allocator;
 
 /// If frames arrive in order, a shared queue has the work curve and the count curve of its sharers' meters.
 pub fn queue_has_meter_curves<A: Allocator + Copy>()
-    ensures { (p : Plan A) (group : ℕ) (sharers : List (ℕ × FilterPlan)) (q c sdu : ℕ) (out : PortPlan A) (es : List Event)
-        (moments : ℕ → ℕ) (lists : ℕ → List (Copy CarriedFrame))
+    ensures { (p : Plan A) (group : ℕ) (sharers : List (ℕ × FilterPlan)) (q c sdu : ℕ) (out : PortPlan A)
+        (es : List Event) (moments : ℕ → ℕ) (lists : ℕ → List (Copy CarriedFrame))
         → IsPlan p
         → HasAcceptableGroups p
         → find_port p.ports q ≡ Some out
@@ -81,8 +81,8 @@ pub fn group_leaves_in_time<A: Allocator + Copy>()
 
 /// If the capacity suffices for the meters' curves, the queue drops no copy of the group as full, whatever any talker sends.
 pub fn group_queue_is_never_full<A: Allocator + Copy>()
-    ensures { (p : Plan A) (group : ℕ) (sharers : List (ℕ × FilterPlan)) (q c sdu : ℕ) (out : PortPlan A) (es : List Event)
-        (moments : ℕ → ℕ) (lists : ℕ → List (Copy CarriedFrame)) (x : Copy CarriedFrame)
+    ensures { (p : Plan A) (group : ℕ) (sharers : List (ℕ × FilterPlan)) (q c sdu : ℕ) (out : PortPlan A)
+        (es : List Event) (moments : ℕ → ℕ) (lists : ℕ → List (Copy CarriedFrame)) (x : Copy CarriedFrame)
         → IsPlan p
         → HasAcceptableGroups p
         → find_port p.ports q ≡ Some out

@@ -8,6 +8,4 @@ mod shared_queues;
 mod sharers;
 
 pub use group_rows::plan_shared_queues;
-pub use meter_curves::{count_curves, sharers_curve};
-pub use shared_queues::{SharedQueue, shared_queue};
-pub use sharers::{are_metered, longest_sdu, plan_reaches, queue_sharers};
+pub use shared_queues::SharedQueue;

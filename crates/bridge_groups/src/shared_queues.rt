@@ -50,7 +50,7 @@ pub struct SharedQueue {
     pub capacity: u16,
 }
 
-/// Returns the arrival curve from `shift` ns on: frames of a span that is so much longer. Returns `None` if its burst is too large.
+/// Returns the arrival curve of spans that are `shift` ns longer. Returns `None` if its burst is too large.
 fn shifted_curve(curve: &LinearCurve, shift: u64) -> Option<LinearCurve>
     requires curve { IsLinearCurve curve.now }
     ensures line { IfSome result IsLinearCurve }

@@ -31,8 +31,8 @@ impl LinearCurve {
         ((self.burst + self.rate * w as u128) / self.unit) as u64
     }
 
-    /// Returns the least `w` for which at least `work` ns arrive in `w` ns, but at most `END_OF_CURVES`. Returns `None` if so much work
-    /// never arrives.
+    /// Returns the least `w` for which at least `work` ns arrive in `w` ns, but at most `END_OF_CURVES`. Returns `None` if less than
+    /// `work` ns ever arrive.
     pub fn first_time(&self, work: u64) -> Option<u64>
         requires curve { IsLinearCurve self.now }
         requires work { work < END_OF_CURVES }

@@ -31,8 +31,8 @@ fn shortest_span(curve: &LinearCurve, counts: &[LinearCurve], work: u64, frames:
     Some(time.max(first_frames_time(counts, frames)))
 }
 
-/// Whether no more than `room` frames ever wait at once. The class is always open if `per_cycle` is `None`; otherwise each cycle has so many
-/// fits.
+/// Whether no more than `room` frames ever wait at once. The class is always open if `per_cycle` is `None`; otherwise each cycle has
+/// `per_cycle` fits.
 fn is_sufficient<A: Allocator + Copy>(
     list: &CyclicList<u8, A>,
     class: u8,
