@@ -36,6 +36,12 @@ fn member_queue<'a>(queues: &'a [SharedQueue], member: &Member) -> Option<&'a Sh
     None
 }
 
+/// Returns the record of a member's filter.
+fn member_view<'a>(outcome: &'a Outcome<Global>, member: &Member) -> Option<&'a View<Global>> {
+    let number = u32::try_from(member.filter()).ok()?;
+    filter_view(outcome, number)
+}
+
 /// Returns the greatest delay in ns of a filter's departures. They all leave by the egress port.
 fn greatest_delay(view: &View<Global>) -> u64 {
     let mut greatest = 0u64;
@@ -92,7 +98,7 @@ pub fn judge(
     shown: &mut Shown,
 ) {
     for member in &shape.members {
-        let view = filter_view(outcome, member.filter() as u32);
+        let view = member_view(outcome, member);
         match (member_queue(queues, member), view) {
             (Some(queue), Some(view)) => {
                 let conforms = member.meter.is_some() && (is_calm || member.place == conforming);
@@ -108,7 +114,7 @@ pub fn bound_share(queue: &SharedQueue, shape: &Shape, outcome: &Outcome<Global>
     let mut greatest = 0u64;
     for member in &shape.members {
         if member.group == u64::from(queue.group) {
-            if let Some(view) = filter_view(outcome, member.filter() as u32) {
+            if let Some(view) = member_view(outcome, member) {
                 greatest = greatest.max(greatest_delay(view));
             }
         }
