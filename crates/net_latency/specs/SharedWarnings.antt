@@ -11,18 +11,19 @@ unmetered_warning s =
     codes "Warning: only the capacity bounds the delay of group " ++ (decimal s.group ++ (codes " at port " ++ (decimal s.port ++ (codes ", class " ++ (decimal s.class
     ++ codes ". A filter has no meter, or the meters pass more than the windows carry. Give each filter a meter, or lower the rates.\n")))))
 
--- The cause of lost copies and the remedy: the queue's capacity is less than the sufficient one, or none is known to
--- suffice.
-unfoldable pub loss_cause : Option ℕ → ℕ → List ℕ
-loss_cause None capacity = codes "no capacity of the queue is known to suffice. Remove the `[[change]]`, or lower the rates of the meters.\n"
-loss_cause (Some room) capacity =
-    codes "the queue holds only " ++ (decimal capacity ++ (codes " instead of " ++ (decimal room ++ codes ". Raise `rooms`, or lower the rates of the meters.\n")))
+-- The warning of a queue that may drop copies as full: no capacity is known to suffice, or its own is less than `room`.
+unfoldable pub lossy_words : Option ℕ → SharedQueue → List ℕ
+lossy_words None s =
+    codes "Warning: group " ++ (decimal s.group ++ (codes " may lose frames at port " ++ (decimal s.port ++ (codes ", class " ++ (decimal s.class
+    ++ codes ", because no capacity of the queue is known to suffice. Remove the `[[change]]`, or lower the rates of the meters.\n")))))
+lossy_words (Some room) s =
+    codes "Warning: group " ++ (decimal s.group ++ (codes " may lose frames at port " ++ (decimal s.port ++ (codes ", class " ++ (decimal s.class
+    ++ (codes ", because the queue holds only " ++ (decimal s.capacity ++ (codes " instead of " ++ (decimal room
+    ++ codes ". Raise `rooms`, or lower the rates of the meters.\n")))))))))
 
 -- The warning of a queue that may drop copies as full.
-unfoldable pub lossy_warning : SharedQueue → List ℕ
-lossy_warning s =
-    codes "Warning: group " ++ (decimal s.group ++ (codes " may lose frames at port " ++ (decimal s.port ++ (codes ", class " ++ (decimal s.class
-    ++ (codes ", because " ++ loss_cause s.room s.capacity))))))
+abbrev pub lossy_warning : SharedQueue → List ℕ
+lossy_warning s = lossy_words s.room s
 
 -- The warning of a shared queue with the mark `unmetered` or `lossy`; empty for a queue without a mark.
 abbrev pub shared_warning : SharedQueue → List ℕ

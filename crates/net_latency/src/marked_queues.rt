@@ -1,6 +1,6 @@
 //! Warnings of the queues that groups share.
 ghost use Rattle.std.specs.Prelude.{◌≡◌, ◌++◌, IfOk, OnOk, string_bytes};
-ghost use Rattle.net_latency.specs.SharedWarnings.{AreSharedWarnings, loss_cause, lossy_warning, shared_warning, shared_warnings, unmetered_warning};
+ghost use Rattle.net_latency.specs.SharedWarnings.{AreSharedWarnings, lossy_warning, shared_warning, shared_warnings, unmetered_warning};
 
 use crate::shared_lines::is_lossy;
 use bridge_check::Accepted;
@@ -28,28 +28,8 @@ fn push_unmetered_warning<A: Allocator + Copy>(
     )
 }
 
-/// Appends why a queue may drop copies as full, and the remedy.
-#[tactic(auto, unfolding(crate::specs::SharedWarnings::loss_cause))]
-fn push_loss_cause<A: Allocator + Copy>(
-    text: &mut String<A>,
-    room: Option<u16>,
-    capacity: u16,
-) -> Result<(), AllocError>
-    ensures { OnOk result (string_bytes text.new ≡ string_bytes text.old ++ loss_cause room capacity) }
-{
-    match room {
-        Some(room) => write!(
-            text,
-            "the queue holds only {capacity} instead of {room}. Raise `rooms`, or lower the rates of the meters.\n"
-        ),
-        None => text.push_str(
-            "no capacity of the queue is known to suffice. Remove the `[[change]]`, or lower the rates of the meters.\n",
-        ),
-    }
-}
-
 /// Appends the warning of a queue that may drop copies as full.
-#[tactic(auto, unfolding(crate::specs::SharedWarnings::lossy_warning))]
+#[tactic(auto, unfolding(crate::specs::SharedWarnings::lossy_words))]
 fn push_lossy_warning<A: Allocator + Copy>(
     text: &mut String<A>,
     row: &SharedQueue,
@@ -60,15 +40,19 @@ fn push_lossy_warning<A: Allocator + Copy>(
         group,
         port,
         class,
-        room,
         capacity,
         ..
     } = *row;
-    write!(
-        text,
-        "Warning: group {group} may lose frames at port {port}, class {class}, because "
-    )?;
-    push_loss_cause(text, room, capacity)
+    match row.room {
+        Some(room) => write!(
+            text,
+            "Warning: group {group} may lose frames at port {port}, class {class}, because the queue holds only {capacity} instead of {room}. Raise `rooms`, or lower the rates of the meters.\n"
+        ),
+        None => write!(
+            text,
+            "Warning: group {group} may lose frames at port {port}, class {class}, because no capacity of the queue is known to suffice. Remove the `[[change]]`, or lower the rates of the meters.\n"
+        ),
+    }
 }
 
 /// Appends the warning of a shared queue. Appends nothing for a queue without a mark.
