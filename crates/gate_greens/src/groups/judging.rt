@@ -14,8 +14,24 @@ pub struct Shown {
     pub frames: u64,
     /// Number of copies that queues without a sufficient capacity dropped as full.
     pub full: u64,
-    /// Number of facts that contradict a bound, a capacity or a promise.
-    pub refuted: u64,
+    /// Number of streams with a delay above their queue's bound.
+    pub late: u64,
+    /// Number of conforming talkers with a refused frame.
+    pub refused: u64,
+    /// Number of copies that queues with a sufficient capacity dropped as full.
+    pub dropped: u64,
+    /// Number of streams without a shared queue or a record.
+    pub missing: u64,
+}
+
+impl Shown {
+    /// Returns the number of facts that contradict a bound, a capacity or a promise.
+    pub fn refuted(&self) -> u64 {
+        self.late
+            .saturating_add(self.refused)
+            .saturating_add(self.dropped)
+            .saturating_add(self.missing)
+    }
 }
 
 /// Whether the queue's capacity is sufficient, so that it drops no copy as full.
@@ -79,10 +95,10 @@ fn judge_member(queue: &SharedQueue, view: &View<Global>, conforms: bool, shown:
     let full = count_full(view);
     let refused = count_refused(view);
     shown.frames = shown.frames.saturating_add(view.origins.len() as u64);
-    add_if(&mut shown.refuted, queue.bound < greatest_delay(view));
-    add_if(&mut shown.refuted, conforms && refused > 0);
+    add_if(&mut shown.late, queue.bound < greatest_delay(view));
+    add_if(&mut shown.refused, conforms && refused > 0);
     if has_room(queue) {
-        shown.refuted = shown.refuted.saturating_add(full);
+        shown.dropped = shown.dropped.saturating_add(full);
     } else {
         shown.full = shown.full.saturating_add(full);
     }
@@ -104,7 +120,7 @@ pub fn judge(
                 let conforms = member.meter.is_some() && (is_calm || member.place == conforming);
                 judge_member(queue, view, conforms, shown);
             }
-            _ => add_if(&mut shown.refuted, true),
+            _ => add_if(&mut shown.missing, true),
         }
     }
 }
