@@ -1,10 +1,8 @@
 -- Text for standard error about an accepted plan.
-use Rattle.std.specs.Prelude.{◌≡◌, ℕ, Bool, true, false, List, [], Option, String, is_some, nat_eq}
+use Rattle.std.specs.Prelude.{◌≡◌, ◌&&◌, ℕ, Bool, true, false, List, [], Option, String, is_some, nat_eq}
 use Rattle.std.specs.declared.alloc.Global.{Global}
 use Rattle.bridge_filter.specs.declared.FilterPlan.{FilterPlan}
-use Rattle.bridge_config.specs.Model.{Plan}
-use Rattle.app_failure.specs.Accepting.{count_protected}
-use Rattle.app_failure.specs.Jobs.{Accepts}
+use Rattle.app_failure.specs.Accepting.{count_grouped, count_protected}
 use Rattle.app_commands.specs.Outputs.{has_text}
 
 -- Holds if `notes` is the text about an accepted plan, and `warned` is true exactly if the plan has a warning. Without an explanation, the text has the
@@ -14,10 +12,6 @@ AreNotes strict true notes warned = Unit {0}
 AreNotes true false notes warned = warned ≡ has_text notes
 AreNotes false false notes warned = (notes ≡ []) × (warned ≡ false)
 
--- Holds if a warning is present exactly if no filter in the list is protected.
+-- Holds if a warning is present exactly if no filter in the list is protected, and none has a group.
 abbrev pub WarnsOfNone : List (ℕ × FilterPlan) → Option (String Global) → Type 0
-WarnsOfNone filters warning = is_some warning ≡ nat_eq (count_protected filters) 0
-
--- Holds if `text` is an accepted plan, and a warning is present exactly if none of its filters is protected.
-abbrev pub WarnsOfBounds : List ℕ → Option (String Global) → Type 0
-WarnsOfBounds text warning = (plan : Plan Global) × Accepts text plan × WarnsOfNone plan.filters warning
+WarnsOfNone filters warning = is_some warning ≡ (nat_eq (count_protected filters) 0 && nat_eq (count_grouped filters) 0)

@@ -28,7 +28,7 @@ mod tables;
 mod transfer;
 mod wire;
 
-pub use bounding::bounds_warning;
+pub use bounding::unprotected_warning;
 pub use captures::StoppedRun as HaltedWire;
 pub use check::{check_plan, status_if};
 pub use context::{Flags, RunRequest, Texts};

@@ -1,38 +1,58 @@
 -- Outputs, exit statuses and faults of the command `bounds`.
-use Rattle.std.specs.Prelude.{◌≡◌, ◌⊎◌, ◌&&◌, ℕ, Bool, true, false, not, List, [], None, Option, String, is_some}
+use Rattle.std.specs.Prelude.{◌≡◌, ◌⊎◌, ◌&&◌, ◌||◌, ◌++◌, ℕ, Bool, true, false, not, List, [], None, Some, Option, String, is_some, string_bytes}
 use Rattle.std.specs.declared.alloc.Global.{Global}
+use Rattle.bridge_config.specs.Model.{Plan}
 use Rattle.app_failure.specs.declared.fault.Failure.{Failure}
+use Rattle.app_failure.specs.Jobs.{Accepts}
 use Rattle.app_failure.specs.Reading.{IsFileFault}
 use Rattle.app_commands.specs.declared.output.Output.{Output}
-use Rattle.app_commands.specs.Outputs.{Prints, status_if}
-use Rattle.app_commands.specs.Notes.{WarnsOfBounds}
+use Rattle.app_commands.specs.Outputs.{Prints, has_text, status_if}
+use Rattle.app_commands.specs.Notes.{WarnsOfNone}
 use Rattle.net_latency.specs.Printing.{PrintsBounds}
+use Rattle.net_latency.specs.SharedWarnings.{AreSharedWarnings}
 use Rattle.net_latency.specs.TrafficText.{EndsTexts, PrintsRows}
 
--- Holds if a warning is present exactly if the plan has no protected filter. There is none unless warnings are errors or an explanation is requested.
-abbrev pub WarnsBy : Bool → Bool → List ℕ → Option (String Global) → Type 0
-WarnsBy true explained text warning = WarnsOfBounds text warning
-WarnsBy false true text warning = WarnsOfBounds text warning
-WarnsBy false false text warning = warning ≡ None
+-- Holds if a plan has these warnings: `unprotected` exactly if no filter is protected or grouped, and one warning in `shared` for each marked shared queue.
+abbrev pub WarnsOfPlan : Plan Global → Option (String Global) → List ℕ → Type 0
+WarnsOfPlan plan unprotected shared = WarnsOfNone plan.filters unprotected × AreSharedWarnings plan shared
+
+-- Holds if `text` is an accepted plan with these warnings.
+abbrev pub WarnsOfText : List ℕ → Option (String Global) → List ℕ → Type 0
+WarnsOfText text unprotected shared = (plan : Plan Global) × Accepts text plan × WarnsOfPlan plan unprotected shared
+
+-- Holds if these are the warnings of an accepted plan. There are none unless warnings are errors or an explanation is requested.
+abbrev pub WarnsBy : Bool → Bool → List ℕ → Option (String Global) → List ℕ → Type 0
+WarnsBy true explained text unprotected shared = WarnsOfText text unprotected shared
+WarnsBy false true text unprotected shared = WarnsOfText text unprotected shared
+WarnsBy false false text unprotected shared = (unprotected ≡ None) × (shared ≡ [])
+
+-- True if there is a warning.
+abbrev pub is_warned : Option (String Global) → List ℕ → Bool
+is_warned unprotected shared = is_some unprotected || has_text shared
+
+-- All warnings, one after another.
+abbrev pub warnings_text : Option (String Global) → List ℕ → List ℕ
+warnings_text None shared = shared
+warnings_text (Some unprotected) shared = string_bytes unprotected ++ shared
 
 -- The exit status of `bounds`: 0 if the traffic is kept and no warning is an error, otherwise 1.
 abbrev pub status_by : Bool → Bool → Bool → ℕ
 status_by kept strict warned = status_if (kept && not (strict && warned))
 
--- Holds if the program prints the delay bounds of an accepted plan, and its warning, if any, to standard error. The status is 1 exactly if warnings are errors
+-- Holds if the program prints the delay bounds of an accepted plan, and its warnings, if any, to standard error. The status is 1 exactly if warnings are errors
 -- and there is one.
 abbrev pub IsBoundsOutput : Bool → Bool → Output → Type 0
 IsBoundsOutput strict explained output =
-    (input : List ℕ) × (lines : List ℕ) × (notes : List ℕ) × (warning : Option (String Global)) × PrintsBounds Global input lines × WarnsBy strict explained input warning
-    × (warning ≡ None → notes ≡ []) × Prints lines notes (status_by true strict (is_some warning)) output
+    (input : List ℕ) × (lines : List ℕ) × (unprotected : Option (String Global)) × (shared : List ℕ) × PrintsBounds Global input lines
+    × WarnsBy strict explained input unprotected shared × Prints lines (warnings_text unprotected shared) (status_by true strict (is_warned unprotected shared)) output
 
--- Holds if the program prints the delay bounds of an accepted plan and the lines of its traffic. The status is 0 exactly if all traffic is kept and no warning
--- is an error.
+-- Holds if the program prints the delay bounds of an accepted plan and the lines of its traffic. Standard error has the reasons why the traffic isn't kept, if an
+-- explanation is requested, then the plan's warnings. The status is 0 exactly if all traffic is kept and no warning is an error.
 abbrev pub IsTrafficOutput : Bool → Bool → Output → Type 0
 IsTrafficOutput strict explained output =
-    (input : List ℕ) × (words : List ℕ) × (lines : List ℕ) × (kept : Bool) × (reasons : List ℕ) × (notes : List ℕ) × (warning : Option (String Global))
-    × PrintsRows Global input words lines kept × WarnsBy strict explained input warning × (explained && not kept ≡ false → reasons ≡ []) × (warning ≡ None → notes ≡ reasons)
-    × Prints lines notes (status_by kept strict (is_some warning)) output
+    (input : List ℕ) × (words : List ℕ) × (lines : List ℕ) × (kept : Bool) × (reasons : List ℕ) × (unprotected : Option (String Global)) × (shared : List ℕ)
+    × PrintsRows Global input words lines kept × WarnsBy strict explained input unprotected shared × (explained && not kept ≡ false → reasons ≡ [])
+    × Prints lines (reasons ++ warnings_text unprotected shared) (status_by kept strict (is_warned unprotected shared)) output
 
 -- Holds if fault `f` can end the bounds of a plan with traffic: an unreadable file, out of memory, or a fault of plan or traffic.
 abbrev pub FailsTraffic : List ℕ → List ℕ → Failure → Type 0

@@ -1,19 +1,30 @@
 //! The command `bounds`: delay bounds of a plan, and its traffic.
-ghost use Rattle.std.specs.Prelude.{[], ◌≡◌, ◌&&◌, IfErr, IfOk, None, false, is_some, not, string_bytes};
+ghost use Rattle.std.specs.Prelude.{[], ◌≡◌, ◌&&◌, ◌++◌, IfErr, IfOk, OnOk, false, not, string_bytes};
 ghost use Rattle.std.specs.declared.alloc.Global.{Global};
 ghost use Rattle.app_commands.specs.Checked.{EndsChecked};
-ghost use Rattle.app_networks.specs.Bounds.{FailsTraffic, IsBoundsOutput, IsTrafficOutput, WarnsBy, status_by};
+ghost use Rattle.app_commands.specs.Outputs.{Prints};
+ghost use Rattle.app_networks.specs.Bounds.{FailsTraffic, IsBoundsOutput, IsTrafficOutput, WarnsBy, WarnsOfPlan, WarnsOfText, is_warned, status_by, warnings_text};
 
 use crate::again::can_read_traffic_again;
-use app_commands::{Flags, Output, Texts, bounds_warning, status_if};
-use app_failure::{Failure, NoMemory, file_failure};
+use app_commands::{Flags, Output, Texts, status_if, unprotected_warning};
+use app_failure::{Failure, NoMemory, accepted_plan, file_failure};
 use app_files::{CommandFiles, MOST_TEXT, open_input, read_open, read_text_file};
-use net_latency::{TrafficReport, bounds_job, explain_refusable, traffic_job};
-use std::alloc::Global;
+use bridge_check::Accepted;
+use net_latency::{TrafficReport, bounds_job, explain_refusable, shared_warnings, traffic_job};
+use std::alloc::{AllocError, Global};
 use std::io::Read;
 use std::rt::Files;
 
-/// Returns the output of `bounds` for a plan without traffic. The status is 1 if warnings are errors and the plan has no protected filter.
+/// Warnings of an accepted plan.
+#[derive(Drop)]
+struct BoundsWarnings {
+    /// Warning of a plan without a protected or grouped filter; otherwise `None`.
+    unprotected: Option<String>,
+    /// Warnings of marked shared queues; empty if there are none.
+    shared: String,
+}
+
+/// Returns the output of `bounds` for a plan without traffic. The status is 1 if warnings are errors and the plan has one.
 pub(crate) fn bound_plan<H: AllocGlobal + Files>(
     files: &CommandFiles<'_, H>,
     plan: &str,
@@ -41,47 +52,97 @@ fn bound_text(alloc: Global, plan: &str, text: &[u8], flags: Flags) -> Result<Ou
         Ok(lines) => lines,
         Err(fault) => return Err(fault),
     };
-    let Ok(warning) = warning_if(alloc, text, flags) else {
+    let Ok(warnings) = warnings_if(alloc, text, flags) else {
         return Err(Failure::NoMemory);
     };
-    Ok(bounds_output(lines, true, String::new(alloc), warning, flags))
-}
-
-/// Returns the warning of an accepted plan without a protected filter, if warnings are errors or an explanation is requested. Otherwise
-/// returns `None`.
-fn warning_if(alloc: Global, text: &[u8], flags: Flags) -> Result<Option<String>, NoMemory>
-    ensures { IfOk result (WarnsBy flags.is_strict flags.is_explained text.now) }
-{
-    if flags.is_strict || flags.is_explained {
-        bounds_warning(alloc, text)
-    } else {
-        Ok(None)
+    match bounds_output(lines, true, String::new(alloc), warnings, flags) {
+        Ok(output) => Ok(output),
+        Err(_) => Err(Failure::NoMemory),
     }
 }
 
-/// Returns the output of `bounds`: delay bounds, text about the traffic, and the plan's warning. The status is 1 if the traffic isn't kept,
-/// or a warning is an error.
+/// Returns the warnings of the accepted plan in `text`, if warnings are errors or an explanation is requested. Otherwise returns no
+/// warning.
+fn warnings_if(alloc: Global, text: &[u8], flags: Flags) -> Result<BoundsWarnings, NoMemory>
+    ensures { IfOk result (λ w. WarnsBy flags.is_strict flags.is_explained text.now w.unprotected
+        (string_bytes w.shared)) }
+{
+    if flags.is_strict || flags.is_explained {
+        return text_warnings(alloc, text);
+    }
+    Ok(BoundsWarnings {
+        unprotected: None,
+        shared: String::new(alloc),
+    })
+}
+
+/// Returns the warnings of a text that was accepted as a plan. Reads it again, so every fault becomes `NoMemory`.
+fn text_warnings(alloc: Global, text: &[u8]) -> Result<BoundsWarnings, NoMemory>
+    ensures { IfOk result (λ w. WarnsOfText text.now w.unprotected (string_bytes w.shared)) }
+{
+    match accepted_plan(alloc, alloc, text) {
+        Ok(accepted) => {
+            let warnings = plan_warnings(alloc, &accepted);
+            drop(accepted);
+            warnings
+        }
+        Err(_) => Err(NoMemory),
+    }
+}
+
+/// Returns the warnings of an accepted plan: that no filter is protected or grouped, and those of its shared queues.
+fn plan_warnings(alloc: Global, accepted: &Accepted<Global>) -> Result<BoundsWarnings, NoMemory>
+    ensures { IfOk result (λ w. WarnsOfPlan accepted.now w.unprotected (string_bytes w.shared)) }
+{
+    let unprotected = unprotected_warning(alloc, accepted)?;
+    let shared = shared_warnings(alloc, accepted)?;
+    Ok(BoundsWarnings {
+        unprotected,
+        shared,
+    })
+}
+
+/// Whether there is a warning.
+fn is_warned(warnings: &BoundsWarnings) -> bool
+    ensures { result ≡ is_warned warnings.now.unprotected (string_bytes warnings.now.shared) }
+{
+    warnings.unprotected.is_some() || !warnings.shared.as_str().is_empty()
+}
+
+/// Appends all warnings.
+fn push_warnings(text: &mut String, warnings: &BoundsWarnings) -> Result<(), AllocError>
+    ensures { OnOk result (string_bytes text.new ≡ string_bytes text.old
+        ++ warnings_text warnings.now.unprotected (string_bytes warnings.now.shared)) }
+{
+    if let Some(warning) = &warnings.unprotected {
+        text.push_str(warning.as_str())?;
+    }
+    text.push_str(warnings.shared.as_str())
+}
+
+/// Returns the output of `bounds`: delay bounds, text about the traffic, and the plan's warnings. The status is 1 if the traffic isn't
+/// kept, or a warning is an error.
 fn bounds_output(
     lines: String,
     is_kept: bool,
     notes: String,
-    warning: Option<String>,
+    warnings: BoundsWarnings,
     flags: Flags,
-) -> Output
-    ensures stdout { result.stdout ≡ lines }
-    ensures stderr { warning ≡ None → result.stderr ≡ notes }
-    ensures status { result.status ≡ status_by is_kept flags.is_strict (is_some warning) }
+) -> Result<Output, NoMemory>
+    ensures { IfOk result (Prints (string_bytes lines)
+        (string_bytes notes ++ warnings_text warnings.unprotected (string_bytes warnings.shared))
+        (status_by is_kept flags.is_strict (is_warned warnings.unprotected (string_bytes warnings.shared)))) }
 {
-    let is_well = is_kept && !(flags.is_strict && warning.is_some());
+    let is_well = is_kept && !(flags.is_strict && is_warned(&warnings));
     let mut stderr = notes;
-    if let Some(warning) = warning {
-        let _ = stderr.push_str(warning.as_str());
-    }
-    Output {
+    let Ok(()) = push_warnings(&mut stderr, &warnings) else {
+        return Err(NoMemory);
+    };
+    Ok(Output {
         stdout: lines,
         stderr,
         status: status_if(is_well),
-    }
+    })
 }
 
 /// Returns the output of `bounds --traffic`: delay bounds, and whether the traffic is kept. The status is 1 if a frame may be refused or
@@ -139,11 +200,14 @@ fn bound_rows<R: Read + Drop, H: AllocGlobal + Files>(
         Ok(report) => report,
         Err(fault) => return Err(fault),
     };
-    let Ok(warning) = warning_if(alloc, text, flags) else {
+    let Ok(warnings) = warnings_if(alloc, text, flags) else {
         return Err(Failure::NoMemory);
     };
     let notes = traffic_reasons(rt, plan, file, flags.is_explained, kept);
-    Ok(bounds_output(lines, kept, notes, warning, flags))
+    match bounds_output(lines, kept, notes, warnings, flags) {
+        Ok(output) => Ok(output),
+        Err(_) => Err(Failure::NoMemory),
+    }
 }
 
 /// Returns why frames of traffic may be refused, if an explanation is requested and the traffic isn't kept. The text is empty if memory

@@ -29,7 +29,7 @@ pub fn run(alloc: Global, said: &mut TextBuilder<Global>) -> Result<bool, RunFau
 
 /// Whether nothing is refuted, and each kind occurred often enough.
 fn is_right(tally: &Tally) -> bool {
-    tally.shown.refuted == 0
+    tally.shown.refuted() == 0
         && tally.accepted >= PLANS / 2
         && tally.metered >= PLANS / 4
         && tally.unmetered >= PLANS / 50
@@ -65,8 +65,15 @@ fn put_tally(said: &mut TextBuilder<Global>, tally: &Tally) {
         &[],
     );
     said.put_template(
-        "frames {0} full {1}\nrefuted {2}\n",
-        &[tally.shown.frames, tally.shown.full, tally.shown.refuted],
+        "frames {0} full {1}\nlate {2} refused {3} dropped {4} missing {5}\n",
+        &[
+            tally.shown.frames,
+            tally.shown.full,
+            tally.shown.late,
+            tally.shown.refused,
+            tally.shown.dropped,
+            tally.shown.missing,
+        ],
         &[],
     );
 }

@@ -6,6 +6,7 @@ pub mod Examples
 pub mod Bounds
 pub mod Phased
 pub mod SharedLines
+pub mod SharedWarnings
 pub mod Printing
 pub mod Streams
 pub mod Talkers

@@ -7,7 +7,7 @@ use bridge_limits::NoMemory;
 use std::alloc::{AllocError, Allocator};
 
 /// Whether no capacity is known with which a queue drops no copy as full, or its own capacity is less.
-fn is_lossy(room: Option<u16>, capacity: u16) -> bool
+pub(crate) fn is_lossy(room: Option<u16>, capacity: u16) -> bool
     ensures { result ≡ is_lossy room capacity }
 {
     match room {

@@ -86,18 +86,28 @@ fn next_frame(numbers: &mut Numbers, member: &Member, lengths: Lengths, at: u64)
     }
 }
 
-/// Returns the ns after the burst's start at which a meter has passed `total` octets at most.
-fn earliest_time(meter: &StreamMeter, total: u64) -> Option<u64> {
-    let over = total.saturating_sub(meter.cbs);
-    if over == 0 {
-        return Some(0);
+/// Committed bucket of a meter, as a conforming talker counts it: its level in octets times `BIT_TIMES`.
+#[derive(Drop)]
+struct Bucket {
+    level: u128,
+}
+
+impl Bucket {
+    /// Returns the ns until the bucket holds `octets`, and takes them out. Returns `None` if the bucket never holds them.
+    fn wait(&mut self, meter: &StreamMeter, octets: u64) -> Option<u64> {
+        let need = u128::from(octets).saturating_mul(u128::from(BIT_TIMES));
+        let size = u128::from(meter.cbs).saturating_mul(u128::from(BIT_TIMES));
+        let rate = u128::from(meter.cir);
+        let missing = need.saturating_sub(self.level);
+        if missing > 0 && (rate == 0 || need > size) {
+            return None;
+        }
+        let ns = missing.saturating_add(rate).saturating_sub(1) / rate.max(1);
+        let ns = if missing == 0 { 0 } else { ns };
+        let filled = self.level.saturating_add(rate.saturating_mul(ns)).min(size);
+        self.level = filled.saturating_sub(need);
+        u64::try_from(ns).ok()
     }
-    let wait = u128::from(over).saturating_mul(u128::from(BIT_TIMES));
-    if meter.cir == 0 {
-        return None;
-    }
-    let ns = (wait / u128::from(meter.cir)).saturating_add(1);
-    u64::try_from(ns).ok()
 }
 
 /// Adds frames of a talker that conforms to CBS and CIR of its meter.
@@ -108,18 +118,21 @@ fn add_conforming(
     attack: &Attack,
     frames: &mut Vec<Frame>,
 ) -> Result<(), NoMemory> {
-    let mut total = 0u64;
+    let mut bucket = Bucket {
+        level: u128::from(meter.cbs).saturating_mul(u128::from(BIT_TIMES)),
+    };
+    let mut at = attack.at;
     for _ in 0..MAX_FRAMES {
-        let mut frame = next_frame(numbers, member, attack.lengths, attack.at);
-        total = total.saturating_add(frame.len.max(60)).saturating_add(4);
-        let Some(later) = earliest_time(meter, total) else {
+        let frame = next_frame(numbers, member, attack.lengths, at);
+        let octets = frame.len.max(60).saturating_add(4);
+        let Some(wait) = bucket.wait(meter, octets) else {
             return Ok(());
         };
-        frame.at = attack.at.saturating_add(later);
-        if frame.at > attack.until {
+        at = at.saturating_add(wait);
+        if at > attack.until {
             return Ok(());
         }
-        frames.push(frame)?;
+        frames.push(Frame { at, ..frame })?;
     }
     Ok(())
 }

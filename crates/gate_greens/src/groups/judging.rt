@@ -14,8 +14,24 @@ pub struct Shown {
     pub frames: u64,
     /// Number of copies that queues without a sufficient capacity dropped as full.
     pub full: u64,
-    /// Number of facts that contradict a bound, a capacity or a promise.
-    pub refuted: u64,
+    /// Number of streams with a delay above their queue's bound.
+    pub late: u64,
+    /// Number of conforming talkers with a refused frame.
+    pub refused: u64,
+    /// Number of copies that queues with a sufficient capacity dropped as full.
+    pub dropped: u64,
+    /// Number of streams without a shared queue or a record.
+    pub missing: u64,
+}
+
+impl Shown {
+    /// Returns the number of facts that contradict a bound, a capacity or a promise.
+    pub fn refuted(&self) -> u64 {
+        self.late
+            .saturating_add(self.refused)
+            .saturating_add(self.dropped)
+            .saturating_add(self.missing)
+    }
 }
 
 /// Whether the queue's capacity is sufficient, so that it drops no copy as full.
@@ -34,6 +50,12 @@ fn member_queue<'a>(queues: &'a [SharedQueue], member: &Member) -> Option<&'a Sh
         }
     }
     None
+}
+
+/// Returns the record of a member's filter.
+fn member_view<'a>(outcome: &'a Outcome<Global>, member: &Member) -> Option<&'a View<Global>> {
+    let number = u32::try_from(member.filter()).ok()?;
+    filter_view(outcome, number)
 }
 
 /// Returns the greatest delay in ns of a filter's departures. They all leave by the egress port.
@@ -73,10 +95,10 @@ fn judge_member(queue: &SharedQueue, view: &View<Global>, conforms: bool, shown:
     let full = count_full(view);
     let refused = count_refused(view);
     shown.frames = shown.frames.saturating_add(view.origins.len() as u64);
-    add_if(&mut shown.refuted, queue.bound < greatest_delay(view));
-    add_if(&mut shown.refuted, conforms && refused > 0);
+    add_if(&mut shown.late, queue.bound < greatest_delay(view));
+    add_if(&mut shown.refused, conforms && refused > 0);
     if has_room(queue) {
-        shown.refuted = shown.refuted.saturating_add(full);
+        shown.dropped = shown.dropped.saturating_add(full);
     } else {
         shown.full = shown.full.saturating_add(full);
     }
@@ -92,13 +114,13 @@ pub fn judge(
     shown: &mut Shown,
 ) {
     for member in &shape.members {
-        let view = filter_view(outcome, member.filter() as u32);
+        let view = member_view(outcome, member);
         match (member_queue(queues, member), view) {
             (Some(queue), Some(view)) => {
                 let conforms = member.meter.is_some() && (is_calm || member.place == conforming);
                 judge_member(queue, view, conforms, shown);
             }
-            _ => add_if(&mut shown.refuted, true),
+            _ => add_if(&mut shown.missing, true),
         }
     }
 }
@@ -108,7 +130,7 @@ pub fn bound_share(queue: &SharedQueue, shape: &Shape, outcome: &Outcome<Global>
     let mut greatest = 0u64;
     for member in &shape.members {
         if member.group == u64::from(queue.group) {
-            if let Some(view) = filter_view(outcome, member.filter() as u32) {
+            if let Some(view) = member_view(outcome, member) {
                 greatest = greatest.max(greatest_delay(view));
             }
         }

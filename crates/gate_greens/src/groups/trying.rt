@@ -111,7 +111,7 @@ fn try_plan(
     if let Ok(accepted) = accepted_plan(alloc, alloc, tried.plan.as_bytes()) {
         tally.accepted = tally.accepted.saturating_add(1);
         let shown = run_accepted(alloc, numbers, shape, &accepted, tally)?;
-        tried.is_wrong = shown.refuted > 0;
+        tried.is_wrong = shown.refuted() > 0;
     }
     Ok(tried)
 }
@@ -170,6 +170,9 @@ fn count_plan(queues: &[SharedQueue], shares: &[u64], shown: Shown, tally: &mut 
     tally.shown = Shown {
         frames: tally.shown.frames.saturating_add(shown.frames),
         full: tally.shown.full.saturating_add(shown.full),
-        refuted: tally.shown.refuted.saturating_add(shown.refuted),
+        late: tally.shown.late.saturating_add(shown.late),
+        refused: tally.shown.refused.saturating_add(shown.refused),
+        dropped: tally.shown.dropped.saturating_add(shown.dropped),
+        missing: tally.shown.missing.saturating_add(shown.missing),
     };
 }

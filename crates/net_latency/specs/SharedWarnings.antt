@@ -1,0 +1,38 @@
+-- Warnings of the queues that groups share.
+use Rattle.std.specs.Prelude.{◌≡◌, ℕ, List, [], ◌++◌, Option, Some, None, flat_map, codes, decimal, if◌then◌else◌}
+use Rattle.bridge_config.specs.Model.{Plan}
+use Rattle.bridge_groups.specs.declared.shared_queues.SharedQueue.{SharedQueue}
+use Rattle.bridge_groups.specs.GroupRows.{AreSharedQueues}
+use Rattle.net_latency.specs.SharedLines.{is_lossy}
+
+-- The warning of a queue that only its capacity bounds.
+unfoldable pub unmetered_warning : SharedQueue → List ℕ
+unmetered_warning s =
+    codes "Warning: only the capacity bounds the delay of group " ++ (decimal s.group ++ (codes " at port " ++ (decimal s.port ++ (codes ", class " ++ (decimal s.class
+    ++ codes ". A filter has no meter, or the meters pass more than the windows carry. Give each filter a meter, or lower the rates.\n")))))
+
+-- The warning of a queue that may drop copies as full: no capacity is known to suffice, or its own is less than `room`.
+unfoldable pub lossy_words : Option ℕ → SharedQueue → List ℕ
+lossy_words None s =
+    codes "Warning: group " ++ (decimal s.group ++ (codes " may lose frames at port " ++ (decimal s.port ++ (codes ", class " ++ (decimal s.class
+    ++ codes ", because no capacity of the queue is known to suffice. Remove the `[[change]]`, or lower the rates of the meters.\n")))))
+lossy_words (Some room) s =
+    codes "Warning: group " ++ (decimal s.group ++ (codes " may lose frames at port " ++ (decimal s.port ++ (codes ", class " ++ (decimal s.class
+    ++ (codes ", because the queue holds only " ++ (decimal s.capacity ++ (codes " instead of " ++ (decimal room
+    ++ codes ". Raise `rooms`, or lower the rates of the meters.\n")))))))))
+
+-- The warning of a queue that may drop copies as full.
+abbrev pub lossy_warning : SharedQueue → List ℕ
+lossy_warning s = lossy_words s.room s
+
+-- The warning of a shared queue with the mark `unmetered` or `lossy`; empty for a queue without a mark.
+abbrev pub shared_warning : SharedQueue → List ℕ
+shared_warning s = if s.is_metered then (if is_lossy s.room s.capacity then lossy_warning s else []) else unmetered_warning s
+
+-- One warning for each marked queue.
+abbrev pub shared_warnings : List SharedQueue → List ℕ
+shared_warnings rows = flat_map shared_warning rows
+
+-- Holds if `text` has one warning for each marked queue of those that the plan's groups share, and nothing else.
+abbrev pub AreSharedWarnings : {A : Type 0} → Plan A → List ℕ → Type 0
+AreSharedWarnings p text = (shared : List SharedQueue) × AreSharedQueues p shared × (text ≡ shared_warnings shared)
