@@ -127,30 +127,22 @@ pub(crate) fn requested_run<'a>(
     }
 }
 
-/// Returns the flags that a request gives to its command.
-fn request_flags(request: &Request, is_watched: bool) -> Flags
-    ensures strict { result.is_strict ≡ request.now.is_strict }
-    ensures explained { result.is_explained ≡ request.now.is_explained }
-{
-    Flags {
-        is_strict: request.is_strict,
-        is_explained: request.is_explained,
-        is_watched,
-    }
-}
-
 /// Carries out the command of a request by the command's function. Keeps in `texts` what it reads.
 fn run_request<H: Input + AllocGlobal + Clock + Print + Eprint + Files>(
     rt: &H,
     request: &Request,
-    is_watched: bool,
+    watched: bool,
     texts: &mut Texts,
 ) -> Result<Output, Failure>
     requires { HasRoom request.now.job }
     ensures ok { IfOk result (PerformsRequest request.now) }
     ensures fails { IfErr result (FailsRequest request.now) }
 {
-    let flags = request_flags(request, is_watched);
+    let flags = Flags {
+        is_strict: request.is_strict,
+        is_explained: request.is_explained,
+        is_watched: watched,
+    };
     let mut files = CommandFiles::new(rt);
     match &request.job {
         Command::Text => send_text(rt),
@@ -159,14 +151,7 @@ fn run_request<H: Input + AllocGlobal + Clock + Print + Eprint + Files>(
             room,
             input,
             output,
-        } => send_capture(
-            rt,
-            *speed,
-            *room,
-            input.as_str(),
-            output.as_str(),
-            is_watched,
-        ),
+        } => send_capture(rt, *speed, *room, input.as_str(), output.as_str(), watched),
         Command::Check { plan } => check_plan(&mut files, plan.as_str(), flags, texts),
         Command::Run {
             plan,

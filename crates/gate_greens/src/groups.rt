@@ -29,7 +29,7 @@ pub fn run(alloc: Global, said: &mut TextBuilder<Global>) -> Result<bool, RunFau
 
 /// Whether nothing is refuted, and each kind occurred often enough.
 fn is_right(tally: &Tally) -> bool {
-    tally.shown.refuted() == 0
+    tally.shown.count_refuted() == 0
         && tally.accepted >= PLANS / 2
         && tally.metered >= PLANS / 4
         && tally.unmetered >= PLANS / 50

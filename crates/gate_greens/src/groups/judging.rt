@@ -26,7 +26,7 @@ pub struct Shown {
 
 impl Shown {
     /// Returns the number of facts that contradict a bound, a capacity or a promise.
-    pub fn refuted(&self) -> u64 {
+    pub fn count_refuted(&self) -> u64 {
         self.late
             .saturating_add(self.refused)
             .saturating_add(self.dropped)

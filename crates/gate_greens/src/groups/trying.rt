@@ -111,7 +111,7 @@ fn try_plan(
     if let Ok(accepted) = accepted_plan(alloc, alloc, tried.plan.as_bytes()) {
         tally.accepted = tally.accepted.saturating_add(1);
         let shown = run_accepted(alloc, numbers, shape, &accepted, tally)?;
-        tried.is_wrong = shown.refuted() > 0;
+        tried.is_wrong = shown.count_refuted() > 0;
     }
     Ok(tried)
 }
