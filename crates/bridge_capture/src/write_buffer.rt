@@ -136,13 +136,13 @@ impl<A: Allocator> WriteBuffer<A> {
     }
 }
 
-/// Fills a record with the octets of two numbers, little-endian, then `octets`.
+/// Fills the place of a record with the octets of two numbers, little-endian, then `octets`.
 #[inline(always)]
-fn fill_record(record: &mut [u8], first: u64, second: u64, octets: &[u8])
-    requires { length record.old ≡ 16 + length octets.now }
-    ensures { record.new ≡ (to_le_bytes w64 first ++ to_le_bytes w64 second) ++ octets.now }
+fn fill_record(place: &mut [u8], first: u64, second: u64, octets: &[u8])
+    requires { length place.old ≡ 16 + length octets.now }
+    ensures { place.new ≡ (to_le_bytes w64 first ++ to_le_bytes w64 second) ++ octets.now }
 {
-    let (words, rest) = record.split_at_mut(16);
+    let (words, rest) = place.split_at_mut(16);
     words[..8].copy_from_slice(&first.to_le_bytes());
     words[8..].copy_from_slice(&second.to_le_bytes());
     rest.copy_from_slice(octets);

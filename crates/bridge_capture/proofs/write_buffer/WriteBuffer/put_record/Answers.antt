@@ -15,9 +15,9 @@ returns-clause-octets g c =
     let within = h.within in
     let fits = c.requires in
     let size = ap length c.fill_record.ensures in
-    let wide : length c.fill_record.new.record ≡ m = omega (arith, size) in
+    let wide : length c.fill_record.new.place ≡ m = omega (arith, size) in
     let to = n + 16 + length c.args.octets.now in
-    let written = c.fill_record.new.record in
+    let written = c.fill_record.new.place in
     let put = put_mid n (to - n) all written in
     held_more n (to - n) m to h.octets.len all written (drop (length put) h.octets.items) (omega arith) (omega (arith, same, ok, within)) wide (omega (arith, fits, within, ok))
     ∙ ap (λ l. take n l ++ written) value
