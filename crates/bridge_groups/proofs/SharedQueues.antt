@@ -1,12 +1,12 @@
 -- The filters that share a queue of a group, their bounds and capacities.
-use Rattle.std.proofs.Common.{◌≡◌, ◌≤◌, ◌+◌, ◌-◌, ◌*◌, ◌⊎◌, ℕ, zero, suc, Bool, true, max, List, [], ◌∷◌, length, Option, Some, None, arith, refl, sym, ap, ◌∙◌, subst, inl, inr}
+use Rattle.std.proofs.Common.{◌≡◌, ◌≤◌, ◌+◌, ◌-◌, ◌*◌, ◌⊎◌, ℕ, zero, suc, Bool, true, false, max, List, [], ◌∷◌, length, Option, Some, None, arith, refl, sym, ap, ◌∙◌, subst, inl, inr}
 use Rattle.std.specs.Option.{ForSome}
 use Rattle.std.proofs.lemmas.Bool.{and_parts, cases_lt}
 use Rattle.bridge_limits.specs.Members.{IsMember}
 use Rattle.bridge_limits.proofs.Cases.{by_bool}
 use Rattle.bridge_limits.proofs.Members.{each_in}
 use Rattle.bridge_limits.proofs.Orders.{same_eq}
-use Rattle.std.specs.Prelude.{IfSome}
+use Rattle.std.specs.Prelude.{IfSome, is_some}
 use Rattle.bridge_cycle.specs.ChangingList.{Joined}
 use Rattle.bridge_cycle.specs.Cyclic.{Cyclic}
 use Rattle.bridge_cycle.specs.declared.gate_control_lists.Egress.{Egress}
@@ -35,6 +35,11 @@ use Rattle.bridge_work.proofs.NthFits.{nth_apart, nth_some}
 use Rattle.bridge_groups.specs.Curves.{AreSharers, sharers_curve, sharers_frame_limit}
 use Rattle.bridge_groups.specs.Sharers.{IsSharersCurve, are_metered, is_sharer, longest_sdu, queue_sharers, sdu_or_zero}
 use Rattle.bridge_groups.specs.SharedQueues.{IsListsBound, IsMeterBound, IsSharedBound, IsSharedRoom, IsSumOfBounds}
+
+-- A value that is known to be present, with its property.
+pub present : {P : ℕ → Type 0} (o : Option ℕ) (flag : Bool) → flag ≡ is_some o → flag ≡ true → IfSome o P → (b : ℕ) × P b
+present None flag is known h = let no : false ≡ true = sym is ∙ known in absurd (cc)
+present (Some b) flag is known h = (b, h)
 
 -- SHARERS
 

@@ -50,12 +50,14 @@ pub record IsSharedRoom {A : Type 0} (p : Plan A) (out : PortPlan A) (sharers : 
   pub metered : are_metered sharers ≡ true
   pub sufficient : IsSufficientRoom (lists_open out.list c) (transmission_time (longest_frame (longest_sdu sharers)) out.speed) (transmission_time 60 out.speed) (sharers_curve p sharers out.speed) (sharers_frame_limit p sharers) room
 
--- Holds if `s` describes a queue that its group shares: a bound of its delays, a capacity that suffices, and its own capacity.
+-- Holds if `s` describes a queue that its group shares: a bound of its delays, a capacity that suffices, and its own
+-- capacity. If `s` is metered, also the meters give a bound.
 pub record IsSharedQueue {A : Type 0} (p : Plan A) (s : SharedQueue) : Type 0 where
   pub out : PortPlan A
   pub at : find_port p.ports s.port ≡ Some out
   pub reached : IsGroupQueue p s.group s.port s.class
   pub bound : IsSharedBound p out (queue_sharers p s.group s.port s.class p.filters) s.class s.bound
+  pub metered : s.is_metered ≡ true → (b : ℕ) × IsMeterBound p out (queue_sharers p s.group s.port s.class p.filters) s.class b
   pub room : IfSome s.room (IsSharedRoom p out (queue_sharers p s.group s.port s.class p.filters) s.class)
   pub capacity : s.capacity ≡ (egress_rules out).room s.class
 

@@ -7,7 +7,7 @@ use Rattle.bridge_config.specs.Model.{Plan}
 use Rattle.bridge_check.specs.Windows.{longest_frame}
 use Rattle.bridge_groups.specs.Sharers.{longest_sdu, queue_sharers}
 use Rattle.bridge_groups.specs.SharedQueues.{IsMeterBound, IsSharedRoom}
-use Rattle.bridge_groups.proofs.SharedQueues.{few_sharers, shared_bound_is, sharers_fit, sharers_small}
+use Rattle.bridge_groups.proofs.SharedQueues.{few_sharers, present, shared_bound_is, sharers_fit, sharers_small}
 use Rattle.bridge_groups.proofs.shared_queues.shared_queue.Goals as goal
 
 pub class_bound-by_room-requires-clause-sdu : goal.class_bound-by_room-requires-clause-sdu
@@ -73,6 +73,7 @@ returns g c =
         at = c.requires.port;
         reached = c.requires.reached;
         bound = shared_bound_is p out (queue_sharers p c.args.group q c.args.class p.filters) c.args.class c.longest_sdu-sdu.result c.lesser_bound.result c.class_bound-by_room.result figures.bound sdu bound c.class_bound-by_room.ensures c.lesser_bound.ensures;
+        metered = λ known. present figures.bound c.is_some.result c.is_some.ensures known bound;
         room = room;
         capacity = refl;
       };
