@@ -295,16 +295,16 @@ const BOUNDS: Description = Description {
             id: "traffic",
             value: "FILE",
             form: Form::Choice,
-            help: "file of periodic talkers (TOML, at most 1,048,576 octets)",
+            help: "file of talkers (TOML, at most 1,048,576 octets)",
         },
         STRICT,
         EXPLAIN,
     ],
     reason: OPTIONS_ALONE,
     after: "\
-Prints a line for each queue of each protected filter. The bound is the longest time in ns from a
-frame's arrival to the end of its transmission and gap, whatever any device sends. With --traffic, the
-program also prints the worst and the best time of each periodic talker.
+Prints a line for each queue of each protected filter, and for each queue that a group shares. The
+bound is the longest time in ns from a frame's arrival to the end of its transmission and gap, whatever
+any device sends. With --traffic, the program also prints the worst and the best time of each talker.
 
 Example:
   tsnbridge bounds examples/base.toml
@@ -312,7 +312,7 @@ Example:
 Statuses:
   0  the plan is accepted, and all traffic passes in time
   1  the plan or the traffic is refused, or a frame may be refused, late or forwarded nowhere; with
-     --strict also if no filter is protected
+     --strict also if no filter is protected or grouped, or a shared queue is marked
   3  a file can't be opened, read or written, or memory is exhausted
   4  bad arguments",
 };

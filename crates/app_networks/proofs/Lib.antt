@@ -7,6 +7,7 @@ pub mod Within
 pub mod Told
 pub mod Views
 pub mod Lengths
+pub mod PrintedBounds
 pub mod Ended
 pub mod Rows
 pub mod Unchanged

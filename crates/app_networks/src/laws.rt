@@ -11,8 +11,9 @@ ghost use Rattle.bridge_config.specs.Rules.{IsPlan, find_port};
 ghost use Rattle.bridge_check.specs.Acceptable.{IsAcceptable};
 ghost use Rattle.bridge_semantics.specs.Offers.{CarriedFrame};
 ghost use Rattle.bridge_bounds.specs.Bounds.{IsTightBound};
+ghost use Rattle.bridge_groups.specs.Curves.{HasNoRunts};
 ghost use Rattle.bridge_core.specs.WholeRuns.{IsWholeRun};
-ghost use Rattle.bridge_semantics.specs.Merge.{Input};
+ghost use Rattle.bridge_semantics.specs.Merge.{Input, input_events};
 ghost use Rattle.bridge_semantics.specs.declared.outcome.Departure.{Departure};
 ghost use Rattle.bridge_semantics.specs.declared.outcome.Outcome.{Outcome};
 ghost use Rattle.net_file.specs.Model.{Stream};
@@ -22,6 +23,7 @@ ghost use Rattle.net_model.specs.Faults.{first_fault};
 ghost use Rattle.net_model.specs.NetworkParts.{NetworkParts, network_value};
 ghost use Rattle.net_model.specs.declared.links.Link.{Link};
 ghost use Rattle.net_check.specs.Networks.{IsNetworkOfFile};
+ghost use Rattle.net_latency.specs.Bounds.{IsLeastBound, IsPaddedBound};
 ghost use Rattle.net_latency.specs.Streams.{AreQueueBoundsOfPlans, stream_bound};
 ghost use Rattle.net_latency.specs.declared.bounds.QueueBound.{QueueBound};
 ghost use Rattle.net_run.specs.Rounds.{AreOutcomes, RunsNetwork};
@@ -125,5 +127,35 @@ pub fn read_in_time_by_octets<A: Allocator + Copy, W>()
         → x.item.flow ≡ Some n
         → x.fate ≡ Started s
         → IsTightBound p n q x.class b
+        → s + transmission_time x.item.len out.speed ≤ x.at + b }
+{}
+
+/// In a complete run of one bridge over captures, each frame leaves within its queue's printed bound (`bound`).
+///
+/// If all frames have at least 60 octets, they leave within the bound after the word `padded` (`padded`).
+pub fn read_in_printed_time<A: Allocator + Copy, W>()
+    ensures bound { (p : Plan A) (ports : List ℕ) (commands : List Command) (texts : ℕ → List ℕ) (contents : W
+        → Option (List ℕ))
+        (olds news : List W) (o : Outcome A) (n q s b : ℕ) (out : PortPlan A) (x : Copy CarriedFrame)
+        → (ran : IsWholeRun p ports commands texts contents olds news o)
+        → IsPlan p
+        → IsAcceptable p
+        → find_port p.ports q ≡ Some out
+        → IsMember x (ran.ends.lists q)
+        → x.item.flow ≡ Some n
+        → x.fate ≡ Started s
+        → IsLeastBound p n q x.class b
+        → s + transmission_time x.item.len out.speed ≤ x.at + b }
+    ensures padded { (p : Plan A) (ports : List ℕ) (commands : List Command) (texts : ℕ → List ℕ) (contents : W
+        → Option (List ℕ))
+        (olds news : List W) (o : Outcome A) (n q s a b : ℕ) (out : PortPlan A) (x : Copy CarriedFrame)
+        → (ran : IsWholeRun p ports commands texts contents olds news o)
+        → IsPlan p
+        → IsAcceptable p
+        → find_port p.ports q ≡ Some out
+        → IsMember x (ran.ends.lists q)
+        → x.fate ≡ Started s
+        → HasNoRunts (input_events ran.inputs)
+        → IsPaddedBound p n q x.class a b
         → s + transmission_time x.item.len out.speed ≤ x.at + b }
 {}

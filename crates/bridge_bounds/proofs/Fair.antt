@@ -1,7 +1,6 @@
 -- A schedule that passes each frame of a traffic, in every period.
-use Rattle.std.proofs.Common.{◌≡◌, ℕ, Bool, true, false, ◌<◌, ◌≤◌, ◌+◌, ◌-◌, ◌*◌, ◌/◌, ◌%◌, min, Option, None, Some, arith, ap, refl, sym, subst, ◌∙◌, inl, inr}
-use Rattle.std.specs.Prelude.{nat_eq, nat_le}
-use Rattle.std.proofs.lemmas.Bool.{and_parts, cases_lt, eqb-true, false≢true}
+use Rattle.std.proofs.Common.{◌≡◌, ℕ, true, ◌<◌, ◌≤◌, ◌+◌, ◌-◌, ◌*◌, ◌/◌, ◌%◌, min, Option, None, Some, arith, ap, refl, sym, subst, ◌∙◌, inl, inr}
+use Rattle.std.proofs.lemmas.Bool.{and_parts, cases_lt, eqb-true}
 use Rattle.std.proofs.lemmas.Bool.Decides.{nat_tests}
 use Rattle.std.proofs.lemmas.Option.{same_Some}
 use Rattle.bridge_cycle.specs.Cyclic as cyclic
@@ -14,11 +13,10 @@ use Rattle.bridge_gate.specs.declared.schedule.GateEntry.{GateEntry}
 use Rattle.bridge_gate.specs.declared.schedule.Schedule.{Schedule}
 use Rattle.bridge_gate.specs.declared.schedule.Schedule.TheVariants.{Cyclic, Fixed, Joined}
 use Rattle.bridge_gate.specs.Schedules.{IsLawful, turn_by_time}
-use Rattle.bridge_gate.proofs.ScheduleLaws.{IsOrdered, ordered}
 use Rattle.bridge_bounds.proofs.Cycles.{turn_later}
 use Rattle.bridge_bounds.specs.Latency.{IsMultiple}
 use Rattle.bridge_bounds.specs.declared.traffic.Traffic.{Traffic}
-use Rattle.bridge_bounds.specs.Passing.{CanPassSchedule, CanPassList, allows, is_limit_reset_in_time, can_pass_entry}
+use Rattle.bridge_bounds.specs.Passing.{CanPassSchedule, CanPassList, allows, is_limit_reset_in_time}
 use Rattle.bridge_bounds.specs.Traffic.{IsTraffic}
 
 -- The interval passes one frame, and its octet limit, if any, ends by time `until`.

@@ -8,10 +8,16 @@ pub mod Cycles
 pub mod Apart
 pub mod Bursts
 pub mod Edges
+pub mod Between
+pub mod Windows
+pub mod CommonCycles
+pub mod Opened
 pub mod Changed
 pub mod Lists
 pub mod Rounds
 pub mod Reached
+pub mod Filled
+pub mod Gated
 pub mod Whole
 pub mod Paced
 pub mod Periods

@@ -1,5 +1,5 @@
 -- The longest time under one list, and under both lists of a schedule change.
-use Rattle.std.proofs.Common.{◌≡◌, ℕ, Bool, true, ◌<◌, ◌≤◌, ◌+◌, ◌-◌, ◌*◌, max, Some, arith, refl, sym, subst, ap, ◌∙◌, inl, inr}
+use Rattle.std.proofs.Common.{◌≡◌, ℕ, Bool, true, ◌<◌, ◌≤◌, ◌+◌, ◌-◌, ◌*◌, max, min, Some, arith, refl, sym, subst, ap, ◌∙◌, inl, inr}
 use Rattle.std.proofs.lemmas.Bool.{cases_lt}
 use Rattle.bridge_cycle.specs.Cyclic.{Cyclic, IsLawful, turn_by_time}
 use Rattle.bridge_cycle.specs.CyclicLaws.{cyclic_turn_is_exact}
@@ -17,6 +17,7 @@ use Rattle.bridge_port.proofs.Opening.{ever_soon, list_ever_is, list_soon}
 use Rattle.bridge_config.specs.declared.ports.PortPlan.{PortPlan}
 use Rattle.bridge_check.specs.Windows.{longest_frame}
 use Rattle.bridge_bounds.specs.Bounds.{FramesEnd, IsTimeAttained, IsFramesBound, IsEdge, IsLeastTime, IsLongestTime}
+use Rattle.bridge_bounds.specs.Intervals.{IsLongestAfterEdges}
 use Rattle.bridge_bounds.proofs.Steps.{ends_open, ends_once, ends_some}
 use Rattle.bridge_bounds.proofs.Edges.{first_some, IsCovered, no_longer}
 use Rattle.bridge_bounds.proofs.Changed.{longest_over}
@@ -25,22 +26,22 @@ use Rattle.bridge_bounds.proofs.Changed.{longest_over}
 abbrev pub TakeAtMost : (ℕ → Bool) → ℕ → ℕ → ℕ → ℕ → Type 0
 TakeAtMost opens occ room d v = (z : ℕ) → FramesEnd opens occ room v z → z ≤ v + d
 
--- The longest time among all times up to the last interval that the search has covered.
-pub record IsTried (opens : ℕ → Bool) (occ room seen d : ℕ) : Type 0 where
-  pub begun : occ ≤ seen
-  pub near : seen ≤ occ + 2 * LONGEST_CYCLE
-  pub start : TakeAtMost opens occ room d 0
-  pub edges : (c : ℕ) → 1 ≤ c → c + occ ≤ seen → IsEdge opens occ c → TakeAtMost opens occ room d (c + 1)
-  pub attained : IsTimeAttained opens occ room d
+-- The longest time of the search between two times, up to the last interval that it has covered.
+pub record IsTried (opens : ℕ → Bool) (occ room from to seen d : ℕ) : Type 0 where
+  pub begun : from + (occ - 1) ≤ seen
+  pub near : seen ≤ to + (occ - 1) + LONGEST_CYCLE
+  pub start : TakeAtMost opens occ room d from
+  pub edges : (c : ℕ) → from ≤ c → c < to → c + occ ≤ seen → IsEdge opens occ c → TakeAtMost opens occ room d (c + 1)
+  pub attained : (u : ℕ) × (from ≤ u) × (u ≤ to) × FramesEnd opens occ room u (u + d)
   pub bounded : d ≤ room * (2 * LONGEST_CYCLE)
 
-pub tried_begin : (opens : ℕ → Bool) (occ room d : ℕ) → FramesEnd opens occ room 0 (0 + d) → d ≤ room * (2 * LONGEST_CYCLE) → IsTried opens occ room occ d
-tried_begin opens occ room d e soon = record {
+pub tried_begin : (opens : ℕ → Bool) (occ room from to d : ℕ) → 1 ≤ occ → from ≤ to → FramesEnd opens occ room from (from + d) → d ≤ room * (2 * LONGEST_CYCLE) → IsTried opens occ room from to (from + (occ - 1)) d
+tried_begin opens occ room from to d some times e soon = record {
   begun = omega arith;
-  near = omega arith;
-  start = λ z f. let same = ends_once opens occ room 0 z (0 + d) f e in omega (arith, same);
-  edges = λ c p q. absurd (omega (arith, p, q));
-  attained = (0, e);
+  near = omega (arith, times);
+  start = λ z f. let same = ends_once opens occ room from z (from + d) f e in omega (arith, same);
+  edges = λ c p q r. absurd (omega (arith, p, r, some));
+  attained = (from, omega arith, times, e);
   bounded = omega (arith, soon);
 }
 
@@ -53,19 +54,19 @@ none_inside opens occ c seen end some a b same edge =
       | inr l ↦ same u (omega (arith, l, a)) (omega (arith, q, b)) ∙ begun
     ])
 
--- One interval more, whose end has no edge.
-pub tried_past : (opens : ℕ → Bool) (occ room seen end d : ℕ) → IsTried opens occ room seen d → 1 ≤ occ → seen < end → end ≤ occ + 2 * LONGEST_CYCLE → ((u : ℕ) → seen ≤ u → u < end → opens u ≡ opens seen) → ¬ IsEdge opens occ (end - occ) → IsTried opens occ room end d
-tried_past opens occ room seen end d t some on near same none =
+-- One interval more, without an edge at its end.
+pub tried_past : (opens : ℕ → Bool) (occ room from to seen end d : ℕ) → IsTried opens occ room from to seen d → 1 ≤ occ → seen < to + (occ - 1) → seen < end → end ≤ seen + LONGEST_CYCLE → ((u : ℕ) → seen ≤ u → u < end → opens u ≡ opens seen) → ¬ IsEdge opens occ (min end (to + (occ - 1)) - occ) → IsTried opens occ room from to end d
+tried_past opens occ room from to seen end d t some short on soon same none =
     let begun = t.begun in
     record {
       begun = omega (arith, begun, on);
-      near = near;
+      near = omega (arith, soon, short);
       start = t.start;
-      edges = λ c p q edge. elim (cases_lt seen (c + occ)) [
-        | inr l ↦ t.edges c p l edge
+      edges = λ c p q r edge. elim (cases_lt seen (c + occ)) [
+        | inr l ↦ t.edges c p q l edge
         | inl l ↦ elim (cases_lt (c + occ) end) [
           | inl m ↦ absurd (none_inside opens occ c seen end some l m same edge)
-          | inr m ↦ let here : c ≡ end - occ = omega (arith, m, q) in absurd (none (subst (IsEdge opens occ) here edge))
+          | inr m ↦ let here : c ≡ min end (to + (occ - 1)) - occ = omega (arith, m, r, q, some) in absurd (none (subst (IsEdge opens occ) here edge))
         ]
       ];
       attained = t.attained;
@@ -76,46 +77,56 @@ tried_past opens occ room seen end d t some on near same none =
 longer : (opens : ℕ → Bool) (occ room d e v : ℕ) → d ≤ e → TakeAtMost opens occ room d v → TakeAtMost opens occ room e v
 longer opens occ room d e v h t z f = let before = t z f in omega (arith, before, h)
 
-attained_by : (opens : ℕ → Bool) (occ room d e u : ℕ) → IsTimeAttained opens occ room d → FramesEnd opens occ room u (u + e) → IsTimeAttained opens occ room (max e d)
-attained_by opens occ room d e u a b = elim (cases_lt d e) [
-  | inl l ↦ let is : e ≡ max e d = omega (arith, l) in subst (IsTimeAttained opens occ room) is (u, b)
-  | inr l ↦ let is : d ≡ max e d = omega (arith, l) in subst (IsTimeAttained opens occ room) is a
+-- The greater of two attained times is attained.
+pub attained_by : (opens : ℕ → Bool) (occ room from to d e u : ℕ) → ((v : ℕ) × (from ≤ v) × (v ≤ to) × FramesEnd opens occ room v (v + d)) → from ≤ u → u ≤ to → FramesEnd opens occ room u (u + e) → (v : ℕ) × (from ≤ v) × (v ≤ to) × FramesEnd opens occ room v (v + max e d)
+attained_by opens occ room from to d e u (v, p, q, a) after before b = elim (cases_lt d e) [
+  | inl l ↦ let is : u + e ≡ u + max e d = omega (arith, l) in (u, after, before, subst (FramesEnd opens occ room u) is b)
+  | inr l ↦ let is : v + d ≡ v + max e d = omega (arith, l) in (v, p, q, subst (FramesEnd opens occ room v) is a)
 ]
 
--- One interval more, whose end has an edge.
-pub tried_edge : (opens : ℕ → Bool) (occ room seen end d e : ℕ) → IsTried opens occ room seen d → 1 ≤ occ → seen < end → end ≤ occ + 2 * LONGEST_CYCLE → ((u : ℕ) → seen ≤ u → u < end → opens u ≡ opens seen) → FramesEnd opens occ room (end - occ + 1) (end - occ + 1 + e) → e ≤ room * (2 * LONGEST_CYCLE) → IsTried opens occ room end (max e d)
-tried_edge opens occ room seen end d e t some on near same ends soon =
+-- One interval more, with an edge at its end.
+pub tried_edge : (opens : ℕ → Bool) (occ room from to seen end d e : ℕ) → IsTried opens occ room from to seen d → 1 ≤ occ → seen < to + (occ - 1) → seen < end → end ≤ seen + LONGEST_CYCLE → ((u : ℕ) → seen ≤ u → u < end → opens u ≡ opens seen) → FramesEnd opens occ room (min end (to + (occ - 1)) - occ + 1) (min end (to + (occ - 1)) - occ + 1 + e) → e ≤ room * (2 * LONGEST_CYCLE) → IsTried opens occ room from to end (max e d)
+tried_edge opens occ room from to seen end d e t some short on soon same ends few =
     let begun = t.begun in
     let bounded = t.bounded in
+    let last : ℕ = min end (to + (occ - 1)) - occ in
     record {
       begun = omega (arith, begun, on);
-      near = near;
-      start = longer opens occ room d (max e d) 0 (omega arith) t.start;
-      edges = λ c p q edge. elim (cases_lt seen (c + occ)) [
-        | inr l ↦ longer opens occ room d (max e d) (c + 1) (omega arith) (t.edges c p l edge)
+      near = omega (arith, soon, short);
+      start = longer opens occ room d (max e d) from (omega arith) t.start;
+      edges = λ c p q r edge. elim (cases_lt seen (c + occ)) [
+        | inr l ↦ longer opens occ room d (max e d) (c + 1) (omega arith) (t.edges c p q l edge)
         | inl l ↦ elim (cases_lt (c + occ) end) [
           | inl m ↦ absurd (none_inside opens occ c seen end some l m same edge)
           | inr m ↦
-              let here : end - occ + 1 ≡ c + 1 = omega (arith, m, q, begun, on) in
+              let here : last + 1 ≡ c + 1 = omega (arith, m, r, q, some) in
               λ z f.
-              let own : FramesEnd opens occ room (end - occ + 1) z = subst (λ (i : ℕ). FramesEnd opens occ room i z) (sym here) f in
-              let is = ends_once opens occ room (end - occ + 1) z (end - occ + 1 + e) own ends in
+              let own : FramesEnd opens occ room (last + 1) z = subst (λ (i : ℕ). FramesEnd opens occ room i z) (sym here) f in
+              let is = ends_once opens occ room (last + 1) z (last + 1 + e) own ends in
               omega (arith, is, here)
         ]
       ];
-      attained = attained_by opens occ room d e (end - occ + 1) t.attained ends;
-      bounded = omega (arith, soon, bounded);
+      attained = attained_by opens occ room from to d e (last + 1) t.attained (omega (arith, begun, on, short, some)) (omega (arith, short, begun, some)) ends;
+      bounded = omega (arith, few, bounded);
     }
 
 -- Each time of a list has a first fit.
-list_firsts : (l : Cyclic ℕ) (class occ u : ℕ) → IsLawful l → list_can_fit l class occ ≡ true → (s : ℕ) × IsFirstFit (list_opens l class) occ u s
+pub list_firsts : (l : Cyclic ℕ) (class occ u : ℕ) → IsLawful l → list_can_fit l class occ ≡ true → (s : ℕ) × IsFirstFit (list_opens l class) occ u s
 list_firsts l class occ u lawful can =
     let near = list_soon l class occ u lawful can in
     first_some (list_opens l class) occ u near.0 near.1 near.3
 
--- The search has covered one whole cycle.
-pub tried_all : (l : Cyclic ℕ) (class occ room seen d : ℕ) → IsLawful l → list_can_fit l class occ ≡ true → IsTried (list_opens l class) occ room seen d → occ + l.cycle ≤ seen → IsLongestTime (list_opens l class) occ room d
-tried_all l class occ room seen d lawful can t all u =
+-- The search has covered all times.
+pub tried_all : (opens : ℕ → Bool) (occ room from to seen d : ℕ) → IsTried opens occ room from to seen d → to + (occ - 1) ≤ seen → 1 ≤ occ → IsLongestAfterEdges opens occ room from to d
+tried_all opens occ room from to seen d t all some = record {
+  start = t.start;
+  edges = λ c v p q edge e. t.edges c p q (omega (arith, q, all, some)) edge v e;
+  attained = t.attained;
+}
+
+-- If the search has covered one cycle, its longest time is the longest of all times.
+pub cycle_longest : (l : Cyclic ℕ) (class occ room d : ℕ) → IsLawful l → list_can_fit l class occ ≡ true → IsLongestAfterEdges (list_opens l class) occ room 0 (l.cycle + 1) d → IsLongestTime (list_opens l class) occ room d
+cycle_longest l class occ room d lawful can t u =
     let opens = list_opens l class in
     let (fit, fits) = (list_ever_is l class occ lawful).0 can in
     let covered : IsCovered opens l.cycle occ (TakeAtMost opens occ room d) = record {
@@ -125,7 +136,7 @@ tried_all l class occ room seen d lawful can t all u =
       fits = fits;
       start = 0;
       serves = t.start;
-      edges = λ c p q edge. t.edges c p (omega (arith, q, all)) edge;
+      edges = λ c p q edge z e. t.edges c z (omega arith) (omega (arith, q)) edge e;
     } in
     let (v, most, shorter) = no_longer opens l.cycle occ (TakeAtMost opens occ room d) room u covered in
     let (y, ends) = ends_some opens occ room u (λ w. list_firsts l class occ w lawful can) in

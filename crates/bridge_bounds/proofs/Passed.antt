@@ -186,20 +186,20 @@ rises_by : (b : Bool) (a c : ℕ) → a ≤ c → cond b (a - 16) (a - 12) ≤ c
 rises_by true a c h = omega (arith, h)
 rises_by false a c h = omega (arith, h)
 
-octets_rise : {A : Type 0} (p : Plan A) (o : Option ℕ) (a c : ℕ) → a ≤ c → longest_sdu p o a ≤ longest_sdu p o c
+pub octets_rise : {A : Type 0} (p : Plan A) (o : Option ℕ) (a c : ℕ) → a ≤ c → longest_sdu p o a ≤ longest_sdu p o c
 octets_rise p None a c h = omega (arith, h)
 octets_rise p (Some k) a c h = rises_by (are_all_tagged k p.streams) a c h
 
 -- The filter's input for one of its frames.
-record IsSeen {A : Type 0} (p : Plan A) (f : FilterPlan) (a : Arrival) (c : FilterInput) : Type 0 where
-  at : c.at ≡ a.at
-  few : c.sdu ≤ longest_sdu p f.handle a.len
+pub record IsSeen {A : Type 0} (p : Plan A) (f : FilterPlan) (a : Arrival) (c : FilterInput) : Type 0 where
+  pub at : c.at ≡ a.at
+  pub few : c.sdu ≤ longest_sdu p f.handle a.len
 
 few_by : {A : Type 0} (p : Plan A) (f : FilterPlan) (on vid len : ℕ) (octets : List ℕ) (x : Head) (o handle : Option ℕ) → parsed_head octets len ≡ Ok x → first_handle p.streams on x vid ≡ handle → ((h : ℕ) → o ≡ Some h → handle ≡ Some h) → x.sdu ≤ longest_sdu p o len
 few_by p f on vid len octets x None handle is found asks = let r = read octets len x is in let sdu = r.sdu in let most = at_most (is_tagged octets) len in omega (arith, sdu, most)
 few_by p f on vid len octets x (Some h) handle is found asks = few_for p on vid h len octets x is (found ∙ asks h refl)
 
-seen_by : {A : Type 0} (p : Plan A) (n : ℕ) (f : FilterPlan) (a : Arrival) (c : FilterInput) (w : Destination) → frame_destination p a ≡ w → destination_input w ≡ Some c → frame_filter p.filters c ≡ Some (n, f) → IsSeen p f a c
+pub seen_by : {A : Type 0} (p : Plan A) (n : ℕ) (f : FilterPlan) (a : Arrival) (c : FilterInput) (w : Destination) → frame_destination p a ≡ w → destination_input w ≡ Some c → frame_filter p.filters c ≡ Some (n, f) → IsSeen p f a c
 seen_by p n f a c way.Malformed w h fl = absurd (cc)
 seen_by p n f a c way.Nowhere w h fl = absurd (cc)
 seen_by p n f a c (way.Forwarded set made) w h fl =

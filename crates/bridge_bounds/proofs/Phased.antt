@@ -1,5 +1,5 @@
 -- First fits and waits of one period hold at equal phases of every other period.
-use Rattle.std.proofs.Common.{◌≡◌, ℕ, Bool, true, false, ◌≤◌, ◌+◌, ◌-◌, ◌*◌, ◌/◌, ◌%◌, min, arith, refl, sym, subst, inl, inr}
+use Rattle.std.proofs.Common.{◌≡◌, ℕ, Bool, true, ◌≤◌, ◌+◌, ◌-◌, ◌*◌, ◌/◌, ◌%◌, min, arith, refl, sym, subst, inl, inr}
 use Rattle.std.proofs.lemmas.Bool.{cases_lt, eqb-true, false≢true}
 use Rattle.bridge_cycle.specs.Fits.{Fits, IsFirstFit, IsPeriodic}
 use Rattle.bridge_cycle.proofs.Lists.{list_repeats}
@@ -10,8 +10,7 @@ use Rattle.bridge_frame.specs.Link.{transmission_time}
 use Rattle.bridge_port.specs.GateSchedule.{Always, Changing, HasLawfulLists, One, GateSchedule, can_fit, list_opens, opens}
 use Rattle.bridge_port.proofs.Opening.{ever_soon, exchanged_ever_is, list_ever_is}
 use Rattle.bridge_bounds.proofs.Edges.{first_some, first_up}
-use Rattle.bridge_bounds.proofs.Sizes.{occupied_rises}
-use Rattle.bridge_bounds.specs.Bounds.{FramesEnd, IsLongestTime}
+use Rattle.bridge_bounds.specs.Bounds.{IsLongestTime}
 use Rattle.bridge_bounds.proofs.Steps.{ends_fewer, first_rises}
 use Rattle.bridge_bounds.specs.Latency.{IsMultiple}
 use Rattle.bridge_bounds.specs.Waits.{IsLongestWait, IsShortestWait, has_period}

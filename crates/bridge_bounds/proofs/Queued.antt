@@ -1,5 +1,5 @@
 -- Delays of copies in a queue alone on its link.
-use Rattle.std.proofs.Common.{◌≡◌, ◌<◌, ◌≤◌, ◌+◌, ◌-◌, ℕ, zero, suc, true, false, max, List, [], ◌∷◌, arith, refl, sym, subst, inl, inr}
+use Rattle.std.proofs.Common.{◌≡◌, ◌<◌, ◌≤◌, ◌+◌, ◌-◌, ℕ, zero, suc, Bool, true, false, max, List, [], ◌∷◌, arith, refl, sym, subst, inl, inr}
 use Rattle.std.proofs.Math.Bool.{and-false}
 use Rattle.std.proofs.lemmas.Bool.{cases_lt, eq-eqb}
 use Rattle.std.proofs.lemmas.Bool.Decides.{nat_tests}
@@ -9,7 +9,7 @@ use Rattle.bridge_cycle.specs.Fits.{IsFirstFit}
 use Rattle.bridge_port.specs.Schedule.{Copy, Fate, Never, Full, Queued, Started, PortRules, AreOffersInOrder, count_waiting, is_waiting}
 use Rattle.bridge_port.specs.Solo.{IsSolo, IsSoloFate, done_time_or, last_done_time}
 use Rattle.bridge_port.proofs.Laws.{offered_later}
-use Rattle.bridge_bounds.specs.Bounds.{HaveShortFrames, FramesEnd, IsLongestTime}
+use Rattle.bridge_bounds.specs.Bounds.{HaveShortFrames, FramesEnd, IsLongestTime, IsLongestTimeFrom}
 use Rattle.bridge_bounds.proofs.Steps.{ends_after, ends_fewer, first_rises}
 
 -- The ends of transmission of the copies before one.
@@ -92,4 +92,25 @@ each_in_time {X} r c occ d s h x xs some longest solo short order i started =
     let done = each_of_newest r c occ ((occ - 1) + d) s h (λ (ys : List (Copy X)). Unit {0}) x xs (λ y ys p. tt)
     (λ y ys p own few upto begun. let done = in_time r c occ d s y ys some longest own few upto begun in omega (arith, done))
     tt solo short order i started in
+    omega (arith, done)
+
+-- If the last of `room` longest frames that wait from `occ` - 1 ns after the offer ends by `b`, a sent copy has left by then.
+pub done_before : {X : Type 0} (r : PortRules X) (c occ s v : ℕ) (x : Copy X) (xs : List (Copy X)) → 1 ≤ occ → FramesEnd (r.opens c) occ (r.room c) (x.at + (occ - 1)) v → IsSolo r (x ∷ xs) → HaveShortFrames r c occ (x ∷ xs) → AreOffersInOrder x.at xs → x.fate ≡ Started s → s + r.occ x.item ≤ v
+done_before r c occ s v x xs some all solo short order started =
+    let (class, own) = short x (inl refl) in
+    let fate : IsSoloFate r x xs (Started s) = subst (IsSoloFate r x xs) started solo.0 in
+    let few : count_waiting c x.at xs < r.room c = subst (λ (i : ℕ). count_waiting i x.at xs < r.room i) class fate.1 in
+    let u : ℕ = x.at + (occ - 1) in
+    let before = all_done r c occ x.at u xs (omega arith) (omega (arith, some)) solo.1 (λ y i. short y (inr i)) order in
+    let (z, ends, early) = ends_fewer (r.opens c) occ (1 + count_waiting c x.at xs) (r.room c) u v (omega (arith, few)) all in
+    let start = done_late r c occ x.at u s (1 + count_waiting c x.at xs) z x xs class own (omega arith) before fate.2 refl ends in
+    omega (arith, start, early, own)
+
+-- If `lets` is true at each offer, each copy of a queue alone on its link leaves within the longest time from such times.
+pub each_from_openings : {X : Type 0} (r : PortRules X) (lets : ℕ → Bool) (c occ d s h : ℕ) (x : Copy X) (xs : List (Copy X)) → 1 ≤ occ → IsLongestTimeFrom lets (r.opens c) occ (occ - 1) (r.room c) d → ((y : Copy X) → IsMember y xs → lets y.at ≡ true) → IsSolo r xs → HaveShortFrames r c occ xs → AreOffersInOrder h xs → IsMember x xs → x.fate ≡ Started s → s + r.occ x.item ≤ x.at + (occ - 1) + d
+each_from_openings {X} r lets c occ d s h x xs some longest offered solo short order i started =
+    let done = each_of_newest r c occ ((occ - 1) + d) s h (λ (ys : List (Copy X)). (y : Copy X) → IsMember y ys → lets y.at ≡ true) x xs
+    (λ y ys p z j. p z (inr j))
+    (λ y ys p own few upto begun. let (v, ends, early) = longest y.at (p y (inl refl)) in let done = done_before r c occ s v y ys some ends own few upto begun in omega (arith, done, early))
+    offered solo short order i started in
     omega (arith, done)

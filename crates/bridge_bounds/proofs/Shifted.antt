@@ -1,11 +1,9 @@
 -- If the intervals of one cycle of a list pass each frame, the intervals of all cycles do.
-use Rattle.std.proofs.Common.{◌≡◌, ℕ, Bool, Option, true, ◌<◌, ◌≤◌, ◌+◌, ◌-◌, ◌*◌, ◌/◌, ◌%◌, min, Some, arith, ap, refl, sym, subst, ◌∙◌, inl, inr}
-use Rattle.std.proofs.Math.Nat.{mod-lt}
+use Rattle.std.proofs.Common.{◌≡◌, ℕ, Option, true, ◌<◌, ◌≤◌, ◌+◌, ◌*◌, min, Some, arith, sym, subst, ◌∙◌, inl, inr}
 use Rattle.std.proofs.lemmas.Bool.{cases_lt}
-use Rattle.std.proofs.lemmas.Nat.{mod-mul-add}
 use Rattle.std.proofs.lemmas.Option.{same_Some}
-use Rattle.bridge_cycle.specs.Cyclic.{Cyclic, IsLawful, EntryInterval, phase, entry_interval, turn_by_time, interval_turn}
-use Rattle.bridge_cycle.specs.CyclicLaws.{cyclic_turn_exists, turn_back, cyclic_turn_is_exact}
+use Rattle.bridge_cycle.specs.Cyclic.{Cyclic, IsLawful, turn_by_time}
+use Rattle.bridge_cycle.specs.CyclicLaws.{cyclic_turn_exists, cyclic_turn_is_exact}
 use Rattle.bridge_cycle.proofs.Turns.{same_to_end}
 use Rattle.bridge_cycle.specs.declared.timeline.Turn.{Turn}
 use Rattle.bridge_gate.specs.declared.schedule.GateEntry.{GateEntry}

@@ -1,9 +1,11 @@
 -- Delay bounds of a queue, for frames that leave one after another.
-use Rattle.std.specs.Prelude.{◌∷◌, ◌≡◌, ℕ, zero, suc, Bool, true, false, ◌+◌, ◌-◌, ◌≤◌, ◌⊎◌, min, nat_eq, List, MatchOption, Some}
+use Rattle.std.specs.Prelude.{◌∷◌, ◌≡◌, ℕ, zero, suc, Bool, true, false, ◌+◌, ◌-◌, ◌≤◌, ◌⊎◌, min, nat_eq, List, MatchOption, Option, None, Some}
 use Rattle.std.specs.Map.{lookup}
 use Rattle.bridge_limits.specs.Members.{IsMember}
 use Rattle.bridge_cycle.specs.Cyclic as cyclic
 use Rattle.bridge_cycle.specs.Fits.{Fits, IsFirstFit}
+use Rattle.bridge_cycle.specs.declared.gate_control_lists.Egress.{Egress}
+use Rattle.bridge_cycle.specs.declared.gate_control_lists.Egress.TheVariants as egress
 use Rattle.bridge_frame.specs.Link.{transmission_time}
 use Rattle.bridge_gate.specs.declared.schedule.GateEntry.{GateEntry}
 use Rattle.bridge_gate.specs.declared.schedule.GatePlan.{GatePlan}
@@ -20,6 +22,7 @@ use Rattle.bridge_check.specs.Reach.{reaches_queue}
 use Rattle.bridge_check.specs.Windows.{longest_frame}
 use Rattle.bridge_semantics.specs.Offers.{egress_rules}
 use Rattle.bridge_bounds.specs.GateFrames.{AreTurnsApart, frames_below_room, max_list_frames}
+use Rattle.bridge_bounds.specs.Openings.{HaveCommonCycle, fills_at}
 
 -- Holds if `k` frames of `occ` ns each, sent one after another from time `u`, end at time `v`. Each frame starts at the
 -- first time at which it fits.
@@ -35,6 +38,28 @@ IsLongestTime opens occ k d = (u : ℕ) → (v : ℕ) × FramesEnd opens occ k u
 -- Holds if, for some time `u`, the last of `k` frames of `occ` ns each, waiting from `u`, ends exactly at `u` + `d` ns.
 abbrev pub IsTimeAttained : (ℕ → Bool) → ℕ → ℕ → ℕ → Type 0
 IsTimeAttained opens occ k d = (u : ℕ) × FramesEnd opens occ k u (u + d)
+
+-- Holds if `d` ns is the longest time in which `k` frames of `occ` ns each leave one after another. They begin to wait
+-- together at a time from `from` to `to`, both included.
+pub record IsLongestTimeBetween (opens : ℕ → Bool) (occ k from to d : ℕ) : Type 0 where
+  pub longest : (u v : ℕ) → from ≤ u → u ≤ to → FramesEnd opens occ k u v → v ≤ u + d
+  pub attained : (u : ℕ) × (from ≤ u) × (u ≤ to) × FramesEnd opens occ k u (u + d)
+
+-- Holds if, for every time `u` at which `lets` is true, `k` frames of `occ` ns each leave within `d` ns. They wait from
+-- `late` ns after `u` on.
+abbrev pub IsLongestTimeFrom : (ℕ → Bool) → (ℕ → Bool) → ℕ → ℕ → ℕ → ℕ → Type 0
+IsLongestTimeFrom lets opens occ late k d = (u : ℕ) → lets u ≡ true → (v : ℕ) × FramesEnd opens occ k (u + late) v × (v ≤ u + late + d)
+
+-- Holds if, for some time `u` at which `lets` is true, `k` frames need exactly `d` ns. They wait from `late` ns after
+-- `u` on.
+abbrev pub IsTimeAttainedFrom : (ℕ → Bool) → (ℕ → Bool) → ℕ → ℕ → ℕ → ℕ → Type 0
+IsTimeAttainedFrom lets opens occ late k d = (u : ℕ) × (lets u ≡ true) × FramesEnd opens occ k (u + late) (u + late + d)
+
+-- Holds if `d` ns is the longest time in which `k` frames leave after a time at which `lets` is true. They wait from
+-- `occ` - 1 ns after that time on, when the frame on the link has left.
+pub record IsOpeningsTime (lets opens : ℕ → Bool) (occ k d : ℕ) : Type 0 where
+  pub longest : IsLongestTimeFrom lets opens occ (occ - 1) k d
+  pub attained : IsTimeAttainedFrom lets opens occ (occ - 1) k d
 
 -- Holds if some time attains exactly `d` ns, so that `d` is least. With a schedule change, the statement always holds.
 abbrev pub IsLeastTime : GateSchedule → ℕ → ℕ → ℕ → ℕ → Type 0
@@ -74,6 +99,34 @@ pub record IsFramesBound {A : Type 0} (out : PortPlan A) (c m k b : ℕ) : Type 
 abbrev pub IsRoomBound : {A : Type 0} → PortPlan A → ℕ → ℕ → ℕ → Type 0
 IsRoomBound out c m b = IsFramesBound out c m ((egress_rules out).room c) b
 
+-- Holds if `b` ns is the delay bound by capacity of the class-`c` queue at port `out`, for frames that arrive while
+-- `lets` is true: the longest time in which a full queue leaves, plus one transmission time, minus 1 ns.
+pub record IsOpeningsBound {A : Type 0} (lets : ℕ → Bool) (out : PortPlan A) (c m b : ℕ) : Type 0 where
+  pub longest : ℕ
+  pub is : IsOpeningsTime lets (lists_open out.list c) (transmission_time (longest_frame m) out.speed) ((egress_rules out).room c) longest
+  pub bound : b ≡ (transmission_time (longest_frame m) out.speed - 1) + longest
+
+-- Holds if `b` ns is the bound under one list of the stream gate and one list of the port. With a common cycle, only
+-- times at which `lets` is true count. Otherwise, or if `lets` is never true, all times count.
+abbrev pub IsListBound : {A : Type 0} → cyclic.Cyclic GateEntry → cyclic.Cyclic ℕ → (ℕ → Bool) → PortPlan A → ℕ → ℕ → ℕ → Type 0
+IsListBound gate list lets out c m b =
+    (HaveCommonCycle gate list × (IsOpeningsBound lets out c m b ⊎ (((u : ℕ) → lets u ≡ false) × IsRoomBound out c m b)))
+    ⊎ ((¬ HaveCommonCycle gate list) × IsRoomBound out c m b)
+
+-- Holds if `b` ns is the bound under one list of the stream gate. If the port has no list, or its list changes, all
+-- arrival times count.
+abbrev pub IsGateListBound : {A : Type 0} → cyclic.Cyclic GateEntry → Option (Egress A) → (ℕ → Bool) → PortPlan A → ℕ → ℕ → ℕ → Type 0
+IsGateListBound gate None lets out c m b = IsRoomBound out c m b
+IsGateListBound gate (Some (egress.Cyclic list)) lets out c m b = IsListBound gate list lets out c m b
+IsGateListBound gate (Some (egress.Joined j)) lets out c m b = IsRoomBound out c m b
+
+-- Holds if `b` ns is the bound under the stream gate's schedule `s`, for a filter with the optional priority `priority`.
+-- If the gate has a fixed state, or its list changes, all arrival times count.
+abbrev pub IsGateBound : {A : Type 0} → Schedule A → Option ℕ → PortPlan A → ℕ → ℕ → ℕ → Type 0
+IsGateBound (Fixed lets ipv) priority out c m b = IsRoomBound out c m b
+IsGateBound (Cyclic gate) priority out c m b = IsGateListBound gate out.list (fills_at out priority c gate) out c m b
+IsGateBound (Joined j) priority out c m b = IsRoomBound out c m b
+
 -- Holds if `b` ns is the delay bound by capacity of protected filter `n` in its reachable queue of class `c` at port `q`. Delays run from arrival to the end of
 -- transmission.
 pub record IsQueueBound {A : Type 0} (p : Plan A) (n q c b : ℕ) : Type 0 where
@@ -85,7 +138,28 @@ pub record IsQueueBound {A : Type 0} (p : Plan A) (n q c b : ℕ) : Type 0 where
   pub size : filter.max_sdu ≡ Some max_sdu
   pub at : find_port p.ports q ≡ Some out
   pub reach : reaches_queue p filter q c ≡ true
-  pub is : IsRoomBound out c max_sdu b
+  pub gate : GatePlan A
+  pub gated : lookup (nat_eq filter.gate) p.gates ≡ Some gate
+  pub is : IsGateBound gate.schedule filter.priority out c max_sdu b
+
+-- Holds if the stream gate and the port have one list each, and both lists have no common cycle.
+abbrev pub LackCommonCycle : {A : Type 0} → Schedule A → Option (Egress A) → Type 0
+LackCommonCycle (Fixed lets ipv) lists = ⊥
+LackCommonCycle (Cyclic gate) None = ⊥
+LackCommonCycle (Cyclic gate) (Some (egress.Cyclic list)) = ¬ HaveCommonCycle gate list
+LackCommonCycle (Cyclic gate) (Some (egress.Joined j)) = ⊥
+LackCommonCycle (Joined j) lists = ⊥
+
+-- Holds if the bounds of filter `n` at port `q` count all arrival times because its stream gate's list and the port's
+-- list have no common cycle.
+pub record IsCoarse {A : Type 0} (p : Plan A) (n q : ℕ) : Type 0 where
+  pub filter : FilterPlan
+  pub gate : GatePlan A
+  pub out : PortPlan A
+  pub found : lookup (nat_eq n) p.filters ≡ Some filter
+  pub gated : lookup (nat_eq filter.gate) p.gates ≡ Some gate
+  pub at : find_port p.ports q ≡ Some out
+  pub lack : LackCommonCycle gate.schedule out.list
 
 -- Holds if filter `n` has no delay bound for class `c` at port `q`: the filter is missing or unprotected, or this queue
 -- is unreachable.

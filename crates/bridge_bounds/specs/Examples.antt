@@ -1,5 +1,9 @@
 -- Examples of the definitions, computed.
-use Rattle.std.specs.Prelude.{◌≡◌, true, false, None, Some, [], refl}
+use Rattle.std.specs.Prelude.{◌≡◌, true, false, None, Some, [], ◌∷◌, refl}
+use Rattle.std.proofs.Common.{lit<, lit≤}
+use Rattle.bridge_cycle.specs.Cyclic.{Cyclic, turn_by_time}
+use Rattle.bridge_gate.specs.declared.schedule.GateEntry.{GateEntry}
+use Rattle.bridge_bounds.specs.Openings.{IsCommonCycle, turn_passes}
 use Rattle.bridge_port.specs.GateSchedule.{Always, One}
 use Rattle.bridge_filter.specs.declared.Verdict.TheVariants as verdict
 use Rattle.bridge_bounds.specs.Passing.{allows, is_limit_reset_in_time, can_pass_entry, passes}
@@ -42,3 +46,20 @@ passed = refl
 
 pub not_passed : passes verdict.GateClosed ≡ false
 not_passed = refl
+
+-- A stream gate that is open for the first 300,000 ns of each cycle of 1,000,000 ns. Its base time is 250,000 ns.
+abbrev open_gate : Cyclic GateEntry
+open_gate = record { base = 250000; cycle = 1000000; entries = (record { lets = true; ipv = Some 7; octets = None }, 300000) ∷ (record { lets = false; ipv = None; octets = None }, 700000) ∷ [] }
+
+pub passes_from_base : turn_passes (λ e. e.lets) (turn_by_time open_gate 250000) ≡ true
+passes_from_base = refl
+
+pub passes_at_last : turn_passes (λ e. e.lets) (turn_by_time open_gate 1549999) ≡ true
+passes_at_last = refl
+
+pub passes_no_more : turn_passes (λ e. e.lets) (turn_by_time open_gate 1550000) ≡ false
+passes_no_more = refl
+
+-- This gate and a port's list with a cycle of 400,000 ns share a cycle of 2,000,000 ns, with 2 × 2 + 5 × 1 intervals.
+pub shared_cycle : IsCommonCycle open_gate (record { base = 0; cycle = 400000; entries = (128, 100000) ∷ [] }) 2000000
+shared_cycle = record { some = lit< tt; gate_cycles = refl; list_cycles = refl; few = lit≤ tt }

@@ -1,7 +1,9 @@
 pub mod Bounds
 pub mod GateFrames
+pub mod Openings
 pub mod Latency
 pub mod Traffic
+pub mod Intervals
 pub mod Waits
 pub mod Timings
 pub mod Passing

@@ -1,11 +1,11 @@
 -- Times at which the frames of a traffic row have left a queue, and their delays.
-use Rattle.std.specs.Prelude.{◌≡◌, ℕ, Bool, true, ◌+◌, ◌-◌, ◌<◌, ◌≤◌, min, Option, None, Some, MatchOption}
+use Rattle.std.specs.Prelude.{◌≡◌, ℕ, true, ◌+◌, ◌-◌, ◌<◌, ◌≤◌, min, MatchOption}
 use Rattle.bridge_cycle.specs.Fits.{IsFirstFit}
 use Rattle.bridge_frame.specs.Link.{transmission_time}
 use Rattle.bridge_port.specs.GateSchedule.{GateSchedule, gate_schedule, opens}
 use Rattle.bridge_port.specs.Schedule.{Copy, PortRules, Started}
 use Rattle.bridge_port.specs.Solo.{IsSolo}
-use Rattle.std.specs.Prelude.{List, [], ◌∷◌}
+use Rattle.std.specs.Prelude.{[], ◌∷◌}
 use Rattle.bridge_config.specs.Model.{Plan}
 use Rattle.bridge_config.specs.declared.ports.PortPlan.{PortPlan}
 use Rattle.bridge_check.specs.Windows.{longest_frame}

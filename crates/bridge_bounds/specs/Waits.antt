@@ -1,5 +1,5 @@
 -- Waits of a frame that arrives between two times.
-use Rattle.std.specs.Prelude.{◌≡◌, ℕ, Bool, true, false, ◌+◌, ◌≤◌, ◌%◌, nat_eq}
+use Rattle.std.specs.Prelude.{ℕ, Bool, true, false, ◌+◌, ◌≤◌, ◌%◌, nat_eq}
 use Rattle.bridge_cycle.specs.Fits.{IsFirstFit}
 use Rattle.bridge_port.specs.GateSchedule.{Always, Changing, One, GateSchedule, opens}
 use Rattle.bridge_bounds.specs.declared.traffic.Traffic.{Traffic}

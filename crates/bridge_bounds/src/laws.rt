@@ -19,7 +19,7 @@ ghost use Rattle.bridge_semantics.specs.Offers.{CarriedFrame, egress_rules};
 ghost use Rattle.bridge_semantics.specs.Runs.{AreFinished, IsOutcome, IsRun};
 ghost use Rattle.bridge_semantics.specs.declared.outcome.Outcome.{Outcome};
 ghost use Rattle.bridge_semantics.specs.declared.outcome.View.{View};
-ghost use Rattle.bridge_bounds.specs.Bounds.{HaveShortFrames, FramesEnd, IsTimeAttained, IsQueueBound, IsLongestTime, IsTightBound, HasWorstCopy};
+ghost use Rattle.bridge_bounds.specs.Bounds.{HaveShortFrames, FramesEnd, IsTimeAttained, IsQueueBound, IsLongestTime, IsLongestTimeFrom, IsTightBound, HasWorstCopy};
 ghost use Rattle.bridge_bounds.specs.GateFrames.{AreSeldom, AreWithinLengths, HaveEtherTypes, LetsFew, offer_times, pass_times};
 
 use std::alloc::Allocator;
@@ -58,6 +58,21 @@ pub fn solo_in_time<X: Drop>()
         → HaveShortFrames r c occ (x ∷ older)
         → 1 ≤ occ
         → IsLongestTime (r.opens c) occ (r.room c) d
+        → x.fate ≡ Started s
+        → s + r.occ x.item ≤ x.at + (occ - 1) + d }
+{}
+
+/// In a queue alone on its link, each sent copy leaves at most `occ - 1 + d` ns after its offer if `lets` is true at each offer. Here `d` is a
+/// full queue's longest time from such times.
+pub fn solo_from_openings<X: Drop>()
+    ensures { (r : PortRules X) (lets : ℕ → Bool) (c occ d s h : ℕ) (x : Copy X) (xs : List (Copy X))
+        → IsSolo r xs
+        → AreOffersInOrder h xs
+        → HaveShortFrames r c occ xs
+        → 1 ≤ occ
+        → ((y : Copy X) → IsMember y xs → lets y.at ≡ true)
+        → IsLongestTimeFrom lets (r.opens c) occ (occ - 1) (r.room c) d
+        → IsMember x xs
         → x.fate ≡ Started s
         → s + r.occ x.item ≤ x.at + (occ - 1) + d }
 {}

@@ -4,13 +4,14 @@ ghost use Rattle.bridge_cycle.specs.Cyclic.{IsLawful};
 ghost use Rattle.bridge_cycle.specs.Fits.{IsFirstFit};
 ghost use Rattle.bridge_port.specs.GateSchedule.{can_fit, list_can_fit, list_opens, gate_schedule, opens};
 ghost use Rattle.bridge_bounds.specs.Bounds.{FramesEnd, IsTimeAttained, IsEdge, IsLeastTime, IsLongestTime};
+ghost use Rattle.bridge_bounds.specs.Intervals.{IsLongestAfterEdges};
 
 use bridge_cycle::{CyclicList, Egress, LONGEST_CYCLE, Timeline, first_fit};
 use std::alloc::Allocator;
 
 /// Returns the first time in ns, from `from` on, at which a frame with transmission time `occ` ns fits. Wraps `first_fit`, and bounds the
 /// wait by `LONGEST_CYCLE`.
-fn list_first_fit<A: Allocator + Copy>(
+pub(crate) fn list_first_fit<A: Allocator + Copy>(
     list: &CyclicList<u8, A>,
     class: u8,
     occ: u64,
@@ -63,7 +64,7 @@ fn repeating_round<A: Allocator + Copy>(
     requires class { class < 8 }
     requires occ { occ ≤ LONGEST_CYCLE }
     requires some_room { 1 ≤ room }
-    requires from { from ≤ 4 * LONGEST_CYCLE }
+    requires from { from ≤ 1_000_000_000_000_000_001 }
     requires lawful { IsLawful list.now }
     requires ever { list_can_fit list.now class occ ≡ true }
     ensures some { 1 ≤ result.0 }
@@ -96,7 +97,7 @@ fn end_after_rounds<A: Allocator + Copy>(
 ) -> u64
     requires class { class < 8 }
     requires occ { occ ≤ LONGEST_CYCLE }
-    requires from { from ≤ 4 * LONGEST_CYCLE }
+    requires from { from ≤ 1_000_000_000_000_000_001 }
     requires lawful { IsLawful list.now }
     requires ever { list_can_fit list.now class occ ≡ true }
     requires some { 1 ≤ done }
@@ -115,7 +116,7 @@ fn end_after_rounds<A: Allocator + Copy>(
 }
 
 /// Returns the time in ns that `room` frames take if they wait from `from` on and leave one after another.
-fn frames_duration<A: Allocator + Copy>(
+pub(crate) fn frames_duration<A: Allocator + Copy>(
     list: &CyclicList<u8, A>,
     class: u8,
     occ: u64,
@@ -124,7 +125,7 @@ fn frames_duration<A: Allocator + Copy>(
 ) -> u64
     requires class { class < 8 }
     requires occ { occ ≤ LONGEST_CYCLE }
-    requires from { from ≤ 4 * LONGEST_CYCLE }
+    requires from { from ≤ 1_000_000_000_000_000_001 }
     requires lawful { IsLawful list.now }
     requires ever { list_can_fit list.now class occ ≡ true }
     ensures ends { FramesEnd (list_opens list.now class) occ room from (from + result) }
@@ -141,13 +142,47 @@ fn frames_duration<A: Allocator + Copy>(
 fn is_edge<A: Allocator + Copy>(list: &CyclicList<u8, A>, class: u8, occ: u64, moment: u64) -> bool
     requires class { class < 8 }
     requires occ { occ ≤ LONGEST_CYCLE }
-    requires moment { moment ≤ 4 * LONGEST_CYCLE }
+    requires moment { moment ≤ 1_000_000_000_000_000_000 }
     requires lawful { IsLawful list.now }
     requires ever { list_can_fit list.now class occ ≡ true }
     ensures { (result ≡ true) ↔ IsEdge (list_opens list.now class) occ moment }
 {
     list_first_fit(list, class, occ, moment) == moment
         && list_first_fit(list, class, occ, moment + 1) != moment + 1
+}
+
+/// Returns the longest time in ns in which `room` frames leave that wait from `from`, or from 1 ns after a window's last fit between `from`
+/// and `to`.
+pub(crate) fn longest_time_after_edges<A: Allocator + Copy>(
+    list: &CyclicList<u8, A>,
+    class: u8,
+    occ: u64,
+    room: u16,
+    from: u64,
+    to: u64,
+) -> u64
+    requires class { class < 8 }
+    requires some { 1 ≤ occ }
+    requires occ { occ ≤ LONGEST_CYCLE }
+    requires times { from ≤ to }
+    requires to { to ≤ 1_000_000_000_000_000_000 }
+    requires lawful { IsLawful list.now }
+    requires ever { list_can_fit list.now class occ ≡ true }
+    ensures longest { IsLongestAfterEdges (list_opens list.now class) occ room from to result }
+    ensures bounded { result ≤ room * (2 * LONGEST_CYCLE) }
+{
+    let end = to + (occ - 1);
+    let mut longest = frames_duration(list, class, occ, room, from);
+    let mut seen = from + (occ - 1);
+    while seen < end {
+        seen = list.turn(seen).end;
+        let last = seen.min(end) - occ;
+        if is_edge(list, class, occ, last) {
+            let time = frames_duration(list, class, occ, room, last + 1);
+            longest = time.max(longest);
+        }
+    }
+    longest
 }
 
 /// Returns the longest time in ns in which `room` waiting frames leave under one list. It is attained 1 ns after a window's last fit, or
@@ -167,17 +202,7 @@ fn list_longest_time<A: Allocator + Copy>(
     ensures attained { IsTimeAttained (list_opens list.now class) occ room result }
     ensures bounded { result ≤ room * (2 * LONGEST_CYCLE) }
 {
-    let end = occ + list.cycle();
-    let mut longest = frames_duration(list, class, occ, room, 0);
-    let mut seen = occ;
-    while seen < end {
-        seen = list.turn(seen).end;
-        if is_edge(list, class, occ, seen - occ) {
-            let time = frames_duration(list, class, occ, room, seen - occ + 1);
-            longest = time.max(longest);
-        }
-    }
-    longest
+    longest_time_after_edges(list, class, occ, room, 0, list.cycle() + 1)
 }
 
 /// Returns a longest time in ns in which `room` waiting frames leave under gate control lists. With a schedule change, this is the sum for

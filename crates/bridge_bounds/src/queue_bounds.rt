@@ -10,7 +10,8 @@ ghost use Rattle.bridge_check.specs.Windows.{longest_frame};
 ghost use Rattle.bridge_bounds.specs.Bounds.{HasNoBound, IsQueueBound, IsRoomBound};
 
 use crate::longest_time::port_longest_time;
-use bridge_check::{Accepted, can_wait};
+use crate::openings::gate_bound;
+use bridge_check::{Accepted, can_wait, find_gate};
 use bridge_config::{Plan, PortPlan};
 use bridge_filter::FilterPlan;
 use bridge_frame::occupation;
@@ -60,7 +61,8 @@ fn reached_queue_bound<A: Allocator + Copy>(
 {
     let sdu = filter.max_sdu?;
     let out = plan.port(port)?;
-    Some(class_bound(out, class, sdu))
+    let gate = find_gate(plan.gates(), filter.gate)?;
+    Some(gate_bound(&gate.schedule, out, filter.priority, class, sdu))
 }
 
 /// Returns the delay bound in ns of a protected filter's reachable queue; `None` for any other queue or filter. Without a schedule change

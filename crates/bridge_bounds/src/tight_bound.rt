@@ -12,7 +12,8 @@ ghost use Rattle.bridge_bounds.specs.Bounds.{HasNoBound, IsLesserBound, IsTightB
 
 use crate::gate_frames::{are_apart, frames_below_room};
 use crate::longest_time::port_longest_time;
-use crate::queue_bounds::{class_bound, find_filter};
+use crate::openings::gate_bound;
+use crate::queue_bounds::find_filter;
 use bridge_check::{Accepted, can_wait, find_gate};
 use bridge_config::{Plan, PortPlan};
 use bridge_cycle::CyclicList;
@@ -92,7 +93,7 @@ fn tight_reached_queue_bound<A: Allocator + Copy>(
     let sdu = filter.max_sdu?;
     let out = plan.port(port)?;
     let gate = find_gate(plan.gates(), filter.gate)?;
-    let bound = class_bound(out, class, sdu);
+    let bound = gate_bound(&gate.schedule, out, filter.priority, class, sdu);
     Some(tighten_bound(&gate.schedule, out, class, sdu, bound))
 }
 

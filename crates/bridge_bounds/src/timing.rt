@@ -6,8 +6,7 @@ ghost use Rattle.bridge_port.specs.GateSchedule.{HasLawfulLists, can_fit, lists_
 ghost use Rattle.bridge_config.specs.Rules.{IsPlan};
 ghost use Rattle.bridge_check.specs.Acceptable.{IsAcceptable};
 ghost use Rattle.bridge_check.specs.Windows.{longest_frame};
-ghost use Rattle.bridge_semantics.specs.Offers.{egress_rules};
-ghost use Rattle.bridge_bounds.specs.Bounds.{HasNoBound, IsQueueBound, IsRoomBound};
+ghost use Rattle.bridge_bounds.specs.Bounds.{HasNoBound, IsQueueBound};
 ghost use Rattle.bridge_bounds.specs.Timings.{IsTimingWithPhases, IsTiming, IsPortTiming, IsTimingWithoutPhases};
 ghost use Rattle.bridge_bounds.specs.Traffic.{IsTraffic};
 
@@ -101,8 +100,7 @@ fn port_timing<A: Allocator + Copy>(
 ) -> Timing
     requires class { class < 8 }
     requires sdu { sdu ≤ 65535 }
-    requires bound { IsRoomBound port.now class sdu bound }
-    requires room { 1 ≤ (egress_rules port.now).room class }
+    requires bound { transmission_time (longest_frame sdu) port.now.speed ≤ bound }
     requires made { HasLawfulLists (gate_schedule port.now.list) }
     requires traffic { IsTraffic traffic.now }
     requires ever { lists_can_fit port.now.list class (transmission_time (longest_frame sdu) port.now.speed) ≡ true }

@@ -159,6 +159,7 @@ impl<A: Allocator + Copy> Plan<A> {
     /// Returns the egress ports of a frame to `da` in VLAN `vid` that arrived on `port` (IEEE 802.1Q-2018, 8.6.2 to 8.6.4).
     ///
     /// The call takes two look-ups and no memory.
+    #[inline(always)]
     pub fn forward(&self, port: u8, vid: u16, da: &[u8; 6]) -> PortSet
         requires from { 1 ≤ port }
         requires to { port ≤ 16 }

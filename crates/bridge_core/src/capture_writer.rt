@@ -107,6 +107,7 @@ pub fn write_frame<W: ByteSink, A: Allocator + Copy>(
 
 /// Makes all starts before time `until` in ns and writes their frames; makes all starts if `until` is `None`. The frames' buffers return to
 /// the pool.
+#[inline(always)]
 pub fn send_due_frames<W: ByteSink, G: Agenda + Drop, A: Allocator + Copy>(
     until: Option<u64>,
     relay: &mut Relay<'_, G, A>,

@@ -1,8 +1,10 @@
 -- Updates the parent of a node.
-use Rattle.std.proofs.Common.{◌≡◌, ◌∙◌, ℕ, ◌+◌, ◌-◌, ◌*◌, ◌/◌, ◌<◌, ◌≤◌, arith, ap, subst, inl, inr, List, length, set}
+use Rattle.std.proofs.Common.{◌≡◌, ◌∙◌, ℕ, zero, suc, Bool, true, false, ◌&&◌, nat_eq, ◌+◌, ◌-◌, ◌*◌, ◌/◌, ◌<◌, ◌≤◌, arith, ap, refl, subst, inl, inr, List, length, set}
 use Rattle.std.specs.Prelude.{◌⊎◌, min}
 use Rattle.std.proofs.Math.Nat.{min_comm}
-use Rattle.std.proofs.lemmas.Bool.{cases_lt}
+use Rattle.std.specs.Int.Bits.{bit_xor}
+use Rattle.std.proofs.lemmas.Bool.{cases_lt, eqb-true}
+use Rattle.bridge_limits.proofs.Cases.{by_bool}
 use Rattle.std.proofs.lemmas.List.{get_or-set_other, get_or-set_same}
 use Rattle.bridge_events.specs.Tree.{HaveLesserChildrenElsewhere, IsNotBelow, HasLesserChild, node_key}
 use Rattle.bridge_events.specs.declared.tree_agenda.TheConstants.{NO_MOMENT}
@@ -53,3 +55,26 @@ settled nodes at key x from to size own is won = λ j some few out.
         | inr k ↦ (let same : p ≡ j = omega arith in subst (HasLesserChild (set nodes p x)) same (above nodes at key x from to size own is))
       ]
     ]
+
+-- The other child of a node's parent, by its lowest bit.
+
+is_beside : ℕ → Bool
+is_beside at = nat_eq (bit_xor at 1) (4 * (at / 2) + 1 - at)
+
+all_beside : ℕ → Bool
+all_beside zero = true
+all_beside (suc n) = is_beside n && all_beside n
+
+each_beside : (n : ℕ) → all_beside n ≡ true → (at : ℕ) → at < n → is_beside at ≡ true
+unfolding all_beside
+each_beside zero all at l = absurd (omega arith)
+each_beside (suc n) all at l = by_bool (is_beside n)
+    (λ y. elim (cases_lt at n) [
+      | inl k ↦ each_beside n (rw y at all) at k
+      | inr k ↦ (let same : n ≡ at = omega arith in subst (λ (m : ℕ). is_beside m ≡ true) same y)
+    ])
+    (λ y. let z : false ≡ true = rw y at all in cc)
+
+pub beside_is : (at : ℕ) → at < 32 → bit_xor at 1 ≡ 4 * (at / 2) + 1 - at
+unfolding all_beside is_beside
+beside_is at l = eqb-true (bit_xor at 1) (4 * (at / 2) + 1 - at) (each_beside 32 refl at l)

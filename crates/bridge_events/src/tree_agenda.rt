@@ -90,7 +90,7 @@ fn update_parent(nodes: &mut [u128; 32], at: usize, key: u128) -> u128
     ensures leaves { (i : ℕ) → 16 ≤ i → node_key nodes.new i ≡ node_key nodes.old i }
 {
     let above = at / 2;
-    let beside = 4 * above + 1 - at;
+    let beside = at ^ 1;
     let least = key.min(nodes[beside]);
     nodes[above] = least;
     least

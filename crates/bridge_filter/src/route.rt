@@ -238,6 +238,10 @@ pub(crate) fn look_up_route<A: Allocator + Copy>(
     if priority < 8 {
         find_row(rows, any, handle)[priority as usize]
     } else {
-        search_route(filters, gates, meters, handle, priority)
+        // Copied, so that no pointer to the result stays, and the compiler can hold it in registers.
+        match search_route(filters, gates, meters, handle, priority) {
+            Some(route) => Some(route),
+            None => None,
+        }
     }
 }

@@ -29,6 +29,7 @@ fn is_reserved(da: &[u8; 6]) -> bool
 
 /// Returns the egress ports of a frame: its VLAN's members that the static entry allows, without the ingress port. Empty if the VLAN is
 /// unknown or lacks the ingress port.
+#[inline(always)]
 fn output_ports(members: Option<PortSet>, entry: Option<PortSet>, port: u8) -> PortSet
     requires from { 1 ≤ port }
     requires to { port ≤ 16 }
@@ -116,6 +117,7 @@ impl<A: Allocator + Copy> Forwarding<A> {
 
     /// Returns the egress ports of a frame to address `da` in VLAN `vid` that arrived on `port` (IEEE 802.1Q-2018, 8.6.2 to 8.6.4).
     /// It takes constant time and no memory.
+    #[inline(always)]
     pub fn forward(&self, port: u8, vid: u16, da: &[u8; 6]) -> PortSet
         requires from { 1 ≤ port }
         requires to { port ≤ 16 }
@@ -129,6 +131,7 @@ impl<A: Allocator + Copy> Forwarding<A> {
     }
 
     /// Returns the members of a VLAN; `None` if the database lacks it.
+    #[inline(always)]
     fn vlan_members(&self, vid: u16) -> Option<PortSet>
         ensures { result ≡ vlan_members self.now.vlans vid }
     {
@@ -145,6 +148,7 @@ impl<A: Allocator + Copy> Forwarding<A> {
     }
 
     /// Returns the ports of the static entry for a VLAN and an address; `None` without such an entry.
+    #[inline(always)]
     fn static_ports(&self, vid: u16, da: &[u8; 6]) -> Option<PortSet>
         ensures { result ≡ static_ports self.now.statics vid da.now }
     {

@@ -12,3 +12,6 @@ pub mod MeterCurves
 pub mod SharedQueues
 pub mod SharedRuns
 pub mod Rows
+pub mod Leaving
+pub mod Admitting
+pub mod GateRuns

@@ -1,8 +1,8 @@
 -- Filters with arrival curves by their meters or gates, and queues that they share.
-use Rattle.std.proofs.Common.{◌≡◌, ◌<◌, ◌≤◌, ◌+◌, ◌-◌, ◌*◌, ◌/◌, ℕ, Bool, true, false, ◌&&◌, Option, None, Some, List, [], ◌∷◌, ◌++◌, Ok, arith, ap, refl, sym, subst, inl, inr}
+use Rattle.std.proofs.Common.{◌≡◌, ◌<◌, ◌≤◌, ◌+◌, ◌-◌, ◌*◌, ◌/◌, ℕ, Bool, true, false, ◌&&◌, Option, None, Some, List, [], ◌∷◌, ◌++◌, Ok, length, arith, ap, refl, sym, subst, inl, inr}
 use Rattle.std.specs.Prelude.{nat_eq, nat_le, if◌then◌else◌}
 use Rattle.std.proofs.Math.Nat.{le-div_iff_mul-le, mul-le-mul_left}
-use Rattle.std.proofs.lemmas.Bool.{eq-eqb, eqb-true}
+use Rattle.std.proofs.lemmas.Bool.{cases_lt, eq-eqb, eqb-true}
 use Rattle.bridge_limits.specs.Members.{IsMember}
 use Rattle.bridge_limits.proofs.Cases.{by_bool}
 use Rattle.bridge_limits.proofs.Orders.{same_eq}
@@ -39,7 +39,9 @@ use Rattle.bridge_semantics.specs.Offers.{Offer, class_offers, destination_offer
 use Rattle.bridge_semantics.proofs.Offering.{going}
 use Rattle.bridge_bounds.proofs.Sizes.{head_read}
 use Rattle.bridge_work.proofs.MeterAllowance.{lets_upto}
+use Rattle.bridge_bounds.specs.GateFrames.{AreWithinLengths}
 use Rattle.bridge_groups.specs.Curves.{AreArrivalsInOrder, HasNoRunts, HasFilterCurve, curve_sum, recent_sharer_work, recent_filter_work, gate_curve, has_filter_number, last_arrival_time, meter_curve, recent_filter_octets, count_recent_offers, recent_offer_work}
+use Rattle.bridge_groups.specs.GateBounds.{HaveSdus}
 use Rattle.bridge_groups.specs.GateLimits.{AreGateFramesInOrder, HasOctetLimits, octet_budget, recent_passed_octets}
 use Rattle.bridge_groups.proofs.Shares as shares
 use Rattle.bridge_groups.proofs.Sums.{AreSharerOffers, least_occupied, short_most}
@@ -132,19 +134,36 @@ runt_most len Mbps1000 h = omega (arith, h)
 runt_most len Mbps2500 h = omega (arith, h)
 runt_most len Mbps10000 h = omega (arith, h)
 
+-- A frame of less than 60 octets is padded to 60.
+padded : (len : ℕ) (speed : Speed) → len ≤ 60 → transmission_time len speed ≡ transmission_time 60 speed
+unfolding transmission_time
+padded len Mbps10 h = omega (arith, h)
+padded len Mbps100 h = omega (arith, h)
+padded len Mbps1000 h = omega (arith, h)
+padded len Mbps2500 h = omega (arith, h)
+padded len Mbps10000 h = omega (arith, h)
+
 sdu_at_least : (b : Bool) (len : ℕ) → len - 16 ≤ (if b then len - 16 else len - 12)
 sdu_at_least true len = omega arith
 sdu_at_least false len = omega arith
 
--- Per octet of its service data unit, a frame of 60 octets takes most of the frames of at least 60 octets.
-sdu_most : (octets : List ℕ) (len : ℕ) (h : Head) (speed : Speed) → 60 ≤ len → parsed_head octets len ≡ Ok h → 44 * transmission_time len speed ≤ transmission_time 60 speed * h.sdu
-sdu_most octets len h speed long e =
-    let read = head_read octets len h e in
-    let least = sdu_at_least (is_tagged octets) len in
-    let more = mul-le-mul_left (transmission_time 60 speed) least in
-    let one = runt_most len speed long in
-    let all : 44 * transmission_time len speed ≤ transmission_time 60 speed * sdu_octets octets len = omega (arith, one, more) in
-    subst (λ (i : ℕ). 44 * transmission_time len speed ≤ transmission_time 60 speed * i) read.sdu all
+-- Per octet of its service data unit, the shortest frame with at least `k` octets takes most.
+sdu_most : (octets : List ℕ) (len : ℕ) (h : Head) (speed : Speed) (k : ℕ) → k ≤ 44 → parsed_head octets len ≡ Ok h → k ≤ h.sdu → k * transmission_time len speed ≤ transmission_time 60 speed * h.sdu
+sdu_most octets len h speed k few e low = elim (cases_lt len 60) [
+  | inl short ↦
+      let all = mul-le-mul_left (transmission_time 60 speed) low in
+      let one = padded len speed (omega (arith, short)) in
+      let same = ap (λ (i : ℕ). k * i) one in
+      omega (arith, all, same)
+  | inr long ↦
+      let read = head_read octets len h e in
+      let least = sdu_at_least (is_tagged octets) len in
+      let more = mul-le-mul_left (transmission_time 60 speed) least in
+      let one = runt_most len speed long in
+      let most = mul-le-mul_left (transmission_time len speed) few in
+      let all : k * transmission_time len speed ≤ transmission_time 60 speed * sdu_octets octets len = omega (arith, one, more, most) in
+      subst (λ (i : ℕ). k * transmission_time len speed ≤ transmission_time 60 speed * i) read.sdu all
+]
 
 answered : (p : PolicePlans) (ss : List FilterStep) (c : FilterInput) (f : FilterPlan) (a : GateAnswer) (ipv : Option ℕ) (eligible : Bool) → answer_verdict p ss c f a ≡ verdict.Pass ipv eligible → (i : Option ℕ) × (a ≡ gate.Through i)
 answered p ss c f (gate.Through i) ipv eligible h = (i, refl)
@@ -159,6 +178,36 @@ told_more u t n gate.Closed ss = omega arith
 told_more u t n gate.ShutByRx ss = omega arith
 told_more u t n gate.ShutByOctets ss = omega arith
 told_more u t n gate.OctetsExceeded ss = omega arith
+
+-- Frames of at least 60 octets have SDUs of at least 44 octets.
+pub padded_sdus : (es : List Event) → HasNoRunts es → HaveSdus 44 es
+padded_sdus [] long = tt
+padded_sdus (Arrived a ∷ es) long = (
+  (λ h e.
+      let read = head_read a.octets a.len h e in
+      let least = sdu_at_least (is_tagged a.octets) a.len in
+      let low = long.0 in
+      let all : 44 ≤ sdu_octets a.octets a.len = omega (arith, least, low) in
+      subst (λ (i : ℕ). 44 ≤ i) read.sdu all),
+  padded_sdus es long.1,
+)
+padded_sdus (Cleared d k ∷ es) long = padded_sdus es long
+
+two_at_least : (b : Bool) (octets len : ℕ) → (if b then 18 else 14) ≤ octets → octets ≤ len → 2 ≤ (if b then len - 16 else len - 12)
+two_at_least true octets len h k = omega (arith, h, k)
+two_at_least false octets len h k = omega (arith, h, k)
+
+-- Frames with at least their captured octets have SDUs of at least the two octets of an EtherType.
+pub captured_sdus : (es : List Event) → AreWithinLengths es → HaveSdus 2 es
+captured_sdus [] within = tt
+captured_sdus (Arrived a ∷ es) within = (
+  (λ h e.
+      let read = head_read a.octets a.len h e in
+      let low = two_at_least (is_tagged a.octets) (length a.octets) a.len read.whole within.0 in
+      subst (λ (i : ℕ). 2 ≤ i) read.sdu low),
+  captured_sdus es within.1,
+)
+captured_sdus (Cleared d k ∷ es) within = captured_sdus es within
 
 module _ {A : Type 0} (p : Plan A) (n : ℕ) (f : FilterPlan) (plan : IsPlan p) (listed : IsMember (n, f) p.filters) where
   abbrev rules : GateRules
@@ -208,15 +257,15 @@ module _ {A : Type 0} (p : Plan A) (n : ℕ) (f : FilterPlan) (plan : IsPlan p) 
       let now : Q (gate.Through i) = omega arith in
       subst P (sym (same_eq f.gate)) (subst Q (sym is) now)
 
-  module _ (out : PortPlan A) (c u : ℕ) where
+  module _ (out : PortPlan A) (c u share : ℕ) (few : share ≤ 44) where
     abbrev IsCounted : List Offer → List FilterStep → Type 0
-    IsCounted os ss = 44 * recent_filter_work out.speed n u (class_offers c os) ≤ transmission_time 60 out.speed * through u ss
+    IsCounted os ss = share * recent_filter_work out.speed n u (class_offers c os) ≤ transmission_time 60 out.speed * through u ss
 
     -- The count of passed octets covers offers if it covers them earlier.
     counted_more : (os : List Offer) (ss ts : List FilterStep) → through u ss ≤ through u ts → IsCounted os ss → IsCounted os ts
     counted_more os ss ts rises before = let more = mul-le-mul_left (transmission_time 60 out.speed) rises in omega (arith, before, more)
 
-    passed_counted : (a : Arrival) (es : List Event) (priority own k : ℕ) (g : FilterPlan) (ipv : Option ℕ) (eligible : Bool) (cl : FilterInput) → cl.at ≡ a.at → 44 * transmission_time a.len out.speed ≤ transmission_time 60 out.speed * cl.sdu → IsMember (k, g) p.filters
+    passed_counted : (a : Arrival) (es : List Event) (priority own k : ℕ) (g : FilterPlan) (ipv : Option ℕ) (eligible : Bool) (cl : FilterInput) → cl.at ≡ a.at → share * transmission_time a.len out.speed ≤ transmission_time 60 out.speed * cl.sdu → IsMember (k, g) p.filters
         → frame_verdict (plan_police p) (police_steps p es) cl k g ≡ verdict.Pass ipv eligible
         → IsCounted (port_offers p out es) (police_steps p es)
         → IsCounted (make_offer out a priority (Some k) own ipv eligible ∷ port_offers p out es) (Judged cl k g (verdict.Pass ipv eligible) ∷ police_steps p es)
@@ -244,7 +293,7 @@ module _ {A : Type 0} (p : Plan A) (n : ℕ) (f : FilterPlan) (plan : IsPlan p) 
         (λ y. rw (e, y) (omega (arith, more))))
         (λ e. rw e more)
 
-    verdict_counted : (a : Arrival) (es : List Event) (priority own k : ℕ) (g : FilterPlan) (v : Verdict) (cl : FilterInput) → cl.at ≡ a.at → 44 * transmission_time a.len out.speed ≤ transmission_time 60 out.speed * cl.sdu → IsMember (k, g) p.filters
+    verdict_counted : (a : Arrival) (es : List Event) (priority own k : ℕ) (g : FilterPlan) (v : Verdict) (cl : FilterInput) → cl.at ≡ a.at → share * transmission_time a.len out.speed ≤ transmission_time 60 out.speed * cl.sdu → IsMember (k, g) p.filters
         → frame_verdict (plan_police p) (police_steps p es) cl k g ≡ v
         → IsCounted (port_offers p out es) (police_steps p es)
         → IsCounted (verdict_offer out a priority k own v ++ port_offers p out es) (Judged cl k g v ∷ police_steps p es)
@@ -258,7 +307,7 @@ module _ {A : Type 0} (p : Plan A) (n : ℕ) (f : FilterPlan) (plan : IsPlan p) 
     verdict_counted a es priority own k g verdict.Red cl at short there is before = counted_more (port_offers p out es) (police_steps p es) (Judged cl k g verdict.Red ∷ police_steps p es) (judged_more u (police_steps p es) cl k g verdict.Red) before
     verdict_counted a es priority own k g verdict.YellowDropped cl at short there is before = counted_more (port_offers p out es) (police_steps p es) (Judged cl k g verdict.YellowDropped ∷ police_steps p es) (judged_more u (police_steps p es) cl k g verdict.YellowDropped) before
 
-    step_counted : (a : Arrival) (es : List Event) (priority : ℕ) (cl : FilterInput) (x : Option (ℕ × FilterPlan)) → cl.at ≡ a.at → 44 * transmission_time a.len out.speed ≤ transmission_time 60 out.speed * cl.sdu → verdicts.frame_filter p.filters cl ≡ x
+    step_counted : (a : Arrival) (es : List Event) (priority : ℕ) (cl : FilterInput) (x : Option (ℕ × FilterPlan)) → cl.at ≡ a.at → share * transmission_time a.len out.speed ≤ transmission_time 60 out.speed * cl.sdu → verdicts.frame_filter p.filters cl ≡ x
         → IsCounted (port_offers p out es) (police_steps p es)
         → IsCounted (step_offer p out a es priority (input_step (plan_police p) (police_steps p es) cl x) ++ port_offers p out es) (input_step (plan_police p) (police_steps p es) cl x ∷ police_steps p es)
     step_counted a es priority cl None at short is before =
@@ -266,19 +315,19 @@ module _ {A : Type 0} (p : Plan A) (n : ℕ) (f : FilterPlan) (plan : IsPlan p) 
         by_bool (nat_eq o.class c) (λ e. rw e (omega (arith, before))) (λ e. rw e before)
     step_counted a es priority cl (Some x) at short is before = verdict_counted a es priority _ x.0 x.1 (frame_verdict (plan_police p) (police_steps p es) cl x.0 x.1) cl at short (flow_listed p.filters cl x is) refl before
 
-    way_counted : (a : Arrival) (es : List Event) (w : Destination) → frame_destination p a ≡ w → 60 ≤ a.len → IsCounted (port_offers p out es) (police_steps p es) → IsCounted (destination_offer p out a es w ++ port_offers p out es) (filter_steps (plan_police p) (with_input (destination_input w) (filter_inputs p es)))
+    way_counted : (a : Arrival) (es : List Event) (w : Destination) → frame_destination p a ≡ w → ((h : Head) → parsed_head a.octets a.len ≡ Ok h → share ≤ h.sdu) → IsCounted (port_offers p out es) (police_steps p es) → IsCounted (destination_offer p out a es w ++ port_offers p out es) (filter_steps (plan_police p) (with_input (destination_input w) (filter_inputs p es)))
     way_counted a es way.Malformed w long before = before
     way_counted a es way.Nowhere w long before = before
     way_counted a es (way.Forwarded set cl) w long before =
         let g = going p a set cl w in
         let at : cl.at ≡ a.at = sym (ap (λ (z : FilterInput). z.at) g.call_is) in
-        let short : 44 * transmission_time a.len out.speed ≤ transmission_time 60 out.speed * cl.sdu = subst (λ (z : FilterInput). 44 * transmission_time a.len out.speed ≤ transmission_time 60 out.speed * z.sdu) g.call_is (sdu_most a.octets a.len g.parsed out.speed long g.is) in
+        let short : share * transmission_time a.len out.speed ≤ transmission_time 60 out.speed * cl.sdu = subst (λ (z : FilterInput). share * transmission_time a.len out.speed ≤ transmission_time 60 out.speed * z.sdu) g.call_is (sdu_most a.octets a.len g.parsed out.speed share few g.is (long g.parsed g.is)) in
         by_bool (has_port set out.number)
         (λ k. rw k (step_counted a es cl.priority cl (verdicts.frame_filter p.filters cl) at short refl before))
         (λ k. rw k (counted_more (port_offers p out es) (police_steps p es) (input_step (plan_police p) (police_steps p es) cl (verdicts.frame_filter p.filters cl) ∷ police_steps p es) (frame_more u (police_steps p es) cl (verdicts.frame_filter p.filters cl)) before))
 
     -- The gate passed all frames that the filter offers to the class at time `u` or later.
-    offers_through : (es : List Event) → HasNoRunts es → IsCounted (port_offers p out es) (police_steps p es)
+    offers_through : (es : List Event) → HaveSdus share es → IsCounted (port_offers p out es) (police_steps p es)
     offers_through [] long = omega arith
     offers_through (Cleared d k ∷ es) long =
         let same = commanded_same u (police_steps p es) d k in
@@ -329,14 +378,19 @@ module _ {A : Type 0} (p : Plan A) (n : ℕ) (f : FilterPlan) (plan : IsPlan p) 
   asked_order (Cleared d k ∷ es) order = commanded_order (last_arrival_time es) (police_steps p es) d k (asked_order es order)
   asked_order (Arrived a ∷ es) order = way_order a es (frame_destination p a) refl order.0 (asked_order es order.1)
 
+  -- The work that a filter offers keeps the budget of its stream gate.
+  pub work_within_budget : (out : PortPlan A) (c u share w : ℕ) (es : List Event) → share ≤ 44 → HasOctetLimits ((plan_police p).gates f.gate).turn_at → AreArrivalsInOrder es → HaveSdus share es → last_arrival_time es ≤ u + w → share * recent_filter_work out.speed n u (class_offers c (port_offers p out es)) ≤ transmission_time 60 out.speed * octet_budget ((plan_police p).gates f.gate).turn_at u w
+  work_within_budget out c u share w es few limits order long upto =
+      let counted = offers_through out c u share few es long in
+      let (sorted, newest) = asked_order es order in
+      let lets = within_budget ((plan_police p).gates f.gate) limits u w (gate_share f.gate (police_steps p es)) sorted (omega (arith, newest, upto)) in
+      let all = mul-le-mul_left (transmission_time 60 out.speed) lets in
+      omega (arith, counted, all)
+
   -- The offers of a filter have the curve of its gate.
   pub by_gate : (out : PortPlan A) (c : ℕ) (octets : ℕ → ℕ) → HasOctetLimits ((plan_police p).gates f.gate).turn_at → ((u w : ℕ) → octet_budget ((plan_police p).gates f.gate).turn_at u w ≤ octets w) → HasFilterCurve p out c n (gate_curve octets out.speed)
   by_gate out c octets limits most u w es order long upto =
-      let counted = offers_through out c u es long in
-      let (sorted, newest) = asked_order es order in
-      let lets = within_budget ((plan_police p).gates f.gate) limits u w (gate_share f.gate (police_steps p es)) sorted (omega (arith, newest, upto)) in
-      let budgeted = most u w in
-      let few : through u (police_steps p es) ≤ octets w = omega (arith, lets, budgeted) in
-      let all = mul-le-mul_left (transmission_time 60 out.speed) few in
+      let within = work_within_budget out c u 44 w es (omega arith) limits order (padded_sdus es long) upto in
+      let all = mul-le-mul_left (transmission_time 60 out.speed) (most u w) in
       let some : 0 < 44 = omega arith in
-      (le-div_iff_mul-le some).1 (omega (arith, counted, all))
+      (le-div_iff_mul-le some).1 (omega (arith, within, all))

@@ -1,8 +1,11 @@
 -- Frames of a conforming talker pass their filter.
 use Rattle.std.proofs.Common.{◌≡◌, ◌≤◌, ◌+◌, ◌*◌, ℕ, Bool, true, false, ◌&&◌, Option, None, Some, List, [], ◌∷◌, arith, ap, refl, sym, subst, ◌∙◌}
 use Rattle.std.specs.Prelude.{nat_eq, nat_le, if◌then◌else◌}
+use Rattle.std.specs.List.{list_all}
 use Rattle.std.proofs.Math.Bool.{and-false}
 use Rattle.std.proofs.lemmas.Bool.{eqb-false, eqb-true}
+use Rattle.std.proofs.lemmas.List.{append-nil}
+use Rattle.std.proofs.lemmas.List.Folds.{list_all-append}
 use Rattle.std.proofs.lemmas.Bool.Decides.{nat_tests}
 use Rattle.bridge_limits.specs.Members.{IsMember}
 use Rattle.bridge_limits.proofs.Cases.{by_bool}
@@ -23,6 +26,7 @@ use Rattle.bridge_filter.specs.declared.FilterPlan.{FilterPlan}
 use Rattle.bridge_filter.specs.declared.Verdict.{Verdict}
 use Rattle.bridge_filter.specs.declared.Verdict.TheVariants as verdict
 use Rattle.bridge_filter.specs.Verdicts.{Commanded, FilterStep, Judged, answer_verdict, colour_verdict, filter_steps, frame_filter, frame_verdict, gate_answer, gate_share, has_passed_gate, input_step, is_above_max, is_blocked, is_meter, meter_share, meter_verdict}
+use Rattle.bridge_filter.specs.Counts.{filter_verdicts}
 use Rattle.bridge_filter.specs.OwnEvents.{HasOwnInstances, is_filter_number}
 use Rattle.bridge_filter.proofs.Owned.{flow_listed}
 use Rattle.bridge_config.specs.Model.{Plan}
@@ -30,6 +34,7 @@ use Rattle.bridge_semantics.specs.declared.destination.Destination.{Destination}
 use Rattle.bridge_semantics.specs.declared.destination.Destination.TheVariants as way
 use Rattle.bridge_semantics.specs.Events.{Arrival, Arrived, Cleared, Event, arrival_filter, arrival_input, destination_input, filter_inputs, frame_destination, metered_octets, plan_police, police_steps, with_input}
 use Rattle.bridge_semantics.proofs.Offering.{going}
+use Rattle.bridge_bounds.specs.Passing.{passes}
 use Rattle.bridge_work.specs.MeterAllowance.{AreConforming, AreFramesInOrder, last_metered_time, recent_octets}
 use Rattle.bridge_work.proofs.GreenFrames.{next_green}
 use Rattle.bridge_groups.specs.Curves.{AreArrivalsInOrder, last_arrival_time}
@@ -219,3 +224,33 @@ module _ {A : Type 0} (p : Plan A) (n m most burst rate : ℕ) (f : FilterPlan) 
       let mine : is_filter_number n (arrival_filter p a) ≡ true = rw (called, fl) (same_eq n) in
       let (ipv, passes, next) = own_frame a es c called (sym (ap (λ (z : FilterInput). z.at) call_is)) (sym (ap (λ (z : FilterInput). z.octets) call_is)) mine (keeps.0 mine) order.0 (passing es order.1 keeps.1) in
       (ipv, passes)
+
+  -- THE VERDICTS
+
+  flow_verdicts : (a : Arrival) (es : List Event) (set : ℕ) (c : FilterInput) (o : Option (ℕ × FilterPlan)) → frame_destination p a ≡ way.Forwarded set c → frame_filter p.filters c ≡ o → AreArrivalsInOrder (Arrived a ∷ es) → IsConformingTalker p n most burst rate (Arrived a ∷ es) → list_all passes (filter_verdicts n (police_steps p es)) ≡ true
+      → list_all passes (filter_verdicts n (input_step (plan_police p) (police_steps p es) c o ∷ police_steps p es)) ≡ true
+  flow_verdicts a es set c None is fl order keeps before = before
+  flow_verdicts a es set c (Some x) is fl order keeps before =
+      let there : IsMember x p.filters = flow_listed p.filters c x fl in
+      by_bool (nat_eq x.0 n)
+      (λ k.
+      let number : x.0 ≡ n = eqb-true x.0 n k in
+      let same : f ≡ x.1 = alone.one x.1 (subst (λ (i : ℕ). IsMember (i, x.1) p.filters) number there) in
+      let own : frame_filter p.filters c ≡ Some (n, f) = subst (λ (g : FilterPlan). frame_filter p.filters c ≡ Some (n, g)) (sym same) (subst (λ (i : ℕ). frame_filter p.filters c ≡ Some (i, x.1)) number fl) in
+      let (ipv, verdict_is) = each_passes a es set c is own order keeps in
+      let moved : frame_verdict (plan_police p) (police_steps p es) c x.0 x.1 ≡ verdict.Pass ipv false = subst (λ (i : ℕ). frame_verdict (plan_police p) (police_steps p es) c i x.1 ≡ verdict.Pass ipv false) (sym number) (subst (λ (g : FilterPlan). frame_verdict (plan_police p) (police_steps p es) c n g ≡ verdict.Pass ipv false) same verdict_is) in
+      let here : passes (frame_verdict (plan_police p) (police_steps p es) c x.0 x.1) ≡ true = ap passes moved in
+      rw (k, list_all-append passes (filter_verdicts n (police_steps p es)) (frame_verdict (plan_police p) (police_steps p es) c x.0 x.1 ∷ []), before, here) refl)
+      (λ k. rw (k, append-nil) before)
+
+  way_verdicts : (a : Arrival) (es : List Event) (w : Destination) → frame_destination p a ≡ w → AreArrivalsInOrder (Arrived a ∷ es) → IsConformingTalker p n most burst rate (Arrived a ∷ es) → list_all passes (filter_verdicts n (police_steps p es)) ≡ true
+      → list_all passes (filter_verdicts n (filter_steps (plan_police p) (with_input (destination_input w) (filter_inputs p es)))) ≡ true
+  way_verdicts a es way.Malformed is order keeps before = before
+  way_verdicts a es way.Nowhere is order keeps before = before
+  way_verdicts a es (way.Forwarded set c) is order keeps before = flow_verdicts a es set c (frame_filter p.filters c) is refl order keeps before
+
+  -- Each frame of the talker has the verdict Pass.
+  pub all_pass : (es : List Event) → AreArrivalsInOrder es → IsConformingTalker p n most burst rate es → list_all passes (filter_verdicts n (police_steps p es)) ≡ true
+  all_pass [] order keeps = refl
+  all_pass (Cleared c k ∷ es) order keeps = all_pass es order keeps
+  all_pass (Arrived a ∷ es) order keeps = way_verdicts a es (frame_destination p a) refl order keeps (all_pass es order.1 keeps.1)

@@ -81,7 +81,7 @@ curve_rises p sharers speed v w h =
     over_units (64 * octet_units) _ _ some (mul-le-mul_left (transmission_time 60 speed) more)
 
 -- The copies of a class have this class, and their offers are in order.
-of_class : {X : Type 0} (c : ℕ) (y : Copy X) (xs : List (Copy X)) → IsMember y (class_copies c xs) → y.class ≡ c
+pub of_class : {X : Type 0} (c : ℕ) (y : Copy X) (xs : List (Copy X)) → IsMember y (class_copies c xs) → y.class ≡ c
 of_class c y [] i = absurd i
 of_class c y (x ∷ xs) i = by_bool (nat_eq x.class c)
     (λ k. let j : (y ≡ x) ⊎ IsMember y (class_copies c xs) = rw k at i in elim j [ inl same ↦ subst (λ (z : Copy _). z.class ≡ c) (sym same) (eqb-true x.class c k) | inr later ↦ of_class c y xs later ])

@@ -164,7 +164,7 @@ abbrev pub HaveOfferCurves : Speed → (ℕ → ℕ) → (ℕ → ℕ) → List 
 HaveOfferCurves speed curve many [] = Unit {0}
 HaveOfferCurves speed curve many (o ∷ os) = ((u w : ℕ) → o.at ≡ u + w → (recent_offer_work speed u (o ∷ os) ≤ curve w) × (count_recent_offers u (o ∷ os) ≤ many w)) × HaveOfferCurves speed curve many os
 
-work_as : {A : Type 0} (out : PortPlan A) (u : ℕ) (xs : List (Copy CarriedFrame)) → recent_work (egress_rules out) u xs ≡ recent_offer_work out.speed u (copy_offers xs)
+pub work_as : {A : Type 0} (out : PortPlan A) (u : ℕ) (xs : List (Copy CarriedFrame)) → recent_work (egress_rules out) u xs ≡ recent_offer_work out.speed u (copy_offers xs)
 work_as out u [] = refl
 work_as out u (x ∷ xs) = ap (λ (n : ℕ). (if nat_le u x.at then transmission_time x.item.len out.speed else 0) + n) (work_as out u xs)
 

@@ -10,7 +10,8 @@ use Rattle.bridge_gate.specs.declared.stream_gate.GateAnswer.{GateAnswer}
 use Rattle.bridge_gate.specs.declared.stream_gate.GateAnswer.TheVariants.{Closed, OctetsExceeded, ShutByOctets, ShutByRx, Through}
 use Rattle.bridge_gate.specs.declared.schedule.GateEntry.{GateEntry}
 use Rattle.bridge_gate.specs.Gates.{Answered, Asked, ClearedOctets, ClearedRx, GateEvent, GateRules, GateStep, OctetsCleared, RxCleared, answer, gate_steps, is_over_limit, is_shut_by_octets, is_shut_by_rx, last_frame_time, octets_in_turn, turn_answer}
-use Rattle.bridge_groups.specs.GateLimits.{AreGateFramesInOrder, HasOctetLimits, octet_budget, ended_turn_limits, is_same_turn, turn_limit, recent_passed_octets}
+use Rattle.bridge_groups.specs.GateLimits.{AreGateFramesInOrder, HasOctetLimits, octet_budget, ended_turn_limits, is_same_turn, recent_passed_octets}
+use Rattle.bridge_work.specs.GateIntervals.{turn_limit}
 
 -- ONE FRAME
 

@@ -12,10 +12,12 @@ use Rattle.bridge_filter.specs.declared.FilterPlan.{FilterPlan}
 use Rattle.bridge_port.specs.Schedule.{Full, Started}
 use Rattle.bridge_semantics.specs.Events.{Arrived, Cleared, arrival}
 use Rattle.bridge_semantics.specs.Offers.{CarriedFrame, Offer}
+use Rattle.bridge_groups.specs.Admission.{are_open_entries, committed_tokens, has_tokens}
 use Rattle.bridge_groups.specs.Costs.{frame_cost, recent_filter_cost, recent_offer_cost, recent_sharer_cost}
 use Rattle.bridge_groups.specs.Curves.{burst_sum, count_filter_offers, count_recent_offers, count_sharer_offers, curve_sum, frame_limit, gate_curve, has_filter_number, last_arrival_time, meter_curve, optional_burst, rate_sum, recent_filter_octets, recent_filter_work, recent_offer_work, recent_sharer_octets, recent_sharer_work}
 use Rattle.bridge_groups.specs.Departures.{filter_passages}
-use Rattle.bridge_groups.specs.GateLimits.{is_same_turn, octet_budget, recent_passed_octets, turn_limit}
+use Rattle.bridge_groups.specs.GateLimits.{is_same_turn, octet_budget, recent_passed_octets}
+use Rattle.bridge_work.specs.GateIntervals.{turn_limit}
 use Rattle.bridge_groups.specs.GroupRows.{group_from, least_group}
 use Rattle.bridge_groups.specs.Sharers.{are_metered, longest_sdu, sdu_or_zero}
 use Rattle.bridge_groups.specs.Talkers.{IsAlwaysOpen}
@@ -194,6 +196,26 @@ octets_that_passed = refl
 
 pub fixed_gate : IsAlwaysOpen (record { turn_at = λ t. Some (record { state = record { lets = true; ipv = None; octets = None }; start = pos 0; end = 0 }); shut_on_rx = false; shut_on_octets = false })
 fixed_gate = λ t. (record { state = record { lets = true; ipv = None; octets = None }; start = pos 0; end = 0 }, refl, refl, refl)
+
+-- Meter 1 has tokens for a radar frame of 272 octets in 10 ms, with its frame check sequence, and for no octet more.
+pub tokens_of_a_frame : has_tokens (committed_tokens meters (Some 1)) 276 220800 ≡ true
+tokens_of_a_frame = refl
+
+pub no_token_more : has_tokens (committed_tokens meters (Some 1)) 277 220800 ≡ false
+no_token_more = refl
+
+pub no_meter : has_tokens (committed_tokens meters None) 64 0 ≡ false
+no_meter = refl
+
+-- An entry with an octet limit isn't open for a burst.
+abbrev entry : Option ℕ → GateEntry
+entry octets = record { lets = true; ipv = Some 6; octets = octets }
+
+pub entries_without_limit : are_open_entries ((entry None, 1000) ∷ (entry None, 500) ∷ []) ≡ true
+entries_without_limit = refl
+
+pub entry_with_limit : are_open_entries ((entry None, 1000) ∷ (entry (Some 1500), 500) ∷ []) ≡ false
+entry_with_limit = refl
 
 -- A copy of filter 1 started at 1,000 ns and left at 1,672 ns; a copy of filter 2 was dropped.
 abbrev copy : ℕ → ℕ → CarriedFrame

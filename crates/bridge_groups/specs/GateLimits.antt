@@ -1,9 +1,10 @@
 -- Octets that a stream gate with octet limits passes in a span of time.
-use Rattle.std.specs.Prelude.{◌≡◌, ℕ, zero, suc, Bool, true, false, ◌+◌, ◌≤◌, nat_le, unwrap_or, Option, None, Some, List, [], ◌∷◌, if◌then◌else◌}
+use Rattle.std.specs.Prelude.{◌≡◌, ℕ, zero, suc, Bool, true, false, ◌+◌, ◌≤◌, nat_le, Option, None, Some, List, [], ◌∷◌, if◌then◌else◌}
 use Rattle.std.specs.Ordering.{int_eq}
 use Rattle.bridge_cycle.specs.declared.timeline.Turn.{Turn}
 use Rattle.bridge_gate.specs.declared.stream_gate.GateAnswer.TheVariants.{Through}
 use Rattle.bridge_gate.specs.declared.schedule.GateEntry.{GateEntry}
+use Rattle.bridge_work.specs.GateIntervals.{turn_limit}
 use Rattle.bridge_gate.specs.Gates.{Answered, Asked, GateEvent, GateStep, last_frame_time}
 
 -- The octets of the service data units that the stream gate passed at time `u` or later.
@@ -11,11 +12,6 @@ abbrev pub recent_passed_octets : ℕ → List GateStep → ℕ
 recent_passed_octets u [] = 0
 recent_passed_octets u (Answered t n (Through ipv) ∷ ss) = (if nat_le u t then n else 0) + recent_passed_octets u ss
 recent_passed_octets u (s ∷ ss) = recent_passed_octets u ss
-
--- The most octets that the gate passes in an interval; 0 if the gate is closed or has no limit.
-abbrev pub turn_limit : Option (Turn GateEntry) → ℕ
-turn_limit None = 0
-turn_limit (Some x) = if x.state.lets then unwrap_or x.state.octets 0 else 0
 
 -- Holds if each interval with an open gate has an octet limit, and intervals with equal starts are equal.
 pub record HasOctetLimits (turn_at : ℕ → Option (Turn GateEntry)) : Type 0 where

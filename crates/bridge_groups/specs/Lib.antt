@@ -7,4 +7,6 @@ pub mod QueueBounds
 pub mod Sharers
 pub mod SharedQueues
 pub mod GroupRows
+pub mod Admission
 pub mod Examples
+pub mod GateBounds

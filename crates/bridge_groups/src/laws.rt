@@ -17,11 +17,15 @@ ghost use Rattle.bridge_check.specs.Acceptable.{HasAcceptableGroups};
 ghost use Rattle.bridge_check.specs.Reach.{reaches_queue};
 ghost use Rattle.bridge_check.specs.Windows.{longest_frame};
 ghost use Rattle.bridge_semantics.specs.declared.destination.Destination.TheVariants.{Forwarded};
-ghost use Rattle.bridge_semantics.specs.Events.{Arrival, Arrived, Event, count_filter_frames, frame_destination, metered_octets, plan_police};
+ghost use Rattle.bridge_semantics.specs.Events.{Arrival, Arrived, Event, count_filter_frames, frame_destination, metered_octets, plan_police, police_steps};
+ghost use Rattle.std.specs.List.{list_all};
+ghost use Rattle.bridge_filter.specs.Counts.{filter_verdicts};
+ghost use Rattle.bridge_bounds.specs.Passing.{passes};
 ghost use Rattle.bridge_semantics.specs.Offers.{CarriedFrame, egress_rules};
 ghost use Rattle.bridge_semantics.specs.Groups.{IsGroupMember, IsGroupQueue};
 ghost use Rattle.bridge_semantics.specs.Runs.{AreFinished, IsRun};
 ghost use Rattle.bridge_bounds.specs.Bounds.{IsLongestTime};
+ghost use Rattle.bridge_bounds.specs.GateFrames.{AreWithinLengths};
 ghost use Rattle.bridge_work.specs.Work.{IsDelayBound, HasCountCurve, HasWorkCurve};
 ghost use Rattle.bridge_cycle.specs.Fits.{Fits, IsFirstFit};
 ghost use Rattle.bridge_meter.specs.Colours.{octet_units};
@@ -35,8 +39,11 @@ ghost use Rattle.bridge_groups.specs.Departures.{HaveConformingDepartures, filte
 ghost use Rattle.bridge_groups.specs.Curves.{AreArrivalsInOrder, HaveMeters, HasNoRunts, AreSharers, HasFilterCurve, curve_sum, optional_burst, sharers_curve, gate_curve, sharers_frame_limit, meter_curve, optional_rate};
 ghost use Rattle.bridge_gate.specs.Gates.{GateEvent, GateRules, gate_steps, last_frame_time};
 ghost use Rattle.bridge_groups.specs.GateLimits.{AreGateFramesInOrder, HasOctetLimits, octet_budget, recent_passed_octets};
+ghost use Rattle.bridge_check.specs.Acceptable.{IsAcceptable};
+ghost use Rattle.bridge_groups.specs.GateBounds.{HaveSdus, IsGateWorkBound};
 ghost use Rattle.bridge_groups.specs.SharedQueues.{IsSharedQueue};
 ghost use Rattle.bridge_groups.specs.declared.shared_queues.SharedQueue.{SharedQueue};
+ghost use Rattle.bridge_groups.specs.Admission.{HasSufficientQueue, admits_talker};
 ghost use Rattle.bridge_groups.specs.Talkers.{IsDelivered, AdmitsTalker, IsConformingTalker};
 
 use std::alloc::Allocator;
@@ -124,6 +131,49 @@ pub fn conforming_frame_is_delivered<A: Allocator + Copy>()
         → ((k : ℕ) → reaches_queue p f q k ≡ true
         → HasCurveRoom out k sdu (sharers_curve p (sharers k) out.speed) (sharers_frame_limit p (sharers k)))
         → IsDelivered out (lists q) a n (count_filter_frames p n older + 1) b }
+{}
+
+/// If the settings of a filter pass the test `admits_talker`, the filter admits each conforming talker with this burst and rate.
+pub fn tested_filter_admits_talker<A: Allocator + Copy>()
+    ensures { (p : Plan A) (f : FilterPlan) (most burst rate : ℕ)
+        → IsPlan p
+        → admits_talker p f most burst rate ≡ true
+        → (m : ℕ) × AdmitsTalker p f m most burst rate }
+{}
+
+/// If a filter admits a conforming talker, each of its frames leaves each egress port within the bound of a shared queue, whatever all
+/// others send. Each shared queue that it can reach there has enough capacity.
+pub fn conforming_frame_leaves_shared_queue<A: Allocator + Copy>()
+    ensures { (p : Plan A) (group n m most burst rate q set : ℕ) (f : FilterPlan)
+        (out : PortPlan A) (a : Arrival) (newer older : List Event) (c : FilterInput)
+        (moments : ℕ → ℕ) (lists : ℕ → List (Copy CarriedFrame))
+        (enough : (k : ℕ) → reaches_queue p f q k ≡ true → HasSufficientQueue p group q k)
+        → IsPlan p
+        → HasAcceptableGroups p
+        → IsGroupMember p group n f
+        → AdmitsTalker p f m most burst rate
+        → IsRun p (newer ++ Arrived a ∷ older) moments lists
+        → AreFinished lists
+        → AreArrivalsInOrder (newer ++ Arrived a ∷ older)
+        → IsConformingTalker p n most burst rate (newer ++ Arrived a ∷ older)
+        → frame_destination p a ≡ Forwarded set c
+        → frame_filter p.filters c ≡ Some (n, f)
+        → has_port set q ≡ true
+        → find_port p.ports q ≡ Some out
+        → (k : ℕ) × (reach : reaches_queue p f q k ≡ true) × (d : IsDelivered out (lists q) a n
+        (count_filter_frames p n older + 1) (enough k reach).row.bound) × (d.copy.class ≡ k) × (a.at ≤ d.start) }
+{}
+
+/// If a filter admits a conforming talker, each of its frames has the verdict `Pass`.
+pub fn conforming_frames_pass<A: Allocator + Copy>()
+    ensures { (p : Plan A) (group n m most burst rate : ℕ) (f : FilterPlan) (es : List Event)
+        → IsPlan p
+        → HasAcceptableGroups p
+        → IsGroupMember p group n f
+        → AdmitsTalker p f m most burst rate
+        → AreArrivalsInOrder es
+        → IsConformingTalker p n most burst rate es
+        → list_all passes (filter_verdicts n (police_steps p es)) ≡ true }
 {}
 
 /// In any `w` ns a stream gate with octet limits passes at most the octets of the intervals that overlap these `w` ns.
@@ -336,4 +386,28 @@ pub fn shared_queue_is_never_full<A: Allocator + Copy>()
         → IsMember x (lists s.port)
         → x.class ≡ s.class
         → x.fate ≢ Full }
+{}
+
+/// Each copy that a protected filter's queue sent has left within the bound that `gate_work_bound` returns, in every run whose frames have
+/// SDUs of at least `fewest` octets.
+pub fn frames_leave_in_time_by_gate<A: Allocator + Copy>()
+    ensures { (p : Plan A) (n q c fewest b start : ℕ) (is : IsGateWorkBound p n q c fewest b) (es : List Event)
+        (moments : ℕ → ℕ) (lists : ℕ → List (Copy CarriedFrame)) (x : Copy CarriedFrame)
+        → IsPlan p
+        → IsAcceptable p
+        → IsRun p es moments lists
+        → AreFinished lists
+        → AreArrivalsInOrder es
+        → HaveSdus fewest es
+        → IsMember x (lists q)
+        → x.class ≡ c
+        → x.fate ≡ Started start
+        → start + transmission_time x.item.len is.out.speed ≤ x.at + b }
+{}
+
+/// SDUs have at least two octets if no frame has more captured octets than its length (`captured`). They have at least 44 octets if each
+/// frame has at least 60 octets (`padded`).
+pub fn frames_have_sdus()
+    ensures captured { (es : List Event) → AreWithinLengths es → HaveSdus 2 es }
+    ensures padded { (es : List Event) → HasNoRunts es → HaveSdus 44 es }
 {}

@@ -20,7 +20,7 @@ use std::alloc::Allocator;
 const FRAME_UNITS: u128 = 64 * UNITS_PER_OCTET;
 
 /// Returns the settings of meter `number`; settings with rates and bursts of 0 if the list lacks it.
-fn find_meter(meters: &[(u32, MeterPlan)], number: u32) -> MeterPlan
+pub(crate) fn find_meter(meters: &[(u32, MeterPlan)], number: u32) -> MeterPlan
     ensures { result ≡ meter_or_empty (lookup (nat_eq number) meters.now) }
 {
     for meter in meters {

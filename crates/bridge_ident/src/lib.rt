@@ -83,6 +83,7 @@ pub fn has_vlan_tag(tag: Option<Tag>) -> bool
 }
 
 /// Returns the handle of the first matching entry; `None` if no entry matches.
+#[inline(never)]
 fn first_handle(entries: &[StreamEntry], port: u8, head: &Head, vid: u16) -> Option<u32>
     ensures { result ≡ first_handle entries.now port head.now vid }
 {
@@ -150,6 +151,7 @@ impl<A: Allocator + Copy> Ident<A> {
 
     /// Returns the stream handle of a frame that arrived on `port` in the VLAN `vid`: the handle of the first matching entry.
     /// `None` if no entry matches.
+    #[inline(always)]
     pub fn handle_of(&self, port: u8, head: &Head, vid: u16) -> Option<u32>
         ensures { result ≡ first_handle self.now port head.now vid }
     {

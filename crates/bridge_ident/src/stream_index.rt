@@ -173,10 +173,11 @@ fn first_entries<A: Allocator + Copy>(
 /// Number of hints for each destination.
 const HINTS_PER_ENTRY: usize = 4;
 
-/// Returns the slot of `key` among `hints` hints, by mixing the bits of the key.
+/// Returns the slot of `key` among `hints` hints, by mixing the bits of the key. The port goes to the four bits above the VLAN identifier,
+/// where no other bit changes.
 #[inline(always)]
 fn hint_slot(key: u128, hints: usize) -> usize {
-    let folded = ((key >> 64) ^ key) % TWO_POW_64;
+    let folded = ((key >> 64 << 60) ^ key) % TWO_POW_64;
     let mixed = (folded as u64).wrapping_mul(0x9E37_79B9_7F4A_7C15) >> 32;
     (mixed.wrapping_mul(hints as u64) >> 32) as usize
 }
@@ -285,6 +286,15 @@ fn entry_by_index<A: Allocator + Copy>(
     }
 }
 
+/// Whether no entry has `key`: no address ends in the key's last octet. If not, an entry may have the key.
+#[inline(always)]
+fn is_absent<A: Allocator + Copy>(firsts: &FirstEntries<A>, marks: &OctetMarks, key: u128) -> bool
+    ensures { result ≡ true → HasMarks firsts.now marks.now → get nat_eq firsts.now key ≡ None }
+{
+    let _firsts = firsts.len();
+    !marks[last_octet(key)]
+}
+
 /// Returns the first entry for `key` by its hash; `None` if no entry has it. Looks only if an address ends in the key's last octet.
 #[inline(always)]
 fn entry_by_hash<A: Allocator + Copy>(
@@ -298,22 +308,6 @@ fn entry_by_hash<A: Allocator + Copy>(
         firsts.get(&key).copied()
     } else {
         None
-    }
-}
-
-/// Returns the first entry for `key`, by its hint first; `None` if no entry has this key.
-#[inline(always)]
-fn find_first_entry<A: Allocator + Copy>(
-    firsts: &FirstEntries<A>,
-    marks: &OctetMarks,
-    hints: &[u16],
-    key: u128,
-) -> Option<FirstEntry>
-    ensures { HasMarks firsts.now marks.now → result ≡ get nat_eq firsts.now key }
-{
-    match entry_by_index(firsts, hinted_index(hints, key), key) {
-        Some(first) => Some(first),
-        None => entry_by_hash(firsts, marks, key),
     }
 }
 
@@ -337,6 +331,43 @@ fn entry_handle(first: Option<FirstEntry>) -> Option<u32>
 }
 
 impl<A: Allocator + Copy> AddressIndex<A> {
+    /// Returns the handle of the first entry for the keys `da` or `sa`, by their hashes; `None` if no entry has either key.
+    #[inline(never)]
+    fn handle_by_hash(&self, da: u128, sa: u128) -> Option<u32>
+        ensures { HasMarks self.now.destinations self.now.destination_marks
+            → HasMarks self.now.sources self.now.source_marks
+            → result ≡ option_map (λ f. f.handle) (earlier_entry (get nat_eq self.now.destinations da)
+            (get nat_eq self.now.sources sa)) }
+    {
+        let destination = entry_by_hash(&self.destinations, &self.destination_marks, da);
+        let source = entry_by_hash(&self.sources, &self.source_marks, sa);
+        entry_handle(earlier_entry(destination, source))
+    }
+
+    /// Returns the handle of the first entry for the keys `da` or `sa`; `None` if no entry has either key. Most frames need no hash, only
+    /// a mark and a hint.
+    #[inline(always)]
+    fn handle_by_keys(&self, da: u128, sa: u128) -> Option<u32>
+        ensures { HasMarks self.now.destinations self.now.destination_marks
+            → HasMarks self.now.sources self.now.source_marks
+            → result ≡ option_map (λ f. f.handle) (earlier_entry (get nat_eq self.now.destinations da)
+            (get nat_eq self.now.sources sa)) }
+    {
+        if !is_absent(&self.sources, &self.source_marks, sa) {
+            return self.handle_by_hash(da, sa);
+        }
+        let place = hinted_index(&self.index_hints, da);
+        match entry_by_index(&self.destinations, place, da) {
+            Some(first) => Some(first.handle),
+            None => {
+                if is_absent(&self.destinations, &self.destination_marks, da) {
+                    return None;
+                }
+                self.handle_by_hash(da, sa)
+            }
+        }
+    }
+
     /// Returns the handle of the first entry for either address of a frame; `None` if no entry matches.
     #[inline(always)]
     fn find_handle(&self, port: u8, head: &Head, vid: u16) -> Option<u32>
@@ -347,14 +378,7 @@ impl<A: Allocator + Copy> AddressIndex<A> {
     {
         let da = entry_key(port, vid, head.da);
         let sa = entry_key(port, vid, head.sa);
-        let destination = find_first_entry(
-            &self.destinations,
-            &self.destination_marks,
-            &self.index_hints,
-            da,
-        );
-        let source = entry_by_hash(&self.sources, &self.source_marks, sa);
-        entry_handle(earlier_entry(destination, source))
+        self.handle_by_keys(da, sa)
     }
 }
 
@@ -377,6 +401,7 @@ impl<A: Allocator + Copy> StreamIndex<A> {
     }
 
     /// Returns the handle of the first matching entry; `None` if no entry matches.
+    #[inline(always)]
     pub(crate) fn find_handle(&self, port: u8, head: &Head, vid: u16) -> Option<u32>
         ensures { (entries : List StreamEntry)
             → HasAddressEntries true entries self.now.tagged.destinations self.now.tagged.destination_marks

@@ -117,6 +117,7 @@ impl<T: Drop, A: Allocator + Copy> Port<T, A> {
     }
 
     /// Returns why the port would now drop an item with a transmission time of `occ` ns; `None` if the port would queue it.
+    #[inline(always)]
     fn refusal(&self, class: usize, occ: u64) -> Option<Refusal>
         requires { class < 8 }
         ensures { (x : Item T) → occ ≡ transmission_time x.len self.now.speed → result

@@ -42,6 +42,7 @@ pub fn with_rooms<T: Drop, A: Allocator + Copy>(
 }
 
 /// Returns the head of the queue of `class`, its oldest item; `None` if the queue is empty.
+#[inline(always)]
 pub fn queue_head<T, A: Allocator + Copy>(
     rings: &Vec<HeapCircularBuffer<Item<T>, A>, A>,
     class: usize,
@@ -53,6 +54,7 @@ pub fn queue_head<T, A: Allocator + Copy>(
 }
 
 /// Whether the queue of `class` is full. If so, the port drops the next copy.
+#[inline(always)]
 pub fn is_full<T, A: Allocator + Copy>(
     rings: &Vec<HeapCircularBuffer<Item<T>, A>, A>,
     class: usize,
@@ -65,6 +67,7 @@ pub fn is_full<T, A: Allocator + Copy>(
 }
 
 /// Adds an item at the end of the queue of `class`, which must not be full.
+#[inline(always)]
 pub fn push_item<T: Drop, A: Allocator + Copy>(
     rings: &mut Vec<HeapCircularBuffer<Item<T>, A>, A>,
     class: usize,
@@ -85,6 +88,7 @@ pub fn push_item<T: Drop, A: Allocator + Copy>(
 }
 
 /// Removes the head of the queue of `class`, and returns it; `None` if the queue is empty.
+#[inline(always)]
 pub fn pop_item<T: Drop, A: Allocator + Copy>(
     rings: &mut Vec<HeapCircularBuffer<Item<T>, A>, A>,
     class: usize,

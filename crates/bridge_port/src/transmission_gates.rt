@@ -122,21 +122,30 @@ fn make_cache<A: Allocator + Copy>(
     }
 }
 
-/// Returns the interval that contains `t`: the kept interval, or an interval from the lists, which is kept then.
+/// Whether the kept interval contains `t`. If not, another interval of the lists may contain it.
 #[inline(always)]
-fn find_turn<A: Allocator + Copy>(kept: &mut Turn<u8>, list: &Egress<A>, t: u64) -> Turn<u8>
+fn has_time<A: Allocator + Copy>(kept: &Turn<u8>, list: &Egress<A>, t: u64) -> bool
+    requires range { t < END_OF_SEARCHES }
+    requires kept { IsListsTurn list.now kept.now }
+    requires lawful { egress.IsLawful list.now }
+    ensures { result ≡ true → egress.turn_by_time list.now t ≡ Some kept.now }
+{
+    let _list = list;
+    kept.start <= t as i64 && t < kept.end
+}
+
+/// Keeps the interval that contains `t`: the interval kept so far, or an interval from the lists.
+fn find_turn<A: Allocator + Copy>(kept: &mut Turn<u8>, list: &Egress<A>, t: u64)
     requires range { t < END_OF_SEARCHES }
     requires kept { IsListsTurn list.now kept.old }
     requires lawful { egress.IsLawful list.now }
-    ensures turn { egress.turn_by_time list.now t ≡ Some result }
+    ensures turn { egress.turn_by_time list.now t ≡ Some kept.new }
     ensures kept { IsListsTurn list.now kept.new }
 {
-    if kept.start <= t as i64 && t < kept.end {
-        return *kept;
+    if has_time(kept, list, t) {
+        return;
     }
-    let turn = list.turn(t);
-    *kept = turn;
-    turn
+    *kept = list.turn(t);
 }
 
 /// Whether the lists have at most 16 entries each, or are absent.
@@ -151,8 +160,33 @@ fn has_few_entries<A: Allocator + Copy>(list: &Option<Egress<A>>) -> bool {
     }
 }
 
-/// Whether `class` stays open for `occ` ns from `from` on within one interval. Tested for short lists only.
+/// Whether `class` stays open for `occ` ns from `from` on within the kept interval. Tested for short lists only.
 #[inline(always)]
+fn fits_in_kept_turn<A: Allocator + Copy>(
+    is_short: bool,
+    kept: &Turn<u8>,
+    list: &Egress<A>,
+    class: usize,
+    occ: u64,
+    from: u64,
+) -> bool
+    requires class { class < 8 }
+    requires occ { occ ≤ LONGEST_CYCLE }
+    requires from { from < END_OF_SEARCHES }
+    requires kept { IsListsTurn list.now kept.now }
+    requires lawful { egress.IsLawful list.now }
+    ensures first { result ≡ true → IsFirstFit (λ v. turn_opens (egress.turn_by_time list.now v) class) occ from from }
+{
+    if !is_short {
+        return false;
+    }
+    if has_time(kept, list, from) {
+        return is_open(kept.state, class as u8) && from + occ <= kept.end;
+    }
+    false
+}
+
+/// Whether `class` stays open for `occ` ns from `from` on within one interval, which is kept. Tested for short lists only.
 fn fits_in_turn<A: Allocator + Copy>(
     is_short: bool,
     kept: &mut Turn<u8>,
@@ -172,8 +206,8 @@ fn fits_in_turn<A: Allocator + Copy>(
     if !is_short {
         return false;
     }
-    let turn = find_turn(kept, list, from);
-    is_open(turn.state, class as u8) && from + occ <= turn.end
+    find_turn(kept, list, from);
+    fits_in_kept_turn(is_short, kept, list, class, occ, from)
 }
 
 /// Returns the earliest time, `from` or later, from which `class` stays open for `occ` ns. `None` if the spans show none.
@@ -225,6 +259,37 @@ fn fit_in_lists<A: Allocator + Copy>(
     }
 }
 
+/// Returns the earliest time, `from` or later, from which `class` stays open for `occ` ns, and keeps its interval. Isn't inlined, so that
+/// a search that ends in the kept interval needs few registers.
+#[inline(never)]
+fn search_fit<A: Allocator + Copy>(
+    is_short: bool,
+    turn: &mut Turn<u8>,
+    list: &Egress<A>,
+    kept: &GateCache<A>,
+    last: &mut SearchHints,
+    class: usize,
+    occ: u64,
+    from: u64,
+) -> u64
+    requires class { class < 8 }
+    requires occ { occ ≤ LONGEST_CYCLE }
+    requires from { from < END_OF_SEARCHES }
+    requires turn { IsListsTurn list.now turn.old }
+    requires lawful { egress.IsLawful list.now }
+    requires kept { AreGateSpans list.now kept.now.old.runs kept.now.old.each.items kept.now.new.runs
+        kept.now.new.each.items }
+    requires some { (u : ℕ) × (from ≤ u) × (u ≤ from + 2 * LONGEST_CYCLE)
+        × Fits (λ v. turn_opens (egress.turn_by_time list.now v) class) occ u }
+    ensures first { IsFirstFit (λ v. turn_opens (egress.turn_by_time list.now v) class) occ from result }
+    ensures turn { IsListsTurn list.now turn.new }
+{
+    if fits_in_turn(is_short, turn, list, class, occ, from) {
+        return from;
+    }
+    fit_in_lists(list, kept, last, class, occ, from)
+}
+
 impl<A: Allocator + Copy> TransmissionGates<A> {
     /// Makes the gates for the lists. Without lists, all gates are always open.
     pub fn new(alloc: A, list: Option<Egress<A>>) -> Result<TransmissionGates<A>, AllocError>
@@ -249,6 +314,7 @@ impl<A: Allocator + Copy> TransmissionGates<A> {
     }
 
     /// Whether each list opens `class` for `occ` ns at some time.
+    #[inline(always)]
     pub fn can_fit(&self, class: usize, occ: u64) -> bool
         requires { class < 8 }
         ensures { result ≡ can_fit self.now class occ }
@@ -274,10 +340,19 @@ impl<A: Allocator + Copy> TransmissionGates<A> {
         match &self.list {
             None => from,
             Some(list) => {
-                if fits_in_turn(self.is_short, &mut self.turn, list, class, occ, from) {
+                if fits_in_kept_turn(self.is_short, &self.turn, list, class, occ, from) {
                     return from;
                 }
-                fit_in_lists(list, &self.kept, &mut self.last, class, occ, from)
+                search_fit(
+                    self.is_short,
+                    &mut self.turn,
+                    list,
+                    &self.kept,
+                    &mut self.last,
+                    class,
+                    occ,
+                    from,
+                )
             }
         }
     }

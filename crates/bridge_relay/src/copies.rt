@@ -1,11 +1,12 @@
 //! Copies of a frame's octets.
-ghost use Rattle.std.specs.Prelude.{◌≡◌, length, IfOk, All};
+ghost use Rattle.std.specs.Prelude.{◌≡◌, [], length, IfOk, All};
 ghost use Rattle.bridge_semantics.specs.Offers.{leaving_octets};
 
 use bridge_capture::BufferPool;
 use bridge_cycle::NoMemory;
 use bridge_frame::mark_drop_eligible;
 use std::alloc::{AllocError, Allocator};
+use std::mem;
 
 /// Copies `octets` into a spare buffer of the pool, or into a new one if the pool is empty.
 fn copy_octets<A: Allocator + Copy>(
@@ -19,18 +20,19 @@ fn copy_octets<A: Allocator + Copy>(
     Ok(copy)
 }
 
-/// Makes `count` copies of `octets`, in spare buffers as far as the pool has any.
-#[inline(always)]
-pub fn make_copies<A: Allocator + Copy>(
-    alloc: A,
+/// Adds `count` copies of `octets` to an empty list, in spare buffers as far as the pool has any.
+fn fill_copies<A: Allocator + Copy>(
+    list: Vec<Vec<u8, A>, A>,
     octets: &[u8],
     count: usize,
     spares: &mut BufferPool<A>,
 ) -> Result<Vec<Vec<u8, A>, A>, NoMemory>
+    requires none { list.items ≡ [] }
     ensures count { IfOk result (λ copies. length copies.items ≡ count) }
     ensures octets { IfOk result (λ copies. All (λ v. v.items ≡ octets.now) copies.items) }
 {
-    let Ok(mut copies) = Vec::with_capacity(alloc, count) else {
+    let mut copies = list;
+    let Ok(()) = copies.reserve(count) else {
         return Err(NoMemory);
     };
     for _ in 0..count {
@@ -40,6 +42,27 @@ pub fn make_copies<A: Allocator + Copy>(
         copies.push_reserved(copy);
     }
     Ok(copies)
+}
+
+/// Makes `count` copies of `octets`, in spare buffers as far as the pool has any. Moves out `list`, whose memory the copies' list uses, if
+/// there are copies.
+#[inline(always)]
+pub fn make_copies<A: Allocator + Copy>(
+    alloc: A,
+    list: &mut Vec<Vec<u8, A>, A>,
+    octets: &[u8],
+    count: usize,
+    spares: &mut BufferPool<A>,
+) -> Result<Vec<Vec<u8, A>, A>, NoMemory>
+    ensures count { IfOk result (λ copies. length copies.items ≡ count) }
+    ensures octets { IfOk result (λ copies. All (λ v. v.items ≡ octets.now) copies.items) }
+{
+    if count == 0 {
+        return Ok(Vec::new(alloc));
+    }
+    let mut list = mem::replace(list, Vec::new(alloc));
+    list.clear();
+    fill_copies(list, octets, count, spares)
 }
 
 /// Returns copies to the pool that no port will get, because a filter refused their frame.

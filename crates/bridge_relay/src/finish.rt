@@ -150,6 +150,7 @@ impl<'a, G: Agenda + Drop, A: Allocator + Copy> Relay<'a, G, A> {
             tables,
             arrived: _,
             earliest: _,
+            copies: _,
         } = self;
         let ports = bridge_ports.counts(ports);
         drop(ident);

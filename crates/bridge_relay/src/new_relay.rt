@@ -105,6 +105,7 @@ impl<'a, G: Agenda + Drop, A: Allocator + Copy> Relay<'a, G, A> {
             tables,
             arrived: 0,
             earliest: 0,
+            copies: Vec::new(alloc),
         })
     }
 }

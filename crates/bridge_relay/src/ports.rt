@@ -223,9 +223,28 @@ impl<G: Agenda + Drop, A: Allocator + Copy> Ports<G, A> {
         }
     }
 
-    /// Returns the number of existing ports in `set`, and the last of them; 0 and 0 if there are none.
+    /// Returns the number of existing ports in `set`, and the last of them; 0 and 0 if there are none. Most sets have one port.
     #[inline(always)]
     pub fn count_outputs(&self, set: PortSet) -> (usize, u8)
+        ensures count { result.0 ≡ count_outputs self.now.slots set 16 }
+        ensures few { result.0 ≤ 16 }
+        ensures last { IsLastOutput self.now.slots set result.1 }
+    {
+        let bits = set.bits();
+        let before = ports_before_first(set);
+        if before >= 16 || bits >> before != 1 {
+            return self.count_several_outputs(set);
+        }
+        if self.has(before + 1) {
+            (1, before + 1)
+        } else {
+            (0, 0)
+        }
+    }
+
+    /// Returns the number of existing ports in `set`, and the last of them; 0 and 0 if there are none. Walks through the ports.
+    #[inline(never)]
+    fn count_several_outputs(&self, set: PortSet) -> (usize, u8)
         ensures count { result.0 ≡ count_outputs self.now.slots set 16 }
         ensures few { result.0 ≤ 16 }
         ensures last { IsLastOutput self.now.slots set result.1 }

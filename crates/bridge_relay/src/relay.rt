@@ -13,7 +13,7 @@ ghost use Rattle.bridge_filter.specs.Verdicts.{HasValidPriority};
 ghost use Rattle.bridge_filter.specs.declared.Ruling.{Ruling};
 ghost use Rattle.bridge_relay.specs.Recorders.{AwaitsVerdict};
 ghost use Rattle.bridge_relay.specs.RelayedFrames.{classify, input_filter_number, relay_before_frame, relay_with_release, HasPoliced, HasUncountedFrame, HasSequence, AwaitsCopies, HasDestinationPriority, IsForwarded, HasOfferedCopy, IsPrepared, CanRelay, IsOfferingSet, HasCopies, HasCountedFrame, IsUnforwarded, leaving_frame};
-ghost use Rattle.std.specs.Prelude.{true, false, IfSome, IsTrue, All, OnErr, max, slice_index, ◌≡◌, ℕ, ◌<◌, ◌≤◌, ◌+◌, ◌*◌, ◌^◌, List, ◌∷◌, Some, None, Option, length, OnOk, IfErr, IfOk};
+ghost use Rattle.std.specs.Prelude.{true, false, IfSome, IsTrue, All, OnErr, max, slice_index, ◌≡◌, ℕ, ◌<◌, ◌≤◌, ◌+◌, ◌*◌, ◌^◌, List, [], ◌∷◌, Some, None, Option, length, OnOk, IfErr, IfOk};
 ghost use Rattle.bridge_config.specs.Model as config;
 ghost use Rattle.bridge_ident.specs.Identification.{first_handle};
 ghost use Rattle.bridge_config.specs.Rules.{find_port};
@@ -48,8 +48,8 @@ use std::marker::Model;
 /// Largest index of a recorder that a queued frame stores.
 const MAX_RECORDERS: usize = 4_294_967_295;
 
-/// Returns the stream handle of a frame, if a stream entry matches. Isn't inlined: its code would take registers from the loop of a run.
-#[inline(never)]
+/// Returns the stream handle of a frame, if a stream entry matches.
+#[inline(always)]
 fn stream_handle<A: Allocator + Copy>(
     ident: &Ident<A>,
     port: u8,
@@ -80,6 +80,8 @@ pub struct Relay<'a, G: Agenda + Drop, A: Allocator + Copy> {
     pub(crate) arrived: u64,
     /// Earliest time of the next event in ns.
     pub(crate) earliest: u64,
+    /// Empty list with the memory for a frame's copies, so that a frame with several egress ports allocates no list.
+    pub(crate) copies: Vec<Vec<u8, A>, A>,
 }
 
 impl<'a, G: Agenda + Drop, A: Allocator + Copy> Model for Relay<'a, G, A> {
@@ -280,7 +282,13 @@ impl<'a, G: Agenda + Drop, A: Allocator + Copy> Relay<'a, G, A> {
         ensures sound { OnOk result (IsSound G.held self.new) }
     {
         let (count, _) = self.ports.count_outputs(set);
-        let Ok(copies) = make_copies(self.alloc, octets, count.saturating_sub(1), spares) else {
+        let Ok(copies) = make_copies(
+            self.alloc,
+            &mut self.copies,
+            octets,
+            count.saturating_sub(1),
+            spares,
+        ) else {
             return Err(NoMemory);
         };
         let Ok(()) = reserve_room(&mut self.tables, filter, hint, count) else {
@@ -374,7 +382,33 @@ impl<'a, G: Agenda + Drop, A: Allocator + Copy> Relay<'a, G, A> {
         );
     }
 
+    /// Offers a frame to port `number` of `set`, as `offer_copy` does. Isn't inlined, so that a loop over the ports stays small.
+    #[inline(never)]
+    fn offer_listed_copy(
+        &mut self,
+        set: PortSet,
+        number: u8,
+        priority: u8,
+        len: u32,
+        eligible: bool,
+        load: QueuedFrame<A>,
+        spares: &mut BufferPool<A>,
+    )
+        requires from { 1 ≤ number }
+        requires to { number ≤ 16 }
+        requires priority { priority ≤ 7 }
+        requires along { (b : RelayState G A) × CanRelay b (leaving_frame load len eligible)
+            × IsOfferingSet G.held b self.old set priority (leaving_frame load len eligible) number }
+        requires goes { is_output self.old.ports.slots set number ≡ true }
+        ensures next { (b : RelayState G A)
+            → IsOfferingSet G.held b self.old set priority (leaving_frame load len eligible) number
+            → IsOfferingSet G.held b self.new set priority (leaving_frame load len eligible) (number + 1) }
+    {
+        self.offer_copy(set, number, priority, len, eligible, load, spares);
+    }
+
     /// Offers a copy of a frame to port `number`, if `set` has this port.
+    #[inline(always)]
     fn offer_next_copy(
         &mut self,
         set: PortSet,
@@ -411,9 +445,61 @@ impl<'a, G: Agenda + Drop, A: Allocator + Copy> Relay<'a, G, A> {
                     recorder: first.recorder,
                     octets,
                 };
-                self.offer_copy(set, number, priority, len, eligible, load, spares);
+                self.offer_listed_copy(set, number, priority, len, eligible, load, spares);
             }
             None => unreachable!(),
+        }
+    }
+
+    /// Offers copies of a frame to the ports of `set`, by rising number. If `eligible` is true, their tags are marked drop eligible. Isn't
+    /// inlined: most frames have one egress port, and `offer_only_copy` handles them.
+    #[inline(never)]
+    fn offer_several_copies(
+        &mut self,
+        set: PortSet,
+        priority: u8,
+        len: u32,
+        eligible: bool,
+        first: QueuedFrame<A>,
+        copies: &mut Vec<Vec<u8, A>, A>,
+        spares: &mut BufferPool<A>,
+    )
+        requires priority { priority ≤ 7 }
+        requires along { CanRelay self.old (leaving_frame first len eligible)
+            × IsOfferingSet G.held self.old self.old set priority (leaving_frame first len eligible) 1 }
+        requires copies { HasCopies self.old.ports.slots set 1 first.octets.items copies.old.items }
+        ensures offered { IsOfferingSet G.held self.old self.new set priority (leaving_frame first len eligible) 17 }
+    {
+        let (_, last) = self.ports.count_outputs(set);
+        let from = first_port_with_copy(copies.len(), last);
+        for number in from..last {
+            self.offer_next_copy(set, number, priority, len, eligible, &first, copies, spares);
+        }
+        if last > 0 {
+            self.offer_listed_copy(set, last, priority, len, eligible, first, spares);
+        }
+    }
+
+    /// Offers a frame to the only port of `set`, if the bridge has a port of `set`. If `eligible` is true, its tag is marked drop eligible.
+    #[inline(always)]
+    fn offer_only_copy(
+        &mut self,
+        set: PortSet,
+        priority: u8,
+        len: u32,
+        eligible: bool,
+        load: QueuedFrame<A>,
+        spares: &mut BufferPool<A>,
+    )
+        requires priority { priority ≤ 7 }
+        requires along { CanRelay self.old (leaving_frame load len eligible)
+            × IsOfferingSet G.held self.old self.old set priority (leaving_frame load len eligible) 1 }
+        requires copies { HasCopies self.old.ports.slots set 1 load.octets.items [] }
+        ensures offered { IsOfferingSet G.held self.old self.new set priority (leaving_frame load len eligible) 17 }
+    {
+        let (_, last) = self.ports.count_outputs(set);
+        if last > 0 {
+            self.offer_copy(set, last, priority, len, eligible, load, spares);
         }
     }
 
@@ -435,23 +521,12 @@ impl<'a, G: Agenda + Drop, A: Allocator + Copy> Relay<'a, G, A> {
         requires copies { HasCopies self.old.ports.slots set 1 first.octets.items copies.items }
         ensures offered { IsOfferingSet G.held self.old self.new set priority (leaving_frame first len eligible) 17 }
     {
-        let mut copies = copies;
-        let (_, last) = self.ports.count_outputs(set);
-        let from = first_port_with_copy(copies.len(), last);
-        for number in from..last {
-            self.offer_next_copy(
-                set,
-                number,
-                priority,
-                len,
-                eligible,
-                &first,
-                &mut copies,
-                spares,
-            );
-        }
-        if last > 0 {
-            self.offer_copy(set, last, priority, len, eligible, first, spares);
+        if copies.is_empty() {
+            self.offer_only_copy(set, priority, len, eligible, first, spares);
+        } else {
+            let mut list = copies;
+            self.offer_several_copies(set, priority, len, eligible, first, &mut list, spares);
+            self.copies = list;
         }
     }
 

@@ -166,22 +166,28 @@ impl<W: Write + Drop, A: Allocator> ReportSink for ReportWriter<W, A> {
 
     #[inline(always)]
     fn put(&mut self, piece: &str) {
-        if self.fault.is_none() {
-            self.fault = self.held.put(piece).err();
+        if self.fault.is_none()
+            && let Err(fault) = self.held.put(piece)
+        {
+            self.fault = Some(fault);
         }
     }
 
     #[inline(always)]
     fn put_number(&mut self, piece: &str, number: u64) {
-        if self.fault.is_none() {
-            self.fault = self.held.put_number(piece, number).err();
+        if self.fault.is_none()
+            && let Err(fault) = self.held.put_number(piece, number)
+        {
+            self.fault = Some(fault);
         }
     }
 
     #[inline(always)]
     fn put_line(&mut self, line: &ReportLine) {
-        if self.fault.is_none() {
-            self.fault = self.held.put_line(line).err();
+        if self.fault.is_none()
+            && let Err(fault) = self.held.put_line(line)
+        {
+            self.fault = Some(fault);
         }
     }
 }

@@ -1,5 +1,5 @@
 -- First fits of a transmission that fits at some time.
-use Rattle.std.proofs.Common.{◌≡◌, ℕ, zero, suc, Bool, ◌<◌, ◌≤◌, ◌+◌, ◌-◌, ◌⊎◌, arith, sym, subst, ◌∙◌, inl, inr}
+use Rattle.std.proofs.Common.{◌≡◌, ℕ, zero, suc, Bool, ◌≤◌, ◌+◌, ◌-◌, ◌⊎◌, arith, sym, subst, ◌∙◌, inl, inr}
 use Rattle.std.proofs.lemmas.Bool.{cases_lt, cases_Bool, false≢true}
 use Rattle.bridge_cycle.specs.Fits.{Fits, IsFirstFit}
 use Rattle.bridge_cycle.specs.Fitting.{all_open}

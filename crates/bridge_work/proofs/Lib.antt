@@ -16,3 +16,8 @@ pub mod Ranks
 pub mod SpanSearches
 pub mod SpanCovers
 pub mod Rooms
+pub mod Intervals
+pub mod GateOpenings
+pub mod LeaveTimes
+pub mod GateSearch
+pub mod GateCycles

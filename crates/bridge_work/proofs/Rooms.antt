@@ -1,6 +1,5 @@
 -- Capacities that suffice.
-use Rattle.std.proofs.Common.{◌≡◌, ◌<◌, ◌≤◌, ◌+◌, ◌-◌, ◌*◌, ℕ, zero, suc, Bool, true, arith, refl, subst, Option, None, Some}
-use Rattle.bridge_cycle.specs.Fits.{IsFirstFit}
+use Rattle.std.proofs.Common.{◌≡◌, ◌<◌, ◌≤◌, ◌+◌, ◌-◌, ◌*◌, ℕ, zero, suc, Bool, true, arith, refl, Option, None, Some}
 use Rattle.bridge_work.specs.LinearCurves.{IsLinearCurve, curve_at}
 use Rattle.bridge_work.specs.Rooms.{drains}
 use Rattle.bridge_work.specs.SpanSearches.{AreAllSpansBounded}

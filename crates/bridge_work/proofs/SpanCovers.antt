@@ -1,5 +1,5 @@
 -- Spans that begin at the ends of runs cover all spans.
-use Rattle.std.proofs.Common.{◌≡◌, ◌<◌, ◌≤◌, ◌+◌, ◌-◌, ◌*◌, ℕ, zero, suc, Bool, max, arith, subst, inl, inr, Option, None, Some, IfSome}
+use Rattle.std.proofs.Common.{◌≡◌, ◌<◌, ◌≤◌, ◌+◌, ◌-◌, ℕ, zero, suc, Bool, max, arith, subst, inl, inr, Option, None, Some, IfSome}
 use Rattle.std.proofs.lemmas.Bool.{cases_lt}
 use Rattle.bridge_cycle.specs.Fits.{Fits, IsPeriodic}
 use Rattle.bridge_work.specs.FitRuns.{IsFitRun}
@@ -18,7 +18,7 @@ pub record AreStartsCovered (opens : ℕ → Bool) (occ work : ℕ) (curve : ℕ
 
 module _ (opens : ℕ → Bool) (occ work : ℕ) (curve : ℕ → ℕ) (some : HasFits opens occ) where
   -- From a bounded time, all times up to the next fit are bounded.
-  shut_upto : (b from d w : ℕ) → ((v : ℕ) → from ≤ v → v < from + d → ¬ Fits opens occ v) → IsSpanBound opens occ work curve b from w → IsSpanBound opens occ work curve b (from + d) w
+  pub shut_upto : (b from d w : ℕ) → ((v : ℕ) → from ≤ v → v < from + d → ¬ Fits opens occ v) → IsSpanBound opens occ work curve b from w → IsSpanBound opens occ work curve b (from + d) w
   shut_upto b from zero w none h = subst (λ (i : ℕ). IsSpanBound opens occ work curve b i w) (let e : from ≡ from + zero = omega arith in e) h
   shut_upto b from (suc d) w none h =
       let before = shut_upto b from d w (λ v p q. none v p (omega (arith, q))) h in
@@ -26,7 +26,7 @@ module _ (opens : ℕ → Bool) (occ work : ℕ) (curve : ℕ → ℕ) (some : H
       subst (λ (i : ℕ). IsSpanBound opens occ work curve b i w) (let e : (from + d) + 1 ≡ from + suc d = omega arith in e) next
 
   -- Before a bounded time, all fits of a run up to it are bounded.
-  fit_from : (b from d w : ℕ) → ((i : ℕ) → i < d → Fits opens occ (from + i)) → IsSpanBound opens occ work curve b (from + d) w → IsSpanBound opens occ work curve b from w
+  pub fit_from : (b from d w : ℕ) → ((i : ℕ) → i < d → Fits opens occ (from + i)) → IsSpanBound opens occ work curve b (from + d) w → IsSpanBound opens occ work curve b from w
   fit_from b from zero w fits h = subst (λ (i : ℕ). IsSpanBound opens occ work curve b i w) (let e : from + zero ≡ from = omega arith in e) h
   fit_from b from (suc d) w fits h =
       let next : (from + 1) + d ≡ from + suc d = omega arith in

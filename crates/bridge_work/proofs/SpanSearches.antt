@@ -2,11 +2,10 @@
 use Rattle.std.proofs.Common.{◌≡◌, ◌<◌, ◌≤◌, ◌+◌, ◌-◌, ◌*◌, ℕ, zero, suc, Bool, arith, subst, sym, inl, inr}
 use Rattle.std.proofs.lemmas.Bool.{cases_lt}
 use Rattle.bridge_cycle.specs.Fits.{Fits, IsFirstFit, IsPeriodic}
-use Rattle.bridge_cycle.specs.declared.cyclic_list.TheConstants.{LONGEST_CYCLE}
 use Rattle.bridge_cycle.proofs.Repeats.{fits_down, fits_up}
 use Rattle.bridge_work.specs.FitRuns.{IsFitRun}
 use Rattle.bridge_work.specs.LinearCurves.{IsLinearCurve, curve_at}
-use Rattle.bridge_work.specs.SpanSearches.{AreSpansBounded, IsSearched}
+use Rattle.bridge_work.specs.SpanSearches.{IsSearched}
 use Rattle.bridge_work.specs.Work.{HasFitsPerCycle, IsNthFit, IsSpanBound}
 use Rattle.bridge_work.specs.declared.fit_runs.FitRun.{FitRun}
 use Rattle.bridge_work.specs.declared.linear_curve.LinearCurve.{LinearCurve}

@@ -1,11 +1,14 @@
 -- Arrival curves, allowances and talkers, computed.
-use Rattle.std.specs.Prelude.{◌≡◌, ℕ, ◌+◌, ◌*◌, Bool, true, false, List, [], ◌∷◌, refl}
+use Rattle.std.specs.Prelude.{◌≡◌, ℕ, ◌+◌, ◌*◌, Bool, true, false, None, Some, List, [], ◌∷◌, refl}
+use Rattle.bridge_cycle.specs.Cyclic.{Cyclic}
+use Rattle.bridge_gate.specs.declared.schedule.GateEntry.{GateEntry}
 use Rattle.bridge_meter.specs.declared.MeterPlan.{MeterPlan}
 use Rattle.bridge_meter.specs.Bounds.{JudgedFrame}
 use Rattle.bridge_meter.specs.Colours.{Arrived, Cleared, MeterEvent}
 use Rattle.bridge_port.specs.Schedule.{Copy, Queued, Started}
 use Rattle.bridge_work.specs.Work.{count_recent_copies, recent_cost}
 use Rattle.bridge_work.specs.MeterAllowance.{green_frames, last_metered_time, meter_allowance, meter_burst, meter_rate, recent_octets, recent_passed_units}
+use Rattle.bridge_work.specs.GateIntervals.{gate_opens, last_opening, opening_work}
 use Rattle.bridge_work.specs.Hops.{Passage, recent_arrived_octets, recent_departed_octets}
 use Rattle.bridge_work.specs.TalkerFrames.{SentFrame, count_recent_frames, last_send_time, recent_sent_octets}
 
@@ -84,3 +87,24 @@ frames_in_a_period = refl
 
 pub last_frame_sent : last_send_time sent ≡ 1500
 last_frame_sent = refl
+
+-- A stream gate that opens from 1 to 4 ns of each 10 ns, with 88 octets an opening.
+abbrev short_openings : Cyclic GateEntry
+short_openings = record { base = 1; cycle = 10; entries = (record { lets = true; ipv = None; octets = Some 88 }, 3) ∷ (record { lets = false; ipv = None; octets = None }, 7) ∷ [] }
+
+pub open_at_its_base : gate_opens short_openings 1 ≡ true
+open_at_its_base = refl
+
+pub closed_after_the_entry : gate_opens short_openings 4 ≡ false
+closed_after_the_entry = refl
+
+-- While the gate is closed, the latest opening stays.
+pub opened_before : last_opening short_openings 9 ≡ 1
+opened_before = refl
+
+pub opened_again : last_opening short_openings 12 ≡ 11
+opened_again = refl
+
+-- 88 octets of SDUs are at most two frames of 60 octets, which take 672 ns each at 1 Gbit/s.
+pub work_of_two_frames : opening_work short_openings 672 44 11 ≡ 1344
+work_of_two_frames = refl

@@ -7,3 +7,5 @@ pub mod LinearCurves
 pub mod FitRuns
 pub mod SpanSearches
 pub mod Rooms
+pub mod IntervalWork
+pub mod GateIntervals

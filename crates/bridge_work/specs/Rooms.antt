@@ -1,6 +1,5 @@
 -- Capacities that suffice.
 use Rattle.std.specs.Prelude.{◌≡◌, ℕ, Bool, false, ◌+◌, ◌-◌, ◌*◌, ◌<◌, ◌≤◌}
-use Rattle.bridge_work.specs.LinearCurves.{curve_at}
 use Rattle.bridge_work.specs.Work.{HasFitsPerCycle, IsNthFit}
 use Rattle.bridge_work.specs.declared.linear_curve.LinearCurve.{LinearCurve}
 

@@ -8,6 +8,7 @@ ghost use Rattle.bridge_meter.specs.declared.Colour.TheVariants.{Green};
 ghost use Rattle.bridge_meter.specs.Colours.{Arrived, MeterEvent, frame_colour, meter_history};
 ghost use Rattle.bridge_meter.specs.StandsFor.{AreInOrder, newest_time};
 ghost use Rattle.bridge_work.specs.Hops.{HaveHopDelays, Passage, recent_arrived_octets, recent_departed_octets};
+ghost use Rattle.bridge_work.specs.IntervalWork.{AreIntervals, HasIntervalWork, IsIntervalBound};
 ghost use Rattle.bridge_work.specs.MeterAllowance.{AreConforming, AreFramesInOrder, meter_allowance, recent_passed_units};
 ghost use Rattle.bridge_work.specs.TalkerFrames.{HasFrameLimit, SentFrame, recent_sent_octets};
 ghost use Rattle.bridge_work.specs.Work.{HaveBoundedTimes, HaveSufficientCosts, HasCostCurve, HasFitsPerCycle, IsSufficientRoom, IsDelayBound, IsNthFit, IsSufficientCost, IsSpanBound, HasCountCurve, HasWorkCurve};
@@ -185,4 +186,19 @@ pub fn copies_leave_in_time_over_change<X: Drop>()
         → HasWorkCurve r curve (x ∷ older)
         → x.fate ≡ Started s
         → s + r.occ x.item ≤ x.at + ((b1 + occ) + b2) }
+{}
+
+/// If copies are offered only while a gate is open, and each interval has limited work, each copy that starts leaves within the intervals'
+/// delay bound.
+pub fn interval_copies_leave_in_time<X: Drop>()
+    ensures { (r : PortRules X) (lets : ℕ → Bool) (begin limit : ℕ → ℕ) (c occ least b s : ℕ) (x : Copy X)
+        (older : List (Copy X))
+        → AreIntervals begin
+        → IsSolo r (x ∷ older)
+        → AreOffersInOrder x.at older
+        → HaveBoundedTimes r c least occ (x ∷ older)
+        → HasIntervalWork r lets begin limit (x ∷ older)
+        → IsIntervalBound (r.opens c) lets occ least begin limit b
+        → x.fate ≡ Started s
+        → s + r.occ x.item ≤ x.at + b }
 {}

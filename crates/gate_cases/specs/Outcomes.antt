@@ -11,7 +11,7 @@ use Rattle.net_file.specs.Document.{network_of_text}
 use Rattle.net_file.specs.Lines.{refusal_line, fault_line}
 use Rattle.net_file.specs.Model.{Network}
 use Rattle.net_file.specs.Keys as reading
-use Rattle.net_file.specs.declared.traffic_row.TrafficRow.{TrafficRow}
+use Rattle.net_file.specs.declared.traffic_row.TalkerRow.{TalkerRow}
 use Rattle.net_file.specs.TrafficDocument.{rows_of_text}
 use Rattle.app_failure.specs.PlanLines.{plan_fault_line}
 use Rattle.app_failure.specs.RefusedCommands.{commands_fault_line}
@@ -44,7 +44,7 @@ network_line (Ok n) = counts_words (length n.bridges) (length n.links) (length n
 network_line (Err fault) = fault_line fault
 
 -- Line of a traffic file: the number of its rows, or the fault line of refused traffic.
-abbrev pub traffic_line : Result (Vec TrafficRow) NetFault → List ℕ
+abbrev pub traffic_line : Result (Vec TalkerRow) NetFault → List ℕ
 traffic_line (Ok rows) = decimal (length rows.items) ++ codes " rows"
 traffic_line (Err fault) = refusal_line (codes "traffic") fault
 
@@ -54,4 +54,4 @@ IsNetworkLine text line = (read : Result Network NetFault) × reading.Gives read
 
 -- Holds if `line` is the line of the traffic that `text` contains, or of the fault that memory ran out.
 abbrev pub IsTrafficLine : List ℕ → List ℕ → Type 0
-IsTrafficLine text line = (read : Result (Vec TrafficRow) NetFault) × reading.GivesAs (λ v. v.items) read (rows_of_text text) × (line ≡ traffic_line read)
+IsTrafficLine text line = (read : Result (Vec TalkerRow) NetFault) × reading.GivesAs (λ v. v.items) read (rows_of_text text) × (line ≡ traffic_line read)

@@ -7,6 +7,7 @@ pub mod Names
 pub mod Keys
 pub mod Rules
 pub mod Sections
+pub mod LimitedRows
 pub mod TrafficRows
 pub mod TrafficDocument
 pub mod TrafficFaults

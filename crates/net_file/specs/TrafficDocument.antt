@@ -7,7 +7,7 @@ use Rattle.net_file.specs.declared.fault.NetFault.{NetFault}
 use Rattle.net_file.specs.declared.fault.NetFault.TheVariants as fault
 use Rattle.net_file.specs.Document.{has_only_sections, read_document}
 use Rattle.net_file.specs.Keys.{instances, section_items, provided}
-use Rattle.net_file.specs.declared.traffic_row.TrafficRow.{TrafficRow}
+use Rattle.net_file.specs.declared.traffic_row.TalkerRow.{TalkerRow}
 use Rattle.net_file.specs.TrafficRows.{read_row_in_list}
 
 -- The items of the document's section of traffic, or the first fault.
@@ -17,9 +17,9 @@ row_items members = do
   section_items section.Traffic members
 
 -- The rows of a document, or the first fault.
-abbrev pub rows_of_document : Members → Result (List TrafficRow) NetFault
+abbrev pub rows_of_document : Members → Result (List TalkerRow) NetFault
 rows_of_document members = row_items members >>= λ items. instances read_row_in_list items
 
 -- The rows of a text, or the first fault.
-abbrev pub rows_of_text : List ℕ → Result (List TrafficRow) NetFault
+abbrev pub rows_of_text : List ℕ → Result (List TalkerRow) NetFault
 rows_of_text text = read_document text >>= rows_of_document

@@ -8,3 +8,4 @@ use Rattle.net_file.specs.declared.traffic_fault.TrafficFault.TheVariants as fau
 abbrev pub traffic_line : TrafficFault → List ℕ
 traffic_line (fault.Text e) = refusal_line (codes "traffic") e
 traffic_line (fault.NotProtected index) = codes "traffic refused: NotProtected traffic " ++ decimal index
+traffic_line (fault.NotGrouped index) = codes "traffic refused: NotGrouped traffic " ++ decimal index

@@ -1,5 +1,5 @@
 -- The rows of a traffic file, key by key.
-use Rattle.std.specs.Prelude.{◌≡◌, ℕ, ◌-◌, ◌^◌, ◌≤◌, ◌<◌, Bool, true, List, [], ◌∷◌, All, Option, Result, Ok, nat_eq, nat_lt}
+use Rattle.std.specs.Prelude.{◌≡◌, ℕ, ◌-◌, ◌^◌, ◌≤◌, Bool, true, List, [], ◌∷◌, All, Result, Ok, nat_eq, nat_lt, if◌then◌else◌}
 use Rattle.std.specs.List.{list_any}
 use Rattle.std.specs.Option.{ForSome}
 use Rattle.toml.specs.Data.{Members}
@@ -16,12 +16,15 @@ use Rattle.net_file.specs.Keys.{has_only_keys, read_optional, provided, read_req
 use Rattle.net_file.specs.Sections.{no_duplicate}
 use Rattle.bridge_bounds.specs.Traffic.{IsTraffic}
 use Rattle.net_file.specs.declared.traffic_row.TrafficRow.{TrafficRow}
+use Rattle.net_file.specs.declared.traffic_row.TalkerRow.{TalkerRow}
+use Rattle.net_file.specs.declared.traffic_row.TalkerRow.TheVariants as row
+use Rattle.net_file.specs.LimitedRows.{IsLimitedRow, is_limited, read_limited_row}
 
--- Keys that a traffic row's table may have.
+-- Keys that the table of a row with periodic traffic may have.
 abbrev pub row_keys : List NetField
 row_keys = field.Filter ∷ field.Period ∷ field.From ∷ field.To ∷ field.Least ∷ field.Longest ∷ field.Deadline ∷ []
 
--- Reads a row, with its number. If the first phase isn't less than the period, the fault names the period.
+-- Reads a row with periodic traffic, with its number. If the first phase isn't less than the period, the fault names the period.
 unfoldable pub read_row : ℕ → Members → Result TrafficRow NetFault
 read_row index members =
     let at : NetField → NetKeyLocation = λ key. record { section = section.Traffic; index = index; field = key } in do
@@ -40,15 +43,26 @@ read_row index members =
         deadline = deadline;
       })
 
+-- The filter of a row.
+abbrev pub row_filter : TalkerRow → ℕ
+row_filter (row.Periodic r) = r.filter
+row_filter (row.Limited r) = r.filter
+
+-- Reads a row with a limit if the table has one of the limit's keys, otherwise a row with periodic traffic.
+abbrev pub read_talker_row : ℕ → Members → Result TalkerRow NetFault
+read_talker_row index members =
+    if is_limited members then (read_limited_row index members >>= λ r. Ok (row.Limited r))
+    else (read_row index members >>= λ r. Ok (row.Periodic r))
+
 -- True if one of these rows has the filter.
-abbrev pub has_filter : List TrafficRow → ℕ → Bool
-has_filter rows filter = list_any (λ r. nat_eq r.filter filter) rows
+abbrev pub has_filter : List TalkerRow → ℕ → Bool
+has_filter rows filter = list_any (λ r. nat_eq (row_filter r) filter) rows
 
 -- Reads a row, with the earlier rows and its number. A filter has at most one row.
-abbrev pub read_row_in_list : List TrafficRow → ℕ → Members → Result TrafficRow NetFault
+abbrev pub read_row_in_list : List TalkerRow → ℕ → Members → Result TalkerRow NetFault
 read_row_in_list earlier index members = do
-  row ← read_row index members
-  own ← no_duplicate (has_filter earlier row.filter) (fault.Duplicate section.Traffic index)
+  row ← read_talker_row index members
+  own ← no_duplicate (has_filter earlier (row_filter row)) (fault.Duplicate section.Traffic index)
   Ok row
 
 -- Holds if a row has valid traffic and a deadline, if any, of at most END_OF_TIME.
@@ -56,7 +70,12 @@ pub record IsRow (r : TrafficRow) : Type 0 where
   pub traffic : IsTraffic r.traffic
   pub deadline : ForSome r.deadline (λ d. d ≤ END_OF_TIME)
 
+-- Holds if a row obeys the rules of its kind.
+abbrev pub IsTalkerRow : TalkerRow → Type 0
+IsTalkerRow (row.Periodic r) = IsRow r
+IsTalkerRow (row.Limited r) = IsLimitedRow r
+
 -- Holds if the rows obey the rules and have different filters.
-pub record AreRows (rows : List TrafficRow) : Type 0 where
-  pub each : All IsRow rows
-  pub own : has_no_duplicate (λ r s. nat_eq r.filter s.filter) rows ≡ true
+pub record AreRows (rows : List TalkerRow) : Type 0 where
+  pub each : All IsTalkerRow rows
+  pub own : has_no_duplicate (λ r s. nat_eq (row_filter r) (row_filter s)) rows ≡ true

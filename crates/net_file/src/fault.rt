@@ -56,8 +56,14 @@ pub enum NetField {
     Delay,
     /// Filters of a stream, from talker to listener.
     Hops,
-    /// Filter of periodic traffic.
+    /// Filter of a row of traffic.
     Filter,
+    /// Burst of a talker in metered octets.
+    Burst,
+    /// Rate of a talker in bit/s.
+    Rate,
+    /// Largest number of a talker's frames in any period.
+    Frames,
     /// Period in ns.
     Period,
     /// First phase at which a frame may arrive, in ns.
@@ -86,6 +92,9 @@ impl NetField {
             NetField::Delay => "delay",
             NetField::Hops => "hops",
             NetField::Filter => "filter",
+            NetField::Burst => "burst",
+            NetField::Rate => "rate",
+            NetField::Frames => "frames",
             NetField::Period => "period",
             NetField::From => "from",
             NetField::To => "to",

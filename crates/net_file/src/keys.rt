@@ -2,7 +2,7 @@
 
 use crate::fault::{NetField, NetSection};
 use bridge_limits::{END_OF_TIME, LONGEST_FRAME};
-use bridge_schema::{NUMBER, NumberRange};
+use bridge_schema::{BURST, NUMBER, NumberRange, RATE};
 
 /// Largest length of a name in octets.
 pub const LONGEST_NAME: usize = 32;
@@ -40,6 +40,21 @@ pub const OCTETS: NumberRange = NumberRange {
     high: LONGEST_FRAME as u64,
 };
 
+/// Allowed bursts of a talker in metered octets. The shortest frame has 64.
+pub const TALKER_BURST: NumberRange = NumberRange {
+    low: 64,
+    high: BURST.high,
+};
+
+/// Allowed rates of a talker in bit/s.
+pub const TALKER_RATE: NumberRange = RATE;
+
+/// Allowed numbers of a talker's frames in any period.
+pub const FRAMES: NumberRange = NumberRange {
+    low: 1,
+    high: 1_024,
+};
+
 /// Allowed deadlines in ns: the largest allowed delay of a frame.
 pub const DEADLINE: NumberRange = NumberRange {
     low: 0,
@@ -73,8 +88,22 @@ pub const TALKER_KEYS: [NetField; 5] = [
     NetField::Longest,
 ];
 
-/// Keys of a row of traffic.
-pub const TRAFFIC_KEYS: [NetField; 7] = [
+/// Keys of a row of traffic, in the order of explanations. No row has all of them.
+pub const TRAFFIC_KEYS: [NetField; 10] = [
+    NetField::Filter,
+    NetField::Burst,
+    NetField::Rate,
+    NetField::Frames,
+    NetField::Period,
+    NetField::From,
+    NetField::To,
+    NetField::Least,
+    NetField::Longest,
+    NetField::Deadline,
+];
+
+/// Keys of a row with periodic traffic.
+pub const PERIODIC_ROW_KEYS: [NetField; 7] = [
     NetField::Filter,
     NetField::Period,
     NetField::From,
@@ -83,6 +112,32 @@ pub const TRAFFIC_KEYS: [NetField; 7] = [
     NetField::Longest,
     NetField::Deadline,
 ];
+
+/// Keys of a row with a burst and a rate.
+pub const RATE_ROW_KEYS: [NetField; 6] = [
+    NetField::Filter,
+    NetField::Burst,
+    NetField::Rate,
+    NetField::Least,
+    NetField::Longest,
+    NetField::Deadline,
+];
+
+/// Keys of a row with a number of frames in any period.
+pub const COUNT_ROW_KEYS: [NetField; 6] = [
+    NetField::Filter,
+    NetField::Frames,
+    NetField::Period,
+    NetField::Least,
+    NetField::Longest,
+    NetField::Deadline,
+];
+
+/// Keys that give a row a burst and a rate. A row with one of them needs both.
+pub const RATE_KEYS: [NetField; 2] = [NetField::Burst, NetField::Rate];
+
+/// Keys that limit a talker's frames. A row with none of them has periodic traffic.
+pub const LIMIT_KEYS: [NetField; 3] = [NetField::Burst, NetField::Rate, NetField::Frames];
 
 /// Returns the keys of a section's tables, in the order of explanations.
 pub fn section_fields(section: NetSection) -> &'static [NetField] {
@@ -114,6 +169,12 @@ pub enum NetAllowed {
     Time(NumberRange),
     /// Length of frames in octets.
     Octets(NumberRange),
+    /// Burst in metered octets.
+    Burst(NumberRange),
+    /// Rate in bit/s.
+    Rate(NumberRange),
+    /// Number of frames.
+    Frames(NumberRange),
 }
 
 /// Returns the values that a key allows, for explanations of faults. A talker's phases, period and lengths limit each other, too.
@@ -130,5 +191,8 @@ pub fn allowed_value(field: NetField) -> NetAllowed {
         NetField::From | NetField::To => NetAllowed::Time(PHASE),
         NetField::Least | NetField::Longest => NetAllowed::Octets(OCTETS),
         NetField::Deadline => NetAllowed::Time(DEADLINE),
+        NetField::Burst => NetAllowed::Burst(TALKER_BURST),
+        NetField::Rate => NetAllowed::Rate(TALKER_RATE),
+        NetField::Frames => NetAllowed::Frames(FRAMES),
     }
 }

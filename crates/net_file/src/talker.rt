@@ -40,7 +40,7 @@ fn is_present(value: Option<&Value>) -> bool
 }
 
 /// Whether a table has at least one of these keys. A stream with one key of a talker needs all of them.
-fn has_any_key(table: &Table, keys: &[NetField]) -> bool
+pub(crate) fn has_any_key(table: &Table, keys: &[NetField]) -> bool
     ensures { result ≡ sections.has_any_key keys.now (table_view table.now) }
 {
     keys.iter().any(|f| is_present(get_value(table, f.key())))

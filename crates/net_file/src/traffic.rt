@@ -5,11 +5,11 @@ ghost use Rattle.bridge_limits.specs.Members.{has_no_duplicate};
 ghost use Rattle.net_file.specs.declared.fault.NetFault.TheVariants.{NoMemory};
 ghost use Rattle.net_file.specs.Keys.{GivesAs};
 ghost use Rattle.net_file.specs.TrafficDocument as doc;
-ghost use Rattle.net_file.specs.TrafficRows.{IsRow};
+ghost use Rattle.net_file.specs.TrafficRows.{IsTalkerRow, row_filter};
 
 use crate::fault::{NetFault, NetSection};
 use crate::network_file::read_document;
-use crate::traffic_row::{TrafficRow, TrafficSection};
+use crate::traffic_row::{TalkerRow, TrafficSection};
 use bridge_schema::{has_only, read_instances, section_items};
 use std::alloc::{Allocator, Global};
 use toml::{Table, Value};
@@ -33,10 +33,10 @@ pub fn parse_traffic<A: Allocator + Copy>(
     alloc: A,
     heap: Global,
     text: &[u8],
-) -> Result<Vec<TrafficRow, A>, NetFault>
+) -> Result<Vec<TalkerRow, A>, NetFault>
     ensures reads { GivesAs (λ v. v.items) result (doc.rows_of_text text.now) }
-    ensures rows { IfOk result (λ v. All IsRow v.items) }
-    ensures own { IfOk result (λ v. has_no_duplicate (λ r s. nat_eq r.filter s.filter) v.items ≡ true) }
+    ensures rows { IfOk result (λ v. All IsTalkerRow v.items) }
+    ensures own { IfOk result (λ v. has_no_duplicate (λ r s. nat_eq (row_filter r) (row_filter s)) v.items ≡ true) }
     ensures few { IfOk result (λ v. length v.items ≤ 1024) }
 {
     let document = read_document(heap, text)?;

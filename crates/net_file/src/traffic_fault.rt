@@ -15,9 +15,12 @@ pub enum TrafficFault {
     /// divide the period.
     #[error("the text isn't traffic")]
     Text(NetFault),
-    /// The filter of this row, from 1, isn't protected.
+    /// The filter of this row, from 1, isn't protected, and the row has periodic traffic.
     #[error("a filter that isn't protected")]
     NotProtected(u32),
+    /// The filter of this row, from 1, belongs to no group, and the row has a limit of its frames.
+    #[error("a filter that belongs to no group")]
+    NotGrouped(u32),
 }
 
 /// Returns the fault line without line feed, for example `traffic refused: NotProtected traffic 1` or `no memory`.
@@ -31,6 +34,9 @@ pub fn traffic_fault_line<A: Allocator + Copy>(
         TrafficFault::Text(fault) => refusal_line(alloc, "traffic", fault),
         TrafficFault::NotProtected(index) => {
             Ok(format!(in alloc; "traffic refused: NotProtected traffic {index}")?)
+        }
+        TrafficFault::NotGrouped(index) => {
+            Ok(format!(in alloc; "traffic refused: NotGrouped traffic {index}")?)
         }
     }
 }

@@ -5,17 +5,18 @@ ghost use Rattle.net_file.specs.declared.fault.NetFault.TheVariants.{NoMemory};
 ghost use Rattle.net_file.specs.declared.fault.NetSection.TheVariants as the_section;
 ghost use Rattle.net_file.specs.Keys.{Gives};
 ghost use Rattle.net_file.specs.TrafficRows as spec;
-ghost use Rattle.net_file.specs.TrafficRows.{AreRows, IsRow};
+ghost use Rattle.net_file.specs.TrafficRows.{AreRows, IsRow, IsTalkerRow};
 
 use crate::fault::{NetFault, NetField, NetKeyLocation, NetSection};
-use crate::keys::{DEADLINE, OCTETS, PERIOD, PHASE, TRAFFIC_KEYS};
+use crate::keys::{DEADLINE, OCTETS, PERIOD, PERIODIC_ROW_KEYS, PHASE};
+use crate::limited_row::{LimitedRow, is_limited, read_limited_row};
 use crate::reading::{read_optional, read_required};
 use bridge_bounds::Traffic;
 use bridge_schema::{NUMBER, NumberRange, SectionReader, has_only};
 use std::alloc::Allocator;
 use toml::Table;
 
-/// A row of a traffic file: periodic traffic of one filter, with an optional deadline.
+/// A row of a traffic file with periodic traffic of one filter, and an optional deadline. Its filter is protected.
 #[derive(Clone, Copy)]
 pub struct TrafficRow {
     /// Number of the filter whose frames the row describes.
@@ -26,8 +27,29 @@ pub struct TrafficRow {
     pub deadline: Option<u64>,
 }
 
+/// A row of a traffic file, by the kind of its traffic.
+#[derive(Clone, Copy)]
+pub enum TalkerRow {
+    /// At most one frame in each period, between two phases.
+    Periodic(TrafficRow),
+    /// Frames within a burst and a rate, or at most several in any period.
+    Limited(LimitedRow),
+}
+
+impl TalkerRow {
+    /// Returns the number of the row's filter.
+    pub fn filter(&self) -> u32
+        ensures { result ≡ spec.row_filter self.now }
+    {
+        match self {
+            TalkerRow::Periodic(row) => row.filter,
+            TalkerRow::Limited(row) => row.filter,
+        }
+    }
+}
+
 /// Returns the location of a key of row `index`, from 1, for a fault.
-fn row_key(index: u32, field: NetField) -> NetKeyLocation
+pub(crate) fn row_key(index: u32, field: NetField) -> NetKeyLocation
     ensures { result ≡ record { section = the_section.Traffic; index = index; field = field } }
 {
     NetKeyLocation {
@@ -37,14 +59,14 @@ fn row_key(index: u32, field: NetField) -> NetKeyLocation
     }
 }
 
-/// Reads row `index`, from 1, from its table, or returns its first fault. `next_row` compares it with the earlier rows.
+/// Reads row `index`, from 1, with periodic traffic from its table, or returns its first fault.
 #[tactic(auto, unfolding(crate::specs::TrafficRows::read_row))]
 fn read_row(index: u32, table: &Table) -> Result<TrafficRow, NetFault>
     ensures reads { Gives result (spec.read_row index (table_view table.now)) }
     ensures row { IfOk result IsRow }
     ensures takes_no_memory { IfErr result (λ e. ¬ (e ≡ NoMemory)) }
 {
-    if !has_only(table, &TRAFFIC_KEYS) {
+    if !has_only(table, &PERIODIC_ROW_KEYS) {
         return Err(NetFault::UnknownKey(NetSection::Traffic, index));
     }
     let filter = read_required(table, row_key(index, NetField::Filter), &NUMBER)?;
@@ -81,21 +103,36 @@ fn read_row(index: u32, table: &Table) -> Result<TrafficRow, NetFault>
     })
 }
 
+/// Reads row `index` from its table: with a limit if it has one of a limit's keys, otherwise with periodic traffic. `next_row` compares it
+/// with the earlier rows.
+fn read_talker_row(index: u32, table: &Table) -> Result<TalkerRow, NetFault>
+    ensures reads { Gives result (spec.read_talker_row index (table_view table.now)) }
+    ensures row { IfOk result IsTalkerRow }
+    ensures takes_no_memory { IfErr result (λ e. ¬ (e ≡ NoMemory)) }
+{
+    if is_limited(table) {
+        let row = read_limited_row(index, table)?;
+        return Ok(TalkerRow::Limited(row));
+    }
+    let row = read_row(index, table)?;
+    Ok(TalkerRow::Periodic(row))
+}
+
 /// Whether one of these rows has this filter. A filter has at most one row.
-fn has_filter(rows: &[TrafficRow], filter: u32) -> bool
+fn has_filter(rows: &[TalkerRow], filter: u32) -> bool
     ensures { result ≡ spec.has_filter rows.now filter }
 {
-    rows.iter().any(|row| row.filter == filter)
+    rows.iter().any(|row| row.filter() == filter)
 }
 
 /// Reads row `index` from its table. An earlier row with its filter is the fault `Duplicate`.
-fn next_row(earlier: &[TrafficRow], index: u32, table: &Table) -> Result<TrafficRow, NetFault>
+fn next_row(earlier: &[TalkerRow], index: u32, table: &Table) -> Result<TalkerRow, NetFault>
     ensures reads { Gives result (spec.read_row_in_list earlier.now index (table_view table.now)) }
-    ensures own { IfOk result (λ r. spec.has_filter earlier.now r.filter ≡ false) }
-    ensures row { IfOk result IsRow }
+    ensures own { IfOk result (λ r. spec.has_filter earlier.now (spec.row_filter r) ≡ false) }
+    ensures row { IfOk result IsTalkerRow }
 {
-    let row = read_row(index, table)?;
-    if has_filter(earlier, row.filter) {
+    let row = read_talker_row(index, table)?;
+    if has_filter(earlier, row.filter()) {
         return Err(NetFault::Duplicate(NetSection::Traffic, index));
     }
     Ok(row)
@@ -108,7 +145,7 @@ pub(crate) struct TrafficSection;
 impl<A: Allocator + Copy> SectionReader<A> for TrafficSection {
     type Fault = NetFault;
 
-    type Instance = TrafficRow;
+    type Instance = TalkerRow;
 
     ghost reading = { λ _. spec.read_row_in_list };
 
@@ -118,10 +155,10 @@ impl<A: Allocator + Copy> SectionReader<A> for TrafficSection {
     fn read(
         &self,
         _alloc: A,
-        earlier: &[TrafficRow],
+        earlier: &[TalkerRow],
         index: u32,
         table: &Table,
-    ) -> Result<TrafficRow, NetFault> {
+    ) -> Result<TalkerRow, NetFault> {
         next_row(earlier, index, table)
     }
 }

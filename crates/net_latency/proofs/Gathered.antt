@@ -11,20 +11,41 @@ use Rattle.bridge_config.proofs.PlanPorts.{number_is}
 use Rattle.bridge_check.specs.Reach.{some_number_passes}
 use Rattle.bridge_check.proofs.Isolated.{class_few}
 use Rattle.bridge_bounds.specs.Bounds.{HasNoBound, IsQueueBound}
+use Rattle.bridge_groups.specs.declared.shared_queues.SharedQueue.{SharedQueue}
+use Rattle.net_file.specs.declared.traffic_row.TalkerRow.{TalkerRow}
 use Rattle.net_file.specs.declared.traffic_row.TrafficRow.{TrafficRow}
+use Rattle.net_file.specs.TrafficRows.{row_filter}
+use Rattle.net_latency.specs.Bounds.{HasValidPort}
 use Rattle.net_latency.specs.declared.bounds.QueueBound.{QueueBound}
 use Rattle.net_latency.specs.declared.timings.QueueTiming.{QueueTiming}
 use Rattle.net_latency.specs.declared.timings.TrafficFigures.{TrafficFigures}
 use Rattle.net_latency.specs.declared.timings.TrafficFigures.TheVariants as figures
-use Rattle.net_latency.specs.Traffic.{AreRowTimings, AreTimingsOfRows, Begins, IsRowTiming, row_figures}
+use Rattle.net_latency.specs.TalkerRows.{AreTimingsOfRow, AreTimingsOfRows}
+use Rattle.net_latency.specs.Traffic.{AreRowTimings, Begins, IsRowTiming, row_figures}
 
-begins_more : {X : Type 0} (P : X → Type 0) (Q R : List X → Type 0) (x : X) (xs : List X) → ((ys : List X) → Q ys → R (ys ++ x ∷ [])) → Begins P Q xs → Begins P R (xs ++ x ∷ [])
+pub begins_more : {X : Type 0} (P : X → Type 0) (Q R : List X → Type 0) (x : X) (xs : List X) → ((ys : List X) → Q ys → R (ys ++ x ∷ [])) → Begins P Q xs → Begins P R (xs ++ x ∷ [])
 begins_more P Q R x [] go h = absurd h
 begins_more P Q R x (y ∷ ys) go (a, b) = (a, go ys b)
 
-begins_as : {X : Type 0} (P : X → Type 0) (Q R : List X → Type 0) (xs : List X) → ((ys : List X) → Q ys → R ys) → Begins P Q xs → Begins P R xs
+pub begins_as : {X : Type 0} (P : X → Type 0) (Q R : List X → Type 0) (xs : List X) → ((ys : List X) → Q ys → R ys) → Begins P Q xs → Begins P R xs
 begins_as P Q R [] go h = absurd h
 begins_as P Q R (y ∷ ys) go (a, b) = (a, go ys b)
+
+-- The first item has the property.
+pub begins_first : {X : Type 0} (P : X → Type 0) (Q : List X → Type 0) (xs : List X) → Begins P Q xs → (x : X) × IsMember x xs × P x
+begins_first P Q [] h = absurd h
+begins_first P Q (x ∷ xs) (a, b) = (x, inl refl, a)
+
+-- Each item is the first one, or one of the others.
+pub begins_member : {X T : Type 0} (P : X → Type 0) (Q : List X → Type 0) (x : X) (xs : List X) → (P x → T) → ((ys : List X) → Q ys → IsMember x ys → T) → Begins P Q xs → IsMember x xs → T
+begins_member P Q x [] first later h i = absurd h
+begins_member P Q x (y ∷ ys) first later (a, b) (inl same) = first (subst P (sym same) a)
+begins_member P Q x (y ∷ ys) first later (a, b) (inr i) = later ys b i
+
+-- An item among the others.
+pub begins_later : {X : Type 0} (P R : X → Type 0) (Q : List X → Type 0) (xs : List X) → ((ys : List X) → Q ys → (x : X) × IsMember x ys × R x) → Begins P Q xs → (x : X) × IsMember x xs × R x
+begins_later P R Q [] later h = absurd h
+begins_later P R Q (y ∷ ys) later (a, b) = let (x, i, is) = later ys b in (x, inr i, is)
 
 -- The delays of one more queue of the row's filter.
 pub row_more : {A : Type 0} (p : Plan A) (index : ℕ) (r : TrafficRow) (b : QueueBound) (x : QueueTiming) (bs : List QueueBound) (xs : List QueueTiming) → nat_eq b.filter r.filter ≡ true → IsRowTiming p index r b x → AreRowTimings p index r bs xs → AreRowTimings p index r (bs ++ b ∷ []) (xs ++ x ∷ [])
@@ -55,30 +76,30 @@ figures_of row filter [] some = absurd (some refl)
 figures_of row filter (x ∷ xs) some = refl
 
 -- One row more.
-pub rows_more : {A : Type 0} (p : Plan A) (bounds : List QueueBound) (index : ℕ) (r : TrafficRow) (rs : List TrafficRow) (xs : List TrafficFigures) (ys : List QueueTiming) → AreTimingsOfRows p bounds index rs xs → AreRowTimings p (index + length rs) r bounds ys → AreTimingsOfRows p bounds index (rs ++ r ∷ []) (xs ++ row_figures (index + length rs) r.filter ys)
-rows_more p bounds index r [] xs ys h more =
-    let same : index + length {A = TrafficRow} [] ≡ index = omega arith in
-    (ys, [], ap (λ zs. zs ++ row_figures (index + length {A = TrafficRow} []) r.filter ys) h ∙ (ap (λ (i : ℕ). row_figures i r.filter ys) same ∙ sym (append-nil (row_figures index r.filter ys))), subst (λ (i : ℕ). AreRowTimings p i r bounds ys) same more, refl)
-rows_more p bounds index r (a ∷ rs) xs ys h more =
+pub rows_more : {A : Type 0} (p : Plan A) (bounds : List QueueBound) (shared : List SharedQueue) (index : ℕ) (r : TalkerRow) (rs : List TalkerRow) (xs : List TrafficFigures) (ys : List QueueTiming) → AreTimingsOfRows p bounds shared index rs xs → AreTimingsOfRow p bounds shared (index + length rs) r ys → AreTimingsOfRows p bounds shared index (rs ++ r ∷ []) (xs ++ row_figures (index + length rs) (row_filter r) ys)
+rows_more p bounds shared index r [] xs ys h more =
+    let same : index + length {A = TalkerRow} [] ≡ index = omega arith in
+    (ys, [], ap (λ zs. zs ++ row_figures (index + length {A = TalkerRow} []) (row_filter r) ys) h ∙ (ap (λ (i : ℕ). row_figures i (row_filter r) ys) same ∙ sym (append-nil (row_figures index (row_filter r) ys))), subst (λ (i : ℕ). AreTimingsOfRow p bounds shared i r ys) same more, refl)
+rows_more p bounds shared index r (a ∷ rs) xs ys h more =
     let (us, vs, e, here, rest) = h in
     let same : index + length (a ∷ rs) ≡ index + 1 + length rs = omega arith in
-    let front : List TrafficFigures = row_figures index a.filter us in
-    let back : ℕ → List TrafficFigures = λ i. row_figures i r.filter ys in
-    (us, vs ++ back (index + 1 + length rs), ap (λ zs. zs ++ back (index + length (a ∷ rs))) e ∙ (append_assoc front vs (back (index + length (a ∷ rs))) ∙ ap (λ (i : ℕ). front ++ (vs ++ back i)) same), here, rows_more p bounds (index + 1) r rs vs ys rest (subst (λ (i : ℕ). AreRowTimings p i r bounds ys) same more))
+    let front : List TrafficFigures = row_figures index (row_filter a) us in
+    let back : ℕ → List TrafficFigures = λ i. row_figures i (row_filter r) ys in
+    (us, vs ++ back (index + 1 + length rs), ap (λ zs. zs ++ back (index + length (a ∷ rs))) e ∙ (append_assoc front vs (back (index + length (a ∷ rs))) ∙ ap (λ (i : ℕ). front ++ (vs ++ back i)) same), here, rows_more p bounds shared (index + 1) r rs vs ys rest (subst (λ (i : ℕ). AreTimingsOfRow p bounds shared i r ys) same more))
 
 -- The row at index `k`.
-pub next_row : {A : Type 0} (p : Plan A) (bounds bs : List QueueBound) (rows : List TrafficRow) (k index : ℕ) (d : TrafficRow) (made : List TrafficFigures) (more slice : List QueueTiming) (new : List TrafficFigures) → k < length rows → index ≡ k + 1 → bs ≡ bounds → AreTimingsOfRows p bounds 1 (take k rows) made → AreRowTimings p index (get_or rows k d) bs more → slice ≡ more → new ≡ made ++ row_figures index (get_or rows k d).filter slice → AreTimingsOfRows p bounds 1 (take (k + 1) rows) new
-next_row p bounds bs rows k index d made more slice new before at same timings row is grown =
+pub next_row : {A : Type 0} (p : Plan A) (bounds : List QueueBound) (shared : List SharedQueue) (bs : List QueueBound) (ss : List SharedQueue) (rows : List TalkerRow) (k index filter : ℕ) (d : TalkerRow) (made : List TrafficFigures) (more slice : List QueueTiming) (new : List TrafficFigures) → k < length rows → index ≡ k + 1 → bs ≡ bounds → ss ≡ shared → AreTimingsOfRows p bounds shared 1 (take k rows) made → AreTimingsOfRow p bs ss index (get_or rows k d) more → slice ≡ more → filter ≡ row_filter (get_or rows k d) → new ≡ made ++ row_figures index filter slice → AreTimingsOfRows p bounds shared 1 (take (k + 1) rows) new
+next_row p bounds shared bs ss rows k index filter d made more slice new before at same same_shared timings row is own grown =
     let counted : length (take k rows) ≡ k = length-take-le k rows (omega (arith, before)) in
     let place : index ≡ 1 + length (take k rows) = omega (arith, at, counted) in
-    let r : TrafficRow = get_or rows k d in
-    let here : AreRowTimings p index r bounds more = subst (λ (xs : List QueueBound). AreRowTimings p index r xs more) same row in
-    let there : AreRowTimings p (1 + length (take k rows)) r bounds more = subst (λ (i : ℕ). AreRowTimings p i r bounds more) place here in
-    let all = rows_more p bounds 1 r (take k rows) made more timings there in
-    let longer : made ++ row_figures (1 + length (take k rows)) r.filter more ≡ new =
-    ap (λ (i : ℕ). made ++ row_figures i r.filter more) (sym place) ∙ (ap (λ (xs : List QueueTiming). made ++ row_figures index r.filter xs) (sym is) ∙ sym grown) in
-    subst (λ (xs : List TrafficFigures). AreTimingsOfRows p bounds 1 (take (k + 1) rows) xs) longer
-    (subst (λ (rs : List TrafficRow). AreTimingsOfRows p bounds 1 rs (made ++ row_figures (1 + length (take k rows)) r.filter more)) (sym (take_more rows k d before)) all)
+    let r : TalkerRow = get_or rows k d in
+    let here : AreTimingsOfRow p bounds shared index r more = subst (λ (xs : List SharedQueue). AreTimingsOfRow p bounds xs index r more) same_shared (subst (λ (xs : List QueueBound). AreTimingsOfRow p xs ss index r more) same row) in
+    let there : AreTimingsOfRow p bounds shared (1 + length (take k rows)) r more = subst (λ (i : ℕ). AreTimingsOfRow p bounds shared i r more) place here in
+    let all = rows_more p bounds shared 1 r (take k rows) made more timings there in
+    let longer : made ++ row_figures (1 + length (take k rows)) (row_filter r) more ≡ new =
+    ap (λ (i : ℕ). made ++ row_figures i (row_filter r) more) (sym place) ∙ (ap (λ (xs : List QueueTiming). made ++ row_figures index (row_filter r) xs) (sym is) ∙ (ap (λ (n : ℕ). made ++ row_figures index n slice) (sym own) ∙ sym grown)) in
+    subst (λ (xs : List TrafficFigures). AreTimingsOfRows p bounds shared 1 (take (k + 1) rows) xs) longer
+    (subst (λ (rs : List TalkerRow). AreTimingsOfRows p bounds shared 1 rs (made ++ row_figures (1 + length (take k rows)) (row_filter r) more)) (sym (take_more rows k d before)) all)
 
 -- A QUEUE THAT HAS A BOUND
 
@@ -92,6 +113,12 @@ pub placed : {A : Type 0} (p : Plan A) (n q c b : ℕ) → IsPlan p → IsQueueB
 placed p n q c b plan bound =
     let (from, to) = number_is p.ports q bound.out plan.ports bound.at in
     record { from = from; to = to; class = class_few p bound.filter q c bound.out plan bound.at bound.reach }
+
+-- A row of a bound has a valid port and class.
+pub valid_port : {A : Type 0} (p : Plan A) (r : QueueBound) → IsPlan p → IsQueueBound p r.filter r.port r.class r.bound → HasValidPort r
+valid_port p r plan bound =
+    let at = placed p r.filter r.port r.class r.bound plan bound in
+    record { from = at.from; to = at.to; class = at.class }
 
 -- A queue with a bound isn't a queue without bound.
 pub not_without : {A : Type 0} (p : Plan A) (n q c b : ℕ) → HasNoBound p n q c → IsQueueBound p n q c b → ⊥

@@ -2,6 +2,9 @@ pub mod Gathering
 pub mod Within
 pub mod Bounded
 pub mod Gathered
+pub mod LimitedRows
+pub mod Conforming
+pub mod LimitedSent
 pub mod Lined
 pub mod Passing
 pub mod Phased

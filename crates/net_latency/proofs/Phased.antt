@@ -5,14 +5,13 @@ use Rattle.std.proofs.lemmas.Bool.Decides.{nat_tests}
 use Rattle.std.proofs.lemmas.Cmp.{nat_eq_equiv}
 use Rattle.std.proofs.lemmas.Nat.{div-add-mod'}
 use Rattle.std.proofs.Math.Nat.{mod-le, mul-le-mul_right}
-use Rattle.std.specs.Prelude.{MatchOption, nat_eq, nat_le, nat_lt, ◌&&◌, slice_get}
+use Rattle.std.specs.Prelude.{nat_eq, nat_le, nat_lt, ◌&&◌, slice_get}
 use Rattle.bridge_limits.specs.Members.{IsMember, IsOrdered}
 use Rattle.bridge_limits.proofs.Cases.{by_bool}
 use Rattle.bridge_capture.specs.Grammar.{CapturedFrame}
 use Rattle.bridge_frame.specs.Link.{transmission_time}
 use Rattle.bridge_filter.specs.declared.Clear.{Clear}
 use Rattle.bridge_filter.specs.declared.FilterPlan.{FilterPlan}
-use Rattle.bridge_port.specs.GateSchedule.{gate_schedule}
 use Rattle.bridge_port.specs.Schedule.{Copy}
 use Rattle.bridge_port.proofs.Members.{same_start}
 use Rattle.bridge_config.specs.Model.{Plan}
@@ -28,7 +27,7 @@ use Rattle.net_model.proofs.Members.{frames_apart, in_inputs, in_own, rank_in}
 use Rattle.bridge_bounds.specs.declared.timing.Phases.{Phases}
 use Rattle.bridge_bounds.specs.declared.timing.Timing.{Timing}
 use Rattle.bridge_bounds.specs.declared.traffic.Traffic.{Traffic}
-use Rattle.bridge_bounds.specs.Timings.{IsDoneInPhases, IsTimingWithPhases, IsTiming, IsTimingWithoutPhases, IsDelayInBounds, longest_link_time, shortest_link_time}
+use Rattle.bridge_bounds.specs.Timings.{IsDoneInPhases, IsDelayInBounds}
 use Rattle.bridge_bounds.specs.Traffic.{ComeInPeriods, IsTraffic}
 use Rattle.bridge_bounds.proofs.Kept.{ComesOfQueue, IsLong, comes_on, long_copy, phases, times}
 use Rattle.net_latency.specs.declared.latency.StreamLatency.{StreamLatency}

@@ -1,5 +1,5 @@
 -- Delay bounds of a plan's queues, in their order.
-use Rattle.std.specs.Prelude.{◌≡◌, ◌⊎◌, ℕ, true, ◌+◌, ◌-◌, ◌*◌, ◌<◌, ◌≤◌, Some, List, [], ◌∷◌, nat_eq, slice_get}
+use Rattle.std.specs.Prelude.{IfSome, ◌≡◌, ◌↔◌, ◌⊎◌, ℕ, true, ◌+◌, ◌-◌, ◌*◌, ◌<◌, ◌≤◌, Some, List, [], ◌∷◌, nat_eq, slice_get}
 use Rattle.std.specs.Map.{lookup}
 use Rattle.bridge_limits.specs.Members.{IsMember, IsOrdered}
 use Rattle.bridge_filter.specs.declared.FilterPlan.{FilterPlan}
@@ -7,8 +7,10 @@ use Rattle.bridge_config.specs.Model.{Plan}
 use Rattle.bridge_check.specs.declared.reach.Reach.{Reach}
 use Rattle.bridge_check.specs.Reach.{reaches_queue}
 use Rattle.bridge_check.specs.ReachTables.{filter_reach}
-use Rattle.bridge_bounds.specs.Bounds.{IsQueueBound, IsTightBound}
+use Rattle.bridge_bounds.specs.Bounds.{IsCoarse, IsQueueBound, IsTightBound}
+use Rattle.bridge_groups.specs.GateBounds.{IsGateWorkBound}
 use Rattle.net_latency.specs.declared.bounds.QueueBound.{QueueBound}
+use Rattle.net_latency.specs.declared.tight.TightBound.{TightBound}
 
 -- Builds the delay bound `b` of filter `n` in the queue of class `c` at port `q`.
 abbrev pub queue_bound : ℕ → ℕ → ℕ → ℕ → QueueBound
@@ -29,21 +31,32 @@ pub record AreBounds {A : Type 0} (p : Plan A) (rows : List QueueBound) : Type 0
   pub all : (n q c : ℕ) (f : FilterPlan) → lookup (nat_eq n) p.filters ≡ Some f → f.protected ≡ true → 1 ≤ q → q ≤ 16 → c < 8 → reaches_queue p f q c ≡ true
       → (b : ℕ) × IsMember (queue_bound n q c b) rows
 
--- Holds if row `t` has the queue of row `r` and its tight bound.
-pub record HasTightBound {A : Type 0} (p : Plan A) (r t : QueueBound) : Type 0 where
+-- Holds if `b` ns is the lesser of the tight bound and, if one is found, the bound by what the stream gate passes. Every SDU has at least
+-- the two octets of an EtherType.
+abbrev pub IsLeastBound : {A : Type 0} → Plan A → ℕ → ℕ → ℕ → ℕ → Type 0
+IsLeastBound p n q c b = (a : ℕ) × IsTightBound p n q c a × ((b ≡ a) ⊎ (IsGateWorkBound p n q c 2 b × (b < a)))
+
+-- Holds if `b` ns is a bound below `a` for frames of at least 60 octets, by what the stream gate passes. Their SDUs have at least 44 octets.
+abbrev pub IsPaddedBound : {A : Type 0} → Plan A → ℕ → ℕ → ℕ → ℕ → ℕ → Type 0
+IsPaddedBound p n q c a b = IsGateWorkBound p n q c 44 b × (b < a)
+
+-- Holds if row `t` has the queue of row `r` and its bounds, and is marked exactly if the bound by capacity is coarse.
+pub record HasTightBound {A : Type 0} (p : Plan A) (r : QueueBound) (t : TightBound) : Type 0 where
   pub filter : t.filter ≡ r.filter
   pub port : t.port ≡ r.port
   pub class : t.class ≡ r.class
-  pub bound : IsTightBound p r.filter r.port r.class t.bound
+  pub coarse : (t.coarse ≡ true) ↔ IsCoarse p r.filter r.port
+  pub bound : IsLeastBound p r.filter r.port r.class t.bound
+  pub padded : IfSome t.padded (IsPaddedBound p r.filter r.port r.class t.bound)
 
 -- Holds if the second list has the queues of the first, row by row, with their tight bounds.
-abbrev pub AreTightened : {A : Type 0} → Plan A → List QueueBound → List QueueBound → Type 0
+abbrev pub AreTightened : {A : Type 0} → Plan A → List QueueBound → List TightBound → Type 0
 AreTightened p [] [] = Unit {0}
 AreTightened p (r ∷ rs) (t ∷ ts) = HasTightBound p r t × AreTightened p rs ts
 AreTightened p rs ts = ⊥
 
 -- Holds if `tight` has the tight bounds of all reachable queues of a plan, in order.
-abbrev pub AreTightBounds : {A : Type 0} → Plan A → List QueueBound → Type 0
+abbrev pub AreTightBounds : {A : Type 0} → Plan A → List TightBound → Type 0
 AreTightBounds p tight = (rows : List QueueBound) × AreBounds p rows × AreTightened p rows tight
 
 -- Holds if a queue is of a port from 1 to 16 and a class from 0 to 7.

@@ -11,5 +11,7 @@ pub mod Printing
 pub mod Streams
 pub mod Talkers
 pub mod Traffic
+pub mod LimitedTraffic
+pub mod TalkerRows
 pub mod TrafficText
 pub mod Ways

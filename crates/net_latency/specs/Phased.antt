@@ -1,5 +1,5 @@
 -- Routes of frames with a periodic talker: phases and delays.
-use Rattle.std.specs.Prelude.{◌≡◌, ◌⊎◌, ℕ, Bool, true, ◌+◌, ◌-◌, ◌≤◌, nat_eq, List, [], ◌∷◌, None, Some}
+use Rattle.std.specs.Prelude.{◌≡◌, ◌⊎◌, ℕ, Bool, true, ◌+◌, ◌≤◌, nat_eq, List, [], ◌∷◌, None, Some}
 use Rattle.std.specs.Map.{lookup}
 use Rattle.bridge_limits.specs.Members.{IsMember}
 use Rattle.bridge_filter.specs.declared.Clear.{Clear}

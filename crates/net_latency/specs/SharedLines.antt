@@ -1,5 +1,5 @@
 -- Lines of the queues that groups share.
-use Rattle.std.specs.Prelude.{◌≡◌, ℕ, Bool, true, false, List, [], ◌++◌, Option, Some, None, flat_map, codes, decimal, nat_lt, if◌then◌else◌}
+use Rattle.std.specs.Prelude.{ℕ, Bool, true, List, [], ◌++◌, Option, Some, None, flat_map, codes, decimal, nat_lt, if◌then◌else◌}
 use Rattle.bridge_groups.specs.declared.shared_queues.SharedQueue.{SharedQueue}
 
 -- True if no capacity is known with which the queue drops no copy as full, or if its own capacity is less.

@@ -1,5 +1,5 @@
 -- Traffic of a plan's protected filters: faults compared with the plan, and delays in each queue.
-use Rattle.std.specs.Prelude.{◌≡◌, ◌↔◌, ℕ, Bool, true, false, not, ◌+◌, ◌%◌, ◌&&◌, ◌++◌, List, [], ◌∷◌, Option, None, Some, map, nat_eq, nat_le, if◌then◌else◌}
+use Rattle.std.specs.Prelude.{◌≡◌, ◌↔◌, ℕ, Bool, true, false, not, ◌+◌, ◌%◌, ◌&&◌, List, [], ◌∷◌, Option, None, Some, map, nat_eq, nat_le, if◌then◌else◌}
 use Rattle.std.specs.List.{list_all}
 use Rattle.std.specs.Map.{lookup}
 use Rattle.std.specs.Option.{is_some}
@@ -14,7 +14,6 @@ use Rattle.bridge_semantics.specs.Offers.{CarriedFrame}
 use Rattle.bridge_config.specs.Model.{Plan}
 use Rattle.bridge_config.specs.Rules.{find_port}
 use Rattle.bridge_config.specs.declared.ports.PortPlan.{PortPlan}
-use Rattle.bridge_check.specs.Faults.{first_option}
 use Rattle.bridge_check.specs.Reach.{some_number_passes, reaches_queue}
 use Rattle.net_file.specs.declared.fault.NetField.{NetField}
 use Rattle.net_file.specs.declared.fault.NetField.TheVariants as field
@@ -32,7 +31,6 @@ use Rattle.net_latency.specs.declared.bounds.QueueBound.{QueueBound}
 use Rattle.net_latency.specs.declared.timings.QueueTiming.{QueueTiming}
 use Rattle.net_latency.specs.declared.timings.TrafficFigures.{TrafficFigures}
 use Rattle.net_latency.specs.declared.timings.TrafficFigures.TheVariants as figures
-use Rattle.net_latency.specs.Bounds.{AreBounds}
 
 -- CYCLES
 
@@ -86,14 +84,9 @@ filter_fault p index r (Some f) =
     else if not (suits p f r.traffic.period) then Some (fault.Text (net.OutOfRange (row_key index field.Period)))
     else None
 
--- The fault of a row of traffic compared with the plan, or `None`.
+-- The fault of a row with periodic traffic compared with the plan, or `None`.
 abbrev pub row_fault : {A : Type 0} → Plan A → ℕ → TrafficRow → Option TrafficFault
 row_fault p index r = filter_fault p index r (lookup (nat_eq r.filter) p.filters)
-
--- The first fault of these rows compared with the plan, or `None`. The first row has number `index`.
-abbrev pub first_row_fault : {A : Type 0} → Plan A → ℕ → List TrafficRow → Option TrafficFault
-first_row_fault p index [] = None
-first_row_fault p index (r ∷ rs) = first_option (row_fault p index r) (first_row_fault p (index + 1) rs)
 
 -- DELAYS
 
@@ -148,16 +141,6 @@ AreRowTimings p index r (b ∷ bs) xs =
 abbrev pub row_figures : ℕ → ℕ → List QueueTiming → List TrafficFigures
 row_figures row filter [] = figures.Nowhere row filter ∷ []
 row_figures row filter (x ∷ xs) = map figures.Queue (x ∷ xs)
-
--- Holds if `xs` has the results of these rows, row by row. The first row has number `index`.
-abbrev pub AreTimingsOfRows : {A : Type 0} → Plan A → List QueueBound → ℕ → List TrafficRow → List TrafficFigures → Type 0
-AreTimingsOfRows p bounds index [] xs = xs ≡ []
-AreTimingsOfRows p bounds index (r ∷ rs) xs =
-    (ys : List QueueTiming) × (zs : List TrafficFigures) × (xs ≡ row_figures index r.filter ys ++ zs) × AreRowTimings p index r bounds ys × AreTimingsOfRows p bounds (index + 1) rs zs
-
--- Holds if `xs` has the delays of all rows in all queues of their filters.
-abbrev pub AreTimings : {A : Type 0} → Plan A → List TrafficRow → List TrafficFigures → Type 0
-AreTimings p rows xs = (bounds : List QueueBound) × AreBounds p bounds × AreTimingsOfRows p bounds 1 rows xs
 
 -- True if the worst delay meets the optional deadline. True without a deadline.
 abbrev pub is_met : Option ℕ → ℕ → Bool

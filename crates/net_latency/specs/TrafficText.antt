@@ -9,14 +9,15 @@ use Rattle.app_failure.specs.Reading.{IsFileFault}
 use Rattle.bridge_bounds.specs.declared.timing.Phases.{Phases}
 use Rattle.net_file.specs.declared.traffic_fault.TrafficFault.{TrafficFault}
 use Rattle.net_file.specs.declared.traffic_fault.TrafficFault.TheVariants as text
-use Rattle.net_file.specs.declared.traffic_row.TrafficRow.{TrafficRow}
+use Rattle.net_file.specs.declared.traffic_row.TalkerRow.{TalkerRow}
 use Rattle.net_file.specs.TrafficDocument.{rows_of_text}
 use Rattle.net_file.specs.TrafficFaults.{traffic_line}
 use Rattle.net_latency.specs.declared.timings.QueueTiming.{QueueTiming}
 use Rattle.net_latency.specs.declared.timings.TrafficFigures.{TrafficFigures}
 use Rattle.net_latency.specs.declared.timings.TrafficFigures.TheVariants as figures
 use Rattle.net_latency.specs.Printing.{AreBoundLines}
-use Rattle.net_latency.specs.Traffic.{AreTimings, are_in_time, first_row_fault, is_met}
+use Rattle.net_latency.specs.TalkerRows.{AreTimings, first_row_fault}
+use Rattle.net_latency.specs.Traffic.{are_in_time, is_met}
 
 -- The word for frames that all pass or may be refused.
 abbrev pub passing_word : Bool → List ℕ
@@ -71,11 +72,11 @@ timings_text xs = flat_map figures_line xs
 -- THE COMMAND `bounds --traffic`
 
 -- Holds if a file has these rows. No more octets are read than show that the file is too long.
-abbrev pub ReadsRows : List ℕ → List TrafficRow → Type 0
+abbrev pub ReadsRows : List ℕ → List TalkerRow → Type 0
 ReadsRows words rows = rows_of_text (take 1048577 words) ≡ Ok rows
 
 -- Holds if the rows suit the plan and `lines` has the lines of its bounds and of the rows. `kept` is true if each frame passes and meets its deadline.
-pub record AreLinesOfTraffic {A : Type 0} (p : Plan A) (rows : List TrafficRow) (lines : List ℕ) (kept : Bool) : Type 0 where
+pub record AreLinesOfTraffic {A : Type 0} (p : Plan A) (rows : List TalkerRow) (lines : List ℕ) (kept : Bool) : Type 0 where
   pub suit : first_row_fault p 1 rows ≡ None
   pub bounds : List ℕ
   pub are_bounds : AreBoundLines p bounds
@@ -88,7 +89,7 @@ pub record AreLinesOfTraffic {A : Type 0} (p : Plan A) (rows : List TrafficRow) 
 pub record PrintsTraffic (A : Type 0) (input words lines : List ℕ) (kept : Bool) : Type 0 where
   pub plan : Plan A
   pub accepts : Accepts input plan
-  pub rows : List TrafficRow
+  pub rows : List TalkerRow
   pub reads : ReadsRows words rows
   pub are_lines : AreLinesOfTraffic plan rows lines kept
 
@@ -103,7 +104,7 @@ abbrev pub RefusesRows : List ℕ → Failure → Type 0
 RefusesRows words f = (f ≡ fault.NoMemory) ⊎ ((e : NetFault) × (rows_of_text (take 1048577 words) ≡ Err e) × IsTrafficFailure (text.Text e) f)
 
 -- Holds if rows give no delays: they don't suit the plan, or memory ran out.
-abbrev pub RefusesTimings : {A : Type 0} → Plan A → List TrafficRow → Failure → Type 0
+abbrev pub RefusesTimings : {A : Type 0} → Plan A → List TalkerRow → Failure → Type 0
 RefusesTimings p rows f = (f ≡ fault.NoMemory) ⊎ ((e : TrafficFault) × (first_row_fault p 1 rows ≡ Some e) × IsTrafficFailure e f)
 
 -- Holds if fault `f` ends the command over an accepted plan. In this order: the file can't be read, its text is refused, or its rows don't suit the plan.
@@ -111,7 +112,7 @@ abbrev pub EndsRows : {A : Type 0} → Plan A → List ℕ → List ℕ → Fail
 EndsRows p file words f =
     IsFileFault file f
     ⊎ (RefusesRows words f
-    ⊎ ((rows : List TrafficRow) × ReadsRows words rows × RefusesTimings p rows f))
+    ⊎ ((rows : List TalkerRow) × ReadsRows words rows × RefusesTimings p rows f))
 
 -- Holds if fault `f` ends the command. It is a fault of the plan, or a fault of the traffic for an accepted plan.
 abbrev pub EndsTraffic : (A : Type 0) → List ℕ → List ℕ → List ℕ → List ℕ → Failure → Type 0
@@ -123,7 +124,7 @@ EndsTraffic A path input file words f = EndsCheck A path input f ⊎ ((plan : Pl
 pub record PrintsRows (A : Type 0) (input words lines : List ℕ) (kept : Bool) : Type 0 where
   pub plan : Plan A
   pub accepts : Accepts input plan
-  pub rows : List TrafficRow
+  pub rows : List TalkerRow
   pub reads : rows_of_text words ≡ Ok rows
   pub are_lines : AreLinesOfTraffic plan rows lines kept
 
@@ -136,7 +137,7 @@ abbrev pub EndsWords : {A : Type 0} → Plan A → List ℕ → List ℕ → Fai
 EndsWords p file words f =
     IsFileFault file f
     ⊎ (RefusesWords words f
-    ⊎ ((rows : List TrafficRow) × (rows_of_text words ≡ Ok rows) × RefusesTimings p rows f))
+    ⊎ ((rows : List TalkerRow) × (rows_of_text words ≡ Ok rows) × RefusesTimings p rows f))
 
 -- Holds if fault `f` ends the command. It is a fault of the plan, or a fault of the traffic for an accepted plan.
 abbrev pub EndsTexts : (A : Type 0) → List ℕ → List ℕ → List ℕ → List ℕ → Failure → Type 0

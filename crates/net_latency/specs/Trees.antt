@@ -1,5 +1,5 @@
 -- The test whether the hops of a stream are a tree.
-use Rattle.std.specs.Prelude.{ℕ, Bool, true, false, ◌&&◌, List, Option, Some, None, filter, length, map, nat_eq, nat_le}
+use Rattle.std.specs.Prelude.{ℕ, Bool, false, ◌&&◌, List, Option, Some, None, filter, length, map, nat_eq, nat_le}
 use Rattle.std.specs.List.{list_all}
 use Rattle.net_model.specs.declared.links.Link.{Link}
 use Rattle.net_model.specs.declared.links.StreamHop.{StreamHop}

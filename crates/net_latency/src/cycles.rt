@@ -3,7 +3,7 @@
 
 use crate::hop_faults::put_protected;
 use crate::texts::{NetworkText, reread_text};
-use crate::traffic::{can_wait_at_port, row_fault};
+use crate::traffic::{can_wait_at_port, talker_row_fault};
 use app_failure::read_accepted_plan;
 use bridge_bounds::find_filter;
 use bridge_check::{Accepted, filter_reach, find_gate};
@@ -13,7 +13,8 @@ use bridge_filter::FilterPlan;
 use bridge_gate::Schedule;
 use bridge_text::{Document, Instance, TextBuilder, put_position};
 use net_file::{
-    NetFault, NetField, NetSection, TrafficFault, TrafficRow, parse_traffic, read_document,
+    NetFault, NetField, NetSection, TalkerRow, TrafficFault, TrafficRow, parse_traffic,
+    read_document,
 };
 use std::alloc::Global;
 use std::fs;
@@ -89,20 +90,91 @@ fn explain_rows(
     alloc: Global,
     asked: TrafficText<'_>,
     plan: &Plan<Global>,
-    rows: &[TrafficRow],
+    rows: &[TalkerRow],
 ) -> Option<String> {
     let mut index: u32 = 0;
     for row in rows {
         index = index.saturating_add(1);
-        match row_fault(plan, index, row) {
-            None => {}
-            Some(TrafficFault::Text(NetFault::OutOfRange(_))) => {
-                return explain_row(alloc, asked, plan, index, row);
-            }
-            Some(_) => return explain_unusable_filter(alloc, asked, plan, index, row.filter),
+        if let Some(fault) = talker_row_fault(plan, index, row) {
+            return match row {
+                TalkerRow::Periodic(row) => explain_periodic_row(
+                    alloc, asked, plan, index, row, fault,
+                ),
+                TalkerRow::Limited(row) => explain_limited_row(
+                    alloc, asked, plan, index, row.filter,
+                ),
+            };
         }
     }
     None
+}
+
+/// Explains row `index` with periodic traffic: its period, or its filter.
+fn explain_periodic_row(
+    alloc: Global,
+    asked: TrafficText<'_>,
+    plan: &Plan<Global>,
+    index: u32,
+    row: &TrafficRow,
+    fault: TrafficFault,
+) -> Option<String> {
+    if let TrafficFault::Text(NetFault::OutOfRange(_)) = fault {
+        return explain_row(alloc, asked, plan, index, row);
+    }
+    let filter = find_filter(plan.filters(), row.filter);
+    match filter.and_then(|filter| filter.group) {
+        Some(group) => explain_grouped_filter(alloc, asked, index, row, group),
+        None => explain_unusable_filter(alloc, asked, plan, index, row.filter),
+    }
+}
+
+/// Explains a row with periodic traffic whose filter belongs to a group, and names the limit that such a talker keeps.
+fn explain_grouped_filter(
+    alloc: Global,
+    asked: TrafficText<'_>,
+    index: u32,
+    row: &TrafficRow,
+    group: u32,
+) -> Option<String> {
+    let mut said = TextBuilder::new(alloc);
+    put_place(&mut said, asked, index, NetField::Filter);
+    let span = row.traffic.to.saturating_sub(row.traffic.from);
+    said.put_template(
+        "`filter` of `traffic` {0} is {1}, a filter of group {2} in the plan {a}. The bound of a shared queue needs no phases.\nIts talker sends at most one frame in any {3} ns: give `frames = 1` and `period = {3}` instead of `from` and `to`.\n",
+        &[
+            u64::from(index),
+            u64::from(row.filter),
+            u64::from(group),
+            row.traffic.period.saturating_sub(span),
+        ],
+        &[asked.plan],
+    );
+    said.finish().ok()
+}
+
+/// Explains a row with a limit of its frames: its filter is missing, protected, or in no group.
+fn explain_limited_row(
+    alloc: Global,
+    asked: TrafficText<'_>,
+    plan: &Plan<Global>,
+    index: u32,
+    number: u32,
+) -> Option<String> {
+    let template = match find_filter(plan.filters(), number) {
+        None => return explain_unusable_filter(alloc, asked, plan, index, number),
+        Some(filter) if filter.protected =>
+            "`filter` of `traffic` {0} is {1}, a protected filter of the plan {a}. Its queues take one frame in a period.\nGive `period`, `from` and `to`, or put the filter into a `group` instead of `protected = true`.\n",
+        Some(_) =>
+            "`filter` of `traffic` {0} is {1}, but the plan {a} puts this filter into no group, so it has no delay bound.\nCorrect the number, or put the filter into a `group`.\n",
+    };
+    let mut said = TextBuilder::new(alloc);
+    put_place(&mut said, asked, index, NetField::Filter);
+    said.put_template(
+        template,
+        &[u64::from(index), u64::from(number)],
+        &[asked.plan],
+    );
+    said.finish().ok()
 }
 
 /// Explains a row whose filter is missing or unprotected in the plan, and lists the protected filters. The period of such a row isn't

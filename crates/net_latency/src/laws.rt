@@ -1,6 +1,6 @@
 //! Laws of a frame's route through a network: the promises that reviewers read. Each law is the contract of a function that does nothing,
 //! and that nobody calls.
-ghost use Rattle.std.specs.Prelude.{◌≡◌, ◌<◌, ◌≤◌, ◌+◌, ℕ, List, Option, Some, nat_eq, slice_get, true};
+ghost use Rattle.std.specs.Prelude.{◌≡◌, ◌<◌, ◌≤◌, ◌+◌, ◌++◌, ◌∷◌, ℕ, List, Option, Some, nat_eq, slice_get, true};
 ghost use Rattle.std.specs.List.{list_all};
 ghost use Rattle.std.specs.Map.{lookup};
 ghost use Rattle.bridge_limits.specs.Members.{IsMember};
@@ -9,8 +9,20 @@ ghost use Rattle.bridge_port.specs.Schedule.{Copy};
 ghost use Rattle.bridge_config.specs.declared.ports.PortPlan.{PortPlan};
 ghost use Rattle.bridge_config.specs.Model.{Plan};
 ghost use Rattle.bridge_config.specs.Rules.{IsPlan, find_port};
-ghost use Rattle.bridge_check.specs.Acceptable.{IsAcceptable};
-ghost use Rattle.bridge_semantics.specs.Events.{Event, own_events};
+ghost use Rattle.bridge_check.specs.Acceptable.{HasAcceptableGroups, IsAcceptable};
+ghost use Rattle.bridge_filter.specs.declared.FilterInput.{FilterInput};
+ghost use Rattle.bridge_filter.specs.Verdicts.{frame_filter};
+ghost use Rattle.bridge_forward.specs.Ports.{has_port};
+ghost use Rattle.bridge_semantics.specs.declared.destination.Destination.TheVariants.{Forwarded};
+ghost use Rattle.bridge_semantics.specs.Events.{Arrival, Arrived, Event, count_filter_frames, frame_destination, own_events};
+ghost use Rattle.bridge_semantics.specs.Groups.{IsGroupMember};
+ghost use Rattle.bridge_groups.specs.Curves.{AreArrivalsInOrder};
+ghost use Rattle.bridge_groups.specs.GroupRows.{AreSharedQueues};
+ghost use Rattle.bridge_groups.specs.declared.shared_queues.SharedQueue.{SharedQueue};
+ghost use Rattle.net_file.specs.declared.limited_row.LimitedRow.{LimitedRow};
+ghost use Rattle.net_file.specs.LimitedRows.{IsLimitedRow};
+ghost use Rattle.net_latency.specs.declared.timings.QueueTiming.{QueueTiming};
+ghost use Rattle.net_latency.specs.LimitedTraffic.{AreLimitedTimings, IsLimitedTiming, IsSentFrame, KeepsRow, are_passing};
 ghost use Rattle.bridge_semantics.specs.Offers.{CarriedFrame};
 ghost use Rattle.bridge_port.specs.GateSchedule.{lists_open};
 ghost use Rattle.bridge_semantics.specs.Runs.{AreFinished, IsOutcome, IsRun};
@@ -113,6 +125,44 @@ pub fn passing_row_is_sent<A: Allocator + Copy>()
         → IsTiming p r.filter q y.class r.traffic x
         → PassesAt p r x
         → IsSentInTime out r x y }
+{}
+
+/// If the lines of a row of a group's filter have the word `passes`, each frame of a talker that keeps the row passes (`filter`). Each
+/// egress port sends it within the delays of one of the lines (`frame`). Other talkers may send anything.
+pub fn passing_limited_row_is_sent<A: Allocator + Copy>()
+    ensures filter { (p : Plan A) (group index : ℕ) (f : FilterPlan) (r : LimitedRow) (s : SharedQueue)
+        (x : QueueTiming) (es : List Event) (lists : ℕ → List (Copy CarriedFrame)) (o : Outcome A) (v : View A)
+        → IsPlan p
+        → HasAcceptableGroups p
+        → IsGroupMember p group r.filter f
+        → IsLimitedRow r
+        → IsLimitedTiming p index r s x
+        → x.passes ≡ true
+        → IsOutcome p es lists o
+        → lookup (nat_eq r.filter) o.filters.items ≡ Some v
+        → AreArrivalsInOrder es
+        → KeepsRow p r es
+        → list_all passes v.verdicts.items ≡ true }
+    ensures frame { (p : Plan A) (group index q set : ℕ) (f : FilterPlan) (r : LimitedRow) (shared : List SharedQueue)
+        (xs : List QueueTiming) (out : PortPlan A) (a : Arrival) (newer older : List Event) (c : FilterInput)
+        (moments : ℕ → ℕ) (lists : ℕ → List (Copy CarriedFrame))
+        → IsPlan p
+        → HasAcceptableGroups p
+        → IsGroupMember p group r.filter f
+        → IsLimitedRow r
+        → AreSharedQueues p shared
+        → AreLimitedTimings p index r shared xs
+        → are_passing xs ≡ true
+        → IsRun p (newer ++ Arrived a ∷ older) moments lists
+        → AreFinished lists
+        → AreArrivalsInOrder (newer ++ Arrived a ∷ older)
+        → KeepsRow p r (newer ++ Arrived a ∷ older)
+        → frame_destination p a ≡ Forwarded set c
+        → frame_filter p.filters c ≡ Some (r.filter, f)
+        → has_port set q ≡ true
+        → find_port p.ports q ≡ Some out
+        → (x : QueueTiming) × (y : Copy CarriedFrame) × IsMember x xs × IsMember y (lists q) × (x.port ≡ q)
+        × IsSentFrame out a r.filter (count_filter_frames p r.filter older + 1) x y }
 {}
 
 /// If the copies of a hop's queue start once a period, their arrivals at the next hop keep the period. A chain of these laws bounds a

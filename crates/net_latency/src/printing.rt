@@ -1,11 +1,10 @@
 //! Lines of delay bounds.
 ghost use Rattle.std.specs.Prelude.{◌≡◌, ◌++◌, ℕ, List, Some, IfOk, IfErr, OnOk, string_bytes};
 ghost use Rattle.app_failure.specs.Jobs.{EndsCheck};
-ghost use Rattle.net_latency.specs.Printing.{AreBoundLines, PrintsBounds, bound_line, bounds_text};
+ghost use Rattle.net_latency.specs.Printing.{AreBoundLines, PrintsBounds, bound_line, bounds_text, coarse_mark, padded_figure};
 
-use crate::bounds::QueueBound;
 use crate::shared_lines::push_shared_text;
-use crate::tight::tight_queue_bounds;
+use crate::tight::{TightBound, tight_queue_bounds};
 use app_failure::{Failure, read_accepted_plan};
 use bridge_check::Accepted;
 use bridge_groups::plan_shared_queues;
@@ -13,30 +12,55 @@ use bridge_limits::NoMemory;
 use std::alloc::{AllocError, Allocator, Global};
 use std::io::Read;
 
+/// Returns the mark of a coarse bound, or an empty text.
+fn coarse_mark(coarse: bool) -> &'static str
+    ensures { result.now ≡ coarse_mark coarse }
+{
+    if coarse { " coarse" } else { "" }
+}
+
+/// Appends the bound for frames of at least 60 octets, or nothing.
+fn push_padded_figure<A: Allocator + Copy>(
+    text: &mut String<A>,
+    padded: Option<u64>,
+) -> Result<(), AllocError>
+    ensures { OnOk result (string_bytes text.new ≡ string_bytes text.old ++ padded_figure padded) }
+{
+    match padded {
+        None => Ok(()),
+        Some(bound) => write!(text, " padded {bound}"),
+    }
+}
+
 /// Appends the line of a queue's delay bound, such as `filter 1 port 2 class 7 bound 12336`.
 #[tactic(auto, unfolding(crate::specs::Printing::bound_line))]
 fn push_bound_line<A: Allocator + Copy>(
     text: &mut String<A>,
-    row: &QueueBound,
+    row: &TightBound,
 ) -> Result<(), AllocError>
     ensures { OnOk result (string_bytes text.new ≡ string_bytes text.old ++ bound_line row.now) }
 {
-    let QueueBound {
+    let TightBound {
         filter,
         port,
         class,
+        coarse,
         bound,
+        padded,
     } = *row;
+    let mark = coarse_mark(coarse);
     write!(
         text,
-        "filter {filter} port {port} class {class} bound {bound}\n"
-    )
+        "filter {filter} port {port} class {class}{mark} bound {bound}"
+    )?;
+    push_padded_figure(text, padded)?;
+    text.push_str("\n")
 }
 
 /// Returns one line for each delay bound, in the order of `rows`.
 pub fn bounds_text<A: Allocator + Copy>(
     alloc: A,
-    rows: &[QueueBound],
+    rows: &[TightBound],
 ) -> Result<String<A>, NoMemory>
     ensures { IfOk result (λ text. string_bytes text ≡ bounds_text rows.now) }
 {

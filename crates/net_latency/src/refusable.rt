@@ -1,8 +1,10 @@
 //! Explanations of traffic that may be refused: the condition that fails. No call fails: files that can't be read again are left out.
 ghost use Rattle.std.specs.Prelude.{◌≤◌, All, length};
 ghost use Rattle.bridge_bounds.specs.Traffic.{IsTraffic};
-ghost use Rattle.net_file.specs.TrafficRows.{IsRow};
+ghost use Rattle.net_file.specs.LimitedRows.{IsLimitedRow};
+ghost use Rattle.net_file.specs.TrafficRows.{IsRow, IsTalkerRow};
 
+use crate::limited_rows::{limit_burst, limit_rate};
 use crate::reporting::read_rows;
 use crate::timings::{QueueTiming, TrafficFigures, queue_timings};
 use app_failure::read_accepted_plan;
@@ -10,8 +12,9 @@ use bridge_bounds::{Traffic, find_filter, longest_sdu, passes};
 use bridge_check::Accepted;
 use bridge_config::Plan;
 use bridge_filter::FilterPlan;
+use bridge_groups::{SharedQueue, committed_tokens, is_open_gate, plan_shared_queues};
 use bridge_text::TextBuilder;
-use net_file::TrafficRow;
+use net_file::{LimitedRow, TalkerRow, TrafficRow};
 use std::alloc::Global;
 use std::fs;
 use std::rt::Files;
@@ -45,17 +48,18 @@ pub fn explain_refusable<H: AllocGlobal + Files>(
 fn explain_refusable_rows(
     alloc: Global,
     accepted: &Accepted<Global>,
-    rows: &[TrafficRow],
+    rows: &[TalkerRow],
 ) -> Option<String>
     requires few { length rows.now ≤ 1024 }
-    requires rows { All IsRow rows.now }
+    requires rows { All IsTalkerRow rows.now }
 {
     let timings = queue_timings(alloc, accepted, rows).ok()?;
+    let shared = plan_shared_queues(alloc, accepted).ok()?;
     let mut said = TextBuilder::new(alloc);
     let mut index: u32 = 0;
     for row in rows {
         index = index.saturating_add(1);
-        put_row(&mut said, accepted.plan(), index, row, &timings);
+        put_row(&mut said, accepted.plan(), &shared, index, row, &timings);
     }
     said.finish().ok()
 }
@@ -64,16 +68,17 @@ fn explain_refusable_rows(
 fn put_row(
     said: &mut TextBuilder<Global>,
     plan: &Plan<Global>,
+    shared: &[SharedQueue],
     index: u32,
-    row: &TrafficRow,
+    row: &TalkerRow,
     timings: &[TrafficFigures],
 )
-    requires row { IsRow row.now }
+    requires row { IsTalkerRow row.now }
 {
     for figures in timings {
         if let TrafficFigures::Queue(queue) = figures {
             if queue.row == index && !queue.passes {
-                put_queue(said, plan, row, queue);
+                put_queue(said, plan, shared, row, queue);
             }
         }
     }
@@ -83,12 +88,13 @@ fn put_row(
 fn put_queue(
     said: &mut TextBuilder<Global>,
     plan: &Plan<Global>,
-    row: &TrafficRow,
+    shared: &[SharedQueue],
+    row: &TalkerRow,
     queue: &QueueTiming,
 )
-    requires row { IsRow row.now }
+    requires row { IsTalkerRow row.now }
 {
-    let Some(filter) = find_filter(plan.filters(), row.filter) else {
+    let Some(filter) = find_filter(plan.filters(), queue.filter) else {
         return;
     };
     said.put_template(
@@ -100,7 +106,102 @@ fn put_queue(
         ],
         &[],
     );
-    put_reason(said, plan, &filter, &row.traffic, queue.class);
+    match row {
+        TalkerRow::Periodic(row) => put_reason(said, plan, &filter, &row.traffic, queue.class),
+        TalkerRow::Limited(row) => put_limited_reason(said, plan, shared, &filter, row, queue),
+    }
+}
+
+/// Appends the first condition that fails for a talker of a group: its filter's gate, limit of the SDU or meter, or the queue's capacity.
+fn put_limited_reason(
+    said: &mut TextBuilder<Global>,
+    plan: &Plan<Global>,
+    shared: &[SharedQueue],
+    filter: &FilterPlan,
+    row: &LimitedRow,
+    queue: &QueueTiming,
+)
+    requires row { IsLimitedRow row.now }
+{
+    if !is_open_gate(plan, filter.gate) {
+        return said.put_template(
+            "gate {0} is closed at some time, or has an entry with `octets`. A burst passes only if the gate is always open, without `octets`.\n",
+            &[u64::from(filter.gate)],
+            &[],
+        );
+    }
+    let octets = longest_sdu(plan, filter.handle, row.longest);
+    let most = filter.max_sdu.unwrap_or(0);
+    if most < octets {
+        put_long(said, octets, most);
+        return put_hint(said, octets - most <= CHECK_OCTETS);
+    }
+    if !put_lacking_tokens(said, plan, filter, row) {
+        put_lacking_room(said, shared, queue);
+    }
+}
+
+/// Appends that the SDU of the longest frame is longer than the filter allows.
+fn put_long(said: &mut TextBuilder<Global>, octets: u32, most: u32) {
+    said.put_template(
+        "the SDU of its longest frame has {0} octets, and `max_sdu` is {1}.",
+        &[u64::from(octets), u64::from(most)],
+        &[],
+    );
+}
+
+/// Appends that the filter's meter has too small a burst size or rate for the talker, or is missing. Returns whether it appended a sentence.
+fn put_lacking_tokens(
+    said: &mut TextBuilder<Global>,
+    plan: &Plan<Global>,
+    filter: &FilterPlan,
+    row: &LimitedRow,
+) -> bool
+    requires row { IsLimitedRow row.now }
+{
+    let (burst, rate) = (
+        limit_burst(row.limit, row.longest),
+        limit_rate(row.limit, row.longest),
+    );
+    let meter = u64::from(filter.meter.unwrap_or(0));
+    let (template, have) = match committed_tokens(plan, filter.meter) {
+        None => (
+            "the filter has no meter. Give it a meter with `cbs = {0}` and `cir = {1}` or more.\n",
+            0,
+        ),
+        Some((cbs, _)) if cbs < burst => (
+            "its burst has {0} octets, and `cbs` of meter {2} is {3}. Raise `cbs` to {0}, or send smaller bursts.\n",
+            cbs,
+        ),
+        Some((_, cir)) if cir < rate => (
+            "its rate is {1} bit/s, and `cir` of meter {2} is {3}. Raise `cir` to {1}, or send less.\n",
+            cir,
+        ),
+        Some(_) => return false,
+    };
+    said.put_template(template, &[burst, rate, meter, have], &[]);
+    true
+}
+
+/// Appends that a shared queue has less capacity than suffices, or that no capacity is known to suffice.
+fn put_lacking_room(said: &mut TextBuilder<Global>, shared: &[SharedQueue], queue: &QueueTiming) {
+    for row in shared {
+        if row.port == queue.port && row.class == queue.class {
+            let capacity = u64::from(row.capacity);
+            return match row.room {
+                Some(room) => said.put_template(
+                    "the queue of class {0} may be full, because it holds only {1} instead of {2} frames. Raise `rooms`, or lower the rates of the group's meters.\n",
+                    &[u64::from(row.class), capacity, u64::from(room)],
+                    &[],
+                ),
+                None => said.put_template(
+                    "the queue of class {0} may be full, because no capacity is known to suffice. Give each filter of the group a meter, lower the rates, or remove the `[[change]]`.\n",
+                    &[u64::from(row.class)],
+                    &[],
+                ),
+            };
+        }
+    }
 }
 
 /// Appends the first condition that fails for this traffic at the filter and its queue of `class`. `net check` also calls it for hops.
@@ -116,11 +217,7 @@ pub fn put_reason(
     let octets = longest_sdu(plan, filter.handle, traffic.longest);
     let most = filter.max_sdu.unwrap_or(octets);
     if most < octets {
-        said.put_template(
-            "the SDU of its longest frame has {0} octets, and `max_sdu` is {1}.",
-            &[u64::from(octets), u64::from(most)],
-            &[],
-        );
+        put_long(said, octets, most);
         return put_hint(said, octets - most <= CHECK_OCTETS);
     }
     if let Some(meter) = filter.meter {

@@ -1,8 +1,8 @@
 //! The command `bounds --traffic`: a plan and the traffic of its talkers.
 ghost use Rattle.std.specs.Prelude.{◌≡◌, ◌⊎◌, ◌≤◌, All, IfErr, IfOk, List, Ok, Some, length, string_bytes, take, ℕ, None};
 ghost use Rattle.app_failure.specs.Reading.{IsFileFault};
-ghost use Rattle.net_file.specs.TrafficRows.{IsRow};
-ghost use Rattle.net_latency.specs.Traffic.{first_row_fault};
+ghost use Rattle.net_file.specs.TrafficRows.{IsTalkerRow};
+ghost use Rattle.net_latency.specs.TalkerRows.{first_row_fault};
 ghost use Rattle.net_file.specs.TrafficDocument.{rows_of_text};
 ghost use Rattle.net_latency.specs.TrafficText.{AreLinesOfTraffic, EndsTexts, EndsTraffic, IsTrafficFailure, PrintsRows, PrintsTraffic, ReadsRows, RefusesRows, RefusesTimings, RefusesWords};
 
@@ -14,7 +14,7 @@ use app_files::read_text;
 use bridge_check::Accepted;
 use bridge_limits::NoMemory;
 use net_file::{
-    NetFault, TrafficFault, TrafficRow, parse_traffic, traffic_fault_line as fault_line,
+    NetFault, TalkerRow, TrafficFault, parse_traffic, traffic_fault_line as fault_line,
 };
 use std::alloc::{Allocator, Global};
 use std::io::Read;
@@ -43,9 +43,9 @@ fn parse_rows<A: Allocator + Copy>(
     alloc: A,
     heap: Global,
     text: &[u8],
-) -> Result<Vec<TrafficRow, A>, Failure>
+) -> Result<Vec<TalkerRow, A>, Failure>
     ensures ok { (words : List ℕ) → text.now ≡ take 1048577 words → IfOk result (λ rows. ReadsRows words rows.items) }
-    ensures rows { IfOk result (λ rows. All IsRow rows.items) }
+    ensures rows { IfOk result (λ rows. All IsTalkerRow rows.items) }
     ensures few { IfOk result (λ rows. length rows.items ≤ 1024) }
     ensures err { (words : List ℕ) → text.now ≡ take 1048577 words → IfErr result (RefusesRows words) }
     ensures read { IfOk result (λ rows. rows_of_text text.now ≡ Ok rows.items) }
@@ -64,9 +64,9 @@ pub(crate) fn read_rows<R: Read + Drop, A: Allocator + Copy>(
     heap: Global,
     path: &str,
     reader: R,
-) -> Result<Vec<TrafficRow, A>, Failure>
+) -> Result<Vec<TalkerRow, A>, Failure>
     ensures ok { (words : List ℕ) → R.remaining reader ≡ Some words → IfOk result (λ rows. ReadsRows words rows.items) }
-    ensures rows { IfOk result (λ rows. All IsRow rows.items) }
+    ensures rows { IfOk result (λ rows. All IsTalkerRow rows.items) }
     ensures few { IfOk result (λ rows. length rows.items ≤ 1024) }
     ensures err { (words : List ℕ) → R.remaining reader ≡ Some words
         → IfErr result (λ f. IsFileFault path.now f ⊎ RefusesRows words f) }
@@ -83,10 +83,10 @@ pub(crate) fn read_rows<R: Read + Drop, A: Allocator + Copy>(
 fn report_traffic<A: Allocator + Copy>(
     alloc: A,
     accepted: &Accepted<A>,
-    rows: &[TrafficRow],
+    rows: &[TalkerRow],
 ) -> Result<TrafficReport<A>, NoMemory>
     requires few { length rows.now ≤ 1024 }
-    requires rows { All IsRow rows.now }
+    requires rows { All IsTalkerRow rows.now }
     requires suit { first_row_fault accepted.now 1 rows.now ≡ None }
     ensures { IfOk result (λ r. AreLinesOfTraffic accepted.now rows.now (string_bytes r.text) r.kept) }
 {
@@ -109,10 +109,10 @@ fn check_and_report<A: Allocator + Copy>(
     alloc: A,
     heap: Global,
     accepted: &Accepted<A>,
-    rows: &[TrafficRow],
+    rows: &[TalkerRow],
 ) -> Result<TrafficReport<A>, Failure>
     requires few { length rows.now ≤ 1024 }
-    requires rows { All IsRow rows.now }
+    requires rows { All IsTalkerRow rows.now }
     ensures ok { IfOk result (λ r. AreLinesOfTraffic accepted.now rows.now (string_bytes r.text) r.kept) }
     ensures err { IfErr result (RefusesTimings accepted.now rows.now) }
 {

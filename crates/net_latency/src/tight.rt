@@ -1,19 +1,84 @@
 //! Tight delay bounds of all queues of a plan: octet limits of stream gates may lower the bounds.
-ghost use Rattle.std.specs.Prelude.{◌++◌, ◌∷◌, [], IfOk, List, OnOk};
-ghost use Rattle.bridge_bounds.specs.Bounds.{IsQueueBound};
-ghost use Rattle.net_latency.specs.Bounds.{AreBounds, AreTightBounds, AreTightened};
+ghost use Rattle.std.specs.Prelude.{IfSome, ◌++◌, ◌∷◌, [], IfOk, List, OnOk};
+ghost use Rattle.bridge_bounds.specs.Bounds.{IsQueueBound, IsTightBound};
+ghost use Rattle.net_latency.specs.Bounds.{AreBounds, AreTightBounds, AreTightened, HasValidPort, IsLeastBound, IsPaddedBound};
 
 use crate::bounds::{QueueBound, queue_bounds};
-use bridge_bounds::tight_queue_bound;
+use bridge_bounds::{is_coarse, tight_queue_bound};
 use bridge_check::Accepted;
+use bridge_groups::{CAPTURED_SDU, PADDED_SDU, gate_work_bound};
 use bridge_limits::NoMemory;
 use std::alloc::Allocator;
+
+/// Tight delay bound of a protected filter's frames in one of its reachable queues.
+#[derive(Clone, Copy)]
+pub struct TightBound {
+    /// Filter number.
+    pub filter: u32,
+    /// Port number, 1 to 16.
+    pub port: u8,
+    /// Class of the queue, 0 to 7.
+    pub class: u8,
+    /// Whether the bound by capacity counts all arrival times, because two lists have no common cycle.
+    pub coarse: bool,
+    /// Largest delay in ns of a sent copy, from arrival to the end of transmission, gap included.
+    pub bound: u64,
+    /// Lesser bound in ns for frames of at least 60 octets, if one is known.
+    pub padded: Option<u64>,
+}
+
+/// Returns the lesser of a queue's tight bound `tight` and its bound by what the stream gate passes, both in ns. If two lists have no common
+/// cycle (`coarse`), the search for the second bound would take too long, so the result is `tight`.
+fn least_bound<A: Allocator + Copy>(
+    accepted: &Accepted<A>,
+    queue: &QueueBound,
+    tight: u64,
+    coarse: bool,
+) -> u64
+    requires valid { HasValidPort queue.now }
+    requires tight { IsTightBound accepted.now queue.now.filter queue.now.port queue.now.class tight }
+    ensures { IsLeastBound accepted.now queue.now.filter queue.now.port queue.now.class result }
+{
+    if coarse {
+        return tight;
+    }
+    match gate_work_bound(
+        accepted,
+        queue.filter,
+        queue.port,
+        queue.class,
+        CAPTURED_SDU,
+    ) {
+        Some(bound) if bound < tight => bound,
+        _ => tight,
+    }
+}
+
+/// Returns the bound in ns of a queue for frames of at least 60 octets, by what the stream gate passes. Returns `None` unless it is below
+/// `bound`, or if two lists have no common cycle (`coarse`).
+fn padded_bound<A: Allocator + Copy>(
+    accepted: &Accepted<A>,
+    queue: &QueueBound,
+    bound: u64,
+    coarse: bool,
+) -> Option<u64>
+    requires valid { HasValidPort queue.now }
+    ensures { IfSome result (IsPaddedBound accepted.now queue.now.filter queue.now.port queue.now.class bound) }
+{
+    if coarse {
+        return None;
+    }
+    match gate_work_bound(accepted, queue.filter, queue.port, queue.class, PADDED_SDU) {
+        Some(padded) if padded < bound => Some(padded),
+        _ => None,
+    }
+}
 
 /// Appends to `made` the tight bound of the queue that `bound` names.
 fn put_tight_bound<A: Allocator + Copy>(
     accepted: &Accepted<A>,
     bound: &QueueBound,
-    made: &mut Vec<QueueBound, A>,
+    made: &mut Vec<TightBound, A>,
 ) -> Result<(), NoMemory>
     requires bound { IsQueueBound accepted.now bound.now.filter bound.now.port bound.now.class bound.now.bound }
     ensures one_more { OnOk result ((bounds : List QueueBound) → AreTightened accepted.now bounds made.old.items
@@ -21,11 +86,15 @@ fn put_tight_bound<A: Allocator + Copy>(
 {
     let _ = accepted.plan();
     if let Some(tight) = tight_queue_bound(accepted, bound.filter, bound.port, bound.class) {
-        made.push(QueueBound {
+        let coarse = is_coarse(accepted, bound.filter, bound.port);
+        let least = least_bound(accepted, bound, tight, coarse);
+        made.push(TightBound {
             filter: bound.filter,
             port: bound.port,
             class: bound.class,
-            bound: tight,
+            coarse,
+            bound: least,
+            padded: padded_bound(accepted, bound, least, coarse),
         })?;
     }
     Ok(())
@@ -36,7 +105,7 @@ fn tighten_bounds<A: Allocator + Copy>(
     alloc: A,
     accepted: &Accepted<A>,
     bounds: &[QueueBound],
-) -> Result<Vec<QueueBound, A>, NoMemory>
+) -> Result<Vec<TightBound, A>, NoMemory>
     requires bounds { AreBounds accepted.now bounds.now }
     ensures { IfOk result (λ rows. AreTightened accepted.now bounds.now rows.items) }
 {
@@ -53,7 +122,7 @@ fn tighten_bounds<A: Allocator + Copy>(
 pub fn tight_queue_bounds<A: Allocator + Copy>(
     alloc: A,
     accepted: &Accepted<A>,
-) -> Result<Vec<QueueBound, A>, NoMemory>
+) -> Result<Vec<TightBound, A>, NoMemory>
     ensures { IfOk result (λ rows. AreTightBounds accepted.now rows.items) }
 {
     let Ok(bounds) = queue_bounds(alloc, accepted) else {

@@ -2,19 +2,23 @@
 ghost use Rattle.std.specs.Prelude.{◌≡◌, ◌↔◌, ◌++◌, ◌∷◌, ◌≤◌, All, IfOk, List, OnOk, Some, [], length, map, string_bytes, true};
 ghost use Rattle.bridge_text.specs.Growth.{HasGrown};
 ghost use Rattle.bridge_bounds.specs.Bounds.{IsQueueBound};
-ghost use Rattle.net_file.specs.TrafficRows.{IsRow};
+ghost use Rattle.bridge_groups.specs.GroupRows.{AreSharedQueues};
+ghost use Rattle.net_file.specs.TrafficRows.{IsRow, IsTalkerRow};
 ghost use Rattle.net_latency.specs.Bounds.{AreBounds};
 ghost use Rattle.net_latency.specs.declared.timings.TrafficFigures.TheVariants.{Queue};
 ghost use Rattle.net_latency.specs.Traffic as spec;
-ghost use Rattle.net_latency.specs.Traffic.{AreRowTimings, AreTimings, RowPasses};
+ghost use Rattle.net_latency.specs.Traffic.{AreRowTimings, RowPasses};
+ghost use Rattle.net_latency.specs.TalkerRows.{AreTimings, AreTimingsOfRow};
 ghost use Rattle.net_latency.specs.TrafficText as printing;
 
 use crate::bounds::{QueueBound, queue_bounds};
+use crate::limited_rows::limited_timings;
 use bridge_bounds::{Phases, Timing, find_filter, passes, queue_timing};
 use bridge_check::Accepted;
+use bridge_groups::{SharedQueue, plan_shared_queues};
 use bridge_limits::NoMemory;
 use bridge_text::TextBuilder;
-use net_file::TrafficRow;
+use net_file::{TalkerRow, TrafficRow};
 use std::alloc::Allocator;
 
 /// Delays of a traffic row's frames in a reachable queue: one line of `bounds --traffic`.
@@ -157,26 +161,49 @@ fn put_row<A: Allocator + Copy>(
     Ok(())
 }
 
+/// Returns the delays of a row: in the queues of its protected filter, or in the shared queues of its filter's group.
+fn talker_row_timings<A: Allocator + Copy>(
+    alloc: A,
+    accepted: &Accepted<A>,
+    bounds: &[QueueBound],
+    shared: &[SharedQueue],
+    index: u32,
+    row: &TalkerRow,
+) -> Result<Vec<QueueTiming, A>, NoMemory>
+    requires bounds { AreBounds accepted.now bounds.now }
+    requires shared { AreSharedQueues accepted.now shared.now }
+    requires row { IsTalkerRow row.now }
+    ensures { IfOk result (λ v. AreTimingsOfRow accepted.now bounds.now shared.now index row.now v.items) }
+{
+    match row {
+        TalkerRow::Periodic(row) => row_timings(alloc, accepted, bounds, index, row),
+        TalkerRow::Limited(row) => limited_timings(alloc, accepted, shared, index, row),
+    }
+}
+
 /// Returns the delays of all rows of traffic, row by row, then by rising port and class of the filter's queues.
 pub fn queue_timings<A: Allocator + Copy>(
     alloc: A,
     accepted: &Accepted<A>,
-    rows: &[TrafficRow],
+    rows: &[TalkerRow],
 ) -> Result<Vec<TrafficFigures, A>, NoMemory>
     requires few { length rows.now ≤ 1024 }
-    requires rows { All IsRow rows.now }
+    requires rows { All IsTalkerRow rows.now }
     ensures { IfOk result (λ v. AreTimings accepted.now rows.now v.items) }
 {
     let Ok(bounds) = queue_bounds(alloc, accepted) else {
         return Err(NoMemory);
     };
+    let Ok(shared) = plan_shared_queues(alloc, accepted) else {
+        return Err(NoMemory);
+    };
     let mut made = Vec::new(alloc);
     let mut index: u32 = 1;
     for row in rows {
-        let Ok(more) = row_timings(alloc, accepted, &bounds, index, row) else {
+        let Ok(more) = talker_row_timings(alloc, accepted, &bounds, &shared, index, row) else {
             return Err(NoMemory);
         };
-        let Ok(()) = put_row(index, row.filter, &more, &mut made) else {
+        let Ok(()) = put_row(index, row.filter(), &more, &mut made) else {
             return Err(NoMemory);
         };
         index += 1;

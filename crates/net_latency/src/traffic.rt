@@ -4,6 +4,7 @@ ghost use Rattle.std.specs.Map.{lookup};
 ghost use Rattle.bridge_check.specs.Reach.{some_number_passes, reaches_queue};
 ghost use Rattle.bridge_check.specs.ReachTables.{filter_reach};
 ghost use Rattle.net_latency.specs.Traffic as spec;
+ghost use Rattle.net_latency.specs.TalkerRows as kinds;
 
 use crate::bounds::is_reached;
 use bridge_bounds::find_filter;
@@ -12,7 +13,9 @@ use bridge_config::{Plan, PortPlan};
 use bridge_cycle::{Egress, Timeline};
 use bridge_filter::FilterPlan;
 use bridge_gate::Schedule;
-use net_file::{NetFault, NetField, NetKeyLocation, NetSection, TrafficFault, TrafficRow};
+use net_file::{
+    NetFault, NetField, NetKeyLocation, NetSection, TalkerRow, TrafficFault, TrafficRow,
+};
 use std::alloc::Allocator;
 
 /// Whether a period is a multiple of the cycle times of a stream gate's schedule. Returns true for a fixed gate, which has no cycle.
@@ -137,7 +140,7 @@ pub(crate) fn suits<A: Allocator + Copy>(plan: &Plan<A>, filter: &FilterPlan, pe
     !has_misfit(plan, filter, &reach, period)
 }
 
-/// Returns the fault of row `index` compared with the plan, or `None`: the filter is missing or unprotected, or the period doesn't suit.
+/// Returns the fault of row `index` with periodic traffic: the filter is missing or unprotected, or the period doesn't suit.
 pub(crate) fn row_fault<A: Allocator + Copy>(
     plan: &Plan<A>,
     index: u32,
@@ -165,18 +168,49 @@ pub(crate) fn row_fault<A: Allocator + Copy>(
     None
 }
 
-/// Returns the first fault of traffic compared with its plan, row by row, or `None`. The filter may be missing or unprotected, or a cycle
-/// on its route may not divide the period.
+/// Returns the fault of row `index` with a limit: the filter is missing, or belongs to no group.
+fn group_fault<A: Allocator + Copy>(plan: &Plan<A>, index: u32, filter: u32) -> Option<TrafficFault>
+    ensures { result ≡ kinds.group_fault index (lookup (nat_eq filter) plan.now.filters) }
+{
+    let Some(filter) = find_filter(plan.filters(), filter) else {
+        return Some(TrafficFault::Text(NetFault::Unresolved(NetKeyLocation {
+            section: NetSection::Traffic,
+            index,
+            field: NetField::Filter,
+        })));
+    };
+    match filter.group {
+        Some(_) => None,
+        None => Some(TrafficFault::NotGrouped(index)),
+    }
+}
+
+/// Returns the fault of row `index` compared with the plan, or `None`.
+pub(crate) fn talker_row_fault<A: Allocator + Copy>(
+    plan: &Plan<A>,
+    index: u32,
+    row: &TalkerRow,
+) -> Option<TrafficFault>
+    ensures { result ≡ kinds.talker_row_fault plan.now index row.now }
+{
+    match row {
+        TalkerRow::Periodic(row) => row_fault(plan, index, row),
+        TalkerRow::Limited(row) => group_fault(plan, index, row.filter),
+    }
+}
+
+/// Returns the first fault of traffic compared with its plan, row by row, or `None`. The filter may be missing, unprotected or in no group,
+/// or a cycle on its route may not divide the period.
 pub fn traffic_fault<A: Allocator + Copy>(
     plan: &Plan<A>,
-    rows: &[TrafficRow],
+    rows: &[TalkerRow],
 ) -> Option<TrafficFault>
     requires { length rows.now ≤ 1024 }
-    ensures { result ≡ spec.first_row_fault plan.now 1 rows.now }
+    ensures { result ≡ kinds.first_row_fault plan.now 1 rows.now }
 {
     let mut index: u32 = 1;
     for row in rows {
-        if let Some(fault) = row_fault(plan, index, row) {
+        if let Some(fault) = talker_row_fault(plan, index, row) {
             return Some(fault);
         }
         index += 1;

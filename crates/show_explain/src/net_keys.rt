@@ -6,8 +6,8 @@ use bridge_text::{
     unsigned_number,
 };
 use net_file::{
-    FIRST_PORT, LAST_PORT, LONGEST_NAME, MAX_HOPS, NetAllowed, NetField, NetSection, TALKER_KEYS,
-    allowed_value,
+    FIRST_PORT, LAST_PORT, LONGEST_NAME, MAX_HOPS, NetAllowed, NetField, NetSection, OCTETS,
+    TALKER_KEYS, allowed_value,
 };
 use toml::Value;
 
@@ -68,6 +68,11 @@ pub(crate) fn put_key_value(
     if value.is_none() && matches!(section, NetSection::Stream) && is_of_talker(field) {
         put_talker_keys(said);
     }
+    if value.is_none() && matches!(section, NetSection::Traffic) && is_of_talker(field) {
+        said.put(
+            "A row has `period`, `from` and `to`. The row of a group's filter has `burst` and `rate`, or `frames` and `period`.\n",
+        );
+    }
 }
 
 /// Whether a key is a key of a stream's talker.
@@ -116,12 +121,15 @@ fn put_allowed(said: &mut Said, instance: Instance<'_>, field: NetField) {
             example,
         ),
         NetAllowed::Number(range) => said.put_template(
-            "It must be the number of a protected filter of the plan, from {0} to {1}.\n",
+            "It must be the number of a protected or grouped filter of the plan, from {0} to {1}.\n",
             &[range.low, range.high],
             &[],
         ),
         NetAllowed::Time(range) => put_range(said, instance, field, range, "ns"),
         NetAllowed::Octets(range) => put_range(said, instance, field, range, "octets"),
+        NetAllowed::Burst(range) => put_range(said, instance, field, range, "metered octets"),
+        NetAllowed::Rate(range) => put_range(said, instance, field, range, "bit/s"),
+        NetAllowed::Frames(range) => put_range(said, instance, field, range, "frames"),
     }
 }
 
@@ -129,8 +137,10 @@ fn put_allowed(said: &mut Said, instance: Instance<'_>, field: NetField) {
 /// ignore the key.
 fn allowed_number(instance: Instance<'_>, field: NetField) -> Option<u64> {
     let number = unsigned_number(instance.value(field.key()))?;
-    let (NetAllowed::Number(range) | NetAllowed::Time(range) | NetAllowed::Octets(range)) =
-        allowed_value(field) else {
+    let (NetAllowed::Number(range)
+    | NetAllowed::Time(range)
+    | NetAllowed::Octets(range)
+    | NetAllowed::Burst(range)) = allowed_value(field) else {
         return None;
     };
     if range.low <= number && number <= range.high {
@@ -152,14 +162,20 @@ fn lower_limit(instance: Instance<'_>, field: NetField) -> Option<(NetField, u64
     Some((key, value, value.saturating_add(more)))
 }
 
-/// Returns the key that limits a key from above, its value, and the greatest value allowed: phases are less than the period. Returns `None`
-/// if no key does.
+/// Returns the key that limits a key from above, its value, and the greatest value allowed: phases are less than the period, and a burst
+/// has room for a frame with its frame check sequence. Returns `None` if no key does.
 fn upper_limit(instance: Instance<'_>, field: NetField) -> Option<(NetField, u64, u64)> {
-    let (NetField::From | NetField::To) = field else {
-        return None;
+    let (key, less) = match field {
+        NetField::From | NetField::To => (NetField::Period, 1),
+        NetField::Longest => (NetField::Burst, 4),
+        _ => return None,
     };
-    let value = allowed_number(instance, NetField::Period)?;
-    Some((NetField::Period, value, value.saturating_sub(1)))
+    let value = allowed_number(instance, key)?;
+    let most = value.saturating_sub(less);
+    if matches!(field, NetField::Longest) && OCTETS.high <= most {
+        return None;
+    }
+    Some((key, value, most))
 }
 
 /// Writes the range of a key's allowed numbers, in its unit, and the other keys that limit it.

@@ -7,16 +7,18 @@ use crate::net_names::{put_hops, put_unknown_bridge};
 use crate::plan_fault::put_twin;
 use crate::reading::read_document;
 use bridge_limits::NoMemory;
+use bridge_schema::get_value;
 use bridge_text::{
     Document, FileKind, KEYS, Said, TextBuilder, fill_with_word, find_duplicate, finish_with_path,
     put_key, put_nearest, put_no_list, put_other_kind, put_stray_section, put_too_many,
     section_instances,
 };
 use net_file::{
-    MOST_OCTETS, NetFault, NetField, NetKeyLocation, NetSection, max_instances, section_fields,
+    COUNT_ROW_KEYS, LIMIT_KEYS, MOST_OCTETS, NetFault, NetField, NetKeyLocation, NetSection,
+    RATE_ROW_KEYS, TRAFFIC_KEYS, max_instances, section_fields,
 };
 use std::alloc::Global;
-use toml::Value;
+use toml::{Table, Value};
 
 /// Explains why a file isn't a network: the position of the fault, the value there, the allowed values, and what to change. The explanation
 /// begins with `path`.
@@ -176,7 +178,54 @@ fn put_stray_key(
             return put_nearest_key(alloc, said, key, keys);
         }
     }
-    put_net_place(said, document, section, index, None);
+    put_excluded_key(said, document, section, index, table);
+}
+
+/// Writes which key of a row of traffic another key excludes. The row has only known keys.
+fn put_excluded_key(
+    said: &mut Said,
+    document: Document<'_>,
+    section: NetSection,
+    index: u32,
+    table: &Table,
+) {
+    let Some((key, other)) = excluded_key(table) else {
+        return put_net_place(said, document, section, index, None);
+    };
+    put_net_place(said, document, section, index, Some(key.key()));
+    put_key(said, key.key());
+    fill_with_word(
+        said,
+        " can't be in the same table as `{a}`.\n",
+        0,
+        other.key(),
+    );
+}
+
+/// Returns the first key that a limit of a row of traffic excludes, and the limit's first key. Returns `None` if there is no such key.
+fn excluded_key(table: &Table) -> Option<(NetField, NetField)> {
+    let limit = first_present(table, &LIMIT_KEYS)?;
+    let allowed: &[NetField] = if let NetField::Frames = limit {
+        &COUNT_ROW_KEYS
+    } else {
+        &RATE_ROW_KEYS
+    };
+    for key in &TRAFFIC_KEYS {
+        if get_value(table, key.key()).is_some() && !is_known(allowed, key.key()) {
+            return Some((*key, limit));
+        }
+    }
+    None
+}
+
+/// Returns the first of these keys that a table has, or `None`.
+fn first_present(table: &Table, keys: &[NetField]) -> Option<NetField> {
+    for key in keys {
+        if get_value(table, key.key()).is_some() {
+            return Some(*key);
+        }
+    }
+    None
 }
 
 /// Writes the key in `keys` that is nearest to `word`, or all keys if none is near.

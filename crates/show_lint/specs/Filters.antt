@@ -56,19 +56,19 @@ abbrev pub are_all_taken : FilterPlan → ℕ → List (ℕ × FilterPlan) → B
 are_all_taken filter n fs = is_taken_at filter n 0 fs && is_taken_at filter n 1 fs && is_taken_at filter n 2 fs && is_taken_at filter n 3 fs
     && is_taken_at filter n 4 fs && is_taken_at filter n 5 fs && is_taken_at filter n 6 fs && is_taken_at filter n 7 fs
 
--- The number of the first protected filter that uses stream gate `gate`, or `None`.
-abbrev pub protected_with : ℕ → List (ℕ × FilterPlan) → Option ℕ
-protected_with gate [] = None
-protected_with gate (f ∷ fs) = if nat_eq f.1.gate gate && f.1.protected then Some f.0 else protected_with gate fs
+-- The number of the first protected or grouped filter that uses stream gate `gate`, or `None`.
+abbrev pub tested_with : ℕ → List (ℕ × FilterPlan) → Option ℕ
+tested_with gate [] = None
+tested_with gate (f ∷ fs) = if nat_eq f.1.gate gate && is_tested f.1 then Some f.0 else tested_with gate fs
 
 -- True if a filter uses stream gate `gate`.
 abbrev pub is_used : ℕ → List (ℕ × FilterPlan) → Bool
 is_used gate [] = false
 is_used gate (f ∷ fs) = nat_eq f.1.gate gate || is_used gate fs
 
--- True if some filter uses stream gate `gate`, and no protected filter does.
+-- True if some filter uses stream gate `gate`, and no protected or grouped filter does.
 abbrev pub is_decision : ℕ → List (ℕ × FilterPlan) → Bool
-is_decision gate fs = is_used gate fs && not (is_number (protected_with gate fs))
+is_decision gate fs = is_used gate fs && not (is_number (tested_with gate fs))
 
 -- True if a filter is protected or grouped.
 abbrev pub has_tested : List (ℕ × FilterPlan) → Bool

@@ -36,7 +36,11 @@ fn find_plan_warnings<A: Allocator + Copy>(
     for (number, filter) in plan.filters() {
         if filter.protected {
             find_not_forwarded(found, plan, *number, filter)?;
+        }
+        if filter.protected || filter.group.is_some() {
             find_meter_warnings(alloc, found, plan, *number, filter)?;
+        }
+        if filter.protected {
             find_queues(alloc, found, plan, *number, filter)?;
         }
     }

@@ -1,4 +1,4 @@
-//! Finds meters that refuse frames of a protected filter.
+//! Finds meters that refuse frames of a protected or grouped filter.
 use crate::gate_openings::{
     OfferedLoad, change_stages, gate_list, gate_openings, has_gate_change, longest_length,
     offered_load, total_count,
@@ -29,7 +29,7 @@ fn find_meter(meters: &[(u32, MeterPlan)], number: u32) -> Option<MeterPlan> {
     None
 }
 
-/// Adds warnings about the meter of a protected filter: buckets too small, or a rate too low. Does nothing without a meter.
+/// Adds warnings about the meter of a protected or grouped filter: buckets too small, or a rate too low. Does nothing without a meter.
 pub(crate) fn find_meter_warnings<A: Allocator + Copy>(
     alloc: Global,
     found: &mut Vec<Warning>,

@@ -19,8 +19,8 @@ const BOUND: &str =
 
 const TIGHT: &str = "With the octet limit of its gate the bound is {0} ns.\n";
 
-/// Describes an accepted plan: for each protected or grouped filter its queues, their windows, the longest frame that fits and, if it is
-/// protected, the delay bound; then all warnings. `idle` is the line of a schedule change without effect (`idle_change`).
+/// Describes an accepted plan: for each protected filter and each group its queues, their windows, the longest frame that fits and, for a
+/// protected filter, the delay bound; then all warnings. `idle` is the line of a schedule change without effect (`idle_change`).
 pub fn describe_plan<A: Allocator + Copy>(
     alloc: Global,
     accepted: &Accepted<A>,
@@ -63,7 +63,8 @@ fn put_warnings<A: Allocator + Copy>(
     }
 }
 
-/// Writes the queues of each protected or grouped filter with windows, and the bounds of protected filters.
+/// Writes the queues of each protected filter and each group with windows, and the bounds of protected filters. A group stands in the place
+/// of its first filter.
 fn put_filters<A: Allocator + Copy>(said: &mut LintText, accepted: &Accepted<A>) {
     for (number, filter) in accepted.plan().filters() {
         let own = u64::from(*number);
@@ -71,14 +72,82 @@ fn put_filters<A: Allocator + Copy>(said: &mut LintText, accepted: &Accepted<A>)
             said.put_template("Filter {0} is protected.\n", &[own], &[]);
             put_ports(said, accepted, *number, filter);
         } else if let Some(group) = filter.group {
-            said.put_template(
-                "Filter {0} is in group {1}.\n",
-                &[own, u64::from(group)],
-                &[],
-            );
-            put_ports(said, accepted, *number, filter);
+            if first_of_group(accepted.plan().filters(), group) == *number {
+                put_group(said, accepted, group);
+            }
         }
     }
+}
+
+/// Whether a filter is in the group.
+fn is_in_group(filter: &FilterPlan, group: u32) -> bool {
+    match filter.group {
+        Some(own) => own == group,
+        None => false,
+    }
+}
+
+/// Returns the number of the first filter in the group; 0 without one.
+fn first_of_group(filters: &[(u32, FilterPlan)], group: u32) -> u32 {
+    for (number, filter) in filters {
+        if is_in_group(filter, group) {
+            return *number;
+        }
+    }
+    0
+}
+
+/// Writes the filters of a group, and each queue that one of them can reach, with windows.
+fn put_group<A: Allocator + Copy>(said: &mut LintText, accepted: &Accepted<A>, group: u32) {
+    let mut template = "Filters of group {0}: {1}";
+    for (number, filter) in accepted.plan().filters() {
+        if is_in_group(filter, group) {
+            said.put_template(template, &[u64::from(group), u64::from(*number)], &[]);
+            template = ", {1}";
+        }
+    }
+    said.put(".\n");
+    for port in 1..17u8 {
+        if let Some(found) = accepted.plan().port(port) {
+            put_group_classes(said, accepted, group, port, found);
+        }
+    }
+}
+
+/// Writes the queues of a group at one port.
+fn put_group_classes<A: Allocator + Copy>(
+    said: &mut LintText,
+    accepted: &Accepted<A>,
+    group: u32,
+    port: u8,
+    found: &PortPlan<A>,
+)
+    requires from { 1 ≤ port }
+    requires to { port ≤ 16 }
+{
+    for class in 0..8u8 {
+        if can_group_wait(accepted, group, port, class) {
+            put_queue(said, port, found, class);
+        }
+    }
+}
+
+/// Whether a filter of the group can reach the queue of class `class` at a port.
+fn can_group_wait<A: Allocator + Copy>(
+    accepted: &Accepted<A>,
+    group: u32,
+    port: u8,
+    class: u8,
+) -> bool
+    requires from { 1 ≤ port }
+    requires to { port ≤ 16 }
+{
+    for (_, filter) in accepted.plan().filters() {
+        if is_in_group(filter, group) && can_wait(accepted.plan(), filter, port, class) {
+            return true;
+        }
+    }
+    false
 }
 
 /// Writes the queues of a filter at all ports.

@@ -7,7 +7,7 @@ use bridge_text::TextBuilder;
 use std::alloc::Allocator;
 
 const BURST: &str =
-    "Warning: meter {0} refuses the longest frame of filter {1} (protected), which has {2} octets with the frame check sequence: ";
+    "Warning: meter {0} refuses the longest frame of filter {1}, which has {2} octets with the frame check sequence: ";
 
 const BURST_GREEN: &str =
     "`cbs` is {3}, and the meter drops yellow frames. Raise `cbs` to at least {2}.\n";

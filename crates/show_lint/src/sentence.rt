@@ -27,7 +27,7 @@ const CLOSED: &str =
     "Warning: gate {0} is always closed, so its filters refuse all their frames. Open it, unless it is there to refuse stray frames.\n";
 
 const CLOSED_FROM: &str =
-    "Warning: gate {0} never opens from the schedule change at {1} ns on, so filter {2} (protected) then refuses all its frames. Open an entry of `next_entries`.\n";
+    "Warning: gate {0} never opens from the schedule change at {1} ns on, so filter {2} then refuses all its frames. Open an entry of `next_entries`.\n";
 
 const NO_TOKEN: &str =
     "Warning: meter {0} marks every frame red, because `cbs` and `ebs` are below {1} octets, the shortest frame. Raise one of them.\n";

@@ -152,12 +152,12 @@ fn closing_time<A: Allocator + Copy>(gate: &GatePlan<A>) -> Option<u64> {
     }
 }
 
-/// Returns the number of the first protected filter that uses stream gate `gate`, or `None`.
-fn protected_filter_with_gate(filters: &[(u32, FilterPlan)], gate: u32) -> Option<u32>
-    ensures { result ≡ spec.protected_with gate filters.now }
+/// Returns the number of the first protected or grouped filter that uses stream gate `gate`, or `None`.
+fn tested_filter_with_gate(filters: &[(u32, FilterPlan)], gate: u32) -> Option<u32>
+    ensures { result ≡ spec.tested_with gate filters.now }
 {
     for filter in filters {
-        if filter.1.gate == gate && filter.1.protected {
+        if filter.1.gate == gate && (filter.1.protected || filter.1.group.is_some()) {
             return Some(filter.0);
         }
     }
@@ -176,15 +176,15 @@ fn is_used(filters: &[(u32, FilterPlan)], gate: u32) -> bool
     false
 }
 
-/// Whether only unprotected filters use stream gate `gate`. They may use a closed stream gate to refuse stray frames.
+/// Whether only filters that are neither protected nor grouped use stream gate `gate`. They may use a closed stream gate to refuse stray frames.
 fn is_decision(filters: &[(u32, FilterPlan)], gate: u32) -> bool
     ensures { result ≡ spec.is_decision gate filters.now }
 {
-    is_used(filters, gate) && protected_filter_with_gate(filters, gate).is_none()
+    is_used(filters, gate) && tested_filter_with_gate(filters, gate).is_none()
 }
 
-/// Adds a warning for each stream gate that is always closed, unless only unprotected filters use it. Adds another for each protected
-/// filter's stream gate that a schedule change closes.
+/// Adds a warning for each stream gate that is always closed, unless no protected or grouped filter uses it. Adds another for each
+/// such filter's stream gate that a schedule change closes.
 fn find_gates<A: Allocator + Copy>(
     found: &mut Vec<Warning>,
     gates: &[(u32, GatePlan<A>)],
@@ -198,7 +198,7 @@ fn find_gates<A: Allocator + Copy>(
             }
         } else if let (Some(at), Some(filter)) = (
             closing_time(gate),
-            protected_filter_with_gate(filters, gate_number),
+            tested_filter_with_gate(filters, gate_number),
         ) {
             let closed = ClosedFrom {
                 gate: gate_number,

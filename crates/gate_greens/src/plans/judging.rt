@@ -3,15 +3,15 @@ use crate::runs::filter_view;
 use bridge_core::{Outcome, View};
 use bridge_filter::Verdict;
 use bridge_semantics::{Departure, StoredOrigin};
-use net_file::TrafficRow;
-use net_latency::{QueueBound, QueueTiming, TrafficFigures};
+use net_file::{TalkerRow, TrafficRow};
+use net_latency::{QueueTiming, TightBound, TrafficFigures};
 use std::alloc::Global;
 
 /// Bounds, rows and figures of a plan with a traffic file.
 #[derive(Clone, Copy)]
 pub struct Case<'a> {
-    pub bounds: &'a [QueueBound],
-    pub rows: &'a [TrafficRow],
+    pub bounds: &'a [TightBound],
+    pub rows: &'a [TalkerRow],
     pub figures: &'a [TrafficFigures],
 }
 
@@ -220,7 +220,7 @@ fn judge_row(case: Case<'_>, index: u32, row: &TrafficRow, view: &View<Global>, 
 }
 
 /// Returns the greatest bound of a filter's queues at a port, in ns.
-fn port_bound(bounds: &[QueueBound], filter: u32, port: u8) -> Option<u64> {
+fn port_bound(bounds: &[TightBound], filter: u32, port: u8) -> Option<u64> {
     let mut greatest = None;
     for bound in bounds {
         if bound.filter == filter && bound.port == port {
@@ -231,7 +231,7 @@ fn port_bound(bounds: &[QueueBound], filter: u32, port: u8) -> Option<u64> {
 }
 
 /// Returns the number of departures of a protected filter that exceed their port's bound, or have no bound.
-fn count_late(bounds: &[QueueBound], filter: u32, view: &View<Global>) -> u64 {
+fn count_late(bounds: &[TightBound], filter: u32, view: &View<Global>) -> u64 {
     let mut late = 0u64;
     for stored in &view.departures {
         let departure = stored.departure();
@@ -260,9 +260,9 @@ pub fn judge(case: Case<'_>, outcome: &Outcome<Global>, shown: &mut Shown) {
     judge_bounds(case, outcome, shown);
     let mut index = 1u32;
     for row in case.rows {
-        match filter_view(outcome, row.filter) {
-            Some(view) => judge_row(case, index, row, view, shown),
-            None => add_if(&mut shown.stray, true),
+        match (row, filter_view(outcome, row.filter())) {
+            (TalkerRow::Periodic(row), Some(view)) => judge_row(case, index, row, view, shown),
+            _ => add_if(&mut shown.stray, true),
         }
         index = index.saturating_add(1);
     }

@@ -1,6 +1,6 @@
 //! Draws a random plan, and compares its figures with its runs.
 ghost use Rattle.std.specs.Prelude.{◌≤◌, All, IfOk, length};
-ghost use Rattle.net_file.specs.TrafficRows.{IsRow};
+ghost use Rattle.net_file.specs.TrafficRows.{IsTalkerRow};
 
 use crate::numbers::Numbers;
 use crate::plans::drawing::{plan_text, traffic_text};
@@ -13,7 +13,7 @@ use bridge_capture::RunFault;
 use bridge_check::Accepted;
 use bridge_core::Outcome;
 use bridge_limits::NoMemory;
-use net_file::{TrafficRow, parse_traffic};
+use net_file::{TalkerRow, parse_traffic};
 use net_latency::{
     QueueTiming, TrafficFigures, are_in_time, queue_timings, tight_queue_bounds, traffic_fault,
 };
@@ -54,8 +54,8 @@ pub struct Tried {
 }
 
 /// Reads the rows of a traffic file.
-fn traffic_rows(alloc: Global, text: &str) -> Result<Vec<TrafficRow>, RunFault>
-    ensures rows { IfOk result (λ rows. All IsRow rows.items) }
+fn traffic_rows(alloc: Global, text: &str) -> Result<Vec<TalkerRow>, RunFault>
+    ensures rows { IfOk result (λ rows. All IsTalkerRow rows.items) }
     ensures few { IfOk result (λ rows. length rows.items ≤ 1024) }
 {
     match parse_traffic(alloc, alloc, text.as_bytes()) {

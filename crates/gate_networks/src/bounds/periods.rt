@@ -1,7 +1,7 @@
 //! Compares the phases of a periodic talker with a run that reaches both. The shortest frame arrives at the first phase, the longest in the
 //! next period at the last phase.
 ghost use Rattle.std.specs.Prelude.{◌≤◌, All, IfOk, length};
-ghost use Rattle.net_file.specs.TrafficRows.{IsRow};
+ghost use Rattle.net_file.specs.TrafficRows.{IsTalkerRow};
 
 use crate::bounds::captures::{PhaseEnds, ends_capture};
 use crate::bounds::delays::{done_times, run_with_capture};
@@ -13,7 +13,7 @@ use bridge_bounds::Phases;
 use bridge_capture::RunFault;
 use bridge_check::Accepted;
 use bridge_text::TextBuilder;
-use net_file::{TrafficRow, parse_traffic};
+use net_file::{TalkerRow, TrafficRow, parse_traffic};
 use net_latency::{QueueTiming, TrafficFigures, queue_timings};
 use std::alloc::Global;
 use std::fs;
@@ -79,8 +79,8 @@ pub fn report_talkers(
 }
 
 /// Reads the rows of a traffic file.
-fn read_rows(rt: &(impl AllocGlobal + Files), file: &str) -> Result<Vec<TrafficRow>, Failure>
-    ensures rows { IfOk result (λ rows. All IsRow rows.items) }
+fn read_rows(rt: &(impl AllocGlobal + Files), file: &str) -> Result<Vec<TalkerRow>, Failure>
+    ensures rows { IfOk result (λ rows. All IsTalkerRow rows.items) }
     ensures few { IfOk result (λ rows. length rows.items ≤ 1024) }
 {
     let Ok(reader) = fs::open(rt, file) else {
@@ -122,10 +122,10 @@ fn report_rows(
     said: &mut TextBuilder<Global>,
     talker: &Talker,
     accepted: &Accepted<Global>,
-    rows: &[TrafficRow],
+    rows: &[TalkerRow],
 ) -> Result<bool, RunFault>
     requires few { length rows.now ≤ 1024 }
-    requires rows { All IsRow rows.now }
+    requires rows { All IsTalkerRow rows.now }
 {
     match queue_timings(alloc, accepted, rows) {
         Ok(timings) => report_timings(alloc, said, talker, accepted, rows, &timings),
@@ -139,7 +139,7 @@ fn report_timings(
     said: &mut TextBuilder<Global>,
     talker: &Talker,
     accepted: &Accepted<Global>,
-    rows: &[TrafficRow],
+    rows: &[TalkerRow],
     timings: &[TrafficFigures],
 ) -> Result<bool, RunFault> {
     let mut are_so = !timings.is_empty();
@@ -160,11 +160,12 @@ fn tell_timing(
     said: &mut TextBuilder<Global>,
     talker: &Talker,
     accepted: &Accepted<Global>,
-    rows: &[TrafficRow],
+    rows: &[TalkerRow],
     timing: &QueueTiming,
 ) -> Result<bool, RunFault> {
     let place = timing.row.saturating_sub(1) as usize;
-    let (Some(row), Some(phases)) = (rows.get(place), timing.timing.phases) else {
+    let (Some(TalkerRow::Periodic(row)), Some(phases)) = (rows.get(place), timing.timing.phases)
+    else {
         return Ok(false);
     };
     let reached = reached_phases(alloc, talker, accepted, row, timing.port)?;

@@ -1,4 +1,4 @@
-use Rattle.std.proofs.Common.{◌≡◌, ◌+◌, ◌<◌, min, arith, refl, sym, ◌∙◌}
+use Rattle.std.proofs.Common.{◌+◌, ◌<◌, min, arith, refl, sym, ◌∙◌}
 use Rattle.bridge_cycle.specs.CyclicLaws.{IsTurn, cyclic_turn_is_exact}
 use Rattle.bridge_bounds.proofs.Shifted.{let_all, let_more}
 use Rattle.bridge_bounds.proofs.passing.can_pass_turns.Goals as goal

@@ -6,11 +6,11 @@ use Rattle.bridge_gate.specs.declared.schedule.GatePlan.{GatePlan}
 use Rattle.bridge_bounds.proofs.Reached.{found_in, gate_there, longest_fits, sdu_few}
 use Rattle.bridge_bounds.proofs.tight_bound.tight_reached_queue_bound.Goals as goal
 
-pub class_bound-bound-requires-clause-sdu : goal.class_bound-bound-requires-clause-sdu
-class_bound-bound-requires-clause-sdu g c = sdu_few c.args.plan.now c.args.number c.args.filter.now c.requires.rules (found_in c.args.plan.now.filters c.args.number c.args.filter.now c.requires.found) c.in_ok-sdu.sdu c.in_ok-sdu.was
+pub gate_bound-bound-requires-clause-sdu : goal.gate_bound-bound-requires-clause-sdu
+gate_bound-bound-requires-clause-sdu g c = sdu_few c.args.plan.now c.args.number c.args.filter.now c.requires.rules (found_in c.args.plan.now.filters c.args.number c.args.filter.now c.requires.found) c.in_ok-sdu.sdu c.in_ok-sdu.was
 
-pub class_bound-bound-requires-clause-ever : goal.class_bound-bound-requires-clause-ever
-class_bound-bound-requires-clause-ever g c = longest_fits c.args.plan.now c.args.number c.args.port c.args.class c.in_ok-sdu.sdu c.args.filter.now c.in_ok-out.out.now c.requires.rules c.requires.passes (sym c.in_ok-out.ensures.port) c.requires.reach c.in_ok-sdu.was
+pub gate_bound-bound-requires-clause-ever : goal.gate_bound-bound-requires-clause-ever
+gate_bound-bound-requires-clause-ever g c = longest_fits c.args.plan.now c.args.number c.args.port c.args.class c.in_ok-sdu.sdu c.args.filter.now c.in_ok-out.out.now c.requires.rules c.requires.passes (sym c.in_ok-out.ensures.port) c.requires.reach c.in_ok-sdu.was
 
 pub tighten_bound-requires-clause-sdu : goal.tighten_bound-requires-clause-sdu
 tighten_bound-requires-clause-sdu g c = sdu_few c.args.plan.now c.args.number c.args.filter.now c.requires.rules (found_in c.args.plan.now.filters c.args.number c.args.filter.now c.requires.found) c.in_ok-sdu.sdu c.in_ok-sdu.was
@@ -31,7 +31,7 @@ returns g c =
       c.tighten_bound.result,
       refl,
       record {
-        by_room = c.class_bound-bound.result;
+        by_room = c.gate_bound-bound.result;
         is_bound = record {
           filter = c.args.filter.now;
           max_sdu = c.in_ok-sdu.sdu;
@@ -41,7 +41,9 @@ returns g c =
           size = c.in_ok-sdu.was;
           at = sym c.in_ok-out.ensures.port;
           reach = c.requires.reach;
-          is = c.class_bound-bound.ensures;
+          gate = c.in_ok-gate.gate.now;
+          gated = sym (found ∙ ap (λ (xs : List (ℕ × GatePlan _)). lookup (nat_eq c.args.filter.now.gate) xs) listed);
+          is = c.gate_bound-bound.ensures;
         };
         gate = c.in_ok-gate.gate.now;
         gated = sym (found ∙ ap (λ (xs : List (ℕ × GatePlan _)). lookup (nat_eq c.args.filter.now.gate) xs) listed);

@@ -8,7 +8,9 @@ use Rattle.bridge_config.specs.declared.ports.PortPlan.{PortPlan}
 use Rattle.bridge_config.proofs.PlanPorts.{port_is, room_within}
 use Rattle.bridge_check.specs.Reach.{reaches_queue}
 use Rattle.bridge_check.proofs.Isolated.{made}
-use Rattle.bridge_bounds.specs.Bounds.{IsRoomBound}
+use Rattle.bridge_frame.specs.Link.{transmission_time}
+use Rattle.bridge_check.specs.Windows.{longest_frame}
+use Rattle.bridge_bounds.proofs.Gated.{gate_bound_least}
 use Rattle.bridge_bounds.proofs.Reached.{found_in, longest_fits, sdu_few}
 use Rattle.bridge_bounds.specs.Timings.{IsPortTiming}
 use Rattle.bridge_bounds.proofs.timing.filter_timing.Goals as goal
@@ -27,14 +29,11 @@ port_timing-requires-clause-bound g c =
     let at : find_port c.args.plan.now.ports c.args.port ≡ Some c.in_ok-out.out.now = sym c.in_ok-out.ensures.port in
     let size : c.requires.bound.max_sdu ≡ c.in_ok-sdu.sdu = same_Some c.requires.bound.max_sdu c.in_ok-sdu.sdu (sym (subst (λ (h : FilterPlan). h.max_sdu ≡ Some c.requires.bound.max_sdu) same c.requires.bound.size) ∙ c.in_ok-sdu.was) in
     let port : c.requires.bound.out ≡ c.in_ok-out.out.now = same_Some c.requires.bound.out c.in_ok-out.out.now (sym c.requires.bound.at ∙ at) in
-    let here = subst (λ (m : ℕ). IsRoomBound c.requires.bound.out c.args.class m c.args.bound) size c.requires.bound.is in
-    subst (λ (o : PortPlan _). IsRoomBound o c.args.class c.in_ok-sdu.sdu c.args.bound) port here
-
-pub port_timing-requires-clause-room : goal.port_timing-requires-clause-room
-port_timing-requires-clause-room g c =
-    let at : find_port c.args.plan.now.ports c.args.port ≡ Some c.in_ok-out.out.now = sym c.in_ok-out.ensures.port in
     let class = c.requires.class in
-    (room_within c.in_ok-out.out.now c.args.class (port_is c.args.plan.now.ports c.args.port c.in_ok-out.out.now c.requires.rules.ports at).0 (omega (arith, class))).0
+    let room = (room_within c.requires.bound.out c.args.class (port_is c.args.plan.now.ports c.args.port c.requires.bound.out c.requires.rules.ports c.requires.bound.at).0 (omega (arith, class))).0 in
+    let least = gate_bound_least c.requires.bound.gate.schedule c.requires.bound.filter.priority c.requires.bound.out c.args.class c.requires.bound.max_sdu c.args.bound c.requires.bound.is room in
+    let here = subst (λ (m : ℕ). transmission_time (longest_frame m) c.requires.bound.out.speed ≤ c.args.bound) size least in
+    subst (λ (o : PortPlan _). transmission_time (longest_frame c.in_ok-sdu.sdu) o.speed ≤ c.args.bound) port here
 
 pub port_timing-requires-clause-made : goal.port_timing-requires-clause-made
 port_timing-requires-clause-made g c =

@@ -1,9 +1,9 @@
-use Rattle.std.proofs.Common.{◌≡◌, ◌≤◌, ◌+◌, ◌-◌, ℕ, true, min, arith, ap, subst, sym, ◌∙◌}
+use Rattle.std.proofs.Common.{◌≡◌, ℕ, true, arith, subst, sym}
 use Rattle.bridge_frame.specs.Link.{transmission_time}
 use Rattle.bridge_port.specs.GateSchedule.{can_fit, gate_schedule}
 use Rattle.bridge_check.specs.Windows.{longest_frame}
 use Rattle.bridge_bounds.proofs.Sizes.{occupied_rises}
-use Rattle.bridge_bounds.proofs.Phased.{ever_falls, some_longest}
+use Rattle.bridge_bounds.proofs.Phased.{ever_falls}
 use Rattle.bridge_bounds.proofs.timing.port_timing.Goals as goal
 
 pub timing_by_lists-requires-clause-lengths : goal.timing_by_lists-requires-clause-lengths
@@ -22,9 +22,8 @@ timing_by_lists-requires-clause-bound g c =
     let l : c.min-longest.result ≡ longest_frame c.args.sdu = c.min-longest.ensures in
     let rise = occupied_rises c.min.result (longest_frame c.args.sdu) c.args.port.now.speed (omega (arith, a, l)) in
     let short = c.occupation-short.ensures.exact in
-    let some = some_longest _ _ _ c.requires.bound.longest c.requires.bound.is_longest c.requires.room in
-    let bound = c.requires.bound.bound in
-    omega (arith, rise, short, some, bound)
+    let bound = c.requires.bound in
+    omega (arith, rise, short, bound)
 
 pub timing_by_lists-requires-clause-ever : goal.timing_by_lists-requires-clause-ever
 timing_by_lists-requires-clause-ever g c =

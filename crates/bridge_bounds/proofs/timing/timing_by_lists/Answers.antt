@@ -1,4 +1,4 @@
-use Rattle.std.proofs.Common.{◌≡◌, ◌-◌, arith, refl, ap}
+use Rattle.std.proofs.Common.{◌-◌, arith, refl}
 use Rattle.bridge_port.specs.GateSchedule.{gate_schedule, opens}
 use Rattle.bridge_bounds.proofs.Phased.{shortest_wait}
 use Rattle.bridge_bounds.proofs.timing.timing_by_lists.Goals as goal

@@ -1,5 +1,6 @@
 use Rattle.std.proofs.Common.{◌∙◌, sym, subst, ap, List, Option}
 use Rattle.std.specs.Prelude.{IfSome}
+use Rattle.std.specs.Option.{option_map}
 use Rattle.std.specs.Map.{keys_of}
 use Rattle.bridge_filter.specs.declared.route.Route.{Route}
 use Rattle.bridge_filter.specs.Routes.{slot, slot_number, IsRoute}
@@ -17,5 +18,12 @@ returns-then-priority-lt8-clause-route g c =
     let a = c.args in
     subst (λ (row : List (Option Route)). IfSome (slot row a.priority) (IsRoute (filter_plans a.filters.now.entries) (keys_of a.gates.now.entries) (keys_of a.meters.now.entries))) (sym c.find_row.ensures) (c.requires.routes a.handle a.priority c.if-priority-lt8.true)
 
-pub returns-else-priority-lt8-clause-number : goal.returns-else-priority-lt8-clause-number
-returns-else-priority-lt8-clause-number g c = λ at sdu octets dei. c.search_route.ensures.number ∙ sym (flow-least (filter_plans c.args.filters.now.entries) at c.args.handle c.args.priority sdu octets dei)
+pub returns-in-Some-clause-number : goal.returns-in-Some-clause-number
+returns-in-Some-clause-number g c = λ at sdu octets dei.
+    let a = c.args in
+    sym (ap (option_map (λ (r : Route). r.number)) c.in-Some.is) ∙ (c.search_route.ensures.number ∙ sym (flow-least (filter_plans a.filters.now.entries) at a.handle a.priority sdu octets dei))
+
+pub returns-in-None-clause-number : goal.returns-in-None-clause-number
+returns-in-None-clause-number g c = λ at sdu octets dei.
+    let a = c.args in
+    sym (ap (option_map (λ (r : Route). r.number)) c.in-None.is) ∙ (c.search_route.ensures.number ∙ sym (flow-least (filter_plans a.filters.now.entries) at a.handle a.priority sdu octets dei))

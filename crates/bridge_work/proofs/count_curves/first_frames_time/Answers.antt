@@ -1,4 +1,4 @@
-use Rattle.std.proofs.Common.{◌<◌, arith}
+use Rattle.std.proofs.Common.{arith}
 use Rattle.bridge_work.proofs.LinearCurves.{counts_rise}
 use Rattle.bridge_work.proofs.count_curves.first_frames_time.Goals as goal
 

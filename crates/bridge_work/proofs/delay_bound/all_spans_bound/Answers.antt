@@ -1,4 +1,4 @@
-use Rattle.std.proofs.Common.{◌≡◌, ◌≤◌, ◌<◌, ◌+◌, ◌*◌, ℕ, Bool, max, arith, subst, sym}
+use Rattle.std.proofs.Common.{◌≤◌, ◌+◌, ℕ, arith, subst, sym}
 use Rattle.bridge_cycle.proofs.Lists.{list_repeats}
 use Rattle.bridge_port.specs.GateSchedule.{list_opens}
 use Rattle.bridge_work.specs.LinearCurves.{curve_at}

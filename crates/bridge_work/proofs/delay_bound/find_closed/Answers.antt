@@ -1,7 +1,7 @@
 use Rattle.std.proofs.Common.{arith}
 use Rattle.bridge_cycle.specs.Cyclic.{turn_by_time}
 use Rattle.bridge_cycle.proofs.Lists.{list_repeats}
-use Rattle.bridge_cycle.proofs.Turns.{open_there, shut_there}
+use Rattle.bridge_cycle.proofs.Turns.{open_there}
 use Rattle.bridge_port.specs.GateSchedule.{list_opens}
 use Rattle.bridge_work.proofs.Turns.{open_always, open_until, turn_lasts}
 use Rattle.bridge_work.proofs.delay_bound.find_closed.Goals as goal

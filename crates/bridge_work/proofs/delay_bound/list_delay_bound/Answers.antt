@@ -1,4 +1,4 @@
-use Rattle.std.proofs.Common.{◌≡◌, ◌≤◌, ◌+◌, ◌-◌, ℕ, refl, arith, subst, sym}
+use Rattle.std.proofs.Common.{◌≤◌, ◌+◌, ℕ, refl, arith, subst, sym}
 use Rattle.bridge_port.specs.GateSchedule.{list_opens}
 use Rattle.bridge_work.specs.LinearCurves.{curve_at}
 use Rattle.bridge_work.specs.Work.{IsDelayBound}

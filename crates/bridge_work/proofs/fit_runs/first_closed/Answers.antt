@@ -1,8 +1,8 @@
-use Rattle.std.proofs.Common.{◌≡◌, true, arith}
+use Rattle.std.proofs.Common.{arith}
 use Rattle.bridge_cycle.specs.Cyclic.{turn_by_time}
-use Rattle.bridge_cycle.proofs.Turns.{open_there, shut_there}
+use Rattle.bridge_cycle.proofs.Turns.{open_there}
 use Rattle.bridge_port.specs.GateSchedule.{list_opens}
-use Rattle.bridge_work.proofs.Turns.{LastsUntil, closed_after, open_until, turn_lasts}
+use Rattle.bridge_work.proofs.Turns.{closed_after, open_until, turn_lasts}
 use Rattle.bridge_work.proofs.fit_runs.first_closed.Goals as goal
 
 pub turn-turn-requires-in-loop-seen : goal.turn-turn-requires-in-loop-seen

@@ -1,8 +1,7 @@
-use Rattle.std.proofs.Common.{◌≡◌, ◌<◌, ◌≤◌, ◌+◌, ◌-◌, ℕ, Bool, arith, subst}
-use Rattle.bridge_cycle.specs.Fits.{Fits, IsFirstFit}
+use Rattle.std.proofs.Common.{◌≡◌, ◌+◌, ◌-◌, ℕ, Bool, arith, subst}
+use Rattle.bridge_cycle.specs.Fits.{IsFirstFit}
 use Rattle.bridge_cycle.proofs.Lists.{list_repeats}
 use Rattle.bridge_port.specs.GateSchedule.{list_opens}
-use Rattle.bridge_work.specs.FitRuns.{IsFitRun}
 use Rattle.bridge_work.specs.Work.{HasFitsPerCycle, IsNthFit}
 use Rattle.bridge_work.proofs.NthFits.{first_here}
 use Rattle.bridge_work.proofs.Cycles.{fits_later}

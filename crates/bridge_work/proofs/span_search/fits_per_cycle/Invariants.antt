@@ -1,5 +1,4 @@
-use Rattle.std.proofs.Common.{◌≡◌, ℕ, ◌<◌, ◌≤◌, ◌+◌, ◌-◌}
-use Rattle.bridge_cycle.specs.Fits.{IsFirstFit}
+use Rattle.std.proofs.Common.{ℕ, ◌≤◌, ◌+◌, ◌-◌}
 use Rattle.bridge_port.specs.GateSchedule.{list_opens}
 use Rattle.bridge_work.specs.FitRuns.{IsFitRun}
 use Rattle.bridge_work.specs.Work.{IsNthFit}

@@ -1,7 +1,6 @@
-use Rattle.std.proofs.Common.{arith}
 use Rattle.bridge_cycle.proofs.Lists.{list_repeats}
 use Rattle.bridge_port.specs.GateSchedule.{list_opens}
-use Rattle.bridge_work.proofs.SpanSearches.{IsPassed, search_goes_on}
+use Rattle.bridge_work.proofs.SpanSearches.{search_goes_on}
 use Rattle.bridge_work.proofs.Turns.{list_has_fits}
 use Rattle.bridge_work.proofs.span_search.search_step.Goals as goal
 

@@ -1,9 +1,7 @@
-use Rattle.std.proofs.Common.{◌≡◌, ◌≤◌, ◌<◌, ◌+◌, ◌-◌, ◌*◌, ◌/◌, ℕ, arith, subst, sym, ap}
+use Rattle.std.proofs.Common.{◌≡◌, ◌+◌, ◌-◌, ◌*◌, ◌/◌, ℕ, arith, subst}
 use Rattle.std.proofs.Math.Nat.{div-mul-le_self}
 use Rattle.bridge_port.specs.GateSchedule.{list_opens}
-use Rattle.bridge_cycle.specs.Fits.{IsFirstFit}
-use Rattle.bridge_work.specs.LinearCurves.{curve_at}
-use Rattle.bridge_work.specs.Work.{HasFitsPerCycle, IsNthFit}
+use Rattle.bridge_work.specs.Work.{IsNthFit}
 use Rattle.bridge_work.proofs.SpanSearches.{skipped_rank}
 use Rattle.bridge_work.proofs.span_search.spans_bound.Goals as goal
 

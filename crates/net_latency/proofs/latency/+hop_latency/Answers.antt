@@ -1,4 +1,4 @@
-use Rattle.std.proofs.Common.{◌≡◌, ◌≤◌, arith, length, refl, rules, subst}
+use Rattle.std.proofs.Common.{◌≤◌, arith, length, refl, rules, subst}
 use Rattle.net_latency.specs.StreamLatency.{KeepsHeadroom, stream_model}
 use Rattle.net_latency.proofs.Gathering.{gathered_next, told_all}
 use Rattle.net_latency.proofs.latency.+hop_latency.Goals as goal

@@ -1,4 +1,4 @@
-use Rattle.std.proofs.Common.{◌≡◌, ◌+◌, ◌-◌, ◌*◌, take}
+use Rattle.std.proofs.Common.{◌+◌, ◌-◌, ◌*◌, take}
 use Rattle.net_latency.specs.StreamLatency.{IsHopLatency, stream_model}
 use Rattle.net_latency.proofs.Gathering.{IsGathered}
 use Rattle.net_latency.proofs.latency.+hop_latency.Given as goal

@@ -1,5 +1,5 @@
 use Rattle.std.proofs.Common.{List, [], inl, inr, string_bytes, subst}
-use Rattle.net_file.specs.declared.traffic_row.TrafficRow.{TrafficRow}
+use Rattle.net_file.specs.declared.traffic_row.TalkerRow.{TalkerRow}
 use Rattle.net_latency.specs.TrafficText.{AreLinesOfTraffic, RefusesTimings}
 use Rattle.net_latency.proofs.Gathered.{err_as, ok_as}
 use Rattle.net_latency.proofs.reporting.traffic_job.Goals as goal
@@ -12,14 +12,14 @@ returns-clause-ok g c = λ input words told heard.
       accepts = c.in-Ok.ensures.ok input told;
       rows = c.in-Ok-read_rows.rows.items;
       reads = c.in-Ok-read_rows.ensures.ok words heard;
-      are_lines = subst (λ (rows : List TrafficRow). AreLinesOfTraffic c.in-Ok.accepted rows (string_bytes r.text) r.kept) c.deref.ensures.value h;
+      are_lines = subst (λ (rows : List TalkerRow). AreLinesOfTraffic c.in-Ok.accepted rows (string_bytes r.text) r.kept) c.deref.ensures.value h;
     })
     c.check_and_report-told.ensures.ok
 
 pub returns-clause-err : goal.returns-clause-err
 returns-clause-err g c = λ input words told heard.
     err_as c.check_and_report-told.result (RefusesTimings c.in-Ok.accepted c.deref.result.now) _
-    (λ f h. inr (c.in-Ok.accepted, c.in-Ok.ensures.ok input told, inr (inr (c.in-Ok-read_rows.rows.items, c.in-Ok-read_rows.ensures.ok words heard, subst (λ (rows : List TrafficRow). RefusesTimings c.in-Ok.accepted rows f) c.deref.ensures.value h))))
+    (λ f h. inr (c.in-Ok.accepted, c.in-Ok.ensures.ok input told, inr (inr (c.in-Ok-read_rows.rows.items, c.in-Ok-read_rows.ensures.ok words heard, subst (λ (rows : List TalkerRow). RefusesTimings c.in-Ok.accepted rows f) c.deref.ensures.value h))))
     c.check_and_report-told.ensures.err
 
 pub returns-in-Err-clause-err : goal.returns-in-Err-clause-err
@@ -41,7 +41,7 @@ returns-clause-read g c = λ input told.
         accepts = c.in-Ok.ensures.ok input told;
         rows = c.in-Ok-read_rows.rows.items;
         reads = c.in-Ok-read_rows.ensures.read.1;
-        are_lines = subst (λ (rows : List TrafficRow). AreLinesOfTraffic c.in-Ok.accepted rows (string_bytes r.text) r.kept) c.deref.ensures.value h;
+        are_lines = subst (λ (rows : List TalkerRow). AreLinesOfTraffic c.in-Ok.accepted rows (string_bytes r.text) r.kept) c.deref.ensures.value h;
       },
     ))
     c.check_and_report-told.ensures.ok
@@ -49,7 +49,7 @@ returns-clause-read g c = λ input told.
 pub returns-clause-refused : goal.returns-clause-refused
 returns-clause-refused g c = λ input told.
     err_as c.check_and_report-told.result (RefusesTimings c.in-Ok.accepted c.deref.result.now) _
-    (λ f h. (c.in-Ok-read_rows.ensures.read.0, inr (c.in-Ok.accepted, c.in-Ok.ensures.ok input told, inr (inr (c.in-Ok-read_rows.rows.items, c.in-Ok-read_rows.ensures.read.1, subst (λ (rows : List TrafficRow). RefusesTimings c.in-Ok.accepted rows f) c.deref.ensures.value h)))))
+    (λ f h. (c.in-Ok-read_rows.ensures.read.0, inr (c.in-Ok.accepted, c.in-Ok.ensures.ok input told, inr (inr (c.in-Ok-read_rows.rows.items, c.in-Ok-read_rows.ensures.read.1, subst (λ (rows : List TalkerRow). RefusesTimings c.in-Ok.accepted rows f) c.deref.ensures.value h)))))
     c.check_and_report-told.ensures.err
 
 pub returns-in-Err-clause-refused : goal.returns-in-Err-clause-refused

@@ -1,4 +1,4 @@
-use Rattle.std.proofs.Common.{◌≡◌, ◌≤◌, ap, length, map, subst, sym, refl, ◌∙◌}
+use Rattle.std.proofs.Common.{◌≤◌, ap, length, map, subst, sym, ◌∙◌}
 use Rattle.std.specs.Prelude.{IfOk}
 use Rattle.std.proofs.lemmas.List.{length-map}
 use Rattle.net_latency.specs.Entering.{IsStreamCourse}

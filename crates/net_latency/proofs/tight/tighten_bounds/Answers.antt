@@ -1,4 +1,4 @@
-use Rattle.std.proofs.Common.{◌+◌, subst, sym, take, take_all}
+use Rattle.std.proofs.Common.{subst, sym, take, take_all}
 use Rattle.std.proofs.lemmas.List.{take_more}
 use Rattle.net_latency.specs.Bounds.{AreTightened}
 use Rattle.net_latency.proofs.Gathered.{in_at}

@@ -1,5 +1,5 @@
 use Rattle.std.proofs.Common.{◌≡◌, ◌+◌, drop}
-use Rattle.net_latency.specs.Traffic.{first_row_fault}
+use Rattle.net_latency.specs.TalkerRows.{first_row_fault}
 use Rattle.net_latency.proofs.traffic.traffic_fault.Given as goal
 
 abbrev pub invariant-loop-row : goal.invariant-loop-row

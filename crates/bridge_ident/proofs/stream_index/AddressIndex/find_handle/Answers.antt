@@ -14,11 +14,11 @@ returns g c = λ entries found.
     let vid = c.args.vid in
     let head = c.args.head.now in
     let tagged = has_vlan_tag head.tag in
-    let destination = c.find_first_entry-destination in
-    let source = c.entry_by_hash-source in
-    let da = c.entry_key-da.ensures in
-    let sa = c.entry_key-sa.ensures in
-    let first_destination : destination.result ≡ first_entry Null tagged 0 entries port vid head.da = destination.ensures found.destinations_marked ∙ (ap (get nat_eq c.args.self.now.destinations) da.number ∙ found.by_destination.found port vid head.da da.is_key) in
-    let first_source : source.result ≡ first_entry Source tagged 0 entries port vid head.sa = source.ensures found.sources_marked ∙ (ap (get nat_eq c.args.self.now.sources) sa.number ∙ found.by_source.found port vid head.sa sa.is_key) in
-    let first : c.earlier_entry.result ≡ earlier_entry (first_entry Null tagged 0 entries port vid head.da) (first_entry Source tagged 0 entries port vid head.sa) = c.earlier_entry.ensures ∙ (ap (λ (o : Option FirstEntry). earlier_entry o source.result) first_destination ∙ ap (earlier_entry (first_entry Null tagged 0 entries port vid head.da)) first_source) in
-    c.entry_handle.ensures ∙ (ap (option_map (λ (f : FirstEntry). f.handle)) first ∙ sym (handle_by_firsts entries port head vid))
+    let da = c.entry_key-da in
+    let sa = c.entry_key-sa in
+    let destination = get nat_eq c.args.self.now.destinations da.result in
+    let source = get nat_eq c.args.self.now.sources sa.result in
+    let first_destination : destination ≡ first_entry Null tagged 0 entries port vid head.da = ap (get nat_eq c.args.self.now.destinations) da.ensures.number ∙ found.by_destination.found port vid head.da da.ensures.is_key in
+    let first_source : source ≡ first_entry Source tagged 0 entries port vid head.sa = ap (get nat_eq c.args.self.now.sources) sa.ensures.number ∙ found.by_source.found port vid head.sa sa.ensures.is_key in
+    let first : earlier_entry destination source ≡ earlier_entry (first_entry Null tagged 0 entries port vid head.da) (first_entry Source tagged 0 entries port vid head.sa) = ap (λ (o : Option FirstEntry). earlier_entry o source) first_destination ∙ ap (earlier_entry (first_entry Null tagged 0 entries port vid head.da)) first_source in
+    c.handle_by_keys.ensures found.destinations_marked found.sources_marked ∙ (ap (option_map (λ (f : FirstEntry). f.handle)) first ∙ sym (handle_by_firsts entries port head vid))

@@ -17,8 +17,8 @@ returns-then-not-has g c =
     ] in
     record { next = λ b a h. skipped g.G.Agenda.held b now c.args.set c.args.priority (leaving_frame c.args.first.now c.args.len c.args.eligible) k c.args.first.now.octets.items c.args.copies.now.items c.requires.from none a h }
 
-pub offer_copy-requires : goal.offer_copy-requires
-offer_copy-requires g c =
+pub offer_listed_copy-requires : goal.offer_listed_copy-requires
+offer_listed_copy-requires g c =
     let now = c.args.self.now in
     let k = c.args.number in
     let b = c.requires.along.0 in
@@ -62,6 +62,6 @@ returns g c = record {
       let e = c.in-Some.ensures in
       let p = copies_pop b.ports.slots c.args.set k c.args.first.now.octets.items c.args.copies.now.items c.pop.new.self.items c.in-Some.octets h e.items c.requires.from goes_b in
       let same = same_leaves c.args.first.now c.in-Some.octets c.args.len c.args.eligible p.1 in
-      let moved = c.offer_copy.ensures.next b (subst (λ (y : CarriedFrame). IsOfferingSet g.G.Agenda.held b now c.args.set c.args.priority y k) (sym same) a) in
-      (subst (λ (y : CarriedFrame). IsOfferingSet g.G.Agenda.held b c.offer_copy.new.self c.args.set c.args.priority y (k + 1)) same moved, p.0);
+      let moved = c.offer_listed_copy.ensures.next b (subst (λ (y : CarriedFrame). IsOfferingSet g.G.Agenda.held b now c.args.set c.args.priority y k) (sym same) a) in
+      (subst (λ (y : CarriedFrame). IsOfferingSet g.G.Agenda.held b c.offer_listed_copy.new.self c.args.set c.args.priority y (k + 1)) same moved, p.0);
 }

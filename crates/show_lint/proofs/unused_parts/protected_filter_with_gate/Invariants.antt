@@ -1,6 +1,0 @@
-use Rattle.std.proofs.Common.{◌≡◌, drop}
-use Rattle.show_lint.specs.Filters.{protected_with}
-use Rattle.show_lint.proofs.unused_parts.protected_filter_with_gate.Given as goal
-
-abbrev pub invariant-loop-filter : goal.invariant-loop-filter
-invariant-loop-filter l = protected_with l.gate (drop l.filter-index l.filters) ≡ protected_with l.gate l.filters
