@@ -304,7 +304,9 @@ const BOUNDS: Description = Description {
     after: "\
 Prints a line for each queue of each protected filter, and for each queue that a group shares. The
 bound is the longest time in ns from a frame's arrival to the end of its transmission and gap, whatever
-any device sends. With --traffic, the program also prints the worst and the best time of each talker.
+any device sends. The number after padded, if any, is the bound for frames of at least 60 octets. A line
+marked coarse counts all arrival times, because the lists of gate and port have no short common cycle.
+With --traffic, the program also prints the worst and the best time of each talker.
 
 Example:
   tsnbridge bounds examples/base.toml

@@ -28,14 +28,14 @@ div_mono a b n some h =
 pub few_cycles : (gate : Cyclic GateEntry) (list : Cyclic ℕ) (span : ℕ) → IsCommonCycle gate list span → span / gate.cycle * length gate.entries ≤ MAX_INTERVALS
 few_cycles gate list span common = let few = common.few in omega (arith, few)
 
--- A common cycle is at most 4,096 longest cycles.
-pub common_short : (gate : Cyclic GateEntry) (list : Cyclic ℕ) (span : ℕ) → IsLawful gate → IsCommonCycle gate list span → span ≤ 4096 * LONGEST_CYCLE
+-- A common cycle is at most 1,024 longest cycles.
+pub common_short : (gate : Cyclic GateEntry) (list : Cyclic ℕ) (span : ℕ) → IsLawful gate → IsCommonCycle gate list span → span ≤ 1024 * LONGEST_CYCLE
 common_short gate list span lawful common =
     let few = few_cycles gate list span common in
     let least : span / gate.cycle ≤ span / gate.cycle * length gate.entries = le-mul_of_pos_right (span / gate.cycle) lawful.some in
     let short = lawful.cycle in
     let is = whole span gate.cycle lawful.cycle_some common.gate_cycles in
-    let below : span / gate.cycle * gate.cycle ≤ 4096 * gate.cycle = product_mono (span / gate.cycle) 4096 gate.cycle (omega (arith, few, least)) in
+    let below : span / gate.cycle * gate.cycle ≤ 1024 * gate.cycle = product_mono (span / gate.cycle) 1024 gate.cycle (omega (arith, few, least)) in
     omega (arith, is, below, short)
 
 -- The cycles of the gate's list in a common cycle.
@@ -97,8 +97,8 @@ is_common gate list most n lawful least few =
     }
 
 -- The numbers of the search are small.
-pub span_small : (n cycle : ℕ) → n ≤ 4096 → cycle ≤ LONGEST_CYCLE → n * cycle ≤ 4096 * LONGEST_CYCLE
-span_small n cycle few short = let below = product_mono n 4096 cycle few in omega (arith, below, short)
+pub span_small : (n cycle : ℕ) → n ≤ 1024 → cycle ≤ LONGEST_CYCLE → n * cycle ≤ 1024 * LONGEST_CYCLE
+span_small n cycle few short = let below = product_mono n 1024 cycle few in omega (arith, below, short)
 
 pub product_small : (a b most : ℕ) → a ≤ most → b ≤ 256 → a * b ≤ most * 256
 product_small a b most h k =
@@ -139,7 +139,7 @@ common_by_sizes gate list a b d e most n sizes least few =
     (is_common gate list most n sizes.gate_lawful (least_by gate list a b d e most n sizes least) (sum_by gate list a b d e n (λ i. i ≤ MAX_INTERVALS) sizes few))
 
 -- The number of intervals in the gate's cycles is small.
-pub sizes_small : (gate : Cyclic GateEntry) (list : Cyclic ℕ) (a b d e n : ℕ) → AreSizes gate list a b d e → n ≤ MAX_INTERVALS / d → (n * d ≤ MAX_INTERVALS) × (n * a ≤ 4096 * LONGEST_CYCLE) × (n * a / b * e ≤ 4096 * LONGEST_CYCLE * 256)
+pub sizes_small : (gate : Cyclic GateEntry) (list : Cyclic ℕ) (a b d e n : ℕ) → AreSizes gate list a b d e → n ≤ MAX_INTERVALS / d → (n * d ≤ MAX_INTERVALS) × (n * a ≤ 1024 * LONGEST_CYCLE) × (n * a / b * e ≤ 1024 * LONGEST_CYCLE * 256)
 sizes_small gate list a b d e n sizes few =
     let some : 0 < length gate.entries = sizes.gate_lawful.some in
     let entries = sizes.gate_entries_are in
@@ -152,5 +152,5 @@ sizes_small gate list a b d e n sizes few =
     let less = div-le_self (n * a) b in
     let most = sizes.list_lawful.few in
     let lists = sizes.list_entries_are in
-    let product = product_small (n * a / b) e (4096 * LONGEST_CYCLE) (omega (arith, less, short)) (omega (arith, most, lists)) in
+    let product = product_small (n * a / b) e (1024 * LONGEST_CYCLE) (omega (arith, less, short)) (omega (arith, most, lists)) in
     (omega (arith, gates, all), short, product)

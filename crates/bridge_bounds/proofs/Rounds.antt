@@ -7,7 +7,7 @@ use Rattle.bridge_cycle.proofs.Lists.{list_repeats}
 use Rattle.bridge_port.specs.GateSchedule.{list_can_fit, list_opens}
 use Rattle.bridge_port.proofs.Alone.{first_one}
 use Rattle.bridge_bounds.specs.Bounds.{FramesEnd}
-use Rattle.bridge_bounds.proofs.Steps.{ends_after, ends_alike, first_rises}
+use Rattle.bridge_bounds.proofs.Steps.{ends_after, ends_alike, ends_from, first_rises}
 use Rattle.bridge_bounds.proofs.Edges.{ends_up, first_up}
 use Rattle.bridge_bounds.proofs.Lists.{fit_soon}
 
@@ -87,3 +87,11 @@ rounds_and opens occ room done from v w some within e f =
     let divided : done * ((room - done) / done) + (room - done) % done ≡ room - done = omega (arith, some) in
     let all : done + (room - done) / done * done + (room - done) % done ≡ room = omega (arith, divided, within) in
     subst (λ (i : ℕ). FramesEnd opens occ i from w) all (ends_join opens occ (done + (room - done) / done * done) ((room - done) % done) from v w e f)
+
+-- Frames of one window more.
+pub window_more : (l : Cyclic ℕ) (class occ done frames from end start : ℕ) → IsLawful l → list_can_fit l class occ ≡ true → occ ≤ LONGEST_CYCLE → 1 ≤ frames → FramesEnd (list_opens l class) occ done from end → IsFirstFit (list_opens l class) occ end start → FramesEnd (list_opens l class) occ frames start (start + frames * occ) → FramesEnd (list_opens l class) occ (done + frames) from (start + frames * occ) × (start + frames * occ ≤ from + (done + frames) * (2 * LONGEST_CYCLE))
+window_more l class occ done frames from end start lawful can short some e first window =
+    let opens = list_opens l class in
+    let behind = ends_from opens occ frames end start (start + frames * occ) some first window in
+    let all = ends_join opens occ done frames from end (start + frames * occ) e behind in
+    (all, ends_soon l class occ (done + frames) from (start + frames * occ) lawful can short all)

@@ -1,5 +1,5 @@
 -- Frames that leave one after another.
-use Rattle.std.proofs.Common.{◌≡◌, ℕ, zero, suc, Bool, true, ◌≤◌, ◌+◌, ◌*◌, arith, refl, subst, inl, inr}
+use Rattle.std.proofs.Common.{◌≡◌, ℕ, zero, suc, Bool, true, ◌<◌, ◌≤◌, ◌+◌, ◌*◌, arith, refl, subst, inl, inr}
 use Rattle.std.proofs.lemmas.Bool.{cases_lt}
 use Rattle.bridge_cycle.specs.Fits.{Fits, IsFirstFit}
 use Rattle.bridge_bounds.specs.Bounds.{FramesEnd, IsTimeAttained, IsLongestTime}
@@ -82,6 +82,18 @@ ends_more opens occ k u v w e (x, s, f, first, is) =
 pub ends_open : (opens : ℕ → Bool) (occ k u : ℕ) → ((w : ℕ) → opens w ≡ true) → FramesEnd opens occ k u (u + k * occ)
 ends_open opens occ zero u always = omega arith
 ends_open opens occ (suc k) u always = (u + k * occ, u + k * occ, ends_open opens occ k u always, record { after = omega arith; fits = λ w p q. always w; least = λ v p q. absurd (omega (arith, p, q)) }, omega arith)
+
+-- Frames that fit one after another from a time on leave one after another.
+pub ends_fitting : (opens : ℕ → Bool) (occ k u : ℕ) → ((i : ℕ) → i < k → Fits opens occ (u + i * occ)) → FramesEnd opens occ k u (u + k * occ)
+ends_fitting opens occ zero u fits = omega arith
+ends_fitting opens occ (suc k) u fits = (u + k * occ, u + k * occ, ends_fitting opens occ k u (λ i h. fits i (omega (arith, h))), record { after = omega arith; fits = fits k (omega arith); least = λ v p q. absurd (omega (arith, p, q)) }, omega arith)
+
+-- Frames that wait from a time on end as those that wait from its first fit on.
+pub ends_from : (opens : ℕ → Bool) (occ k u s v : ℕ) → 1 ≤ k → IsFirstFit opens occ u s → FramesEnd opens occ k s v → FramesEnd opens occ k u v
+ends_from opens occ zero u s v some first e = absurd (omega (arith, some))
+ends_from opens occ (suc k) u s v some first e =
+    let own : IsFirstFit opens occ s s = record { after = omega arith; fits = first.fits; least = λ w p q. absurd (omega (arith, p, q)) } in
+    ends_alike opens occ k s u v (λ t f. subst (IsFirstFit opens occ u) (first_one opens occ s s t own f) first) e
 
 -- Frames that wait from a later time on end no earlier.
 pub ends_rises : (opens : ℕ → Bool) (occ k u v y z : ℕ) → u ≤ v → FramesEnd opens occ k u y → FramesEnd opens occ k v z → y ≤ z

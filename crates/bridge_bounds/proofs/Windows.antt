@@ -1,5 +1,5 @@
 -- The end of a window, and the latest start before a time.
-use Rattle.std.proofs.Common.{◌≡◌, ℕ, Bool, true, false, ◌<◌, ◌≤◌, ◌+◌, ◌-◌, ◌*◌, ◌/◌, ◌%◌, max, arith, sym, ap, ◌∙◌, inl, inr}
+use Rattle.std.proofs.Common.{◌≡◌, ℕ, Bool, true, false, ◌<◌, ◌≤◌, ◌+◌, ◌-◌, ◌*◌, ◌/◌, ◌%◌, max, arith, sym, subst, ap, ◌∙◌, inl, inr}
 use Rattle.std.proofs.Math.Nat.{mod-lt}
 use Rattle.std.proofs.lemmas.Bool.{cases_lt, false≢true}
 use Rattle.bridge_cycle.specs.Cyclic.{Cyclic, IsLawful}
@@ -10,7 +10,7 @@ use Rattle.bridge_cycle.proofs.Repeats.{turns}
 use Rattle.bridge_port.specs.GateSchedule.{list_can_fit, list_opens}
 use Rattle.bridge_bounds.specs.Bounds.{FramesEnd, IsLongestTimeBetween}
 use Rattle.bridge_bounds.specs.Intervals.{IsLatestStart, IsLongestAfterEdges, IsWindowEnd}
-use Rattle.bridge_bounds.proofs.Steps.{ends_some}
+use Rattle.bridge_bounds.proofs.Steps.{ends_fitting, ends_some}
 use Rattle.bridge_bounds.proofs.Lists.{TakeAtMost, attained_by, list_firsts}
 use Rattle.bridge_bounds.proofs.Between.{IsBetweenCovered, between_no_longer}
 
@@ -57,6 +57,42 @@ open_always l class occ at seen end lawful o far v after u p q =
     let moved : u ≡ at + (u - at) % l.cycle + (u - at) / l.cycle * l.cycle = grind arith in
     let first : opens (at + (u - at) % l.cycle) ≡ true = o.all (at + (u - at) % l.cycle) (omega arith) (omega (arith, below, far)) in
     ap opens moved ∙ (turns opens l.cycle ((u - at) / l.cycle) (at + (u - at) % l.cycle) (list_repeats l class lawful) ∙ first)
+
+product_grows : (a b n : ℕ) → a ≤ b → a * n ≤ b * n
+product_grows a b n h =
+    let same : b * n ≡ a * n + (b - a) * n = grind (arith, h) in
+    omega (arith, same)
+
+-- Frames that leave one after another in one window.
+pub window_ends : (opens : ℕ → Bool) (occ at c k : ℕ) → 1 ≤ occ → IsWindowEnd opens occ at c → k ≤ (c - at) / occ + 1 → FramesEnd opens occ k at (at + k * occ)
+window_ends opens occ at c k some w few =
+    let after = w.after in
+    let divided : occ * ((c - at) / occ) + (c - at) % occ ≡ c - at = omega (arith, some) in
+    ends_fitting opens occ k at (λ i h.
+    let below : i * occ ≤ (c - at) / occ * occ = product_grows i ((c - at) / occ) occ (omega (arith, h, few)) in
+    w.all (at + i * occ) (omega arith) (omega (arith, after, divided, below)))
+
+-- The longest time between two times, if the latest start is the first of them.
+pub between_longest_from : (l : Cyclic ℕ) (class occ room from to latest d : ℕ) → IsLawful l → list_can_fit l class occ ≡ true → 1 ≤ occ → latest ≡ from → IsLatestStart (list_opens l class) occ from to latest → IsLongestAfterEdges (list_opens l class) occ room from to d → IsLongestTimeBetween (list_opens l class) occ room from to d
+between_longest_from l class occ room from to latest d lawful can some same is edges =
+    let opens : ℕ → Bool = list_opens l class in
+    let firsts = λ (w : ℕ). list_firsts l class occ w lawful can in
+    let covered : IsBetweenCovered opens occ from to (TakeAtMost opens occ room d) = record {
+      start = λ z f. edges.start z f;
+      edges = λ c p q edge z f. edges.edges c z p q edge f;
+      latest = latest;
+      serves = λ z f. let upto = edges.start z (subst (λ (i : ℕ). FramesEnd opens occ room i z) same f) in omega (arith, upto, same);
+      is_latest = is;
+    } in
+    record {
+      longest = λ u v p q f.
+          let (x, serves, shorter) = between_no_longer opens occ from to to u room (TakeAtMost opens occ room d) some firsts covered p q (omega arith) in
+          let (z, g) = ends_some opens occ room x firsts in
+          let less = shorter v z f g in
+          let upto = serves z g in
+          omega (arith, less, upto);
+      attained = edges.attained;
+    }
 
 -- The longest time between two times.
 pub between_longest : (l : Cyclic ℕ) (class occ room from to latest d e : ℕ) → IsLawful l → list_can_fit l class occ ≡ true → 1 ≤ occ → from ≤ to → from ≤ latest → latest ≤ to → IsLatestStart (list_opens l class) occ from to latest → IsLongestAfterEdges (list_opens l class) occ room from to d → FramesEnd (list_opens l class) occ room latest (latest + e) → ((z : ℕ) → FramesEnd (list_opens l class) occ room latest z → z ≤ latest + e) → IsLongestTimeBetween (list_opens l class) occ room from to (max d e)

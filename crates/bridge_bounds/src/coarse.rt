@@ -29,7 +29,7 @@ fn lack_common_cycle<A: Allocator + Copy>(schedule: &Schedule<A>, lists: &Option
 /// queues. Returns false if the filter or the port is missing.
 pub fn is_coarse<A: Allocator + Copy>(accepted: &Accepted<A>, number: u32, port: u8) -> bool
     ensures coarse { (result ≡ true) ↔ IsCoarse accepted.now number port }
-    ensures limit { MAX_INTERVALS ≡ 4_096 }
+    ensures limit { MAX_INTERVALS ≡ 1_024 }
 {
     let plan = accepted.plan();
     let Some(filter) = find_filter(plan.filters(), number) else {

@@ -8,7 +8,7 @@ use bridge_gate::GateEntry;
 use std::alloc::Allocator;
 
 /// Largest number of intervals of both lists in a common cycle. It limits the work for one bound.
-pub const MAX_INTERVALS: u64 = 4096;
+pub const MAX_INTERVALS: u64 = 1024;
 
 /// Returns the least number of cycles, at most `most`, whose time in ns is a multiple of `other`. Returns `None` if there is none.
 fn least_cycles(cycle: u64, other: u64, most: u64) -> Option<u64>

@@ -1,43 +1,13 @@
 //! Longest time in which a full queue leaves that begins to wait between two times.
 ghost use Rattle.std.specs.Prelude.{◌≡◌, ◌+◌, ◌-◌, ◌*◌, ◌%◌, ◌<◌, ◌≤◌, ◌⊎◌, ℕ, max, MatchOption, true};
 ghost use Rattle.bridge_cycle.specs.Cyclic.{IsLawful};
-ghost use Rattle.bridge_cycle.specs.Fits.{Fits};
 ghost use Rattle.bridge_port.specs.GateSchedule.{list_can_fit, list_opens};
 ghost use Rattle.bridge_bounds.specs.Bounds.{IsLongestTimeBetween};
-ghost use Rattle.bridge_bounds.specs.Intervals.{IsLatestStart, IsWindowEnd};
+ghost use Rattle.bridge_bounds.specs.Intervals.{IsLatestStart};
 
-use crate::longest_time::{frames_duration, list_first_fit, longest_time_after_edges};
-use bridge_cycle::{CyclicList, LONGEST_CYCLE, Timeline, is_open};
+use crate::longest_time::{frames_duration, last_fit, list_first_fit, longest_time_after_edges};
+use bridge_cycle::{CyclicList, LONGEST_CYCLE};
 use std::alloc::Allocator;
-
-/// Returns the last time in ns at which a frame still fits in the window that is open at `at`. Returns `None` if this window never ends.
-/// Examines at most one cycle.
-fn last_fit<A: Allocator + Copy>(
-    list: &CyclicList<u8, A>,
-    class: u8,
-    occ: u64,
-    at: u64,
-) -> Option<u64>
-    requires class { class < 8 }
-    requires some { 1 ≤ occ }
-    requires occ { occ ≤ LONGEST_CYCLE }
-    requires at { at ≤ 1_000_000_000_000_000_000 }
-    requires lawful { IsLawful list.now }
-    requires fits { Fits (list_opens list.now class) occ at }
-    ensures { MatchOption result ((v : ℕ) → at ≤ v → Fits (list_opens list.now class) occ v)
-        (IsWindowEnd (list_opens list.now class) occ at) }
-{
-    let end = at + occ + list.cycle();
-    let mut seen = at + occ;
-    while seen < end {
-        let turn = list.turn(seen);
-        if !is_open(turn.state, class) {
-            return Some(seen - occ);
-        }
-        seen = turn.end;
-    }
-    None
-}
 
 /// Returns the latest time in ns, from `from` to `to`, from which frames fill the window at `to` up to its end and miss the window's last
 /// fit by 1 ns. Returns `from` if there is no such time.
@@ -88,7 +58,10 @@ pub(crate) fn interval_longest_time<A: Allocator + Copy>(
     ensures longest { IsLongestTimeBetween (list_opens list.now class) occ room from to result }
     ensures bounded { result ≤ room * (2 * LONGEST_CYCLE) }
 {
+    let after_edges = longest_time_after_edges(list, class, occ, room, from, to);
     let latest = latest_start(list, class, occ, from, to);
-    let after_latest = frames_duration(list, class, occ, room, latest);
-    longest_time_after_edges(list, class, occ, room, from, to).max(after_latest)
+    if latest == from {
+        return after_edges;
+    }
+    after_edges.max(frames_duration(list, class, occ, room, latest))
 }

@@ -1,12 +1,12 @@
 //! Longest time in which a full queue leaves, by the transmission gates of its port.
-ghost use Rattle.std.specs.Prelude.{◌≡◌, ◌↔◌, ◌+◌, ◌-◌, ◌*◌, ◌<◌, ◌≤◌, true, Some};
+ghost use Rattle.std.specs.Prelude.{◌≡◌, ◌↔◌, ◌+◌, ◌-◌, ◌*◌, ◌<◌, ◌≤◌, ℕ, MatchOption, true, Some};
 ghost use Rattle.bridge_cycle.specs.Cyclic.{IsLawful};
-ghost use Rattle.bridge_cycle.specs.Fits.{IsFirstFit};
+ghost use Rattle.bridge_cycle.specs.Fits.{Fits, IsFirstFit};
 ghost use Rattle.bridge_port.specs.GateSchedule.{can_fit, list_can_fit, list_opens, gate_schedule, opens};
 ghost use Rattle.bridge_bounds.specs.Bounds.{FramesEnd, IsTimeAttained, IsEdge, IsLeastTime, IsLongestTime};
-ghost use Rattle.bridge_bounds.specs.Intervals.{IsLongestAfterEdges};
+ghost use Rattle.bridge_bounds.specs.Intervals.{IsLongestAfterEdges, IsWindowEnd};
 
-use bridge_cycle::{CyclicList, Egress, LONGEST_CYCLE, Timeline, first_fit};
+use bridge_cycle::{CyclicList, Egress, LONGEST_CYCLE, Timeline, first_fit, is_open};
 use std::alloc::Allocator;
 
 /// Returns the first time in ns, from `from` on, at which a frame with transmission time `occ` ns fits. Wraps `first_fit`, and bounds the
@@ -28,7 +28,69 @@ pub(crate) fn list_first_fit<A: Allocator + Copy>(
     first_fit(list, class, occ, from)
 }
 
-/// Returns the time in ns at which `count` frames that wait from `from` on have left, one after another.
+/// Returns the last time in ns at which a frame still fits in the window that is open at `at`. Returns `None` if this window never ends.
+/// Examines at most one cycle.
+pub(crate) fn last_fit<A: Allocator + Copy>(
+    list: &CyclicList<u8, A>,
+    class: u8,
+    occ: u64,
+    at: u64,
+) -> Option<u64>
+    requires class { class < 8 }
+    requires some { 1 ≤ occ }
+    requires occ { occ ≤ LONGEST_CYCLE }
+    requires at { at ≤ 8_999_999_999_999_999_999 }
+    requires lawful { IsLawful list.now }
+    requires fits { Fits (list_opens list.now class) occ at }
+    ensures { MatchOption result ((v : ℕ) → at ≤ v → Fits (list_opens list.now class) occ v)
+        (IsWindowEnd (list_opens list.now class) occ at) }
+{
+    let end = at + occ + list.cycle();
+    let mut seen = at + occ;
+    while seen < end {
+        let turn = list.turn(seen);
+        if !is_open(turn.state, class) {
+            return Some(seen - occ);
+        }
+        seen = turn.end;
+    }
+    None
+}
+
+/// Returns the number of frames, at most `most`, that leave one after another from `start` on in one window. A frame fits at `start`.
+fn window_frames<A: Allocator + Copy>(
+    list: &CyclicList<u8, A>,
+    class: u8,
+    occ: u64,
+    most: u16,
+    start: u64,
+) -> u16
+    requires class { class < 8 }
+    requires some { 1 ≤ occ }
+    requires occ { occ ≤ LONGEST_CYCLE }
+    requires most { 1 ≤ most }
+    requires start { start ≤ 8_999_999_999_999_999_999 }
+    requires lawful { IsLawful list.now }
+    requires fits { Fits (list_opens list.now class) occ start }
+    ensures some { 1 ≤ result }
+    ensures within { result ≤ most }
+    ensures ends { FramesEnd (list_opens list.now class) occ result start (start + result * occ) }
+{
+    match last_fit(list, class, occ, start) {
+        None => most,
+        Some(last) => {
+            let after_first = (last - start) / occ;
+            if after_first < most as u64 {
+                after_first as u16 + 1
+            } else {
+                most
+            }
+        }
+    }
+}
+
+/// Returns the time in ns at which `count` frames that wait from `from` on have left, one after another. Counts the frames of a window at
+/// once.
 fn frames_end<A: Allocator + Copy>(
     list: &CyclicList<u8, A>,
     class: u8,
@@ -37,6 +99,7 @@ fn frames_end<A: Allocator + Copy>(
     from: u64,
 ) -> u64
     requires class { class < 8 }
+    requires some { 1 ≤ occ }
     requires occ { occ ≤ LONGEST_CYCLE }
     requires from { from ≤ 8_000_000_000_000_000_000 }
     requires lawful { IsLawful list.now }
@@ -46,14 +109,18 @@ fn frames_end<A: Allocator + Copy>(
     ensures soon { result ≤ from + count * (2 * LONGEST_CYCLE) }
 {
     let mut end = from;
-    for _done in 0..count {
-        end = list_first_fit(list, class, occ, end) + occ;
+    let mut done = 0;
+    while done < count {
+        let start = list_first_fit(list, class, occ, end);
+        let frames = window_frames(list, class, occ, count - done, start);
+        end = start + frames as u64 * occ;
+        done += frames;
     }
     end
 }
 
-/// Returns the number of frames, at most `room`, that leave before a frame starts whole cycles after the first, and their end in ns.
-/// `end_after_rounds` skips rounds of these frames.
+/// Returns the number of frames, at most `room`, that leave before a window's first frame starts whole cycles after the first of all, and
+/// their end in ns. `end_after_rounds` skips rounds of these frames.
 fn repeating_round<A: Allocator + Copy>(
     list: &CyclicList<u8, A>,
     class: u8,
@@ -63,8 +130,9 @@ fn repeating_round<A: Allocator + Copy>(
 ) -> (u16, u64)
     requires class { class < 8 }
     requires occ { occ ≤ LONGEST_CYCLE }
+    requires some_time { 1 ≤ occ }
     requires some_room { 1 ≤ room }
-    requires from { from ≤ 1_000_000_000_000_000_001 }
+    requires from { from ≤ 1_100_000_000_000_000_000 }
     requires lawful { IsLawful list.now }
     requires ever { list_can_fit list.now class occ ≡ true }
     ensures some { 1 ≤ result.0 }
@@ -73,13 +141,16 @@ fn repeating_round<A: Allocator + Copy>(
 {
     let cycle = list.cycle();
     let first = list_first_fit(list, class, occ, from);
-    let mut end = first + occ;
-    for done in 1..room {
+    let mut done = window_frames(list, class, occ, room, first);
+    let mut end = first + done as u64 * occ;
+    while done < room {
         let start = list_first_fit(list, class, occ, end);
         if (start - first) % cycle == 0 {
             return (done, end);
         }
-        end = start + occ;
+        let frames = window_frames(list, class, occ, room - done, start);
+        end = start + frames as u64 * occ;
+        done += frames;
     }
     (room, end)
 }
@@ -97,7 +168,8 @@ fn end_after_rounds<A: Allocator + Copy>(
 ) -> u64
     requires class { class < 8 }
     requires occ { occ ≤ LONGEST_CYCLE }
-    requires from { from ≤ 1_000_000_000_000_000_001 }
+    requires some_time { 1 ≤ occ }
+    requires from { from ≤ 1_100_000_000_000_000_000 }
     requires lawful { IsLawful list.now }
     requires ever { list_can_fit list.now class occ ≡ true }
     requires some { 1 ≤ done }
@@ -116,6 +188,8 @@ fn end_after_rounds<A: Allocator + Copy>(
 }
 
 /// Returns the time in ns that `room` frames take if they wait from `from` on and leave one after another.
+///
+/// The frames of the first window may start anywhere in it. Later windows are filled from their start, so they repeat after one cycle.
 pub(crate) fn frames_duration<A: Allocator + Copy>(
     list: &CyclicList<u8, A>,
     class: u8,
@@ -124,6 +198,7 @@ pub(crate) fn frames_duration<A: Allocator + Copy>(
     from: u64,
 ) -> u64
     requires class { class < 8 }
+    requires some { 1 ≤ occ }
     requires occ { occ ≤ LONGEST_CYCLE }
     requires from { from ≤ 1_000_000_000_000_000_001 }
     requires lawful { IsLawful list.now }
@@ -134,8 +209,14 @@ pub(crate) fn frames_duration<A: Allocator + Copy>(
     if room == 0 {
         return 0;
     }
-    let (done, end) = repeating_round(list, class, occ, room, from);
-    end_after_rounds(list, class, occ, room, from, done, end) - from
+    let start = list_first_fit(list, class, occ, from);
+    let lead = window_frames(list, class, occ, room, start);
+    let next = start + lead as u64 * occ;
+    if lead == room {
+        return next - from;
+    }
+    let (done, end) = repeating_round(list, class, occ, room - lead, next);
+    end_after_rounds(list, class, occ, room - lead, next, done, end) - from
 }
 
 /// Whether a frame fits at time `moment` in ns, and doesn't fit 1 ns later. Frames that come just after such a time wait longest.

@@ -54,8 +54,8 @@ fn least_bound<A: Allocator + Copy>(
     }
 }
 
-/// Returns the bound in ns of a queue for frames of at least 60 octets, by what the stream gate passes. Returns `None` unless it is below
-/// `bound`, or if two lists have no common cycle (`coarse`).
+/// Returns the bound in ns of a queue for frames of at least 60 octets, by what the stream gate passes. Returns `None` if it isn't below
+/// `bound`, if no such frame passes, or if two lists have no common cycle (`coarse`).
 fn padded_bound<A: Allocator + Copy>(
     accepted: &Accepted<A>,
     queue: &QueueBound,
@@ -69,7 +69,7 @@ fn padded_bound<A: Allocator + Copy>(
         return None;
     }
     match gate_work_bound(accepted, queue.filter, queue.port, queue.class, PADDED_SDU) {
-        Some(padded) if padded < bound => Some(padded),
+        Some(padded) if 0 < padded && padded < bound => Some(padded),
         _ => None,
     }
 }

@@ -1,5 +1,4 @@
-use Rattle.std.proofs.Common.{◌+◌, ◌*◌, ◌≤◌}
-use Rattle.bridge_cycle.specs.declared.cyclic_list.TheConstants.{LONGEST_CYCLE}
+use Rattle.std.proofs.Common.{◌-◌, ◌≤◌}
 use Rattle.bridge_port.specs.GateSchedule.{list_opens}
 use Rattle.bridge_bounds.specs.Bounds.{FramesEnd}
 use Rattle.bridge_bounds.proofs.longest_time.repeating_round.Given as goal
@@ -10,5 +9,7 @@ invariant-loop-done g l = record {
   begun : l.first ≤ l.end;
   some : 1 ≤ l.done;
   few : l.done ≤ l.room;
-  soon : l.end ≤ l.from + l.done * (2 * LONGEST_CYCLE);
 }
+
+abbrev pub decreases-loop-done : goal.decreases-loop-done
+decreases-loop-done g l = l.room - l.done

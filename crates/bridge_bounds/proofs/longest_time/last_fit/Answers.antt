@@ -4,7 +4,7 @@ use Rattle.bridge_cycle.proofs.Turns.{open_there, shut_there}
 use Rattle.bridge_port.specs.GateSchedule.{list_opens}
 use Rattle.bridge_bounds.proofs.Lists.{IsListTurn, list_turn}
 use Rattle.bridge_bounds.proofs.Windows.{open_always, open_begin, open_end, open_more}
-use Rattle.bridge_bounds.proofs.interval_time.last_fit.Goals as goal
+use Rattle.bridge_bounds.proofs.longest_time.last_fit.Goals as goal
 
 pub loop-seen-init : goal.loop-seen-init
 loop-seen-init g c = open_begin (list_opens c.args.list.now c.args.class) c.args.occ c.args.at (c.args.at + c.args.occ + c.cycle.result) c.requires.fits (omega arith)
