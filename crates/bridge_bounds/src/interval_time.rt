@@ -9,8 +9,9 @@ use crate::longest_time::{frames_duration, last_fit, list_first_fit, longest_tim
 use bridge_cycle::{CyclicList, LONGEST_CYCLE};
 use std::alloc::Allocator;
 
-/// Returns the latest time in ns, from `from` to `to`, from which frames fill the window at `to` up to its end and miss the window's last
-/// fit by 1 ns. Returns `from` if there is no such time.
+/// Returns the latest time in ns, from `from` to `to`, from which frames fill the window at `to` and miss its last fit by 1 ns.
+///
+/// Returns `from` if there is no such time.
 fn latest_start<A: Allocator + Copy>(
     list: &CyclicList<u8, A>,
     class: u8,
@@ -38,8 +39,9 @@ fn latest_start<A: Allocator + Copy>(
     }
 }
 
-/// Returns the longest time in ns in which `room` frames leave that begin to wait together at a time from `from` to `to`. It is attained at
-/// `from`, 1 ns after a window's last fit, or at the latest start before `to`.
+/// Returns the longest time in ns in which `room` frames leave that begin to wait together at a time from `from` to `to`.
+///
+/// It is attained at `from`, 1 ns after a window's last fit, or at the latest start before `to`.
 pub(crate) fn interval_longest_time<A: Allocator + Copy>(
     list: &CyclicList<u8, A>,
     class: u8,

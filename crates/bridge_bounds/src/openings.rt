@@ -43,7 +43,9 @@ fn fills_class<A: Allocator + Copy>(
 }
 
 /// Returns the longest time in ns in which a full queue leaves. It waits from `occ` - 1 ns after a time at which the stream gate can put a
-/// frame into the class. Returns `None` if there is no such time.
+/// frame into the class.
+///
+/// Returns `None` if there is no such time.
 fn openings_longest_time<A: Allocator + Copy>(
     gate: &CyclicList<GateEntry, A>,
     list: &CyclicList<u8, A>,

@@ -65,11 +65,18 @@ pub fn make_copies<A: Allocator + Copy>(
     fill_copies(list, octets, count, spares)
 }
 
-/// Returns copies to the pool that no port will get, because a filter refused their frame.
-pub fn return_copies<A: Allocator + Copy>(copies: Vec<Vec<u8, A>, A>, spares: &mut BufferPool<A>) {
-    for octets in copies {
-        spares.put(octets);
+/// Returns copies to the pool that no port will get, because a filter refused their frame. Returns their empty list.
+pub fn return_copies<A: Allocator + Copy>(
+    copies: Vec<Vec<u8, A>, A>,
+    spares: &mut BufferPool<A>,
+) -> Vec<Vec<u8, A>, A> {
+    let mut list = copies;
+    for _ in 0..list.len() {
+        if let Some(octets) = list.pop() {
+            spares.put(octets);
+        }
     }
+    list
 }
 
 /// Marks the frame's tag drop eligible, if `eligible` is true.

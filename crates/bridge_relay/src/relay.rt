@@ -658,7 +658,9 @@ impl<'a, G: Agenda + Drop, A: Allocator + Copy> Relay<'a, G, A> {
                 }
                 _ => {
                     spares.put(octets);
-                    return_copies(copies, spares);
+                    if !copies.is_empty() {
+                        self.copies = return_copies(copies, spares);
+                    }
                     self.release_room(filter, set);
                 }
             },

@@ -1,6 +1,6 @@
 -- Frames of a talker that keeps a passing row pass, and are sent within the row's delays.
 use Rattle.std.proofs.Common.{◌≡◌, ◌≤◌, ◌+◌, ℕ, true, Option, None, Some, List, [], ◌∷◌, ◌++◌, refl, inl, sym, subst, arith, ap, ◌∙◌}
-use Rattle.std.specs.Prelude.{nat_eq, not, ◌&&◌}
+use Rattle.std.specs.Prelude.{min, nat_eq, not, ◌&&◌}
 use Rattle.std.specs.List.{list_all}
 use Rattle.std.specs.Map.{lookup}
 use Rattle.std.proofs.lemmas.Bool.{and_from, and_parts}
@@ -117,7 +117,7 @@ module _ {A : Type 0} (p : Plan A) (group : ℕ) (f : FilterPlan) (r : LimitedRo
       let port : x.port ≡ q = e.is.port ∙ e.is_row.port_is in
       let class : d.copy.class ≡ x.class = class_is ∙ (sym e.is_row.class_is ∙ sym e.is.class) in
       let same_port : e.is.out ≡ out = same_Some e.is.out out (sym e.is.at ∙ (ap (find_port p.ports) e.is_row.port_is ∙ at)) in
-      let best : x.timing.best ≡ transmission_time r.least out.speed = e.is.best ∙ ap (λ (o : PortPlan A). transmission_time r.least o.speed) same_port in
+      let best : x.timing.best ≡ min (transmission_time r.least out.speed) e.queue.bound = e.is.best ∙ ap (λ (o : PortPlan A). min (transmission_time r.least o.speed) e.queue.bound) same_port in
       let len : d.copy.item.len ≡ a.len = d.len in
       let rise : transmission_time r.least out.speed ≤ transmission_time d.copy.item.len out.speed = occupied_rises r.least d.copy.item.len out.speed (omega (arith, least, len)) in
       let came : d.copy.at ≡ a.at = d.at in

@@ -1,5 +1,5 @@
 -- Traffic with a limit of its frames: the filters of groups that admit it, and its delays in shared queues.
-use Rattle.std.specs.Prelude.{◌≡◌, ℕ, Bool, true, false, not, ◌+◌, ◌*◌, ◌≤◌, ◌&&◌, List, [], ◌∷◌, Option, None, Some, nat_eq, if◌then◌else◌}
+use Rattle.std.specs.Prelude.{◌≡◌, ℕ, Bool, true, false, not, ◌+◌, ◌*◌, ◌≤◌, ◌&&◌, List, [], ◌∷◌, Option, None, Some, nat_eq, min, if◌then◌else◌}
 use Rattle.std.specs.Int.{div_ceil}
 use Rattle.std.specs.List.{list_all}
 use Rattle.std.specs.Map.{lookup}
@@ -88,8 +88,8 @@ abbrev pub shares_queue : {A : Type 0} → Plan A → SharedQueue → Option Fil
 shares_queue p s None = false
 shares_queue p s (Some f) = is_sharer p s.group s.port s.class f
 
--- Holds if `x` has the delays of row `r` in shared queue `s`. They are the queue's bound, and the transmission time of the shortest frame. The row passes if its
--- filter admits the talker, and the queue drops no copy as full.
+-- Holds if `x` has the delays of row `r` in shared queue `s`. They are the queue's bound, and the transmission time of the shortest frame,
+-- but at most the bound. The row passes if its filter admits the talker, and the queue drops no copy as full.
 pub record IsLimitedTiming {A : Type 0} (p : Plan A) (index : ℕ) (r : LimitedRow) (s : SharedQueue) (x : QueueTiming) : Type 0 where
   pub row : x.row ≡ index
   pub filter : x.filter ≡ r.filter
@@ -99,7 +99,7 @@ pub record IsLimitedTiming {A : Type 0} (p : Plan A) (index : ℕ) (r : LimitedR
   pub out : PortPlan A
   pub at : find_port p.ports s.port ≡ Some out
   pub worst : x.timing.worst ≡ s.bound
-  pub best : x.timing.best ≡ transmission_time r.least out.speed
+  pub best : x.timing.best ≡ min (transmission_time r.least out.speed) s.bound
   pub phases : x.timing.phases ≡ None
   pub passes : x.passes ≡ (admits_row p r (lookup (nat_eq r.filter) p.filters) && not (is_lossy s.room s.capacity))
 

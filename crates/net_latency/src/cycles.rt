@@ -1,7 +1,7 @@
 //! Explanations of refused traffic and of talkers whose period doesn't suit the plans. They list filters or cycles, and name a remedy. No
 //! call fails: files that can't be read again are left out.
 
-use crate::hop_faults::put_protected;
+use crate::hop_faults::{put_grouped, put_protected};
 use crate::texts::{NetworkText, reread_text};
 use crate::traffic::{can_wait_at_port, talker_row_fault};
 use app_failure::read_accepted_plan;
@@ -160,12 +160,19 @@ fn explain_limited_row(
     index: u32,
     number: u32,
 ) -> Option<String> {
-    let template = match find_filter(plan.filters(), number) {
-        None => return explain_unusable_filter(alloc, asked, plan, index, number),
-        Some(filter) if filter.protected =>
-            "`filter` of `traffic` {0} is {1}, a protected filter of the plan {a}. Its queues take one frame in a period.\nGive `period`, `from` and `to`, or put the filter into a `group` instead of `protected = true`.\n",
-        Some(_) =>
-            "`filter` of `traffic` {0} is {1}, but the plan {a} puts this filter into no group, so it has no delay bound.\nCorrect the number, or put the filter into a `group`.\n",
+    let (template, remedy) = match find_filter(plan.filters(), number) {
+        None => (
+            "`filter` of `traffic` {0} is {1}, but the plan {a} has no filter {1}.\n",
+            "Correct the number, or add the filter to the plan.\n",
+        ),
+        Some(filter) if filter.protected => (
+            "`filter` of `traffic` {0} is {1}, a protected filter of the plan {a}. No capacity of its queues is known to suffice for bursts.\n",
+            "Give `period`, `from` and `to`, or put the filter into a `group` instead of `protected = true`.\n",
+        ),
+        Some(_) => (
+            "`filter` of `traffic` {0} is {1}, but the plan {a} puts this filter into no group, so it has no delay bound.\n",
+            "Correct the number, or put the filter into a `group`.\n",
+        ),
     };
     let mut said = TextBuilder::new(alloc);
     put_place(&mut said, asked, index, NetField::Filter);
@@ -174,6 +181,8 @@ fn explain_limited_row(
         &[u64::from(index), u64::from(number)],
         &[asked.plan],
     );
+    put_grouped(alloc, &mut said, plan.filters());
+    said.put(remedy);
     said.finish().ok()
 }
 

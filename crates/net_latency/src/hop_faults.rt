@@ -124,6 +124,26 @@ pub(crate) fn put_protected(
     said.put(".\n");
 }
 
+/// Appends a sentence with the numbers of a plan's grouped filters. If memory runs out, the explanation is left out.
+pub(crate) fn put_grouped(
+    alloc: Global,
+    said: &mut TextBuilder<Global>,
+    filters: &[(u32, FilterPlan)],
+) {
+    let mut numbers = Vec::new(alloc);
+    for (number, filter) in filters {
+        if filter.group.is_some() && numbers.push(u64::from(*number)).is_err() {
+            return said.discard();
+        }
+    }
+    if numbers.is_empty() {
+        return said.put("It has no grouped filter.\n");
+    }
+    said.put("Its grouped filters: ");
+    put_numbers(said, &numbers);
+    said.put(".\n");
+}
+
 /// Returns the number, from 1, of the first hop that equals `hop`, or 0.
 fn hop_index(hops: &[StreamHop], hop: StreamHop) -> u64 {
     let mut place = 0u64;

@@ -127,8 +127,9 @@ pub fn passing_row_is_sent<A: Allocator + Copy>()
         → IsSentInTime out r x y }
 {}
 
-/// If the lines of a row of a group's filter have the word `passes`, each frame of a talker that keeps the row passes (`filter`). Each
-/// egress port sends it within the delays of one of the lines (`frame`). Other talkers may send anything.
+/// If the lines of a row of a group's filter have the word `passes`, each frame of a talker that keeps the row passes (`filter`).
+///
+/// Each egress port sends it within the delays of one of the lines (`frame`). Other talkers may send anything.
 pub fn passing_limited_row_is_sent<A: Allocator + Copy>()
     ensures filter { (p : Plan A) (group index : ℕ) (f : FilterPlan) (r : LimitedRow) (s : SharedQueue)
         (x : QueueTiming) (es : List Event) (lists : ℕ → List (Copy CarriedFrame)) (o : Outcome A) (v : View A)

@@ -145,7 +145,7 @@ fn push_limited_timing<A: Allocator + Copy>(
         passes: tested.admits & !is_lossy(shared.room, shared.capacity),
         timing: Timing {
             worst: shared.bound,
-            best: occupation(tested.row.least, port.speed),
+            best: occupation(tested.row.least, port.speed).min(shared.bound),
             phases: None,
         },
         deadline: tested.row.deadline,

@@ -13,6 +13,7 @@ use bridge_check::Accepted;
 use bridge_config::Plan;
 use bridge_filter::FilterPlan;
 use bridge_groups::{SharedQueue, committed_tokens, is_open_gate, plan_shared_queues};
+use bridge_meter::HIGHEST_RATE;
 use bridge_text::TextBuilder;
 use net_file::{LimitedRow, TalkerRow, TrafficRow};
 use std::alloc::Global;
@@ -173,6 +174,10 @@ fn put_lacking_tokens(
             "its burst has {0} octets, and `cbs` of meter {2} is {3}. Raise `cbs` to {0}, or send smaller bursts.\n",
             cbs,
         ),
+        Some(_) if HIGHEST_RATE < rate => (
+            "its rate is {1} bit/s, more than any meter passes. Send less, or correct `period`.\n",
+            0,
+        ),
         Some((_, cir)) if cir < rate => (
             "its rate is {1} bit/s, and `cir` of meter {2} is {3}. Raise `cir` to {1}, or send less.\n",
             cir,
@@ -194,8 +199,13 @@ fn put_lacking_room(said: &mut TextBuilder<Global>, shared: &[SharedQueue], queu
                     &[u64::from(row.class), capacity, u64::from(room)],
                     &[],
                 ),
+                None if row.is_metered => said.put_template(
+                    "the queue of class {0} may be full, because no capacity is known to suffice. Lower the rates of the group's meters, or remove the `[[change]]`.\n",
+                    &[u64::from(row.class)],
+                    &[],
+                ),
                 None => said.put_template(
-                    "the queue of class {0} may be full, because no capacity is known to suffice. Give each filter of the group a meter, lower the rates, or remove the `[[change]]`.\n",
+                    "the queue of class {0} may be full, because no capacity is known to suffice. Give each filter of the group a meter, or lower the rates.\n",
                     &[u64::from(row.class)],
                     &[],
                 ),

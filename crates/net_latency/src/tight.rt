@@ -27,8 +27,9 @@ pub struct TightBound {
     pub padded: Option<u64>,
 }
 
-/// Returns the lesser of a queue's tight bound `tight` and its bound by what the stream gate passes, both in ns. If two lists have no common
-/// cycle (`coarse`), the search for the second bound would take too long, so the result is `tight`.
+/// Returns the lesser of a queue's tight bound `tight` and its bound by what the stream gate passes, both in ns.
+///
+/// Returns `tight` if two lists have no common cycle (`coarse`), because the search would take too long.
 fn least_bound<A: Allocator + Copy>(
     accepted: &Accepted<A>,
     queue: &QueueBound,
@@ -54,8 +55,9 @@ fn least_bound<A: Allocator + Copy>(
     }
 }
 
-/// Returns the bound in ns of a queue for frames of at least 60 octets, by what the stream gate passes. Returns `None` if it isn't below
-/// `bound`, if no such frame passes, or if two lists have no common cycle (`coarse`).
+/// Returns the bound in ns of a queue for frames of at least 60 octets, by what the stream gate passes.
+///
+/// Returns `None` if it isn't below `bound`, if no such frame passes, or if two lists have no common cycle (`coarse`).
 fn padded_bound<A: Allocator + Copy>(
     accepted: &Accepted<A>,
     queue: &QueueBound,

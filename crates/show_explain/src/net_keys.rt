@@ -68,11 +68,16 @@ pub(crate) fn put_key_value(
     if value.is_none() && matches!(section, NetSection::Stream) && is_of_talker(field) {
         put_talker_keys(said);
     }
-    if value.is_none() && matches!(section, NetSection::Traffic) && is_of_talker(field) {
+    if value.is_none() && matches!(section, NetSection::Traffic) && is_of_phases(field) {
         said.put(
             "A row has `period`, `from` and `to`. The row of a group's filter has `burst` and `rate`, or `frames` and `period`.\n",
         );
     }
+}
+
+/// Whether a key is one of those that a row of traffic has beside lengths, deadline and filter: `period`, `from` or `to`.
+fn is_of_phases(field: NetField) -> bool {
+    matches!(field, NetField::Period | NetField::From | NetField::To)
 }
 
 /// Whether a key is a key of a stream's talker.
@@ -196,6 +201,13 @@ fn put_range(
         Some((_, _, high)) => high,
         None => range.high,
     };
+    if high < low {
+        return said.put_template(
+            "No length fits: `burst` must be at least {0}, which is `least` and a frame check sequence of 4 octets.\n",
+            &[low.saturating_add(4)],
+            &[],
+        );
+    }
     said.put_template(
         "It must be a whole number from {0} to {1} ({a})",
         &[low, high],

@@ -176,7 +176,7 @@ fn is_used(filters: &[(u32, FilterPlan)], gate: u32) -> bool
     false
 }
 
-/// Whether only filters that are neither protected nor grouped use stream gate `gate`. They may use a closed stream gate to refuse stray frames.
+/// Whether no protected or grouped filter uses stream gate `gate`, but another filter does. Such a gate may be closed to refuse stray frames.
 fn is_decision(filters: &[(u32, FilterPlan)], gate: u32) -> bool
     ensures { result ≡ spec.is_decision gate filters.now }
 {
