@@ -1,5 +1,5 @@
 -- Repeating starts: if a frame starts whole cycles after the first, all later frames repeat.
-use Rattle.std.proofs.Common.{◌≡◌, ℕ, zero, suc, Bool, true, ◌<◌, ◌≤◌, ◌+◌, ◌-◌, ◌*◌, ◌/◌, ◌%◌, arith, subst, sym}
+use Rattle.std.proofs.Common.{◌≡◌, ℕ, zero, suc, Bool, true, ◌<◌, ◌≤◌, ◌+◌, ◌-◌, ◌*◌, ◌/◌, ◌%◌, Fits, w64, arith, subst, sym}
 use Rattle.bridge_cycle.specs.Cyclic.{Cyclic, IsLawful}
 use Rattle.bridge_cycle.specs.Fits.{IsFirstFit, IsPeriodic}
 use Rattle.bridge_cycle.specs.declared.cyclic_list.TheConstants.{LONGEST_CYCLE}
@@ -95,3 +95,16 @@ window_more l class occ done frames from end start lawful can short some e first
     let behind = ends_from opens occ frames end start (start + frames * occ) some first window in
     let all = ends_join opens occ done frames from end (start + frames * occ) e behind in
     (all, ends_soon l class occ (done + frames) from (start + frames * occ) lawful can short all)
+
+-- The frames of the first window, and the others behind them.
+pub lead_and : (l : Cyclic ℕ) (class occ room lead from start end : ℕ) → IsLawful l → list_can_fit l class occ ≡ true → occ ≤ LONGEST_CYCLE → 1 ≤ lead → lead ≤ room → IsFirstFit (list_opens l class) occ from start → FramesEnd (list_opens l class) occ lead start (start + lead * occ) → FramesEnd (list_opens l class) occ (room - lead) (start + lead * occ) end → FramesEnd (list_opens l class) occ room from end × (from ≤ end) × (end ≤ from + room * (2 * LONGEST_CYCLE))
+lead_and l class occ room lead from start end lawful can short some within first window rest =
+    let opens = list_opens l class in
+    let behind = ends_from opens occ lead from start (start + lead * occ) some first window in
+    let all : lead + (room - lead) ≡ room = omega (arith, within) in
+    let ends = subst (λ (i : ℕ). FramesEnd opens occ i from end) all (ends_join opens occ lead (room - lead) from (start + lead * occ) end behind rest) in
+    (ends, ends_after opens occ room from end ends, ends_soon l class occ room from end lawful can short ends)
+
+-- The end of few frames is a number of 64 bits.
+pub fits_soon : (end from k room : ℕ) → end ≤ from + k * (2 * LONGEST_CYCLE) → k ≤ room → room < 65536 → from ≤ 8000000000000000000 → Fits w64 end
+fits_soon end from k room soon few most early = omega (arith, soon, few, most, early)

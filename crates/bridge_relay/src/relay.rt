@@ -602,6 +602,15 @@ impl<'a, G: Agenda + Drop, A: Allocator + Copy> Relay<'a, G, A> {
         release_room(&mut self.tables, filter, count);
     }
 
+    /// Returns the copies of a refused frame to the pool, and keeps their list for the next frame with several egress ports.
+    fn keep_copies(&mut self, copies: Vec<Vec<u8, A>, A>, spares: &mut BufferPool<A>)
+        ensures same { self.new ≡ self.old }
+    {
+        if !copies.is_empty() {
+            self.copies = return_copies(copies, spares);
+        }
+    }
+
     /// Judges a frame with the egress ports `set`, and offers it if it passes. Capacity must be reserved. Octets that no queue takes return
     /// to the pool.
     #[inline(always)]
@@ -658,10 +667,8 @@ impl<'a, G: Agenda + Drop, A: Allocator + Copy> Relay<'a, G, A> {
                 }
                 _ => {
                     spares.put(octets);
-                    if !copies.is_empty() {
-                        self.copies = return_copies(copies, spares);
-                    }
                     self.release_room(filter, set);
+                    self.keep_copies(copies, spares);
                 }
             },
         }

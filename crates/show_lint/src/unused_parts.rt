@@ -176,7 +176,8 @@ fn is_used(filters: &[(u32, FilterPlan)], gate: u32) -> bool
     false
 }
 
-/// Whether no protected or grouped filter uses stream gate `gate`, but another filter does. Such a gate may be closed to refuse stray frames.
+/// Whether no protected or grouped filter uses stream gate `gate`, but another filter does. Such a gate may be closed to refuse stray
+/// frames.
 fn is_decision(filters: &[(u32, FilterPlan)], gate: u32) -> bool
     ensures { result ≡ spec.is_decision gate filters.now }
 {

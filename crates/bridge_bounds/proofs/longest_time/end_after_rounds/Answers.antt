@@ -6,7 +6,7 @@ use Rattle.bridge_bounds.proofs.Steps.{ends_after, first_rises}
 use Rattle.bridge_bounds.proofs.Rounds.{ends_join, ends_soon, list_rounds, rounds_and}
 use Rattle.bridge_bounds.proofs.longest_time.end_after_rounds.Goals as goal
 
-small : (e x f room : ℕ) → e + x ≤ f + room * (2 * LONGEST_CYCLE) → f ≤ 1000000000000000001 → room < 65536 → e + x ≤ 8000000000000000000
+small : (e x f room : ℕ) → e + x ≤ f + room * (2 * LONGEST_CYCLE) → f ≤ 1100000000000000000 → room < 65536 → e + x ≤ 8000000000000000000
 small e x f room h k l = omega (arith, h, k, l)
 
 fits_part : (e x : ℕ) → e + x ≤ 8000000000000000000 → Fits w64 x

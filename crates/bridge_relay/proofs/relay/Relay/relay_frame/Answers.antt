@@ -7,7 +7,7 @@ use Rattle.bridge_filter.specs.declared.Verdict.TheVariants as verdict
 use Rattle.bridge_semantics.specs.Events.{Arrived, arrival, filter_inputs, plan_police}
 use Rattle.bridge_semantics.specs.Offers.{leaving_octets}
 use Rattle.bridge_relay.specs.Ports.{count_outputs, StartsNoEarlier}
-use Rattle.bridge_relay.specs.RelayState.{RelayState, OwesSpareCopies, RelayStandsFor, is_filter_unknown}
+use Rattle.bridge_relay.specs.RelayState.{IsSound, RelayState, OwesSpareCopies, RelayStandsFor, is_filter_unknown}
 use Rattle.bridge_relay.specs.RelayedFrames.{HasPoliced, AwaitsCopies, leaving_frame, priority_offer, relay_with_release}
 use Rattle.bridge_relay.proofs.Offered.{leaving_length, refused_by, may_offer, numbered_none, numbered_some, offers_passed, offers_refused, offers_unfiltered, own_is, stands_let_go, stands_offered}
 use Rattle.bridge_relay.proofs.Policed.{IsPoliced}
@@ -137,9 +137,10 @@ returns-in_default g c =
     let h : HasPoliced old now c.args.port s call (Some r) = subst (HasPoliced old now c.args.port s call) j.0 z.2.1 in
     let outward = count_outputs old.ports.slots c.args.set 16 in
     let spare : OwesSpareCopies old outward r.filter = subst (λ (o : Option ℕ). IfSome o (OwesSpareCopies old outward)) (sym h.number) c.requires.spare in
-    let last = c.release_room.new.self in
+    let last = c.keep_copies.new.self in
     let k = count_outputs now.ports.slots c.args.set 16 in
-    let state : last ≡ relay_with_release now r.filter k = c.release_room.ensures.state in
+    let same : last ≡ c.release_room.new.self = c.keep_copies.ensures in
+    let state : last ≡ relay_with_release now r.filter k = same ∙ c.release_room.ensures.state in
     let came = c.requires.fresh.calls in
     record {
       stands = λ p es left way st.
@@ -150,7 +151,7 @@ returns-in_default g c =
           (λ out. offers_refused p out a es c.args.set call r (refused_by r.verdict c.in_default.not-Pass) po));
       due = subst (λ (v : RelayState _ _). StartsNoEarlier (g.G.Agenda.held v.ports.agenda) c.args.packet.time) (sym state) (subst (λ (a : _). StartsNoEarlier (g.G.Agenda.held a) c.args.packet.time) (sym h.agenda) c.requires.due);
       moved = (ap (λ (v : RelayState _ _). v.arrived) state ∙ h.arrived, ap (λ (v : RelayState _ _). v.plan) state ∙ h.plan, ap (λ (v : RelayState _ _). v.earliest) state ∙ (h.earliest ∙ c.requires.at));
-      sound = c.release_room.ensures.sound;
+      sound = subst (λ (v : RelayState _ _). IsSound g.G.Agenda.held v) (sym same) c.release_room.ensures.sound;
     }
 
 pub way_copy_out-filter : goal.way_copy_out-filter

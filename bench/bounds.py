@@ -1,0 +1,165 @@
+#!/usr/bin/env python3
+"""Looks for delays near the printed bounds: bounds.py [PLANS TRIES SEED]
+
+Makes random plans (20 by default), each with windows of class 7 at an egress port and a stream gate with octet limits in some
+plans, asks `tsnbridge bounds` for `bound` and `padded`, and runs random captures of a babbling talker (60 by default for each
+bound). It prints a line for each plan, and the nearest delays at the end. The status is 1 if a delay exceeds its bound.
+"""
+import os
+import random
+import re
+import struct
+import subprocess
+import sys
+import tempfile
+
+TOP = os.path.dirname(os.path.dirname(os.path.abspath(__file__)))
+BUILT = os.path.join(TOP, "crates", "tsnbridge", "out", "tsnbridge")
+PROGRAM = BUILT if os.path.exists(BUILT) else os.path.join(TOP, "release", "tsnbridge")
+ADDRESS = bytes.fromhex("02000000000a")
+SOURCE = bytes.fromhex("020000000001")
+
+
+class Plan:
+    """A random plan: port 1 receives, class 7 of port 3 has windows of its own, stream gate 1 is open in some intervals."""
+
+    def __init__(self, draw):
+        self.mbps = draw.choice([100, 1000])
+        self.unit = 1000 if self.mbps == 1000 else 10_000
+        self.room = draw.choice([1, 2, 4, 8])
+        self.sdu = draw.choice([60, 200, 500])
+        longest = -(-(self.sdu + 16 + 24) * 8000 // self.mbps)
+        self.windows = [draw.randint(longest, longest * 4) for _ in range(draw.randint(1, 3))]
+        self.pauses = [draw.randint(1, 20) * self.unit for _ in self.windows]
+        self.cycle = sum(self.windows) + sum(self.pauses)
+        whole, parts = draw.choice([(1, 1), (2, 1), (3, 2), (1, 2)])
+        if self.cycle % parts:
+            self.pauses[0] += parts - self.cycle % parts
+            self.cycle = sum(self.windows) + sum(self.pauses)
+        self.gate_cycle = self.cycle // parts * whole
+        self.limited = draw.random() < 0.6
+        self.entries = self.gate_entries(draw)
+        self.base = draw.randint(0, self.cycle - 1)
+
+    def gate_entries(self, draw):
+        """The intervals of the stream gate: (start, length, octets), open ones only; octets is None without a limit."""
+        entries, at = [], draw.randint(0, self.gate_cycle // 3)
+        for _ in range(draw.randint(1, 3)):
+            length = draw.randint(1, max(1, self.gate_cycle // 8))
+            if at + length >= self.gate_cycle:
+                break
+            octets = draw.choice([46, self.sdu, 2 * self.sdu]) if self.limited else None
+            entries.append((at, length, octets))
+            at += length + draw.randint(1, max(1, self.gate_cycle // 3))
+        return entries or [(0, self.gate_cycle // 2, self.sdu if self.limited else None)]
+
+    def text(self):
+        """The plan as TOML."""
+        ports = [f"[[port]]\nnumber = {n}\nmbps = {self.mbps}\n" for n in (1, 2)]
+        gates = ", ".join(f"{{ open = [7], ns = {w} }}, {{ open = [0, 1, 2, 3, 4, 5, 6], ns = {p} }}" for w, p in zip(self.windows, self.pauses))
+        rooms = ", ".join([str(self.room)] * 8)
+        ports.append(f"[[port]]\nnumber = 3\nmbps = {self.mbps}\nrooms = [{rooms}]\ncycle = {self.cycle}\nbase = {self.base}\ngates = [{gates}]\n")
+        rows, at = [], 0
+        for start, length, octets in self.entries:
+            if start > at:
+                rows.append(f"{{ open = false, ns = {start - at} }}")
+            limit = f", octets = {octets}" if octets else ""
+            rows.append(f"{{ open = true, ns = {length}, ipv = 7{limit} }}")
+            at = start + length
+        if at < self.gate_cycle:
+            rows.append(f"{{ open = false, ns = {self.gate_cycle - at} }}")
+        return "".join(ports) + (
+            '[[vlan]]\nvid = 10\nmembers = [1, 2, 3]\n[[static]]\nvid = 10\naddress = "02-00-00-00-00-0A"\nports = [3]\n'
+            '[[stream]]\nhandle = 1\nport = 1\nkind = "null"\naddress = "02-00-00-00-00-0A"\nvid = 10\ntag = "tagged"\n'
+            f"[[gate]]\nnumber = 1\ncycle = {self.gate_cycle}\nentries = [{', '.join(rows)}]\n"
+            '[[gate]]\nnumber = 99\nstate = "open"\nipv = 0\n'
+            f"[[filter]]\nnumber = 10\nhandle = 1\ngate = 1\nmax_sdu = {self.sdu}\nprotected = true\n[[filter]]\nnumber = 99\ngate = 99\n"
+        )
+
+
+def record(time, sdu, captured):
+    """A record of a frame with so many SDU octets; only its first octets are captured."""
+    frame = ADDRESS + SOURCE + struct.pack(">HHH", 0x8100, 7 << 13 | 10, 0x88B5)
+    length = sdu + 16
+    octets = frame[: min(len(frame), length)]
+    if captured and length < 18:
+        octets = frame[:length]
+    seconds, rest = divmod(time, 1_000_000_000)
+    return struct.pack("<IIII", seconds, rest, len(octets), max(length, len(octets))) + octets
+
+
+def arrivals(draw, plan, least):
+    """Random arrivals: bursts in open intervals of the stream gate, at their starts, their ends or between."""
+    found, sizes = [], sorted({least, max(least, 44), plan.sdu // 2 + 1, plan.sdu})
+    sizes = [it for it in sizes if least <= it <= plan.sdu]
+    way, size = draw.choice(["start", "end", "any", "spread"]), draw.choice(sizes)
+    for cycle in range(draw.randint(1, 6)):
+        for start, length, octets in plan.entries:
+            begin = cycle * plan.gate_cycle + start
+            for _ in range(draw.randint(0, 2 * plan.room + 4)):
+                at = {"start": begin, "end": begin + length - 1}.get(way)
+                if at is None or draw.random() < 0.1:
+                    at = begin + draw.randint(0, length - 1)
+                found.append((at, size if draw.random() < 0.9 else draw.choice(sizes)))
+    return sorted(found)
+
+
+def longest_delay(folder, plan, frames, cut):
+    """The longest delay of filter 10 in a run of these arrivals."""
+    header = struct.pack("<IHHiIII", 0xA1B23C4D, 2, 4, 0, 0, 65535, 1)
+    for port in (1, 2, 3):
+        with open(f"{folder}/in/{port}.pcap", "wb") as file:
+            file.write(header)
+            if port == 1:
+                file.write(b"".join(record(at, sdu, cut) for at, sdu in frames))
+    ran = subprocess.run([PROGRAM, "run", f"{folder}/plan.toml", f"{folder}/in", f"{folder}/out"], capture_output=True, text=True)
+    if ran.returncode:
+        sys.exit(f"run: {ran.stdout}{ran.stderr}")
+    with open(f"{folder}/out/report.txt", encoding="ascii") as file:
+        section = file.read().split("filter 99")[0]
+    found = re.search(r"^delay (\d+)$", section, re.M)
+    return int(found.group(1)) if found else 0
+
+
+def search(draw, folder, plan, least, tries):
+    """The longest delay that so many random runs find."""
+    return max(longest_delay(folder, plan, arrivals(draw, plan, least), least < 44) for _ in range(tries))
+
+
+def main():
+    plans, tries, seed = [int(it) for it in sys.argv[1:4]] + [20, 60, 1][len(sys.argv) - 1 :]
+    draw, nearest, exceeded = random.Random(seed), {}, 0
+    with tempfile.TemporaryDirectory() as folder:
+        os.mkdir(f"{folder}/in")
+        os.mkdir(f"{folder}/out")
+        made = 0
+        while made < plans:
+            plan = Plan(draw)
+            with open(f"{folder}/plan.toml", "w", encoding="ascii") as file:
+                file.write(plan.text())
+            ran = subprocess.run([PROGRAM, "bounds", f"{folder}/plan.toml"], capture_output=True, text=True)
+            if ran.returncode:
+                if "plan refused" in ran.stdout + ran.stderr:
+                    continue
+                sys.exit(f"bounds: {ran.stdout}{ran.stderr}")
+            made += 1
+            said = re.search(r"filter 10 port 3 class 7( coarse)? bound (\d+)(?: padded (\d+))?", ran.stdout)
+            bounds = {"bound": (int(said.group(2)), 2)}
+            if said.group(3):
+                bounds["padded"] = (int(said.group(3)), 44)
+            words = []
+            for name, (bound, least) in bounds.items():
+                delay = search(draw, folder, plan, least, tries)
+                exceeded += delay > bound
+                share = delay / bound if bound else 0
+                nearest[name] = max(nearest.get(name, (0, 0)), (share, made))
+                words.append(f"{name} {bound} delay {delay} share {share:.3f}")
+            print(f"plan {made}{said.group(1) or ''}: {', '.join(words)}", flush=True)
+    for name, (share, number) in nearest.items():
+        print(f"nearest to {name}: {share:.4f} (plan {number})")
+    print(f"exceeded {exceeded}")
+    sys.exit(1 if exceeded else 0)
+
+
+if __name__ == "__main__":
+    main()
