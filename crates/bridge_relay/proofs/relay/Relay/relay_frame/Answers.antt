@@ -139,7 +139,7 @@ returns-in_default g c =
     let spare : OwesSpareCopies old outward r.filter = subst (λ (o : Option ℕ). IfSome o (OwesSpareCopies old outward)) (sym h.number) c.requires.spare in
     let last = c.keep_copies.new.self in
     let k = count_outputs now.ports.slots c.args.set 16 in
-    let same : last ≡ c.release_room.new.self = c.keep_copies.ensures in
+    let same : last ≡ c.release_room.new.self = c.keep_copies.ensures.same in
     let state : last ≡ relay_with_release now r.filter k = same ∙ c.release_room.ensures.state in
     let came = c.requires.fresh.calls in
     record {
@@ -168,9 +168,6 @@ returns-in-None-clause-due g c = c.offer_copies.ensures.offered.due
 
 pub put-requires : goal.put-requires
 put-requires g c κs h = h
-
-pub return_copies-requires : goal.return_copies-requires
-return_copies-requires g c κs h = h
 
 pub returns-in-None-clause-sound : goal.returns-in-None-clause-sound
 returns-in-None-clause-sound g c = c.offer_copies.ensures.offered.sound
