@@ -14,7 +14,7 @@ use app_commands::{
 };
 use app_failure::{Failure, NoMemory};
 use app_files::{CommandFiles, is_standard};
-use net_check::{NetworkOutput, explain_refusable_streams, network_job};
+use net_check::{NetworkOutput, explain_streams, network_job};
 use std::alloc::Global;
 use std::rt::Files;
 
@@ -44,7 +44,7 @@ fn refusable_reasons(rt: &(impl AllocGlobal + Files), path: &str, is_asked: bool
     ensures { is_asked ≡ false → string_bytes result ≡ [] }
 {
     let reasons = if is_asked && can_read_network_again(rt, path) {
-        explain_refusable_streams(rt, path)
+        explain_streams(rt, path)
     } else {
         None
     };

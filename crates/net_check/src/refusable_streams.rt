@@ -1,61 +1,27 @@
-//! Explanations of streams whose frames may be refused: the hop and the condition. No call fails: files that can't be read again are left
-//! out.
+//! Explanations of streams whose frames may be refused: the hop and the condition.
 ghost use Rattle.std.specs.Prelude.{◌≤◌, All, IfSome, length};
 ghost use Rattle.std.specs.Option.{ForSome};
 ghost use Rattle.net_file.specs.Rules.{IsTalker};
 ghost use Rattle.bridge_bounds.specs.Traffic.{IsTraffic};
 ghost use Rattle.net_latency.specs.Bounds.{HasValidPort};
 
-use crate::network::{check_network_file, read_network, read_plans};
 use crate::refusing::bridge_name;
-use app_files::CommandFiles;
-use bridge_bounds::{Traffic, find_filter, passes};
+use bridge_bounds::{Phases, Traffic, find_filter, passes};
 use bridge_config::Plan;
 use bridge_filter::FilterPlan;
 use bridge_limits::{END_OF_TIME, LONGEST_FRAME};
 use bridge_text::TextBuilder;
 use net_file::{NetworkFile, StreamRow, Talker};
 use net_latency::{
-    QueueBound, StreamLatency, all_queue_bounds, bounds_of_bridge, can_others_enter,
-    latency_through_hops, put_reason, stream_hops,
+    QueueBound, StreamLatency, bounds_of_bridge, can_others_enter, latency_through_hops,
+    put_reason, stream_hops,
 };
 use net_model::{Link, Network, StreamHop};
 use std::alloc::Global;
-use std::rt::Files;
 
-/// Explains each stream whose line says `refusable`: the first hop at which a frame may be refused, and why. Reads all files again. Returns
-/// `None` if this fails.
-pub fn explain_refusable_streams<H: AllocGlobal + Files>(rt: &H, path: &str) -> Option<String> {
-    let alloc = rt.alloc();
-    let mut files = CommandFiles::new(rt);
-    let Ok(file) = read_network(alloc, &mut files, path) else {
-        return None;
-    };
-    let Ok(plans) = read_plans(alloc, &mut files, path, file.bridges()) else {
-        return None;
-    };
-    let Ok(network) = check_network_file(alloc, alloc, &file, plans) else {
-        return None;
-    };
-    let said = explain_streams(alloc, &file, &network);
-    drop(network);
-    said
-}
-
-/// Explains each stream whose frames may be refused: the first such hop and the condition that fails. Returns `None` if memory runs out.
-fn explain_streams(
-    alloc: Global,
-    file: &NetworkFile<Global>,
-    network: &Network<Global>,
-) -> Option<String> {
-    let bounds = all_queue_bounds(alloc, network.plans()).ok()?;
-    let mut said = TextBuilder::new(alloc);
-    put_streams(alloc, &mut said, file, network, &bounds, file.streams());
-    said.finish().ok()
-}
-
-/// Appends a sentence for each of these streams that has a periodic talker whose frames may be refused.
-fn put_streams(
+/// Appends a sentence for each of these streams that has a periodic talker whose frames may be refused: the first such hop, and the condition
+/// that fails.
+pub(crate) fn put_refusable_streams(
     alloc: Global,
     said: &mut TextBuilder<Global>,
     file: &NetworkFile<Global>,
@@ -158,19 +124,26 @@ fn hop_traffic(
     }
     let done = before?.phases;
     let delay = link_delay(links, hops, place)?;
+    let (phases, _) = phases_after_link(done, delay, talker.period);
+    traffic_with_phases(talker, phases.from, phases.to)
+}
+
+/// Returns the phases of arrivals over a link with this delay in ns. They count from the start of the earliest arrival's period. The second
+/// value is the time in ns to this period.
+pub(crate) fn phases_after_link(done: Phases, delay: u64, period: u64) -> (Phases, u128) {
     let start = u128::from(done.from).saturating_add(u128::from(delay));
     let end = u128::from(done.to).saturating_add(u128::from(delay));
-    let period = u128::from(talker.period.max(1));
+    let period = u128::from(period.max(1));
     let whole = start - start % period;
-    traffic_with_phases(
-        talker,
-        (start % period) as u64,
-        end.saturating_sub(whole).min(u128::from(u64::MAX)) as u64,
-    )
+    let phases = Phases {
+        from: (start % period) as u64,
+        to: end.saturating_sub(whole).min(u128::from(u64::MAX)) as u64,
+    };
+    (phases, whole)
 }
 
 /// Returns the traffic of a talker with the phases `from` to `to`, or `None` if they don't lie in one period.
-fn traffic_with_phases(talker: &Talker, from: u64, to: u64) -> Option<Traffic>
+pub(crate) fn traffic_with_phases(talker: &Talker, from: u64, to: u64) -> Option<Traffic>
     requires { IsTalker talker.now }
     ensures { IfSome result IsTraffic }
 {

@@ -1,0 +1,393 @@
+//! Search for changes by which periodic streams meet their deadlines: later talkers, and gate control lists that begin earlier. Such changes
+//! keep each list's windows apart.
+ghost use Rattle.std.specs.Prelude.{◌≤◌, All, length};
+ghost use Rattle.std.specs.Option.{ForSome};
+ghost use Rattle.net_file.specs.Rules.{IsTalker};
+ghost use Rattle.net_latency.specs.Bounds.{HasValidPort};
+
+use crate::hop_times::{HopTimes, ListShift, StreamRoute, hop_times, shift_of_port, worst_delay};
+use bridge_bounds::Phases;
+use bridge_config::{Plan, PortPlan};
+use bridge_cycle::{CyclicList, Egress, Timeline};
+use net_file::{StreamRow, Talker};
+use net_latency::{QueueBound, latency_through_hops, stream_hops};
+use net_model::Network;
+use std::alloc::Global;
+
+/// Largest number of times that the search goes over all streams. Rings of five bridges needed up to four.
+const PASSES: u32 = 8;
+
+/// Largest number of changes for a stream in one pass.
+const CHANGES: u32 = 16;
+
+/// New phases of a talker.
+#[derive(Clone, Copy)]
+pub(crate) struct SendShift {
+    /// Index of the stream, from 0.
+    pub stream: usize,
+    /// Earliest and latest arrival at the first hop, in ns from the start of a period.
+    pub phases: Phases,
+}
+
+/// Changes of lists and talkers. Later items replace earlier items of the same port or stream.
+#[derive(Drop)]
+pub(crate) struct Changes {
+    /// Shifts of ports' lists.
+    pub shifts: Vec<ListShift>,
+    /// New phases of talkers.
+    pub sends: Vec<SendShift>,
+    /// Whether the search may change each stream: its delays are known, and all frames pass.
+    is_known: Vec<bool>,
+}
+
+/// Returns the talker's phases after the changes: those of the last item for the stream, or the talker's own.
+pub(crate) fn changed_phases(sends: &[SendShift], stream: usize, talker: &Talker) -> Phases {
+    let mut phases = Phases {
+        from: talker.from,
+        to: talker.to,
+    };
+    for send in sends {
+        if send.stream == stream {
+            phases = send.phases;
+        }
+    }
+    phases
+}
+
+/// Returns changes by which each stream with known delays meets its deadline. Returns `None` if the search finds none, or memory runs out.
+pub(crate) fn find_changes(
+    alloc: Global,
+    network: &Network<Global>,
+    bounds: &[Vec<QueueBound>],
+    streams: &[StreamRow<Global>],
+) -> Option<Changes>
+    requires placed { All (λ v. All HasValidPort v.items) bounds.now }
+    requires few { All (λ s. length s.hops ≤ 64) streams.now }
+    requires talkers { All (λ s. ForSome s.talker IsTalker) streams.now }
+{
+    let mut changes = Changes {
+        shifts: Vec::new(alloc),
+        sends: Vec::new(alloc),
+        is_known: known_streams(alloc, network, bounds, streams)?,
+    };
+    for pass in 0..PASSES {
+        if relieve_streams(alloc, network, bounds, streams, pass, &mut changes)? {
+            return Some(changes);
+        }
+    }
+    None
+}
+
+/// Returns for each stream whether its delays are known and all frames pass. Returns `None` if memory runs out.
+fn known_streams(
+    alloc: Global,
+    network: &Network<Global>,
+    bounds: &[Vec<QueueBound>],
+    streams: &[StreamRow<Global>],
+) -> Option<Vec<bool>>
+    requires placed { All (λ v. All HasValidPort v.items) bounds.now }
+    requires few { All (λ s. length s.hops ≤ 64) streams.now }
+    requires talkers { All (λ s. ForSome s.talker IsTalker) streams.now }
+{
+    let mut known = Vec::new(alloc);
+    for stream in streams {
+        known.push(is_known(alloc, network, bounds, stream)).ok()?;
+    }
+    Some(known)
+}
+
+/// Whether the stream's delays are known and all its frames pass.
+fn is_known(
+    alloc: Global,
+    network: &Network<Global>,
+    bounds: &[Vec<QueueBound>],
+    stream: &StreamRow<Global>,
+) -> bool
+    requires placed { All (λ v. All HasValidPort v.items) bounds.now }
+    requires few { length stream.now.hops ≤ 64 }
+    requires talkers { ForSome stream.now.talker IsTalker }
+{
+    let Some(talker) = stream.talker() else {
+        return false;
+    };
+    let Ok(hops) = stream_hops(alloc, stream.hops()) else {
+        return false;
+    };
+    let (plans, links) = (network.plans(), network.links());
+    match latency_through_hops(alloc, plans, links, bounds, &hops, &talker) {
+        Ok(Some(course)) => course.passes,
+        _ => false,
+    }
+}
+
+/// Changes lists and talkers for each late stream. Returns whether no stream was late. Returns `None` if memory runs out.
+fn relieve_streams(
+    alloc: Global,
+    network: &Network<Global>,
+    bounds: &[Vec<QueueBound>],
+    streams: &[StreamRow<Global>],
+    pass: u32,
+    changes: &mut Changes,
+) -> Option<bool>
+    requires placed { All (λ v. All HasValidPort v.items) bounds.now }
+    requires talkers { All (λ s. ForSome s.talker IsTalker) streams.now }
+{
+    let mut is_met = true;
+    let mut index = 0usize;
+    for stream in streams {
+        if !relieve_listed_stream(alloc, network, bounds, stream, index, pass, changes)? {
+            is_met = false;
+        }
+        index = index.saturating_add(1);
+    }
+    Some(is_met)
+}
+
+/// Changes lists and the talker of a stream if it is late. Returns whether it met its deadline before.
+fn relieve_listed_stream(
+    alloc: Global,
+    network: &Network<Global>,
+    bounds: &[Vec<QueueBound>],
+    stream: &StreamRow<Global>,
+    index: usize,
+    pass: u32,
+    changes: &mut Changes,
+) -> Option<bool>
+    requires placed { All (λ v. All HasValidPort v.items) bounds.now }
+    requires talkers { ForSome stream.now.talker IsTalker }
+{
+    let is_known = changes.is_known.get(index).copied().unwrap_or(false);
+    let Some(talker) = stream.talker() else {
+        return Some(true);
+    };
+    if !is_known {
+        return Some(true);
+    }
+    let hops = stream_hops(alloc, stream.hops()).ok()?;
+    let route = StreamRoute {
+        network,
+        bounds,
+        hops: &hops,
+        talker,
+    };
+    let deadline = u128::from(stream.deadline().unwrap_or(u64::MAX));
+    relieve_stream(alloc, &route, deadline, index, pass, changes)
+}
+
+/// Changes lists and the talker until the stream meets its deadline, or no change helps. Other streams of the same pass then leave its ports
+/// alone. Returns whether the stream met its deadline before.
+fn relieve_stream(
+    alloc: Global,
+    route: &StreamRoute<'_>,
+    deadline: u128,
+    index: usize,
+    pass: u32,
+    changes: &mut Changes,
+) -> Option<bool>
+    requires placed { All (λ v. All HasValidPort v.items) route.now.bounds.now }
+    requires talker { IsTalker route.now.talker }
+{
+    for count in 0..CHANGES {
+        match changed_times(alloc, route, index, changes) {
+            Some(times) if is_in_time(&times, deadline) => {
+                if count == 0 {
+                    return Some(true);
+                }
+                break;
+            }
+            Some(times) => {
+                if !relieve_hop(alloc, route, &times, index, pass, changes)? {
+                    break;
+                }
+            }
+            None => return Some(false),
+        }
+    }
+    let times = changed_times(alloc, route, index, changes)?;
+    keep_ports(&times, pass, changes)?;
+    Some(false)
+}
+
+/// Returns the times of the stream at each hop after the changes. Returns `None` if phases are unknown or memory runs out.
+fn changed_times(
+    alloc: Global,
+    route: &StreamRoute<'_>,
+    index: usize,
+    changes: &Changes,
+) -> Option<Vec<HopTimes>>
+    requires placed { All (λ v. All HasValidPort v.items) route.now.bounds.now }
+    requires talker { IsTalker route.now.talker }
+{
+    let sent = changed_phases(&changes.sends, index, &route.talker);
+    hop_times(alloc, route, sent, &changes.shifts)
+}
+
+/// Whether all frames pass each hop, and the worst delay is at most the deadline in ns.
+fn is_in_time(times: &[HopTimes], deadline: u128) -> bool {
+    for hop in times {
+        if !hop.passes {
+            return false;
+        }
+    }
+    worst_delay(times) <= deadline
+}
+
+/// Returns the hop at which the latest frame waits longest: the first hop, or a hop whose port no late stream has used in this pass. Returns
+/// `None` if it waits at none of them.
+pub(crate) fn costliest_hop(
+    times: &[HopTimes],
+    shifts: &[ListShift],
+    pass: u32,
+) -> Option<HopTimes> {
+    let mut longest = 0;
+    let mut found = None;
+    for hop in times {
+        if hop.last_wait > longest && (hop.is_first || !is_kept(shifts, hop, pass)) {
+            longest = hop.last_wait;
+            found = Some(*hop);
+        }
+    }
+    found
+}
+
+/// Whether a late stream has used the hop's port in this pass.
+fn is_kept(shifts: &[ListShift], hop: &HopTimes, pass: u32) -> bool {
+    for shift in shifts {
+        if shift.bridge == hop.hop.bridge && shift.port == hop.port && shift.pass == pass {
+            return true;
+        }
+    }
+    false
+}
+
+/// Removes the wait of the latest frame at the costliest hop. Returns whether it changed something.
+fn relieve_hop(
+    alloc: Global,
+    route: &StreamRoute<'_>,
+    times: &[HopTimes],
+    index: usize,
+    pass: u32,
+    changes: &mut Changes,
+) -> Option<bool>
+    requires placed { All (λ v. All HasValidPort v.items) route.now.bounds.now }
+    requires talker { IsTalker route.now.talker }
+{
+    let Some(hop) = costliest_hop(times, &changes.shifts, pass) else {
+        return Some(false);
+    };
+    if hop.is_first {
+        relieve_talker(alloc, route, &hop, index, changes)
+    } else {
+        relieve_list(alloc, route, &hop, index, changes)
+    }
+}
+
+/// Lets the talker send later by the wait at the first hop. Undoes this if a frame may then be refused. Returns whether the change stays.
+fn relieve_talker(
+    alloc: Global,
+    route: &StreamRoute<'_>,
+    hop: &HopTimes,
+    index: usize,
+    changes: &mut Changes,
+) -> Option<bool>
+    requires placed { All (λ v. All HasValidPort v.items) route.now.bounds.now }
+    requires talker { IsTalker route.now.talker }
+{
+    let before = changed_phases(&changes.sends, index, &route.talker);
+    let later = later_phases(before, hop.last_wait, route.talker.period);
+    put_phases(changes, index, later)?;
+    if is_passing(alloc, route, index, changes) {
+        return Some(true);
+    }
+    put_phases(changes, index, before)?;
+    Some(false)
+}
+
+/// Shifts the list at the hop's port to be earlier by the wait there. Undoes this if a frame may then be refused. Returns whether the change
+/// stays.
+fn relieve_list(
+    alloc: Global,
+    route: &StreamRoute<'_>,
+    hop: &HopTimes,
+    index: usize,
+    changes: &mut Changes,
+) -> Option<bool>
+    requires placed { All (λ v. All HasValidPort v.items) route.now.bounds.now }
+    requires talker { IsTalker route.now.talker }
+{
+    let Some(cycle) = cycle_of_port(route.network, hop) else {
+        return Some(false);
+    };
+    let before = shift_of_port(&changes.shifts, hop.hop.bridge, hop.port);
+    let earlier = before.saturating_add(hop.last_wait) % cycle.max(1);
+    put_shift(changes, hop, earlier, PASSES)?;
+    if is_passing(alloc, route, index, changes) {
+        return Some(true);
+    }
+    put_shift(changes, hop, before, PASSES)?;
+    Some(false)
+}
+
+/// Whether after the changes the phases are known and all frames pass each hop.
+fn is_passing(alloc: Global, route: &StreamRoute<'_>, index: usize, changes: &Changes) -> bool
+    requires placed { All (λ v. All HasValidPort v.items) route.now.bounds.now }
+    requires talker { IsTalker route.now.talker }
+{
+    match changed_times(alloc, route, index, changes) {
+        Some(times) => is_in_time(&times, u128::MAX),
+        None => false,
+    }
+}
+
+/// Returns the phases `wait` ns later. If they would lie in two periods, the earliest becomes the start of a period.
+fn later_phases(phases: Phases, wait: u64, period: u64) -> Phases {
+    let width = phases.to.saturating_sub(phases.from);
+    let from = phases.from.saturating_add(wait) % period.max(1);
+    let to = from.saturating_add(width);
+    if to >= period {
+        return Phases { from: 0, to: width };
+    }
+    Phases { from, to }
+}
+
+/// Appends new phases of a talker.
+fn put_phases(changes: &mut Changes, stream: usize, phases: Phases) -> Option<()> {
+    changes.sends.push(SendShift { stream, phases }).ok()
+}
+
+/// Appends a shift of the list at the hop's port.
+fn put_shift(changes: &mut Changes, hop: &HopTimes, earlier: u64, pass: u32) -> Option<()> {
+    changes
+        .shifts
+        .push(ListShift {
+            bridge: hop.hop.bridge,
+            port: hop.port,
+            earlier,
+            pass,
+        })
+        .ok()
+}
+
+/// Notes that the pass has used the ports of these hops. Their lists keep their shifts.
+fn keep_ports(times: &[HopTimes], pass: u32, changes: &mut Changes) -> Option<()> {
+    for hop in times {
+        let earlier = shift_of_port(&changes.shifts, hop.hop.bridge, hop.port);
+        put_shift(changes, hop, earlier, pass)?;
+    }
+    Some(())
+}
+
+/// Returns the cycle time in ns of the list at the hop's port. Returns `None` without a list and if the schedule changes.
+fn cycle_of_port(network: &Network<Global>, hop: &HopTimes) -> Option<u64> {
+    let accepted = network.plans().get(hop.hop.bridge as usize)?;
+    let list = port_list(accepted.plan().port(hop.port)?)?;
+    Some(list.cycle())
+}
+
+/// Returns the gate control list of a port. Returns `None` without a list and if the schedule changes.
+pub(crate) fn port_list(port: &PortPlan<Global>) -> Option<&CyclicList<u8, Global>> {
+    match &port.list {
+        Some(Egress::Cyclic(list)) => Some(list),
+        _ => None,
+    }
+}

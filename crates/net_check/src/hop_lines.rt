@@ -1,0 +1,259 @@
+//! Lines with the times of a stream's frames at each hop, and the sentence about a missed deadline.
+ghost use Rattle.std.specs.Prelude.{◌≡◌, ◌<◌, ◌≤◌, All, length};
+ghost use Rattle.std.specs.Option.{ForSome};
+ghost use Rattle.bridge_cycle.specs.declared.fit_search.TheConstants.{END_OF_SEARCHES};
+ghost use Rattle.net_file.specs.Rules.{IsTalker};
+ghost use Rattle.net_latency.specs.Bounds.{HasValidPort};
+
+use crate::deadline_search::costliest_hop;
+use crate::hop_times::{HopTimes, StreamRoute, hop_times, worst_delay};
+use crate::refusing::bridge_name;
+use bridge_bounds::Phases;
+use bridge_config::Plan;
+use bridge_cycle::{CyclicList, END_OF_SEARCHES, Egress, Run, Timeline, is_open, longest_run};
+use bridge_text::TextBuilder;
+use net_file::{NetworkFile, StreamRow};
+use net_latency::{QueueBound, latency_through_hops, stream_hops};
+use net_model::Network;
+use std::alloc::Global;
+
+/// Window in which a frame is sent: the time while its class is open without a break, in ns from the start of a period.
+#[derive(Clone, Copy)]
+struct Window {
+    /// Start; negative if the window begins before the period.
+    from: i128,
+    /// End.
+    to: u64,
+}
+
+/// Appends the times at each hop of those streams that have a periodic talker and known delays. Returns whether such a stream misses its
+/// deadline although all its frames pass.
+pub(crate) fn put_stream_times(
+    alloc: Global,
+    said: &mut TextBuilder<Global>,
+    file: &NetworkFile<Global>,
+    network: &Network<Global>,
+    bounds: &[Vec<QueueBound>],
+    streams: &[StreamRow<Global>],
+) -> bool
+    requires placed { All (λ v. All HasValidPort v.items) bounds.now }
+    requires few { All (λ s. length s.hops ≤ 64) streams.now }
+    requires talkers { All (λ s. ForSome s.talker IsTalker) streams.now }
+{
+    let mut is_late = false;
+    for stream in streams {
+        if put_times_of_stream(alloc, said, file, network, bounds, stream) {
+            is_late = true;
+        }
+    }
+    is_late
+}
+
+/// Appends the times of a stream at each hop. Returns whether all its frames pass and the stream misses its deadline. Appends nothing without
+/// a periodic talker or if delays are unknown.
+fn put_times_of_stream(
+    alloc: Global,
+    said: &mut TextBuilder<Global>,
+    file: &NetworkFile<Global>,
+    network: &Network<Global>,
+    bounds: &[Vec<QueueBound>],
+    stream: &StreamRow<Global>,
+) -> bool
+    requires placed { All (λ v. All HasValidPort v.items) bounds.now }
+    requires few { length stream.now.hops ≤ 64 }
+    requires talkers { ForSome stream.now.talker IsTalker }
+{
+    let Some(talker) = stream.talker() else {
+        return false;
+    };
+    let Ok(hops) = stream_hops(alloc, stream.hops()) else {
+        return false;
+    };
+    let (plans, links) = (network.plans(), network.links());
+    let Ok(Some(course)) = latency_through_hops(alloc, plans, links, bounds, &hops, &talker) else {
+        return false;
+    };
+    let route = StreamRoute {
+        network,
+        bounds,
+        hops: &hops,
+        talker,
+    };
+    let sent = Phases {
+        from: talker.from,
+        to: talker.to,
+    };
+    let Some(times) = hop_times(alloc, &route, sent, &[]) else {
+        return false;
+    };
+    said.put_template(
+        "Stream {a} at each hop, in ns from the start of a period:\n",
+        &[],
+        &[stream.name()],
+    );
+    put_hops(said, file, network, &times);
+    put_deadline(said, file, stream.deadline(), &times) && course.passes
+}
+
+/// Appends a line for each queue of each hop.
+fn put_hops(
+    said: &mut TextBuilder<Global>,
+    file: &NetworkFile<Global>,
+    network: &Network<Global>,
+    times: &[HopTimes],
+) {
+    for hop in times {
+        put_hop(said, file, network, hop);
+    }
+}
+
+/// Appends the line of a hop's queue: arrivals, ends of transmission, longest wait, and the window.
+fn put_hop(
+    said: &mut TextBuilder<Global>,
+    file: &NetworkFile<Global>,
+    network: &Network<Global>,
+    hop: &HopTimes,
+) {
+    said.put_template(
+        "{a}.{0} port {1} class {2}: arrives {3}..{4}, leaves {5}..{6} (waits {7})",
+        &[
+            u64::from(hop.hop.filter),
+            u64::from(hop.port),
+            u64::from(hop.class),
+            hop.arrives.from,
+            hop.arrives.to,
+            hop.leaves.from,
+            hop.leaves.to,
+            hop.longest_wait,
+        ],
+        &[bridge_name(file.bridges(), hop.hop.bridge)],
+    );
+    if let Some(accepted) = network.plans().get(hop.hop.bridge as usize) {
+        if let Some(window) = window_of_hop(accepted.plan(), hop) {
+            put_window(said, window, hop.leaves.to);
+        }
+    }
+    said.put("\n");
+}
+
+/// Appends the window, and the time from the latest end of transmission to the window's end.
+fn put_window(said: &mut TextBuilder<Global>, window: Window, leaves: u64) {
+    said.put(", window ");
+    said.put_integer(window.from);
+    said.put_template(
+        "..{0}, slack {1}",
+        &[window.to, window.to.saturating_sub(leaves)],
+        &[],
+    );
+}
+
+/// Returns the window in which the last frame is sent. Returns `None` if the port has no list or a schedule change, or the class never closes.
+fn window_of_hop(plan: &Plan<Global>, hop: &HopTimes) -> Option<Window> {
+    let port = plan.port(hop.port)?;
+    let time = hop.leaves.to.checked_sub(1)?;
+    if hop.class >= 8 || time >= END_OF_SEARCHES {
+        return None;
+    }
+    match &port.list {
+        Some(Egress::Cyclic(list)) => window_around_time(list, hop.class, time),
+        _ => None,
+    }
+}
+
+/// Returns the window that contains the time in ns, or `None` if the class never closes.
+fn window_around_time(list: &CyclicList<u8, Global>, class: u8, time: u64) -> Option<Window>
+    requires class { class < 8 }
+    requires time { time < END_OF_SEARCHES }
+{
+    let Run::For(_) = longest_run(list, class) else {
+        return None;
+    };
+    let start = i128::from(window_start(list, class, time));
+    Some(Window {
+        from: start - i128::from(list.cycle()),
+        to: window_end(list, class, time),
+    })
+}
+
+/// Returns the time in ns at which the window begins that contains the time one cycle after `time`. The start is later than it is for `time`
+/// by the cycle time. Then it isn't negative.
+fn window_start(list: &CyclicList<u8, Global>, class: u8, time: u64) -> u64
+    requires class { class < 8 }
+    requires time { time < END_OF_SEARCHES }
+{
+    let end = time + list.cycle();
+    let mut start = time;
+    let mut seen = time;
+    while seen < end {
+        let turn = list.turn(seen);
+        if !is_open(turn.state, class) {
+            start = turn.end;
+        }
+        seen = turn.end;
+    }
+    start
+}
+
+/// Returns the first time in ns, from `time` on, at which the class is closed, at most one cycle later.
+fn window_end(list: &CyclicList<u8, Global>, class: u8, time: u64) -> u64
+    requires class { class < 8 }
+    requires time { time < END_OF_SEARCHES }
+{
+    let end = time + list.cycle();
+    let mut seen = time;
+    while seen < end {
+        let turn = list.turn(seen);
+        if !is_open(turn.state, class) {
+            return seen;
+        }
+        seen = turn.end;
+    }
+    end
+}
+
+/// Appends a sentence if the stream misses its deadline: by how much, and the hop at which the latest frame waits longest. Returns whether it
+/// misses the deadline.
+fn put_deadline(
+    said: &mut TextBuilder<Global>,
+    file: &NetworkFile<Global>,
+    deadline: Option<u64>,
+    times: &[HopTimes],
+) -> bool {
+    let Some(deadline) = deadline else {
+        return false;
+    };
+    let missing = worst_delay(times).saturating_sub(u128::from(deadline));
+    if missing == 0 {
+        return false;
+    }
+    said.put("It misses its deadline by ");
+    said.put_integer(missing);
+    match costliest_hop(times, &[], 0) {
+        Some(hop) => said.put_template(
+            " ns, and waits longest at {a}.{0}: there the window at port {1} begins {2} ns after the latest arrival.\n",
+            &[
+                u64::from(hop.hop.filter),
+                u64::from(hop.port),
+                hop.last_wait,
+            ],
+            &[bridge_name(file.bridges(), hop.hop.bridge)],
+        ),
+        None if has_wait(times) => said.put(
+            " ns, and only frames before the latest arrival wait. Begin the windows at the earliest arrivals, or raise the deadline.\n",
+        ),
+        None => said.put(
+            " ns, and waits at no hop: the deadline is below the sum of transmission times and link delays.\n",
+        ),
+    }
+    true
+}
+
+/// Whether a frame waits at one of the hops.
+fn has_wait(times: &[HopTimes]) -> bool {
+    for hop in times {
+        if hop.longest_wait > 0 {
+            return true;
+        }
+    }
+    false
+}

@@ -1,0 +1,336 @@
+//! Times of a periodic talker's frames at each hop of a stream: arrival, waiting time and end of transmission. Explanations print them,
+//! and search for changes that meet the deadlines.
+ghost use Rattle.std.specs.Prelude.{◌≡◌, ◌<◌, ◌≤◌, All, IfSome};
+ghost use Rattle.bridge_limits.specs.declared.TheConstants.{END_OF_TIME};
+ghost use Rattle.net_file.specs.Rules.{IsTalker};
+ghost use Rattle.bridge_bounds.specs.Traffic.{IsTraffic};
+ghost use Rattle.net_latency.specs.Bounds.{HasValidPort};
+
+use crate::refusable_streams::{phases_after_link, traffic_with_phases};
+use bridge_bounds::{Phases, Traffic, find_filter, passes, queue_timing};
+use bridge_check::Accepted;
+use bridge_config::Plan;
+use bridge_frame::occupation;
+use bridge_limits::{END_OF_TIME, LONGEST_FRAME};
+use net_file::Talker;
+use net_latency::{QueueBound, bounds_of_bridge};
+use net_model::{Link, Network, StreamHop, is_bridge_port, peer_port};
+use std::alloc::Global;
+
+/// Shift of a port's gate control list, which an explanation proposes.
+#[derive(Clone, Copy)]
+pub(crate) struct ListShift {
+    /// Index of the bridge, from 0.
+    pub bridge: u16,
+    /// Port number, 1 to 16.
+    pub port: u8,
+    /// Time in ns by which the list begins earlier than in the plan. It is less than the cycle time.
+    pub earlier: u64,
+    /// Number of the search pass in which a late stream last used the port.
+    pub pass: u32,
+}
+
+/// A stream with a periodic talker, in an accepted network.
+#[derive(Clone, Copy)]
+pub(crate) struct StreamRoute<'a> {
+    /// The network.
+    pub network: &'a Network<Global>,
+    /// Delay bounds of each bridge's queues.
+    pub bounds: &'a [Vec<QueueBound>],
+    /// Hops of the stream, talker first.
+    pub hops: &'a [StreamHop],
+    /// The talker. Its phases can be other ones than those at the first hop.
+    pub talker: Talker,
+}
+
+/// Arrival of a talker's frames at a hop.
+#[derive(Clone, Copy)]
+struct HopArrival {
+    /// The hop.
+    hop: StreamHop,
+    /// Earliest and latest arrival in ns from the start of a period.
+    phases: Phases,
+    /// Time in ns from the start of the talker's period to the start of this period.
+    later: u128,
+    /// Sum of worst delays up to this arrival, in ns.
+    worst: u128,
+}
+
+/// Times of a talker's frames in one queue of a hop. Phases are in ns from the start of the period in which the frame arrives at the hop.
+#[derive(Clone, Copy)]
+pub(crate) struct HopTimes {
+    /// The hop.
+    pub hop: StreamHop,
+    /// Whether the talker sends to this hop.
+    pub is_first: bool,
+    /// Port number, 1 to 16.
+    pub port: u8,
+    /// Class of the queue, 0 to 7.
+    pub class: u8,
+    /// Earliest and latest arrival.
+    pub arrives: Phases,
+    /// Earliest and latest end of transmission.
+    pub leaves: Phases,
+    /// Longest waiting time of a frame before its transmission, in ns.
+    pub longest_wait: u64,
+    /// Waiting time of the longest frame if it arrives at the latest phase, in ns.
+    pub last_wait: u64,
+    /// Sum of worst delays up to the end of this transmission, in ns.
+    total: u128,
+    /// Worst delay in ns from arrival at the first hop to the end of this transmission.
+    pub worst: u128,
+    /// Whether the hop's filter passes each frame.
+    pub passes: bool,
+}
+
+/// Times in one queue, without the hops before it.
+#[derive(Clone, Copy)]
+struct QueueTimes {
+    /// Earliest and latest end of transmission, in ns from the start of the period.
+    leaves: Phases,
+    /// Worst delay in ns from arrival to the end of transmission.
+    worst: u64,
+}
+
+/// Returns the time in ns by which a port's list begins earlier: of the last shift for the port, or 0.
+pub(crate) fn shift_of_port(shifts: &[ListShift], bridge: u16, port: u8) -> u64 {
+    let mut earlier = 0;
+    for shift in shifts {
+        if shift.bridge == bridge && shift.port == port {
+            earlier = shift.earlier;
+        }
+    }
+    earlier
+}
+
+/// Returns the times of a stream's frames in each queue of the tree of hops. `sent` has the phases at the first hop. Returns `None` if phases
+/// are unknown or memory runs out.
+pub(crate) fn hop_times(
+    alloc: Global,
+    route: &StreamRoute<'_>,
+    sent: Phases,
+    shifts: &[ListShift],
+) -> Option<Vec<HopTimes>>
+    requires placed { All (λ v. All HasValidPort v.items) route.now.bounds.now }
+    requires talker { IsTalker route.now.talker }
+{
+    let first = HopArrival {
+        hop: *route.hops.first()?,
+        phases: sent,
+        later: 0,
+        worst: 0,
+    };
+    let mut arrivals = Vec::new(alloc);
+    let mut times = Vec::new(alloc);
+    arrivals.push(first).ok()?;
+    for index in 0..route.hops.len() {
+        if let Some(arrival) = arrivals.get(index).copied() {
+            put_hop_times(route, arrival, sent.from, shifts, &mut arrivals, &mut times)?;
+        }
+    }
+    Some(times)
+}
+
+/// Appends the times of a hop's queues to `times`, and the arrivals at the next hops to `arrivals`. Returns `None` if phases are unknown or
+/// memory runs out.
+fn put_hop_times(
+    route: &StreamRoute<'_>,
+    arrival: HopArrival,
+    sent: u64,
+    shifts: &[ListShift],
+    arrivals: &mut Vec<HopArrival>,
+    times: &mut Vec<HopTimes>,
+) -> Option<()>
+    requires placed { All (λ v. All HasValidPort v.items) route.now.bounds.now }
+    requires talker { IsTalker route.now.talker }
+{
+    let is_first = times.is_empty();
+    let rows = bounds_of_bridge(route.bounds, arrival.hop.bridge);
+    put_rows(
+        route, rows, arrival, sent, is_first, shifts, arrivals, times,
+    )
+}
+
+/// Appends the times of those queues in `rows` that belong to the hop's filter, and the arrivals at the next hops.
+fn put_rows(
+    route: &StreamRoute<'_>,
+    rows: &[QueueBound],
+    arrival: HopArrival,
+    sent: u64,
+    is_first: bool,
+    shifts: &[ListShift],
+    arrivals: &mut Vec<HopArrival>,
+    times: &mut Vec<HopTimes>,
+) -> Option<()>
+    requires rows { All HasValidPort rows.now }
+    requires talker { IsTalker route.now.talker }
+{
+    for row in rows {
+        if row.filter == arrival.hop.filter {
+            let found = times_in_queue(route, row, arrival, sent, is_first, shifts)?;
+            put_next_arrival(route, &found, arrival, arrivals)?;
+            times.push(found).ok()?;
+        }
+    }
+    Some(())
+}
+
+/// Returns the times in the queue of `row`. Returns `None` if the phases are unknown.
+fn times_in_queue(
+    route: &StreamRoute<'_>,
+    row: &QueueBound,
+    arrival: HopArrival,
+    sent: u64,
+    is_first: bool,
+    shifts: &[ListShift],
+) -> Option<HopTimes>
+    requires row { HasValidPort row.now }
+    requires talker { IsTalker route.now.talker }
+{
+    let hop = arrival.hop;
+    let accepted = route.network.plans().get(hop.bridge as usize)?;
+    let traffic = traffic_with_phases(&route.talker, arrival.phases.from, arrival.phases.to)?;
+    let earlier = shift_of_port(shifts, hop.bridge, row.port);
+    let queue = shifted_times(accepted, row, &traffic, earlier)?;
+    let longest = longest_transmission(accepted.plan(), row, &traffic)?;
+    let end = arrival.later.saturating_add(u128::from(queue.leaves.to));
+    let total = arrival.worst.saturating_add(u128::from(queue.worst));
+    Some(HopTimes {
+        hop,
+        is_first,
+        port: row.port,
+        class: row.class,
+        arrives: arrival.phases,
+        leaves: queue.leaves,
+        longest_wait: queue.worst.saturating_sub(longest),
+        last_wait: queue
+            .leaves
+            .to
+            .saturating_sub(arrival.phases.to)
+            .saturating_sub(longest),
+        total,
+        worst: end.saturating_sub(u128::from(sent)).min(total),
+        passes: passes_hop(accepted.plan(), row.filter, &traffic),
+    })
+}
+
+/// Whether the filter passes each frame of the traffic. Returns false if the plan lacks the filter.
+fn passes_hop(plan: &Plan<Global>, filter: u32, traffic: &Traffic) -> bool
+    requires { IsTraffic traffic.now }
+{
+    match find_filter(plan.filters(), filter) {
+        None => false,
+        Some(filter) => passes(plan, &filter, traffic),
+    }
+}
+
+/// Returns the transmission time in ns of the longest frame that the filter passes. Returns `None` if the plan lacks filter or port.
+fn longest_transmission(plan: &Plan<Global>, row: &QueueBound, traffic: &Traffic) -> Option<u64> {
+    let sdu = find_filter(plan.filters(), row.filter)?.max_sdu?;
+    let longest = sdu.saturating_add(16).min(LONGEST_FRAME);
+    let speed = plan.port(row.port)?.speed;
+    Some(occupation(traffic.longest.min(longest), speed))
+}
+
+/// Returns the times in a queue if the port's list begins `earlier` ns earlier: as if the frames arrived later by this time. Returns `None` if
+/// the phases are unknown.
+fn shifted_times(
+    accepted: &Accepted<Global>,
+    row: &QueueBound,
+    traffic: &Traffic,
+    earlier: u64,
+) -> Option<QueueTimes>
+    requires row { HasValidPort row.now }
+    requires traffic { IsTraffic traffic.now }
+{
+    let shifted = shifted_traffic(traffic, earlier)?;
+    let timing = queue_timing(accepted, row.filter, row.port, row.class, &shifted)?;
+    let done = timing.phases?;
+    if done.to > shifted.from.saturating_add(traffic.period) {
+        return None;
+    }
+    Some(QueueTimes {
+        leaves: Phases {
+            from: done.from.saturating_sub(earlier),
+            to: done.to.saturating_sub(earlier),
+        },
+        worst: timing.worst,
+    })
+}
+
+/// Returns the traffic with phases that are `earlier` ns later. The period doubles, so that the phases lie within it. Returns `None` if the
+/// period is too long.
+fn shifted_traffic(traffic: &Traffic, earlier: u64) -> Option<Traffic>
+    requires { IsTraffic traffic.now }
+    ensures { IfSome result IsTraffic }
+{
+    if earlier == 0 {
+        return Some(*traffic);
+    }
+    if earlier >= traffic.period || traffic.period > END_OF_TIME / 2 {
+        return None;
+    }
+    Some(Traffic {
+        period: traffic.period * 2,
+        from: traffic.from + earlier,
+        to: traffic.to + earlier,
+        least: traffic.least,
+        longest: traffic.longest,
+    })
+}
+
+/// Appends the arrival at the next hop. Appends nothing if the queue's port leads to no hop of the stream.
+fn put_next_arrival(
+    route: &StreamRoute<'_>,
+    found: &HopTimes,
+    arrival: HopArrival,
+    arrivals: &mut Vec<HopArrival>,
+) -> Option<()> {
+    let links = route.network.links();
+    let Some((hop, delay)) = hop_over_link(links, route.hops, found.hop.bridge, found.port) else {
+        return Some(());
+    };
+    let (phases, whole) = phases_after_link(found.leaves, delay, route.talker.period);
+    let next = HopArrival {
+        hop,
+        phases,
+        later: arrival.later.saturating_add(whole),
+        worst: found.total.saturating_add(u128::from(delay)),
+    };
+    arrivals.push(next).ok()
+}
+
+/// Returns the hop to which the port's link leads, and the link's delay in ns. Returns `None` if the port is open or leads to no hop.
+fn hop_over_link(
+    links: &[Link],
+    hops: &[StreamHop],
+    bridge: u16,
+    port: u8,
+) -> Option<(StreamHop, u64)> {
+    let end = peer_port(links, bridge, port)?;
+    for hop in hops {
+        if hop.bridge == end.bridge {
+            return Some((*hop, delay_at_port(links, bridge, port)));
+        }
+    }
+    None
+}
+
+/// Returns the delay in ns of the link at a port; 0 for an open port.
+fn delay_at_port(links: &[Link], bridge: u16, port: u8) -> u64 {
+    for link in links {
+        if is_bridge_port(link.one, bridge, port) || is_bridge_port(link.other, bridge, port) {
+            return link.delay;
+        }
+    }
+    0
+}
+
+/// Returns the worst delay of a stream in ns: the greatest of all its queues.
+pub(crate) fn worst_delay(times: &[HopTimes]) -> u128 {
+    let mut worst = 0;
+    for hop in times {
+        worst = hop.worst.max(worst);
+    }
+    worst
+}

@@ -1,0 +1,118 @@
+//! Lines with changes by which late streams meet their deadlines.
+use crate::deadline_search::{Changes, SendShift, changed_phases, port_list};
+use crate::hop_times::{ListShift, shift_of_port};
+use bridge_check::Accepted;
+use bridge_config::PortPlan;
+use bridge_cycle::{CyclicList, Timeline};
+use bridge_text::TextBuilder;
+use net_file::{BridgeRow, NetworkFile, StreamRow};
+use net_model::Network;
+use std::alloc::Global;
+
+/// Appends the changes that meet all deadlines, or that the search has found none.
+pub(crate) fn put_changes(
+    said: &mut TextBuilder<Global>,
+    file: &NetworkFile<Global>,
+    network: &Network<Global>,
+    changes: &Option<Changes>,
+) {
+    let Some(changes) = changes else {
+        return said.put(
+            "No changes of `base`, `from` and `to` were found that meet all these deadlines. Give late streams more windows in a cycle, or raise deadlines.\n",
+        );
+    };
+    said.put(
+        "These changes together meet the deadline of each stream with `worst` and without `refusable`:\n",
+    );
+    put_lists(said, file.bridges(), network.plans(), &changes.shifts);
+    put_talkers(said, file.streams(), &changes.sends);
+}
+
+/// Appends a line for each shifted list, by bridge and port.
+fn put_lists(
+    said: &mut TextBuilder<Global>,
+    bridges: &[BridgeRow<Global>],
+    plans: &[Accepted<Global>],
+    shifts: &[ListShift],
+) {
+    let mut bridge: u16 = 0;
+    for row in bridges {
+        if let Some(accepted) = plans.get(bridge as usize) {
+            put_lists_of_bridge(said, row, bridge, accepted.plan().ports(), shifts);
+        }
+        bridge = bridge.saturating_add(1);
+    }
+}
+
+/// Appends a line for each shifted list of a bridge.
+fn put_lists_of_bridge(
+    said: &mut TextBuilder<Global>,
+    row: &BridgeRow<Global>,
+    bridge: u16,
+    ports: &[PortPlan<Global>],
+    shifts: &[ListShift],
+) {
+    for port in ports {
+        let earlier = shift_of_port(shifts, bridge, port.number);
+        if earlier > 0 {
+            if let Some(list) = port_list(port) {
+                put_list(said, row, port.number, list, earlier);
+            }
+        }
+    }
+}
+
+/// Appends the line of a list that begins `earlier` ns earlier: its new base time within a cycle.
+fn put_list(
+    said: &mut TextBuilder<Global>,
+    row: &BridgeRow<Global>,
+    port: u8,
+    list: &CyclicList<u8, Global>,
+    earlier: u64,
+) {
+    let cycle = list.cycle().max(1);
+    let shift = cycle.saturating_sub(earlier);
+    let base = (list.base() % cycle).saturating_add(shift) % cycle;
+    said.put_template(
+        "{a}, port {0}: `base = {1}` (list {2} ns earlier)\n",
+        &[u64::from(port), base, earlier],
+        &[row.plan()],
+    );
+}
+
+/// Appends a line for each talker that has new phases.
+fn put_talkers(said: &mut TextBuilder<Global>, streams: &[StreamRow<Global>], sends: &[SendShift]) {
+    let mut index = 0usize;
+    for stream in streams {
+        put_talker(said, stream, index, sends);
+        index = index.saturating_add(1);
+    }
+}
+
+/// Appends the line of a talker, if it has new phases.
+fn put_talker(
+    said: &mut TextBuilder<Global>,
+    stream: &StreamRow<Global>,
+    index: usize,
+    sends: &[SendShift],
+) {
+    let Some(talker) = stream.talker() else {
+        return;
+    };
+    let phases = changed_phases(sends, index, &talker);
+    if phases.from == talker.from {
+        return;
+    }
+    let later = match phases.from.checked_sub(talker.from) {
+        Some(later) => later,
+        None => phases
+            .from
+            .saturating_add(talker.period)
+            .saturating_sub(talker.from),
+    };
+    said.put_template(
+        "stream {a}: `from = {0}` and `to = {1}` (talker {2} ns later)\n",
+        &[phases.from, phases.to, later],
+        &[stream.name()],
+    );
+}
