@@ -5,11 +5,12 @@ ghost use Rattle.std.specs.Option.{ForSome};
 ghost use Rattle.net_file.specs.Rules.{IsTalker};
 ghost use Rattle.net_latency.specs.Bounds.{HasValidPort};
 
+use crate::changes::{Changes, changed_phases, put_phases, put_shift};
 use crate::hop_times::{HopTimes, ListShift, StreamRoute, hop_times, shift_of_port, worst_delay};
 use bridge_bounds::Phases;
-use bridge_config::{Plan, PortPlan};
+use bridge_config::PortPlan;
 use bridge_cycle::{CyclicList, Egress, Timeline};
-use net_file::{StreamRow, Talker};
+use net_file::StreamRow;
 use net_latency::{QueueBound, latency_through_hops, stream_hops};
 use net_model::Network;
 use std::alloc::Global;
@@ -19,40 +20,6 @@ const PASSES: u32 = 8;
 
 /// Largest number of changes for a stream in one pass.
 const CHANGES: u32 = 16;
-
-/// New phases of a talker.
-#[derive(Clone, Copy)]
-pub(crate) struct SendShift {
-    /// Index of the stream, from 0.
-    pub stream: usize,
-    /// Earliest and latest arrival at the first hop, in ns from the start of a period.
-    pub phases: Phases,
-}
-
-/// Changes of lists and talkers. Later items replace earlier items of the same port or stream.
-#[derive(Drop)]
-pub(crate) struct Changes {
-    /// Shifts of ports' lists.
-    pub shifts: Vec<ListShift>,
-    /// New phases of talkers.
-    pub sends: Vec<SendShift>,
-    /// Whether the search may change each stream: its delays are known, and all frames pass.
-    is_known: Vec<bool>,
-}
-
-/// Returns the talker's phases after the changes: those of the last item for the stream, or the talker's own.
-pub(crate) fn changed_phases(sends: &[SendShift], stream: usize, talker: &Talker) -> Phases {
-    let mut phases = Phases {
-        from: talker.from,
-        to: talker.to,
-    };
-    for send in sends {
-        if send.stream == stream {
-            phases = send.phases;
-        }
-    }
-    phases
-}
 
 /// Returns changes by which each stream with known delays meets its deadline. Returns `None` if the search finds none, or memory runs out.
 pub(crate) fn find_changes(
@@ -348,24 +315,6 @@ fn later_phases(phases: Phases, wait: u64, period: u64) -> Phases {
         return Phases { from: 0, to: width };
     }
     Phases { from, to }
-}
-
-/// Appends new phases of a talker.
-fn put_phases(changes: &mut Changes, stream: usize, phases: Phases) -> Option<()> {
-    changes.sends.push(SendShift { stream, phases }).ok()
-}
-
-/// Appends a shift of the list at the hop's port.
-fn put_shift(changes: &mut Changes, hop: &HopTimes, earlier: u64, pass: u32) -> Option<()> {
-    changes
-        .shifts
-        .push(ListShift {
-            bridge: hop.hop.bridge,
-            port: hop.port,
-            earlier,
-            pass,
-        })
-        .ok()
 }
 
 /// Notes that the pass has used the ports of these hops. Their lists keep their shifts.

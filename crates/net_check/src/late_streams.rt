@@ -1,5 +1,6 @@
 //! Lines with changes by which late streams meet their deadlines.
-use crate::deadline_search::{Changes, SendShift, changed_phases, port_list};
+use crate::changes::{Changes, SendShift, changed_phases};
+use crate::deadline_search::port_list;
 use crate::hop_times::{ListShift, shift_of_port};
 use bridge_check::Accepted;
 use bridge_config::PortPlan;

@@ -1,6 +1,7 @@
 #![tactic(auto)]
 //! Checks of network files: faults, warnings, streams with their delays, and explanations.
 
+mod changes;
 mod deadline_search;
 mod explained_streams;
 mod explaining;

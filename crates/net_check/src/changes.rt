@@ -1,0 +1,98 @@
+//! Changes of gate control lists and talkers that an explanation proposes.
+use crate::hop_times::{HopTimes, ListShift};
+use bridge_bounds::Phases;
+use net_file::Talker;
+
+/// New phases of a talker.
+#[derive(Clone, Copy)]
+pub(crate) struct SendShift {
+    /// Index of the stream, from 0.
+    pub stream: usize,
+    /// Earliest and latest arrival at the first hop, in ns from the start of a period.
+    pub phases: Phases,
+}
+
+/// Changes of lists and talkers: at most one for each port and for each stream.
+#[derive(Drop)]
+pub(crate) struct Changes {
+    /// Shifts of ports' lists.
+    pub shifts: Vec<ListShift>,
+    /// New phases of talkers.
+    pub sends: Vec<SendShift>,
+    /// Whether the search may change each stream: its delays are known, and all frames pass.
+    pub is_known: Vec<bool>,
+}
+
+/// Returns the talker's phases after the changes: new ones of the stream, or the talker's own.
+pub(crate) fn changed_phases(sends: &[SendShift], stream: usize, talker: &Talker) -> Phases {
+    let mut phases = Phases {
+        from: talker.from,
+        to: talker.to,
+    };
+    for send in sends {
+        if send.stream == stream {
+            phases = send.phases;
+        }
+    }
+    phases
+}
+
+/// Returns the index of the stream's new phases, or the number of all new phases.
+fn index_of_stream(sends: &[SendShift], stream: usize) -> usize {
+    let mut index = 0usize;
+    for send in sends {
+        if send.stream == stream {
+            return index;
+        }
+        index = index.saturating_add(1);
+    }
+    index
+}
+
+/// Returns the index of the port's shift, or the number of shifts.
+fn index_of_port(shifts: &[ListShift], bridge: u16, port: u8) -> usize {
+    let mut index = 0usize;
+    for shift in shifts {
+        if shift.bridge == bridge && shift.port == port {
+            return index;
+        }
+        index = index.saturating_add(1);
+    }
+    index
+}
+
+/// Notes new phases of a talker, in place of earlier ones. Returns `None` if memory runs out.
+pub(crate) fn put_phases(changes: &mut Changes, stream: usize, phases: Phases) -> Option<()> {
+    let index = index_of_stream(&changes.sends, stream);
+    let send = SendShift { stream, phases };
+    match changes.sends.get_mut(index) {
+        Some(earlier) => {
+            *earlier = send;
+            Some(())
+        }
+        None => changes.sends.push(send).ok(),
+    }
+}
+
+/// Notes a shift of the list at the hop's port, in place of an earlier one. Returns `None` if memory runs out.
+pub(crate) fn put_shift(
+    changes: &mut Changes,
+    hop: &HopTimes,
+    earlier: u64,
+    pass: u32,
+) -> Option<()> {
+    let index = index_of_port(&changes.shifts, hop.hop.bridge, hop.port);
+    let shift = ListShift {
+        bridge: hop.hop.bridge,
+        port: hop.port,
+        earlier,
+        pass,
+    };
+    match changes.shifts.get_mut(index) {
+        Some(before) => {
+            *before = shift;
+            Some(())
+        }
+        None => changes.shifts.push(shift).ok(),
+    }
+}
