@@ -31,16 +31,15 @@ pub(crate) fn check_network<H: AllocGlobal + Files>(
         Ok(said) => said,
         Err(fault) => return Err(fault),
     };
-    let reasons = refusable_reasons(files.rt, path, flags.is_explained);
+    let reasons = stream_explanations(files.rt, path, flags.is_explained);
     match output_of_check(said, reasons, flags) {
         Ok(output) => Ok(output),
         Err(NoMemory) => Err(Failure::NoMemory),
     }
 }
 
-/// Returns the reason of each refusable stream, if an explanation is requested. The text is empty otherwise, if memory runs out, and if a
-/// file is a pipe.
-fn refusable_reasons(rt: &(impl AllocGlobal + Files), path: &str, is_asked: bool) -> String
+/// Returns the explanation of the streams, if it is requested. The text is empty otherwise, if memory runs out, and if a file is a pipe.
+fn stream_explanations(rt: &(impl AllocGlobal + Files), path: &str, is_asked: bool) -> String
     ensures { is_asked ≡ false → string_bytes result ≡ [] }
 {
     let reasons = if is_asked && can_read_network_again(rt, path) {
@@ -54,8 +53,8 @@ fn refusable_reasons(rt: &(impl AllocGlobal + Files), path: &str, is_asked: bool
     }
 }
 
-/// Returns the output of `net check` for an accepted network: its lines and warnings on standard output, the reasons of refusable streams
-/// on standard error.
+/// Returns the output of `net check` for an accepted network: its lines and warnings on standard output, the explanation of its streams on
+/// standard error.
 fn output_of_check(said: NetworkOutput, reasons: String, flags: Flags) -> Result<Output, NoMemory>
     ensures { IfOk result (IsOutputOfCheck said flags.is_strict reasons) }
 {

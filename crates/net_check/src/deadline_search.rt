@@ -6,7 +6,9 @@ ghost use Rattle.net_file.specs.Rules.{IsTalker};
 ghost use Rattle.net_latency.specs.Bounds.{HasValidPort};
 
 use crate::changes::{Changes, changed_phases, put_phases, put_shift};
-use crate::hop_times::{HopTimes, ListShift, StreamRoute, hop_times, shift_of_port, worst_delay};
+use crate::hop_times::{
+    HopTimes, ListShift, StreamRoute, delay_without_waits, hop_times, shift_of_port, worst_delay,
+};
 use bridge_bounds::Phases;
 use bridge_config::PortPlan;
 use bridge_cycle::{CyclicList, Egress, Timeline};
@@ -21,7 +23,7 @@ const PASSES: u32 = 8;
 /// Largest number of changes for a stream in one pass.
 const CHANGES: u32 = 16;
 
-/// Returns changes by which each stream with known delays meets its deadline. Returns `None` if the search finds none, or memory runs out.
+/// Returns changes by which each searched stream meets its deadline. Returns `None` if the search finds none, or memory runs out.
 pub(crate) fn find_changes(
     alloc: Global,
     network: &Network<Global>,
@@ -35,7 +37,7 @@ pub(crate) fn find_changes(
     let mut changes = Changes {
         shifts: Vec::new(alloc),
         sends: Vec::new(alloc),
-        is_known: known_streams(alloc, network, bounds, streams)?,
+        searched: searched_streams(alloc, network, bounds, streams)?,
     };
     for pass in 0..PASSES {
         if relieve_streams(alloc, network, bounds, streams, pass, &mut changes)? {
@@ -45,8 +47,8 @@ pub(crate) fn find_changes(
     None
 }
 
-/// Returns for each stream whether its delays are known and all frames pass. Returns `None` if memory runs out.
-fn known_streams(
+/// Returns for each stream whether the search may change it. Returns `None` if memory runs out.
+fn searched_streams(
     alloc: Global,
     network: &Network<Global>,
     bounds: &[Vec<QueueBound>],
@@ -56,15 +58,17 @@ fn known_streams(
     requires few { All (λ s. length s.hops ≤ 64) streams.now }
     requires talkers { All (λ s. ForSome s.talker IsTalker) streams.now }
 {
-    let mut known = Vec::new(alloc);
+    let mut searched = Vec::new(alloc);
     for stream in streams {
-        known.push(is_known(alloc, network, bounds, stream)).ok()?;
+        searched
+            .push(is_searched(alloc, network, bounds, stream))
+            .ok()?;
     }
-    Some(known)
+    Some(searched)
 }
 
-/// Whether the stream's delays are known and all its frames pass.
-fn is_known(
+/// Whether the search may change a stream: its delays are known, all its frames pass, and it can meet its deadline.
+fn is_searched(
     alloc: Global,
     network: &Network<Global>,
     bounds: &[Vec<QueueBound>],
@@ -81,9 +85,30 @@ fn is_known(
         return false;
     };
     let (plans, links) = (network.plans(), network.links());
-    match latency_through_hops(alloc, plans, links, bounds, &hops, &talker) {
-        Ok(Some(course)) => course.passes,
-        _ => false,
+    let Ok(Some(course)) = latency_through_hops(alloc, plans, links, bounds, &hops, &talker) else {
+        return false;
+    };
+    let route = StreamRoute {
+        network,
+        bounds,
+        hops: &hops,
+        talker,
+    };
+    course.passes && can_meet(alloc, &route, stream.deadline())
+}
+
+/// Whether a stream would meet its deadline if its frames waited nowhere.
+fn can_meet(alloc: Global, route: &StreamRoute<'_>, deadline: Option<u64>) -> bool
+    requires placed { All (λ v. All HasValidPort v.items) route.now.bounds.now }
+    requires talker { IsTalker route.now.talker }
+{
+    let Some(deadline) = deadline else {
+        return true;
+    };
+    let sent = changed_phases(&[], 0, &route.talker);
+    match hop_times(alloc, route, sent, &[]) {
+        Some(times) => delay_without_waits(&times) <= u128::from(deadline),
+        None => false,
     }
 }
 
@@ -123,11 +148,11 @@ fn relieve_listed_stream(
     requires placed { All (λ v. All HasValidPort v.items) bounds.now }
     requires talkers { ForSome stream.now.talker IsTalker }
 {
-    let is_known = changes.is_known.get(index).copied().unwrap_or(false);
+    let is_searched = changes.searched.get(index).copied().unwrap_or(false);
     let Some(talker) = stream.talker() else {
         return Some(true);
     };
-    if !is_known {
+    if !is_searched {
         return Some(true);
     }
     let hops = stream_hops(alloc, stream.hops()).ok()?;

@@ -6,7 +6,7 @@ ghost use Rattle.net_file.specs.Rules.{IsTalker};
 ghost use Rattle.net_latency.specs.Bounds.{HasValidPort};
 
 use crate::deadline_search::costliest_hop;
-use crate::hop_times::{HopTimes, StreamRoute, hop_times, worst_delay};
+use crate::hop_times::{HopTimes, StreamRoute, delay_without_waits, hop_times, worst_delay};
 use crate::refusing::bridge_name;
 use bridge_bounds::Phases;
 use bridge_config::Plan;
@@ -20,14 +20,16 @@ use std::alloc::Global;
 /// Window in which a frame is sent: the time while its class is open without a break, in ns from the start of a period.
 #[derive(Clone, Copy)]
 struct Window {
-    /// Start; negative if the window begins before the period.
-    from: i128,
+    /// Start of the window one cycle later, so that it isn't negative.
+    later: u64,
+    /// Cycle time of the list in ns.
+    cycle: u64,
     /// End.
     to: u64,
 }
 
-/// Appends the times at each hop of those streams that have a periodic talker and known delays. Returns whether such a stream misses its
-/// deadline although all its frames pass.
+/// Appends the times at each hop of those streams that have a periodic talker and known delays. Returns whether the frames of one pass, and
+/// miss a deadline that they can meet.
 pub(crate) fn put_stream_times(
     alloc: Global,
     said: &mut TextBuilder<Global>,
@@ -49,8 +51,8 @@ pub(crate) fn put_stream_times(
     is_late
 }
 
-/// Appends the times of a stream at each hop. Returns whether all its frames pass and the stream misses its deadline. Appends nothing without
-/// a periodic talker or if delays are unknown.
+/// Appends the times of a stream at each hop. Returns whether all its frames pass and the stream misses a deadline that it can meet. Appends
+/// nothing without a periodic talker or if delays are unknown.
 fn put_times_of_stream(
     alloc: Global,
     said: &mut TextBuilder<Global>,
@@ -139,7 +141,10 @@ fn put_hop(
 /// Appends the window, and the time from the latest end of transmission to the window's end.
 fn put_window(said: &mut TextBuilder<Global>, window: Window, leaves: u64) {
     said.put(", window ");
-    said.put_integer(window.from);
+    match window.later.checked_sub(window.cycle) {
+        Some(from) => said.put_number(from),
+        None => said.put_template("-{0}", &[window.cycle.saturating_sub(window.later)], &[]),
+    }
     said.put_template(
         "..{0}, slack {1}",
         &[window.to, window.to.saturating_sub(leaves)],
@@ -168,9 +173,9 @@ fn window_around_time(list: &CyclicList<u8, Global>, class: u8, time: u64) -> Op
     let Run::For(_) = longest_run(list, class) else {
         return None;
     };
-    let start = i128::from(window_start(list, class, time));
     Some(Window {
-        from: start - i128::from(list.cycle()),
+        later: window_start(list, class, time),
+        cycle: list.cycle(),
         to: window_end(list, class, time),
     })
 }
@@ -211,8 +216,7 @@ fn window_end(list: &CyclicList<u8, Global>, class: u8, time: u64) -> u64
     end
 }
 
-/// Appends a sentence if the stream misses its deadline: by how much, and the hop at which the latest frame waits longest. Returns whether it
-/// misses the deadline.
+/// Appends a sentence if the stream misses its deadline: by how much, and why. Returns whether the stream misses a deadline that it can meet.
 fn put_deadline(
     said: &mut TextBuilder<Global>,
     file: &NetworkFile<Global>,
@@ -228,32 +232,35 @@ fn put_deadline(
     }
     said.put("It misses its deadline by ");
     said.put_integer(missing);
-    match costliest_hop(times, &[], 0) {
-        Some(hop) => said.put_template(
-            " ns, and waits longest at {a}.{0}: there the window at port {1} begins {2} ns after the latest arrival.\n",
-            &[
-                u64::from(hop.hop.filter),
-                u64::from(hop.port),
-                hop.last_wait,
-            ],
-            &[bridge_name(file.bridges(), hop.hop.bridge)],
-        ),
-        None if has_wait(times) => said.put(
-            " ns, and only frames before the latest arrival wait. Begin the windows at the earliest arrivals, or raise the deadline.\n",
-        ),
-        None => said.put(
-            " ns, and waits at no hop: the deadline is below the sum of transmission times and link delays.\n",
-        ),
+    let shortest = delay_without_waits(times);
+    if shortest > u128::from(deadline) {
+        said.put(" ns and can't meet it: its transmission times and link delays alone take ");
+        said.put_integer(shortest);
+        said.put(" ns.\n");
+        return false;
     }
+    put_costliest_hop(said, file, times);
     true
 }
 
-/// Whether a frame waits at one of the hops.
-fn has_wait(times: &[HopTimes]) -> bool {
-    for hop in times {
-        if hop.longest_wait > 0 {
-            return true;
-        }
-    }
-    false
+/// Appends the hop at which the latest frame of a late stream waits longest.
+fn put_costliest_hop(
+    said: &mut TextBuilder<Global>,
+    file: &NetworkFile<Global>,
+    times: &[HopTimes],
+) {
+    let Some(hop) = costliest_hop(times, &[], 0) else {
+        return said.put(
+            " ns, and only frames before the latest arrival wait. Begin the windows at the earliest arrivals, or raise the deadline.\n",
+        );
+    };
+    said.put_template(
+        " ns, and waits longest at {a}.{0}: there the window at port {1} begins {2} ns after the latest arrival.\n",
+        &[
+            u64::from(hop.hop.filter),
+            u64::from(hop.port),
+            hop.last_wait,
+        ],
+        &[bridge_name(file.bridges(), hop.hop.bridge)],
+    );
 }

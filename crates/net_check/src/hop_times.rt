@@ -54,6 +54,8 @@ struct HopArrival {
     later: u128,
     /// Sum of worst delays up to this arrival, in ns.
     worst: u128,
+    /// Sum of transmission times and link delays up to this arrival, in ns.
+    shortest: u128,
 }
 
 /// Times of a talker's frames in one queue of a hop. Phases are in ns from the start of the period in which the frame arrives at the hop.
@@ -79,6 +81,8 @@ pub(crate) struct HopTimes {
     total: u128,
     /// Worst delay in ns from arrival at the first hop to the end of this transmission.
     pub worst: u128,
+    /// Sum of the longest frame's transmission times and of link delays up to the end of this transmission, in ns.
+    pub shortest: u128,
     /// Whether the hop's filter passes each frame.
     pub passes: bool,
 }
@@ -119,6 +123,7 @@ pub(crate) fn hop_times(
         phases: sent,
         later: 0,
         worst: 0,
+        shortest: 0,
     };
     let mut arrivals = Vec::new(alloc);
     let mut times = Vec::new(alloc);
@@ -210,6 +215,7 @@ fn times_in_queue(
             .saturating_sub(longest),
         total,
         worst: end.saturating_sub(u128::from(sent)).min(total),
+        shortest: arrival.shortest.saturating_add(u128::from(longest)),
         passes: passes_hop(accepted.plan(), row.filter, &traffic),
     })
 }
@@ -296,6 +302,7 @@ fn put_next_arrival(
         phases,
         later: arrival.later.saturating_add(whole),
         worst: found.total.saturating_add(u128::from(delay)),
+        shortest: found.shortest.saturating_add(u128::from(delay)),
     };
     arrivals.push(next).ok()
 }
@@ -333,4 +340,13 @@ pub(crate) fn worst_delay(times: &[HopTimes]) -> u128 {
         worst = hop.worst.max(worst);
     }
     worst
+}
+
+/// Returns the worst delay of a stream in ns if no frame waits: the greatest of all its queues.
+pub(crate) fn delay_without_waits(times: &[HopTimes]) -> u128 {
+    let mut shortest = 0;
+    for hop in times {
+        shortest = hop.shortest.max(shortest);
+    }
+    shortest
 }

@@ -19,11 +19,11 @@ pub(crate) fn put_changes(
 ) {
     let Some(changes) = changes else {
         return said.put(
-            "No changes of `base`, `from` and `to` were found that meet all these deadlines. Give late streams more windows in a cycle, or raise deadlines.\n",
+            "No changes of `base`, `from` and `to` were found that meet these deadlines together. Give late streams more windows in a cycle, or raise deadlines.\n",
         );
     };
     said.put(
-        "These changes together meet the deadline of each stream with `worst` and without `refusable`:\n",
+        "These changes together meet all deadlines above, except of streams that are `refusable` or can't meet theirs:\n",
     );
     put_lists(said, file.bridges(), network.plans(), &changes.shifts);
     put_talkers(said, file.streams(), &changes.sends);
