@@ -1,5 +1,5 @@
-use Rattle.std.proofs.Common.{◌≡◌, Bool, true, false, Option, Some, List, [], ◌∷◌, ◌++◌, refl, sym, subst, ap, ◌∙◌}
-use Rattle.std.specs.Prelude.{◌&&◌, nat_eq, not}
+use Rattle.std.proofs.Common.{◌≡◌, ℕ, Bool, true, false, Option, Some, List, [], ◌∷◌, ◌++◌, refl, sym, subst, ap, ◌∙◌}
+use Rattle.std.specs.Prelude.{◌&&◌, min, nat_eq, not}
 use Rattle.std.specs.Map.{lookup}
 use Rattle.bridge_filter.specs.declared.FilterPlan.{FilterPlan}
 use Rattle.bridge_config.specs.Model.{Plan}
@@ -39,5 +39,5 @@ returns g c =
       one_more = λ queues so_far.
           subst (λ (xs : List QueueTiming). AreLimitedTimings p c.args.tested.now.index r (queues ++ s ∷ []) xs) (sym c.in_ok-push.ensures.items)
           (limited_more p c.args.tested.now.index r s _ queues c.args.made.now.items own
-          (record { row = refl; filter = refl; port = refl; class = refl; deadline = refl; out = c.in-Some.port.now; at = at; worst = refl; best = c.occupation.ensures.exact; phases = refl; passes = passes }) so_far);
+          (record { row = refl; filter = refl; port = refl; class = refl; deadline = refl; out = c.in-Some.port.now; at = at; worst = refl; best = c.min.ensures ∙ ap (λ (t : ℕ). min t s.bound) c.occupation.ensures.exact; phases = refl; passes = passes }) so_far);
     }
