@@ -19,8 +19,6 @@ pub(crate) struct Changes {
     pub shifts: Vec<ListShift>,
     /// New phases of talkers.
     pub sends: Vec<SendShift>,
-    /// Whether the search may change each stream.
-    pub searched: Vec<bool>,
 }
 
 /// Returns the talker's phases after the changes: new ones of the stream, or the talker's own.

@@ -1,6 +1,6 @@
 //! Search for changes by which periodic streams meet their deadlines: later talkers, and gate control lists that begin earlier. Such changes
 //! keep each list's windows apart.
-ghost use Rattle.std.specs.Prelude.{◌≤◌, All, length};
+ghost use Rattle.std.specs.Prelude.{◌≤◌, All};
 ghost use Rattle.std.specs.Option.{ForSome};
 ghost use Rattle.net_file.specs.Rules.{IsTalker};
 ghost use Rattle.net_latency.specs.Bounds.{HasValidPort};
@@ -31,13 +31,11 @@ pub(crate) fn find_changes(
     streams: &[StreamRow<Global>],
 ) -> Option<Changes>
     requires placed { All (λ v. All HasValidPort v.items) bounds.now }
-    requires few { All (λ s. length s.hops ≤ 64) streams.now }
     requires talkers { All (λ s. ForSome s.talker IsTalker) streams.now }
 {
     let mut changes = Changes {
         shifts: Vec::new(alloc),
         sends: Vec::new(alloc),
-        searched: searched_streams(alloc, network, bounds, streams)?,
     };
     for pass in 0..PASSES {
         if relieve_streams(alloc, network, bounds, streams, pass, &mut changes)? {
@@ -45,26 +43,6 @@ pub(crate) fn find_changes(
         }
     }
     None
-}
-
-/// Returns for each stream whether the search may change it. Returns `None` if memory runs out.
-fn searched_streams(
-    alloc: Global,
-    network: &Network<Global>,
-    bounds: &[Vec<QueueBound>],
-    streams: &[StreamRow<Global>],
-) -> Option<Vec<bool>>
-    requires placed { All (λ v. All HasValidPort v.items) bounds.now }
-    requires few { All (λ s. length s.hops ≤ 64) streams.now }
-    requires talkers { All (λ s. ForSome s.talker IsTalker) streams.now }
-{
-    let mut searched = Vec::new(alloc);
-    for stream in streams {
-        searched
-            .push(is_searched(alloc, network, bounds, stream))
-            .ok()?;
-    }
-    Some(searched)
 }
 
 /// Whether the search may change a stream: its delays are known, all its frames pass, and it can meet its deadline.
@@ -75,7 +53,6 @@ fn is_searched(
     stream: &StreamRow<Global>,
 ) -> bool
     requires placed { All (λ v. All HasValidPort v.items) bounds.now }
-    requires few { length stream.now.hops ≤ 64 }
     requires talkers { ForSome stream.now.talker IsTalker }
 {
     let Some(talker) = stream.talker() else {
@@ -84,6 +61,9 @@ fn is_searched(
     let Ok(hops) = stream_hops(alloc, stream.hops()) else {
         return false;
     };
+    if hops.len() > 64 {
+        return false;
+    }
     let (plans, links) = (network.plans(), network.links());
     let Ok(Some(course)) = latency_through_hops(alloc, plans, links, bounds, &hops, &talker) else {
         return false;
@@ -148,11 +128,10 @@ fn relieve_listed_stream(
     requires placed { All (λ v. All HasValidPort v.items) bounds.now }
     requires talkers { ForSome stream.now.talker IsTalker }
 {
-    let is_searched = changes.searched.get(index).copied().unwrap_or(false);
     let Some(talker) = stream.talker() else {
         return Some(true);
     };
-    if !is_searched {
+    if !is_searched(alloc, network, bounds, stream) {
         return Some(true);
     }
     let hops = stream_hops(alloc, stream.hops()).ok()?;

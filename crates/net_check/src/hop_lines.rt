@@ -1,5 +1,5 @@
 //! Lines with the times of a stream's frames at each hop, and the sentence about a missed deadline.
-ghost use Rattle.std.specs.Prelude.{◌≡◌, ◌<◌, ◌≤◌, All, length};
+ghost use Rattle.std.specs.Prelude.{◌≡◌, ◌<◌, ◌≤◌, All};
 ghost use Rattle.std.specs.Option.{ForSome};
 ghost use Rattle.bridge_cycle.specs.declared.fit_search.TheConstants.{END_OF_SEARCHES};
 ghost use Rattle.net_file.specs.Rules.{IsTalker};
@@ -16,6 +16,9 @@ use net_file::{NetworkFile, StreamRow};
 use net_latency::{QueueBound, latency_through_hops, stream_hops};
 use net_model::Network;
 use std::alloc::Global;
+
+/// Largest number of a list's intervals that overlap one cycle from any time on: one more than its entries.
+const MOST_TURNS: u32 = 257;
 
 /// Window in which a frame is sent: the time while its class is open without a break, in ns from the start of a period.
 #[derive(Clone, Copy)]
@@ -39,7 +42,6 @@ pub(crate) fn put_stream_times(
     streams: &[StreamRow<Global>],
 ) -> bool
     requires placed { All (λ v. All HasValidPort v.items) bounds.now }
-    requires few { All (λ s. length s.hops ≤ 64) streams.now }
     requires talkers { All (λ s. ForSome s.talker IsTalker) streams.now }
 {
     let mut is_late = false;
@@ -62,7 +64,6 @@ fn put_times_of_stream(
     stream: &StreamRow<Global>,
 ) -> bool
     requires placed { All (λ v. All HasValidPort v.items) bounds.now }
-    requires few { length stream.now.hops ≤ 64 }
     requires talkers { ForSome stream.now.talker IsTalker }
 {
     let Some(talker) = stream.talker() else {
@@ -71,6 +72,9 @@ fn put_times_of_stream(
     let Ok(hops) = stream_hops(alloc, stream.hops()) else {
         return false;
     };
+    if hops.len() > 64 {
+        return false;
+    }
     let (plans, links) = (network.plans(), network.links());
     let Ok(Some(course)) = latency_through_hops(alloc, plans, links, bounds, &hops, &talker) else {
         return false;
@@ -189,7 +193,10 @@ fn window_start(list: &CyclicList<u8, Global>, class: u8, time: u64) -> u64
     let end = time + list.cycle();
     let mut start = time;
     let mut seen = time;
-    while seen < end {
+    for _turn in 0..MOST_TURNS {
+        if seen >= end {
+            return start;
+        }
         let turn = list.turn(seen);
         if !is_open(turn.state, class) {
             start = turn.end;
@@ -206,7 +213,10 @@ fn window_end(list: &CyclicList<u8, Global>, class: u8, time: u64) -> u64
 {
     let end = time + list.cycle();
     let mut seen = time;
-    while seen < end {
+    for _turn in 0..MOST_TURNS {
+        if seen >= end {
+            return end;
+        }
         let turn = list.turn(seen);
         if !is_open(turn.state, class) {
             return seen;
