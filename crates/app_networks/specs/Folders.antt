@@ -1,5 +1,5 @@
 -- Network runs between folders: inputs of the bridges, faults, and the printed line.
-use Rattle.std.specs.Prelude.{◌≡◌, ◌⊎◌, ℕ, ◌-◌, ◌^◌, List, [], ◌∷◌, ◌++◌, Err, None, Some, length, slice_get, codes, decimal, string_bytes}
+use Rattle.std.specs.Prelude.{◌≡◌, ◌⊎◌, ℕ, ◌-◌, ◌^◌, List, [], ◌∷◌, ◌++◌, Err, None, Option, Some, length, slice_get, codes, decimal, string_bytes}
 use Rattle.bridge_config.specs.Document.{text_commands}
 use Rattle.bridge_config.specs.Model.{Plan}
 use Rattle.bridge_capture.specs.declared.fault.RunFault.{RunFault}
@@ -26,6 +26,8 @@ use Rattle.bridge_schema.specs.declared.plan_fault.PlanFault.{PlanFault}
 use Rattle.net_loops.specs.declared.forwarding_loop.ForwardingLoop.{ForwardingLoop}
 use Rattle.net_loops.specs.ForwardingLoops.{AreForwardingLoops}
 use Rattle.app_networks.specs.Counted.{AreTotals}
+use Rattle.app_networks.specs.OutputFiles.{folder_path}
+use Rattle.app_networks.specs.RunFiles.{FailsRunFiles, IsBridgeInputFile, commands_path}
 
 -- Holds if each bridge of these plans has one capture for each port, and commands that its plan accepts.
 abbrev pub AreInputsOfPlans : {A : Type 0} → List (Plan A) → List (BridgeInput A) → Type 0
@@ -67,16 +69,24 @@ SaysCommands name e f = ⊥
 abbrev pub RefusesCommandsOf : {A : Type 0} → Plan A → List ℕ → List ℕ → Type 0
 RefusesCommandsOf p name lines = (text : List ℕ) × (e : PlanFault) × (text_commands p text ≡ Err e) × (lines ≡ commands_lines name (commands_fault_line e))
 
--- Holds if the fault ends the reading of a bridge's input: a file failed, its commands are refused, or memory ran out.
-abbrev pub EndsBridge : {A : Type 0} → Plan A → List ℕ → Failure → Type 0
-EndsBridge p name (fault.File e) = Unit {0}
-EndsBridge p name (fault.Network lines) = RefusesCommandsOf p name (string_bytes lines)
-EndsBridge p name fault.NoMemory = Unit {0}
-EndsBridge p name f = ⊥
+-- Holds if the fault ends the reading of a bridge's commands from its folder: the file failed, the commands are refused, or memory ran out.
+abbrev pub EndsCommands : {A : Type 0} → Plan A → List ℕ → List ℕ → Failure → Type 0
+EndsCommands p name folder (fault.File e) = string_bytes e.path ≡ commands_path folder
+EndsCommands p name folder (fault.Network lines) = RefusesCommandsOf p name (string_bytes lines)
+EndsCommands p name folder fault.NoMemory = Unit {0}
+EndsCommands p name folder f = ⊥
 
--- Holds if the fault ends the reading of the input of one of these bridges.
-abbrev pub EndsReading : {A : Type 0} → List (Plan A) → List Bridge → Failure → Type 0
-EndsReading {A} plans bridges f = (b : ℕ) × (p : Plan A) × (slice_get plans b ≡ Some p) × EndsBridge p (bridge_name bridges b) f
+-- Holds if the fault ends the reading of the input of the bridge with index `b` from its folder: an input failed, its commands are refused, or memory ran out.
+abbrev pub EndsBridge : {A : Type 0} → List Link → ℕ → Plan A → List ℕ → List ℕ → Failure → Type 0
+EndsBridge links b p name folder (fault.File e) = IsBridgeInputFile links b p folder (string_bytes e.path)
+EndsBridge links b p name folder (fault.Network lines) = RefusesCommandsOf p name (string_bytes lines)
+EndsBridge links b p name folder fault.NoMemory = Unit {0}
+EndsBridge links b p name folder f = ⊥
+
+-- Holds if the fault ends the reading of the input of one of these bridges, from its folder of the input folder.
+abbrev pub EndsReading : {A : Type 0} → List Link → List (Plan A) → List Bridge → List ℕ → Failure → Type 0
+EndsReading {A} links plans bridges input f =
+    (b : ℕ) × (p : Plan A) × (slice_get plans b ≡ Some p) × EndsBridge links b p (bridge_name bridges b) (folder_path input (bridge_name bridges b)) f
 
 -- The number of rounds after which a changing run ends: 64 with forwarding loops, otherwise 2^32 - 1.
 abbrev pub rounds_by : List ForwardingLoop → ℕ
@@ -92,19 +102,20 @@ abbrev pub StopsRun : {A : Type 0} → NetworkParts A → List Bridge → List �
 StopsRun {A} n bridges line =
     (came : List (BridgeInput A)) × (rounds : ℕ) × (e : RoundsFault) × AreBridgeInputs n.plans came × IsMostRounds n rounds × StopsNetworkRun n came rounds e × IsStoppedLine bridges e line
 
--- Holds if fault `f` ends a run of accepted network `n`: a file failed, commands are refused, the run stopped, or memory ran out.
-abbrev pub EndsRun : {A : Type 0} → NetworkParts A → List Bridge → Failure → Type 0
-EndsRun n bridges (fault.File e) = Unit {0}
-EndsRun n bridges (fault.Network lines) = EndsReading n.plans bridges (fault.Network lines)
-EndsRun n bridges (fault.Rounds line) = StopsRun n bridges (string_bytes line)
-EndsRun n bridges fault.NoMemory = Unit {0}
-EndsRun n bridges f = ⊥
+-- Holds if fault `f` ends a run of accepted network `n` between two folders: a file of the run failed, commands are refused, the run stopped, or memory ran
+-- out.
+abbrev pub EndsRun : {A : Type 0} → NetworkParts A → List Bridge → List ℕ → List ℕ → Option (List ℕ) → Failure → Type 0
+EndsRun n bridges input output picture (fault.File e) = FailsRunFiles n bridges input output picture (fault.File e)
+EndsRun n bridges input output picture (fault.Network lines) = EndsReading n.links n.plans bridges input (fault.Network lines)
+EndsRun n bridges input output picture (fault.Rounds line) = StopsRun n bridges (string_bytes line)
+EndsRun n bridges input output picture fault.NoMemory = Unit {0}
+EndsRun n bridges input output picture f = ⊥
 
--- Holds if fault `f` ends the run of the network file at `path`: a fault of its check, or of the accepted network's run.
-abbrev pub EndsRounds : (A : Type 0) → List ℕ → Failure → Type 0
-EndsRounds A path f =
+-- Holds if fault `f` ends the run of the network file at `path` between two folders: a fault of its check, or of the accepted network's run.
+abbrev pub EndsRounds : (A : Type 0) → List ℕ → List ℕ → List ℕ → Option (List ℕ) → Failure → Type 0
+EndsRounds A path input output picture f =
     EndsNetwork A path f
-    ⊎ ((x : file.Network) × (plans : List (Plan A)) × (n : NetworkParts A) × IsNetworkOfFile x plans n × (first_fault n ≡ None) × (first_misfit n.plans 1 x.streams ≡ None) × EndsRun n x.bridges f)
+    ⊎ ((x : file.Network) × (plans : List (Plan A)) × (n : NetworkParts A) × IsNetworkOfFile x plans n × (first_fault n ≡ None) × (first_misfit n.plans 1 x.streams ≡ None) × EndsRun n x.bridges input output picture f)
 
 -- Holds if network `n` consists of file `f` and some plans, and passes all tests.
 pub record IsAccepted {A : Type 0} (n : NetworkParts A) (f : file.Network) : Type 0 where

@@ -1,4 +1,5 @@
 pub mod OutputFiles
+pub mod RunFiles
 pub mod InTime
 pub mod Counted
 pub mod Folders

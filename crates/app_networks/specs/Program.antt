@@ -92,7 +92,8 @@ FailsJob (job.Run plan input folder commands) r f =
 FailsJob (job.Picture plan file) r f = FailsPicture (string_bytes plan) (string_bytes file) (is_some r.picture) f
 FailsJob (job.Bounds plan traffic) r f = FailsBounds (string_bytes plan) (option_map string_bytes traffic) f
 FailsJob (job.Network network) r f = EndsNetwork Global (string_bytes network) f
-FailsJob (job.RunNetwork network input folder picture) r f = EndsRounds Global (string_bytes network) f
+FailsJob (job.RunNetwork network input folder picture) r f =
+    EndsRounds Global (string_bytes network) (string_bytes input) (string_bytes folder) (option_map string_bytes picture) f
 
 abbrev pub FailsRequest : Request → Failure → Type 0
 FailsRequest r f = FailsJob r.job r f

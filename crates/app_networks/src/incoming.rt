@@ -1,10 +1,12 @@
 //! Reads captures of open ports and commands, which arrive at a network's bridges from outside.
-ghost use Rattle.std.specs.Prelude.{◌≡◌, IfErr, IfOk, length};
+ghost use Rattle.std.specs.Prelude.{◌≡◌, ℕ, List, IfErr, IfOk, length};
 ghost use Rattle.bridge_config.specs.Commands.{AreCommands};
 ghost use Rattle.net_run.specs.Rounds.{AreBridgeInputs};
 ghost use Rattle.net_run.specs.BridgeRuns.{IsBridgeInput};
-ghost use Rattle.app_failure.specs.Reading.{EndsFiles};
-ghost use Rattle.app_networks.specs.Folders.{AreInputsOfPlans, EndsBridge, EndsReading};
+ghost use Rattle.app_failure.specs.Reading.{IsFileFault};
+ghost use Rattle.app_files.specs.Paths.{capture_path};
+ghost use Rattle.app_networks.specs.Folders.{AreInputsOfPlans, EndsBridge, EndsCommands, EndsReading};
+ghost use Rattle.app_networks.specs.RunFiles.{IsOpenCapture, NamesFile};
 
 use crate::outputs::bridge_folder;
 use crate::refusing::{bridge_commands_fault, bridge_name};
@@ -22,7 +24,7 @@ const MOST_CAPTURE: u64 = 65_552_065_576;
 
 /// Reads at most `most` octets of the file at `path`. Converts a file fault to the program's fault.
 fn read_file<F: ReadFiles>(files: &mut F, path: &str, most: u64) -> Result<Vec<u8>, Failure>
-    ensures { IfErr result EndsFiles }
+    ensures { IfErr result (IsFileFault path.now) }
 {
     match files.read(path, most) {
         Ok(octets) => Ok(octets),
@@ -37,7 +39,7 @@ fn read_capture<F: ReadFiles>(
     folder: &str,
     port: u8,
 ) -> Result<Vec<u8>, Failure>
-    ensures { IfErr result EndsFiles }
+    ensures { IfErr result (IsFileFault (capture_path folder.now port)) }
 {
     match capture_path(alloc, folder, port) {
         Ok(path) => read_file(files, path.as_str(), MOST_CAPTURE),
@@ -55,7 +57,7 @@ fn read_captures<F: ReadFiles>(
     folder: &str,
 ) -> Result<Vec<Vec<u8>>, Failure>
     ensures each { IfOk result (λ captures. length captures.items ≡ length ports.now) }
-    ensures ends { IfErr result EndsFiles }
+    ensures ends { IfErr result (NamesFile (IsOpenCapture links.now bridge ports.now folder.now)) }
 {
     let mut captures = Vec::new(alloc);
     for port in ports {
@@ -79,7 +81,7 @@ fn bridge_commands(
     text: &[u8],
 ) -> Result<Vec<Command>, Failure>
     ensures commands { IfOk result (λ commands. AreCommands accepted.now commands.items) }
-    ensures ends { IfErr result (EndsBridge accepted.now name.now) }
+    ensures ends { (folder : List ℕ) → IfErr result (EndsCommands accepted.now name.now folder) }
 {
     match commands_of(alloc, alloc, text, accepted.plan()) {
         Ok(commands) => Ok(commands),
@@ -96,7 +98,7 @@ fn read_commands<F: ReadFiles>(
     folder: &str,
 ) -> Result<Vec<Command>, Failure>
     ensures commands { IfOk result (λ commands. AreCommands accepted.now commands.items) }
-    ensures ends { IfErr result (EndsBridge accepted.now name.now) }
+    ensures ends { IfErr result (EndsCommands accepted.now name.now folder.now) }
 {
     let Ok(path) = format!(in alloc; "{folder}/commands.toml") else {
         return Err(Failure::NoMemory);
@@ -121,7 +123,8 @@ fn read_bridge_input<F: ReadFiles>(
     place: &Place<'_>,
 ) -> Result<BridgeInput<Global>, Failure>
     ensures came { IfOk result (IsBridgeInput accepted.now) }
-    ensures ends { IfErr result (EndsBridge accepted.now place.now.name.now) }
+    ensures ends { IfErr result (EndsBridge links.now bridge accepted.now place.now.name.now
+        place.now.folder.now) }
 {
     let Ok(ports) = accepted.plan().port_numbers(alloc) else {
         return Err(Failure::NoMemory);
@@ -150,7 +153,7 @@ fn read_inputs_of_plans<F: ReadFiles>(
     input: &str,
 ) -> Result<Vec<BridgeInput<Global>>, Failure>
     ensures came { IfOk result (λ all. AreInputsOfPlans plans.now all.items) }
-    ensures ends { IfErr result (EndsReading plans.now bridges.now) }
+    ensures ends { IfErr result (EndsReading links.now plans.now bridges.now input.now) }
 {
     let mut all = Vec::new(alloc);
     for accepted in plans {
@@ -180,7 +183,7 @@ pub(crate) fn read_bridge_inputs<F: ReadFiles>(
     input: &str,
 ) -> Result<Vec<BridgeInput<Global>>, Failure>
     ensures came { IfOk result (λ all. AreBridgeInputs network.now.plans all.items) }
-    ensures ends { IfErr result (EndsReading network.now.plans bridges.now) }
+    ensures ends { IfErr result (EndsReading network.now.links network.now.plans bridges.now input.now) }
 {
     let all = read_inputs_of_plans(
         alloc,

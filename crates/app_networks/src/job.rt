@@ -1,10 +1,10 @@
 //! Runs a network between folders: reads the inputs, opens the outputs, runs, then writes everything.
-ghost use Rattle.std.specs.Prelude.{◌≡◌, ◌≤◌, IfOk, IfErr, IfSome, None, Some, false, true, length, string_bytes};
+ghost use Rattle.std.specs.Prelude.{◌≡◌, ◌≤◌, IfOk, IfErr, IfSome, None, Some, false, true, length, option_map, string_bytes};
 ghost use Rattle.app_files.specs.Folders.{HavePaths};
 ghost use Rattle.app_networks.specs.Losing.{AreToldLines, AreWarningsIf, PrintsRunLosses, PrintsWarnings, TellsRunLosses, TellsWarnings, has_lines};
 ghost use Rattle.app_networks.specs.InTime.{HaveViews};
 ghost use Rattle.net_run.specs.Rounds.{AreBridgeInputs};
-ghost use Rattle.app_failure.specs.Reading.{EndsFiles};
+ghost use Rattle.app_networks.specs.RunFiles.{IsOutputFile, IsWrittenFile, NamesFile};
 ghost use Rattle.app_networks.specs.Folders.{EndsRounds, EndsRun, IsAccepted, IsLine, IsMostRounds, PrintsRounds, PrintsRoundsIn, IsRunLine, TellsRunIn, network_words, rounds_line};
 
 use crate::incoming::read_bridge_inputs;
@@ -124,7 +124,7 @@ fn write_results<F: Write + OpenFile + Drop>(
     ensures ok { IfOk result (λ lines. IsLine network.now.links settled.now file.now (string_bytes lines.line)) }
     ensures lost { IfOk result (λ lines. AreToldLines network.now.links settled.now file.now is_strict
         (string_bytes lines.lost)) }
-    ensures err { IfErr result EndsFiles }
+    ensures err { IfErr result (NamesFile (IsOutputFile network.now.plans file.now.bridges output.now)) }
 {
     let Outputs {
         bridges,
@@ -180,7 +180,8 @@ fn write_results_and_picture<H: AllocGlobal + Files>(
     ensures ok { IfOk result (λ lines. IsLine network.now.links settled.now file.now (string_bytes lines.line)) }
     ensures lost { IfOk result (λ lines. AreToldLines network.now.links settled.now file.now is_strict
         (string_bytes lines.lost)) }
-    ensures err { IfErr result EndsFiles }
+    ensures err { IfErr result (NamesFile (IsWrittenFile network.now.plans file.now.bridges output.now
+        (option_map string_bytes picture.now))) }
 {
     let Ok(queues) = all_queue_bounds(rt.alloc(), network.plans()) else {
         drop(outputs);
@@ -234,7 +235,8 @@ fn open_run<H: AllocGlobal + Files>(
 >
     ensures came { IfOk result (λ opened. AreBridgeInputs network.now.plans opened.0.items) }
     ensures named { IfOk result (λ _. HavePaths job.now.input.now job.now.output.now) }
-    ensures err { IfErr result (EndsRun network.now file.now.bridges) }
+    ensures err { IfErr result (EndsRun network.now file.now.bridges job.now.input.now job.now.output.now
+        (option_map string_bytes job.now.picture.now)) }
 {
     let (alloc, plans, bridges) = (files.alloc(), network.plans(), file.bridges());
     if let Err(fault) = test_folders(alloc, job.input, job.output) {
@@ -273,7 +275,8 @@ fn run_network_folders<H: AllocGlobal + Eprint + Files>(
     ensures lost { IfOk result (λ ran. TellsRunLosses network.now file.now flags.is_strict (string_bytes ran.0.line)
         ran.1 (string_bytes ran.0.lost)) }
     ensures named { IfOk result (λ _. HavePaths job.now.input.now job.now.output.now) }
-    ensures err { IfErr result (EndsRun network.now file.now.bridges) }
+    ensures err { IfErr result (EndsRun network.now file.now.bridges job.now.input.now job.now.output.now
+        (option_map string_bytes job.now.picture.now)) }
 {
     let (alloc, bridges) = (files.alloc(), file.bridges());
     let opened = open_run(files, file, network, job)?;
@@ -385,7 +388,8 @@ fn run_accepted<H: AllocGlobal + Eprint + Files>(
     ensures warned { IfOk result (λ said. said.is_warned ≡ true → said.line ≡ None) }
     ensures idle { IfOk result (λ said. said.line ≡ None → (said.is_warned ≡ true)
         × ((flags.is_strict ≡ true) × TellsWarnings network.now file.now (string_bytes said.told))) }
-    ensures err { IfErr result (EndsRun network.now file.now.bridges) }
+    ensures err { IfErr result (EndsRun network.now file.now.bridges job.now.input.now job.now.output.now
+        (option_map string_bytes job.now.picture.now)) }
 {
     let Ok(warnings) = warnings_if(files.alloc(), file, network, flags.is_strict) else {
         return Err(Failure::NoMemory);
@@ -456,7 +460,8 @@ pub fn run_rounds<H: AllocGlobal + Eprint + Files>(
     ensures warned { IfOk result (λ said. said.is_warned ≡ true → said.line ≡ None) }
     ensures idle { IfOk result (λ said. said.line ≡ None → (said.is_warned ≡ true)
         × ((flags.is_strict ≡ true) × PrintsWarnings Global (string_bytes said.told))) }
-    ensures err { IfErr result (EndsRounds Global job.now.network.now) }
+    ensures err { IfErr result (EndsRounds Global job.now.network.now job.now.input.now job.now.output.now
+        (option_map string_bytes job.now.picture.now)) }
 {
     let alloc = files.alloc();
     let file = read_network(alloc, files, job.network)?;

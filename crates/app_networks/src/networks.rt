@@ -1,5 +1,5 @@
 //! The commands for networks: `net check`, `net` and `picture`.
-ghost use Rattle.std.specs.Prelude.{[], ◌≡◌, IfErr, IfOk, false, string_bytes};
+ghost use Rattle.std.specs.Prelude.{[], ◌≡◌, IfErr, IfOk, false, option_map, string_bytes};
 ghost use Rattle.std.specs.declared.alloc.Global.{Global};
 ghost use Rattle.net_check.specs.Networks.{EndsNetwork};
 ghost use Rattle.app_networks.specs.Folders.{EndsRounds};
@@ -78,7 +78,8 @@ pub(crate) fn run_network<H: AllocGlobal + Eprint + Files>(
     flags: Flags,
 ) -> Result<Output, Failure>
     ensures ok { IfOk result (IsNetworkRunOutput flags.is_strict flags.is_explained) }
-    ensures fails { IfErr result (EndsRounds Global job.now.network.now) }
+    ensures fails { IfErr result (EndsRounds Global job.now.network.now job.now.input.now job.now.output.now
+        (option_map string_bytes job.now.picture.now)) }
 {
     match run_rounds(files, job, flags) {
         Ok(said) => Ok(output_of_run(files.alloc(), said, flags)),

@@ -1,7 +1,8 @@
 //! The output files of a network run. All are opened before the run, so that a wrong path costs no run.
 ghost use Rattle.std.specs.Prelude.{◌≡◌, IfErr, IfOk, string_bytes};
-ghost use Rattle.app_failure.specs.Reading.{EndsFiles};
+ghost use Rattle.app_failure.specs.Reading.{FailsCaptures, IsFileFault};
 ghost use Rattle.app_networks.specs.OutputFiles.{folder_path};
+ghost use Rattle.app_networks.specs.RunFiles.{IsBridgeOutputFile, IsOutputFile, NamesFile, table_path};
 
 use crate::refusing::bridge_name;
 use app_failure::{Failure, NoMemory, file_failure};
@@ -59,7 +60,7 @@ fn input_folders<H: AllocGlobal + Files>(
 
 /// Creates a missing folder and its parents. Refuses one of the input folders `read`, because outputs would replace inputs there.
 fn make_folder<H: AllocGlobal + Files>(rt: &H, path: &str, read: &[FileId]) -> Result<(), Failure>
-    ensures { IfErr result EndsFiles }
+    ensures { IfErr result (IsFileFault path.now) }
 {
     if let Some(folder) = path_file_id(rt, path) {
         if read.contains(&folder) {
@@ -80,7 +81,7 @@ pub(crate) fn open_output<H: AllocGlobal + Files>(
     files: &mut CommandFiles<'_, H>,
     path: &str,
 ) -> Result<Output<H::File>, Failure>
-    ensures { IfErr result EndsFiles }
+    ensures { IfErr result (IsFileFault path.now) }
 {
     match files.create_new(path) {
         Ok(output) => Ok(output),
@@ -94,7 +95,7 @@ fn open_table<H: AllocGlobal + Files>(
     folder: &str,
     name: &str,
 ) -> Result<Output<H::File>, Failure>
-    ensures { IfErr result EndsFiles }
+    ensures { IfErr result (IsFileFault (table_path folder.now name.now)) }
 {
     match format!(in files.alloc(); "{folder}/{name}.csv") {
         Ok(path) => open_output(files, path.as_str()),
@@ -108,7 +109,7 @@ fn open_captures<H: AllocGlobal + Files>(
     folder: &str,
     ports: &[u8],
 ) -> Result<Vec<Output<H::File>>, Failure>
-    ensures { IfErr result EndsFiles }
+    ensures { IfErr result (FailsCaptures folder.now ports.now) }
 {
     let outputs = match files.create_captures(folder, ports) {
         Ok(outputs) => outputs,
@@ -129,7 +130,7 @@ fn open_bridge<H: AllocGlobal + Files>(
     accepted: &Accepted<Global>,
     folder: &str,
 ) -> Result<BridgeOutputs<H::File>, Failure>
-    ensures { IfErr result EndsFiles }
+    ensures { IfErr result (NamesFile (IsBridgeOutputFile accepted.now folder.now)) }
 {
     let Ok(ports) = accepted.plan().port_numbers(files.alloc()) else {
         return Err(Failure::NoMemory);
@@ -156,7 +157,7 @@ fn open_bridges<H: AllocGlobal + Files>(
     input: &str,
     output: &str,
 ) -> Result<Vec<BridgeOutputs<H::File>>, Failure>
-    ensures { IfErr result EndsFiles }
+    ensures { IfErr result (NamesFile (IsOutputFile plans.now bridges.now output.now)) }
 {
     let Ok(read) = input_folders(files.rt, bridges, input) else {
         return Err(Failure::NoMemory);
@@ -188,7 +189,7 @@ pub(crate) fn open_outputs<H: AllocGlobal + Files>(
     input: &str,
     output: &str,
 ) -> Result<Outputs<H::File>, Failure>
-    ensures { IfErr result EndsFiles }
+    ensures { IfErr result (NamesFile (IsOutputFile plans.now bridges.now output.now)) }
 {
     let opened = open_bridges(files, plans, bridges, input, output)?;
     let streams = match open_table(files, output, "streams") {

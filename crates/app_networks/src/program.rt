@@ -201,7 +201,8 @@ fn run_network_request<H: AllocGlobal + Eprint + Files>(
     flags: Flags,
 ) -> Result<Output, Failure>
     ensures ok { IfOk result (IsNetworkRunOutput flags.is_strict flags.is_explained) }
-    ensures fails { IfErr result (EndsRounds Global (string_bytes network.now)) }
+    ensures fails { IfErr result (EndsRounds Global (string_bytes network.now) (string_bytes input.now)
+        (string_bytes output.now) (option_map string_bytes picture.now)) }
 {
     let request = NetworkRunRequest {
         network: network.as_str(),

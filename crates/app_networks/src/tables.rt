@@ -3,8 +3,8 @@ ghost use Rattle.std.specs.Prelude.{◌≡◌, ℕ, IfErr, IfOk, OnOk, length, m
 ghost use Rattle.bridge_semantics.specs.declared.outcome.Outcome.{Outcome};
 ghost use Rattle.net_run.specs.Rounds.{AreOutcomes};
 ghost use Rattle.app_networks.specs.Counted.{AreTotals};
-ghost use Rattle.app_failure.specs.Reading.{EndsFiles};
 ghost use Rattle.app_networks.specs.InTime.{AreHopRuns, HasView, HaveViews, HaveViewsOf, IsHopRun};
+ghost use Rattle.app_networks.specs.RunFiles.{IsTableFile, NamesFile};
 ghost use Rattle.app_networks.specs.Tables.{TablesStream, WriteStreams, WriteTables, hop_text};
 
 use crate::refusing::bridge_name;
@@ -203,7 +203,7 @@ fn end_table<F: Write + OpenFile + Drop>(output: Output<F>) -> io::Result<()> {
 
 /// Returns the program's fault for a table that wasn't written, with the table's path in `folder`.
 fn folder_fault(alloc: Global, folder: &str, fault: TableFault) -> Failure
-    ensures { EndsFiles result }
+    ensures { NamesFile (IsTableFile folder.now) result }
 {
     let path = match fault {
         TableFault::Broken(Table::Streams) => format!(in alloc; "{folder}/streams.csv"),
@@ -264,7 +264,7 @@ pub(crate) fn put_tables<F: Write + OpenFile + Drop>(
     requires bounds { length bounds.now ≡ length file.now.streams }
     requires views { HaveViews settled.now file.now.streams }
     ensures ok { IfOk result (λ all. AreTotals links.now settled.now file.now.streams 0 0 all.frames all.delivered) }
-    ensures err { IfErr result EndsFiles }
+    ensures err { IfErr result (NamesFile (IsTableFile folder.now)) }
 {
     match put_files(alloc, file, links, settled, bounds, streams, frames) {
         Ok(totals) => Ok(totals),

@@ -2,8 +2,10 @@
 ghost use Rattle.std.specs.Prelude.{IfErr, IfOk};
 ghost use Rattle.std.specs.Io.KnownBytes.{Appends};
 ghost use Rattle.bridge_report.specs.Section.{report_text};
-ghost use Rattle.app_failure.specs.Reading.{EndsFiles};
+ghost use Rattle.app_failure.specs.Reading.{FailsCaptures, IsFileFault};
+ghost use Rattle.app_files.specs.Paths.{capture_path, report_path};
 ghost use Rattle.app_networks.specs.OutputFiles.{AreWrittenBy, IsBridgeWritten, IsTapWritten};
+ghost use Rattle.app_networks.specs.RunFiles.{IsBridgeOutputFile, IsOutputOfBridges, NamesFile};
 
 use crate::outputs::{BridgeOutputs, bridge_folder};
 use app_failure::{Failure, file_failure};
@@ -28,7 +30,7 @@ fn put_tap<F: Write + OpenFile + Drop>(
     tap: &VecSink<Global>,
 ) -> Result<Output<F>, Failure>
     ensures written { IfOk result (IsTapWritten ⟦<Output<F> as Write>⟧.contents output tap.now) }
-    ensures fails { IfErr result EndsFiles }
+    ensures fails { IfErr result (IsFileFault (capture_path folder.now port)) }
 {
     let Ok(path) = capture_path(alloc, folder, port) else {
         drop(output);
@@ -50,7 +52,7 @@ fn write_captures<F: Write + OpenFile + Drop>(
 ) -> Result<Vec<Output<F>>, Failure>
     ensures written { IfOk result (λ done. AreWrittenBy (IsTapWritten ⟦<Output<F> as Write>⟧.contents) outputs.items
         taps.now done.items) }
-    ensures fails { IfErr result EndsFiles }
+    ensures fails { IfErr result (FailsCaptures folder.now ports.now) }
 {
     let mut done = Vec::new(alloc);
     for output in outputs {
@@ -80,7 +82,7 @@ fn write_report_file<F: Write + OpenFile + Drop>(
 ) -> Result<Output<F>, Failure>
     ensures written { IfOk result (λ done. Appends (⟦<Output<F> as Write>⟧.contents output)
         (⟦<Output<F> as Write>⟧.contents done) (report_text outcome.now.filters.items)) }
-    ensures fails { IfErr result EndsFiles }
+    ensures fails { IfErr result (IsFileFault (report_path folder.now)) }
 {
     let Ok(path) = report_path(alloc, folder) else {
         drop(output);
@@ -108,7 +110,7 @@ fn write_bridge<F: Write + OpenFile + Drop>(
     outputs: BridgeOutputs<F>,
 ) -> Result<BridgeOutputs<F>, Failure>
     ensures written { IfOk result (IsBridgeWritten ⟦<Output<F> as Write>⟧.contents outputs settled.now) }
-    ensures fails { IfErr result EndsFiles }
+    ensures fails { IfErr result (NamesFile (IsBridgeOutputFile plan.now folder.now)) }
 {
     let Ok(ports) = plan.port_numbers(alloc) else {
         drop(outputs);
@@ -142,7 +144,7 @@ pub(crate) fn write_bridges<F: Write + OpenFile + Drop>(
 ) -> Result<Vec<BridgeOutputs<F>>, Failure>
     ensures written { IfOk result (λ done. AreWrittenBy (IsBridgeWritten ⟦<Output<F> as Write>⟧.contents) outputs.items
         settled.now done.items) }
-    ensures fails { IfErr result EndsFiles }
+    ensures fails { IfErr result (NamesFile (IsOutputOfBridges network.now.plans bridges.now output.now)) }
 {
     let plans = network.plans();
     let mut done = Vec::new(alloc);

@@ -8,6 +8,7 @@ mod check_explanation;
 mod closed;
 mod gate_openings;
 mod gate_waits;
+mod group_description;
 mod hidden_stream;
 mod hypercycle;
 mod lint;

@@ -20,7 +20,7 @@ fn metered_octets(length: u32) -> u32 {
 }
 
 /// Returns the meter with number `number`, or `None`.
-fn find_meter(meters: &[(u32, MeterPlan)], number: u32) -> Option<MeterPlan> {
+pub(crate) fn find_meter(meters: &[(u32, MeterPlan)], number: u32) -> Option<MeterPlan> {
     for meter in meters {
         if meter.0 == number {
             return Some(meter.1);

@@ -1,15 +1,17 @@
 //! Describes an accepted plan.
 ghost use Rattle.std.specs.Prelude.{◌<◌, ◌≤◌};
 
+use crate::group_description::{first_of_group, put_group, shared_queues};
 use crate::lint::find_warnings;
 use crate::sentence::{LintText, put_warning};
 use crate::warning::Warning;
 use crate::windows::{longest_frame_of_class, put_open_windows};
-use bridge_bounds::{queue_bound, tight_queue_bound};
+use bridge_bounds::{is_coarse, queue_bound, tight_queue_bound};
 use bridge_check::{Accepted, can_wait};
 use bridge_config::PortPlan;
 use bridge_filter::FilterPlan;
 use bridge_frame::occupation;
+use bridge_groups::{CAPTURED_SDU, PADDED_SDU, SharedQueue, gate_work_bound};
 use bridge_limits::{LONGEST_FRAME, NoMemory};
 use bridge_text::TextBuilder;
 use std::alloc::{Allocator, Global};
@@ -19,15 +21,18 @@ const BOUND: &str =
 
 const TIGHT: &str = "With the octet limit of its gate the bound is {0} ns.\n";
 
-/// Describes an accepted plan: for each protected filter and each group its queues, their windows, the longest frame that fits and, for a
-/// protected filter, the delay bound; then all warnings. `idle` is the line of a schedule change without effect (`idle_change`).
-pub fn describe_plan<A: Allocator + Copy>(
+const PADDED: &str = "For frames of at least 60 octets the bound is {0} ns.\n";
+
+/// Describes an accepted plan: for each protected filter and each group its queues, their windows, the longest frame that fits and the
+/// delay bound; then all warnings. `idle` is the line of a schedule change without effect (`idle_change`).
+pub fn describe_plan(
     alloc: Global,
-    accepted: &Accepted<A>,
+    accepted: &Accepted<Global>,
     idle: Option<usize>,
 ) -> Result<String, NoMemory> {
     let mut said = TextBuilder::new(alloc);
-    put_filters(&mut said, accepted);
+    let rows = shared_queues(alloc, &mut said, accepted);
+    put_filters(&mut said, accepted, &rows);
     put_warnings(alloc, &mut said, accepted, idle);
     said.finish()
 }
@@ -63,91 +68,24 @@ fn put_warnings<A: Allocator + Copy>(
     }
 }
 
-/// Writes the queues of each protected filter and each group with windows, and the bounds of protected filters. A group stands in the place
-/// of its first filter.
-fn put_filters<A: Allocator + Copy>(said: &mut LintText, accepted: &Accepted<A>) {
-    for (number, filter) in accepted.plan().filters() {
+/// Writes the queues of each protected filter and each group, with windows and bounds. A group stands in the place of its first filter.
+fn put_filters<A: Allocator + Copy>(
+    said: &mut LintText,
+    accepted: &Accepted<A>,
+    rows: &[SharedQueue],
+) {
+    let plan = accepted.plan();
+    for (number, filter) in plan.filters() {
         let own = u64::from(*number);
         if filter.protected {
             said.put_template("Filter {0} is protected.\n", &[own], &[]);
             put_ports(said, accepted, *number, filter);
         } else if let Some(group) = filter.group {
-            if first_of_group(accepted.plan().filters(), group) == *number {
-                put_group(said, accepted, group);
+            if first_of_group(plan.filters(), group) == *number {
+                put_group(said, plan, rows, group);
             }
         }
     }
-}
-
-/// Whether a filter is in the group.
-fn is_in_group(filter: &FilterPlan, group: u32) -> bool {
-    match filter.group {
-        Some(own) => own == group,
-        None => false,
-    }
-}
-
-/// Returns the number of the first filter in the group; 0 without one.
-fn first_of_group(filters: &[(u32, FilterPlan)], group: u32) -> u32 {
-    for (number, filter) in filters {
-        if is_in_group(filter, group) {
-            return *number;
-        }
-    }
-    0
-}
-
-/// Writes the filters of a group, and each queue that one of them can reach, with windows.
-fn put_group<A: Allocator + Copy>(said: &mut LintText, accepted: &Accepted<A>, group: u32) {
-    let mut template = "Filters of group {0}: {1}";
-    for (number, filter) in accepted.plan().filters() {
-        if is_in_group(filter, group) {
-            said.put_template(template, &[u64::from(group), u64::from(*number)], &[]);
-            template = ", {1}";
-        }
-    }
-    said.put(".\n");
-    for port in 1..17u8 {
-        if let Some(found) = accepted.plan().port(port) {
-            put_group_classes(said, accepted, group, port, found);
-        }
-    }
-}
-
-/// Writes the queues of a group at one port.
-fn put_group_classes<A: Allocator + Copy>(
-    said: &mut LintText,
-    accepted: &Accepted<A>,
-    group: u32,
-    port: u8,
-    found: &PortPlan<A>,
-)
-    requires from { 1 ≤ port }
-    requires to { port ≤ 16 }
-{
-    for class in 0..8u8 {
-        if can_group_wait(accepted, group, port, class) {
-            put_queue(said, port, found, class);
-        }
-    }
-}
-
-/// Whether a filter of the group can reach the queue of class `class` at a port.
-fn can_group_wait<A: Allocator + Copy>(
-    accepted: &Accepted<A>,
-    group: u32,
-    port: u8,
-    class: u8,
-) -> bool
-    requires from { 1 ≤ port }
-    requires to { port ≤ 16 }
-{
-    for (_, filter) in accepted.plan().filters() {
-        if is_in_group(filter, group) && can_wait(accepted.plan(), filter, port, class) {
-            return true;
-        }
-    }
-    false
 }
 
 /// Writes the queues of a filter at all ports.
@@ -180,15 +118,21 @@ fn put_classes<A: Allocator + Copy>(
         if can_wait(accepted.plan(), filter, port, class) {
             put_queue(said, port, found, class);
             if let Some(bound) = queue_bound(accepted, number, port, class) {
+                put_bound(said, filter, found, class, bound);
                 let tight = tight_queue_bound(accepted, number, port, class).unwrap_or(bound);
-                put_bound(said, filter, found, class, bound, tight);
+                put_gate_bounds(said, accepted, number, port, class, tight, bound);
             }
         }
     }
 }
 
 /// Writes the windows of a queue, and the longest frame that fits.
-fn put_queue<A: Allocator + Copy>(said: &mut LintText, number: u8, port: &PortPlan<A>, class: u8)
+pub(crate) fn put_queue<A: Allocator + Copy>(
+    said: &mut LintText,
+    number: u8,
+    port: &PortPlan<A>,
+    class: u8,
+)
     requires { class < 8 }
 {
     said.put_template(
@@ -207,14 +151,13 @@ fn put_queue<A: Allocator + Copy>(said: &mut LintText, number: u8, port: &PortPl
     }
 }
 
-/// Writes the delay bound of a queue with its assumptions, and the tighter bound by the stream gate's octet limit if it is less.
+/// Writes the delay bound of a queue by its capacity, with its assumptions.
 fn put_bound<A: Allocator + Copy>(
     said: &mut LintText,
     filter: &FilterPlan,
     port: &PortPlan<A>,
     class: u8,
     bound: u64,
-    tight: u64,
 )
     requires { class < 8 }
 {
@@ -224,7 +167,34 @@ fn put_bound<A: Allocator + Copy>(
         let occupied = occupation(length, port.speed);
         said.put_template(BOUND, &[bound, room, u64::from(length), occupied], &[]);
     }
-    if tight < bound {
-        said.put_template(TIGHT, &[tight], &[]);
+}
+
+/// Writes the bounds by the octet limits of the filter's stream gate, if they are below `bound`, the bound by capacity. The numbers are
+/// those of `bounds`: for any capture, and for frames of at least 60 octets. `tight` is the bound by the simple rule.
+fn put_gate_bounds<A: Allocator + Copy>(
+    said: &mut LintText,
+    accepted: &Accepted<A>,
+    number: u32,
+    port: u8,
+    class: u8,
+    tight: u64,
+    bound: u64,
+)
+    requires from { 1 ≤ port }
+    requires to { port ≤ 16 }
+    requires class { class < 8 }
+{
+    let (mut least, mut padded) = (tight.min(bound), None);
+    if !is_coarse(accepted, number, port) {
+        let captured = gate_work_bound(accepted, number, port, class, CAPTURED_SDU);
+        least = least.min(captured.unwrap_or(least));
+        padded = gate_work_bound(accepted, number, port, class, PADDED_SDU);
+    }
+    if least < bound {
+        said.put_template(TIGHT, &[least], &[]);
+    }
+    match padded {
+        Some(padded) if 0 < padded && padded < least => said.put_template(PADDED, &[padded], &[]),
+        _ => {}
     }
 }

@@ -80,8 +80,23 @@ fn can_enter_port(streams: &[StreamEntry], handle: Option<u32>, port: u8) -> boo
     false
 }
 
-/// Whether a lane names a filter. A stream gate's lane names the filters that use the gate, other lanes the protected filters that can
-/// reach them.
+/// Whether a filter is protected or grouped: pictures show its windows and stream gate.
+fn is_shown(filter: &FilterPlan) -> bool {
+    filter.protected || filter.group.is_some()
+}
+
+/// Whether a plan has a group of filters.
+pub(crate) fn has_groups<A: Allocator + Copy>(plan: &Plan<A>) -> bool {
+    for (_, filter) in plan.filters() {
+        if filter.group.is_some() {
+            return true;
+        }
+    }
+    false
+}
+
+/// Whether a lane names a filter. A stream gate's lane names the filters that use the gate. Other lanes name the protected and grouped
+/// filters that can reach them.
 fn is_filter_in_lane<A: Allocator + Copy>(plan: &Plan<A>, filter: &FilterPlan, lane: Lane) -> bool {
     let (port, first, last) = match lane {
         Lane::Gate(gate) => return filter.gate == gate,
@@ -89,7 +104,7 @@ fn is_filter_in_lane<A: Allocator + Copy>(plan: &Plan<A>, filter: &FilterPlan, l
         Lane::Class(port, class) => (port, class, class),
     };
     for class in 0..8u8 {
-        let is_asked = filter.protected && first <= class && class <= last;
+        let is_asked = is_shown(filter) && first <= class && class <= last;
         if is_asked && (1..=16).contains(&port) && can_wait(plan, filter, port, class) {
             return true;
         }
@@ -98,11 +113,12 @@ fn is_filter_in_lane<A: Allocator + Copy>(plan: &Plan<A>, filter: &FilterPlan, l
 }
 
 impl Picture {
-    /// Adds to `gates` the stream gates of selected protected filters whose streams enter at selected ports: their lanes follow the port's.
+    /// Adds to `gates` the stream gates of selected protected and grouped filters whose streams enter at selected ports. Their lanes follow
+    /// the port's.
     pub(crate) fn add_gates<A: Allocator + Copy>(&mut self, plan: &Plan<A>, part: &Selection) {
         for port in plan.ports() {
             for (number, it) in plan.filters() {
-                let is_asked = it.protected & part.has_port(port.number) & part.has_filter(*number);
+                let is_asked = is_shown(it) & part.has_port(port.number) & part.has_filter(*number);
                 if is_asked && can_enter_port(plan.streams(), it.handle, port.number) {
                     self.is_refused |= self.gates.push((port.number, it.gate)).is_err();
                 }

@@ -1,7 +1,7 @@
 //! Legend of a picture.
 use crate::lane::digit_count;
 use crate::picture::Picture;
-use show_svg::{LegendRow, Sample, choose_word};
+use show_svg::{LegendRow, Sample};
 
 /// Styles of the filters' colours, by colour number.
 const COLOURS: [&str; 8] = ["c0", "c1", "c2", "c3", "c4", "c5", "c6", "c7"];
@@ -21,7 +21,7 @@ pub(crate) fn colour_style(colour: u64, is_edged: bool) -> &'static str {
     }
 }
 
-/// Legend rows of all pictures: lanes and their windows.
+/// Legend rows of lanes and their windows, in pictures of plans without groups.
 const LANES: &[LegendRow] = &[
     (Sample::Bar, "own", "window of a protected filter"),
     (Sample::Bar, "open", "window of other classes"),
@@ -30,6 +30,18 @@ const LANES: &[LegendRow] = &[
         Sample::Nothing,
         "",
         "number at a lane: its protected filter",
+    ),
+];
+
+/// Legend rows of lanes and their windows, in pictures of plans with groups.
+const GROUP_LANES: &[LegendRow] = &[
+    (Sample::Bar, "own", "window of a protected filter or a group"),
+    (Sample::Bar, "open", "window of other classes"),
+    (Sample::Bar, "hatch", "too much to draw"),
+    (
+        Sample::Nothing,
+        "",
+        "numbers at a lane: its protected or grouped filters",
     ),
 ];
 
@@ -56,20 +68,44 @@ pub(crate) const RUN: &[LegendRow] = &[
     ),
 ];
 
+/// Legend rows of the picture of a run under a plan with groups.
+pub(crate) const GROUP_RUN: &[LegendRow] = &[
+    (Sample::Waits, "grey", "arrival and wait"),
+    (Sample::Due, "grey", "latest end by the bound"),
+    (Sample::TipBelow, "grey", "dropped by a queue"),
+    (Sample::TipAbove, "grey", "refused by its filter"),
+    (
+        Sample::Bar,
+        "gate",
+        "open stream gate of a protected or grouped filter, by its list",
+    ),
+];
+
 impl Picture {
-    /// Draws the legend row of a filter: a sample of its colour, its number, and whether it is protected.
-    pub(crate) fn put_filter_legend(&mut self, filter: u32, is_protected: bool, colour: u64) {
+    /// Draws the legend row of a filter: a sample of its colour, its number, and whether it is protected or grouped.
+    pub(crate) fn put_filter_legend(
+        &mut self,
+        filter: u32,
+        is_protected: bool,
+        is_grouped: bool,
+        colour: u64,
+    ) {
         let style = colour_style(colour, is_protected);
-        let words = choose_word(is_protected, "{0} protected", "{0} unprotected");
-        let letters = digit_count(filter).saturating_add(if is_protected { 10 } else { 12 });
+        let (words, letters) = match (is_protected, is_grouped) {
+            (true, _) => ("{0} protected", 10),
+            (false, true) => ("{0} grouped", 8),
+            (false, false) => ("{0} unprotected", 12),
+        };
+        let letters = digit_count(filter).saturating_add(letters);
         self.page
             .put_legend_row((Sample::Bar, style, words), letters, u64::from(filter));
     }
 
-    /// Writes the legend: lanes, `rows`, and if present the schedule change and the fault.
-    pub(crate) fn put_legend(&mut self, rows: &[LegendRow]) {
+    /// Writes the legend: lanes, `rows`, and if present the schedule change and the fault. `has_groups` says whether the plan has groups.
+    pub(crate) fn put_legend(&mut self, rows: &[LegendRow], has_groups: bool) {
         self.page.begin_legend();
-        for row in LANES.iter().chain(rows) {
+        let lanes = if has_groups { GROUP_LANES } else { LANES };
+        for row in lanes.iter().chain(rows) {
             self.page.put_legend_row(*row, row.2.len(), 0);
         }
         if self.change.is_some() {

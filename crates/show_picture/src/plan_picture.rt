@@ -2,13 +2,14 @@
 ghost use Rattle.std.specs.Prelude.{◌≤◌, IfOk, length, string_bytes};
 
 use crate::frame_selection::FrameSelection;
-use crate::lane::MAX_GATES;
-use crate::legend::{GATES, RUN};
+use crate::lane::{MAX_GATES, has_groups};
+use crate::legend::{GATES, GROUP_RUN, RUN};
 use crate::picture::Picture;
 use crate::selection::{Selection, plan_span, shown_length};
 use bridge_bounds::find_filter;
 use bridge_check::{Accepted, CheckFault, Refused};
 use bridge_config::Plan;
+use bridge_groups::SharedQueue;
 use bridge_limits::NoMemory;
 use show_lint::Hypercycle;
 use show_svg::{AXIS_LEFT, Page, choose_word};
@@ -131,16 +132,24 @@ impl Picture {
         self.page.end_text();
     }
 
-    /// Draws the parts below the head: the legend, then for each port its windows, frames and stream gates, and the time axis.
+    /// Draws the parts below the head: the legend, then for each port its windows, frames and stream gates, and the time axis. `rows` has the
+    /// shared queues of all groups, for the frames of a run.
     pub(crate) fn put_ports<A: Allocator + Copy>(
         &mut self,
         plan: &Plan<A>,
         part: &Selection,
         accepted: Option<&Accepted<A>>,
+        rows: &[SharedQueue],
         run: Option<&FrameSelection>,
     ) {
         self.share_windows(plan, part);
-        self.put_legend(if run.is_some() { RUN } else { GATES });
+        let is_grouped = has_groups(plan);
+        let legend = match run {
+            None => GATES,
+            Some(_) if is_grouped => GROUP_RUN,
+            Some(_) => RUN,
+        };
+        self.put_legend(legend, is_grouped);
         self.page.skip_height(350);
         let top = self.page.bottom();
         let most = MAX_GATES / plan.ports().len().max(1);
@@ -148,7 +157,7 @@ impl Picture {
             if part.has_port(port.number) {
                 self.put_port(plan, port);
                 if let (Some(accepted), Some(choice)) = (accepted, run) {
-                    self.put_port_link(accepted, choice, port.number);
+                    self.put_port_link(accepted, rows, choice, port.number);
                 }
                 self.put_gates(plan, port.number, most);
             }
@@ -203,6 +212,6 @@ pub fn draw_plan<A: Allocator + Copy>(
     if let Some(fault) = fault {
         picture.put_fault(alloc, fault);
     }
-    picture.put_ports(plan, part, accepted, None);
+    picture.put_ports(plan, part, accepted, &[], None);
     picture.finish(alloc)
 }

@@ -5,8 +5,10 @@ use crate::frame_selection::{DrawnFrame, FrameSelection, select_frames};
 use crate::legend::colour_style;
 use crate::picture::Picture;
 use crate::selection::Selection;
-use bridge_bounds::queue_bound;
+use bridge_bounds::{find_filter, queue_bound};
 use bridge_check::Accepted;
+use bridge_config::Plan;
+use bridge_groups::{SharedQueue, plan_shared_queues};
 use bridge_limits::NoMemory;
 use bridge_semantics::{Outcome, StoredDeparture, StoredOrigin};
 use show_lint::Hypercycle;
@@ -23,10 +25,11 @@ const FRAME: &str = "filter {0} frame {1}, sent {2} to {3} ns, arrived at {4} ns
 /// Title of a refused or dropped frame.
 const MARK: &str = "filter {0} frame {1}, arrived at {2} ns: {a}";
 
-/// Returns the longest delay bound in ns of a protected filter at `port`, over all queues. Returns `None` for unprotected filters and
-/// unreachable ports.
+/// Returns the longest delay bound in ns of a protected or grouped filter at `port`, over all queues. `rows` has the shared queues of all
+/// groups. Returns `None` for other filters and unreachable ports.
 fn longest_delay<A: Allocator + Copy>(
     accepted: &Accepted<A>,
+    rows: &[SharedQueue],
     filter: u32,
     port: u8,
 ) -> Option<u64> {
@@ -34,6 +37,20 @@ fn longest_delay<A: Allocator + Copy>(
     if (1..=16).contains(&port) {
         for class in 0..8u8 {
             longest = longest.max(queue_bound(accepted, filter, port, class));
+        }
+    }
+    match find_filter(accepted.plan().filters(), filter) {
+        Some(found) => longest.max(longest_group_delay(rows, found.group, port)),
+        None => longest,
+    }
+}
+
+/// Returns the longest delay bound in ns of a group's queues at `port`. Returns `None` without a group or a queue.
+fn longest_group_delay(rows: &[SharedQueue], group: Option<u32>, port: u8) -> Option<u64> {
+    let mut longest = None;
+    for row in rows {
+        if Some(row.group) == group && row.port == port {
+            longest = longest.max(Some(row.bound));
         }
     }
     longest
@@ -62,7 +79,7 @@ fn is_drawn(
 }
 
 impl Picture {
-    /// Draws a protected frame's arrival, its wait, and its latest end `by` in ns.
+    /// Draws the arrival of a protected or grouped frame, its wait, and its latest end `by` in ns.
     fn put_wait(&mut self, frame: &DrawnFrame, by: u64) {
         let (came, colour) = (frame.arrival, frame.colour);
         let (x, due) = self.span.page_extent(came, by);
@@ -130,9 +147,11 @@ impl Picture {
     }
 
     /// Draws the link of a port with the frames that left, and below it the refused and dropped frames. Hatches parts with omitted frames.
+    /// `rows` has the shared queues of all groups.
     pub(crate) fn put_port_link<A: Allocator + Copy>(
         &mut self,
         accepted: &Accepted<A>,
+        rows: &[SharedQueue],
         choice: &FrameSelection,
         port: u8,
     ) {
@@ -143,7 +162,7 @@ impl Picture {
             if frame.port == port {
                 if known != Some(frame.filter) {
                     known = Some(frame.filter);
-                    longest = longest_delay(accepted, frame.filter, port);
+                    longest = longest_delay(accepted, rows, frame.filter, port);
                 }
                 self.put_frame(frame, longest);
             }
@@ -161,8 +180,9 @@ impl Picture {
     }
 
     /// Writes how many frames and marks aren't drawn, if any, and a legend row for each filter with drawn frames.
-    fn put_shown_filters<B: Allocator>(
+    fn put_shown_filters<A: Allocator + Copy, B: Allocator>(
         &mut self,
+        plan: &Plan<A>,
         outcome: &Outcome<B>,
         part: &Selection,
         choice: &FrameSelection,
@@ -181,7 +201,11 @@ impl Picture {
             if part.has_filter(*filter)
                 && is_drawn(self.span, part, &view.origins, &view.departures)
             {
-                self.put_filter_legend(*filter, view.protected, colour);
+                let is_grouped = match find_filter(plan.filters(), *filter) {
+                    Some(found) => found.group.is_some(),
+                    None => false,
+                };
+                self.put_filter_legend(*filter, view.protected, is_grouped, colour);
             }
             colour = colour.saturating_add(1) % 8;
         }
@@ -193,15 +217,16 @@ impl Picture {
 ///
 /// Frames without a filter aren't drawn. If there are too many frames, each port and each part of the time has a share, and omitted frames
 /// are hatched.
-pub fn draw_run<A: Allocator + Copy, B: Allocator>(
+pub fn draw_run<B: Allocator>(
     alloc: Global,
-    accepted: &Accepted<A>,
+    accepted: &Accepted<Global>,
     outcome: &Outcome<B>,
     part: &Selection,
 ) -> Result<String, NoMemory>
     ensures { IfOk result (λ text. length (string_bytes text) ≤ 2000000) }
 {
     let plan = accepted.plan();
+    let rows = plan_shared_queues(alloc, accepted)?;
     let choice = select_frames(alloc, outcome, part);
     let mut picture = Picture::new(alloc, Hypercycle::from_plan(plan).change, choice.span);
     picture.is_refused = choice.left.is_refused | choice.marks.is_refused;
@@ -210,7 +235,7 @@ pub fn draw_run<A: Allocator + Copy, B: Allocator>(
     picture.page.put_span(choice.span);
     picture.page.end_text();
     picture.put_selection(plan, part);
-    picture.put_shown_filters(outcome, part, &choice);
-    picture.put_ports(plan, part, Some(accepted), Some(&choice));
+    picture.put_shown_filters(plan, outcome, part, &choice);
+    picture.put_ports(plan, part, Some(accepted), &rows, Some(&choice));
     picture.finish(alloc)
 }

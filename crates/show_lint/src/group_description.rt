@@ -1,0 +1,194 @@
+//! Describes the queues that the filters of a group share: windows, delay bound, meters and capacity.
+ghost use Rattle.std.specs.Prelude.{◌<◌, ◌≤◌};
+
+use crate::meters::find_meter;
+use crate::plan_description::put_queue;
+use crate::sentence::LintText;
+use bridge_check::{Accepted, can_wait};
+use bridge_config::{Plan, PortPlan};
+use bridge_filter::FilterPlan;
+use bridge_frame::occupation;
+use bridge_groups::{SharedQueue, plan_shared_queues};
+use bridge_limits::LONGEST_FRAME;
+use std::alloc::{Allocator, Global};
+
+const BOUND: &str =
+    "Delay bound: {0} ns from arrival to the end of transmission, whatever the members send ({1} {a}, frames of up to {2} octets, {3} ns each).\n";
+
+const METERS: &str = "The meters pass at most {0} octets at once, and {1} bit/s in the long run.\n";
+
+const NO_METER: &str =
+    "This bound holds by the queue's {0} places only, because filter {1} has no meter. Give it one for a lower bound.\n";
+
+const OVERLOAD: &str =
+    "This bound holds by the queue's {0} places only, because the meters pass more than the windows carry. Lower their rates, or lengthen the windows.\n";
+
+const ENOUGH_ROOM: &str =
+    "With {0} places, the queue drops no frame that passed its filter. It has {1}.\n";
+
+const LITTLE_ROOM: &str =
+    "The queue may drop frames: it needs {0} places and has {1}. Raise its number in `rooms`.\n";
+
+const NO_ROOM: &str =
+    "The queue may drop frames: over a schedule change, no sufficient number of places is known.\n";
+
+/// What the filters that share a queue can send: the sums of their meters, and their longest frame.
+#[derive(Clone, Copy)]
+struct Sharers {
+    /// Number of filters.
+    count: u64,
+    /// Greatest `max_sdu` in octets.
+    sdu: u32,
+    /// Octets that the meters pass at once.
+    burst: u64,
+    /// Rate in bit/s that the meters pass in the long run.
+    rate: u64,
+    /// The first filter without a meter.
+    unmetered: Option<u32>,
+}
+
+impl Sharers {
+    /// Adds a filter, by its number and its meter.
+    fn add<A: Allocator + Copy>(&mut self, plan: &Plan<A>, number: u32, filter: &FilterPlan) {
+        self.count = self.count.saturating_add(1);
+        self.sdu = self.sdu.max(filter.max_sdu.unwrap_or(0));
+        let meter = filter.meter.and_then(|meter| find_meter(plan.meters(), meter));
+        match meter {
+            None => self.unmetered = self.unmetered.or(Some(number)),
+            Some(limits) => {
+                self.burst = self.burst.saturating_add(limits.cbs);
+                self.rate = self.rate.saturating_add(limits.cir);
+                if !limits.drop_yellow {
+                    self.burst = self.burst.saturating_add(limits.ebs);
+                    self.rate = self.rate.saturating_add(limits.eir);
+                }
+            }
+        }
+    }
+}
+
+/// Returns what the filters of a group that can reach the queue can send.
+fn queue_sharers<A: Allocator + Copy>(plan: &Plan<A>, row: &SharedQueue) -> Sharers
+    requires from { 1 ≤ row.now.port }
+    requires to { row.now.port ≤ 16 }
+    requires class { row.now.class < 8 }
+{
+    let mut sharers = Sharers {
+        count: 0,
+        sdu: 0,
+        burst: 0,
+        rate: 0,
+        unmetered: None,
+    };
+    for (number, filter) in plan.filters() {
+        if is_in_group(filter, row.group) && can_wait(plan, filter, row.port, row.class) {
+            sharers.add(plan, *number, filter);
+        }
+    }
+    sharers
+}
+
+/// Whether a filter is in the group.
+fn is_in_group(filter: &FilterPlan, group: u32) -> bool {
+    match filter.group {
+        Some(own) => own == group,
+        None => false,
+    }
+}
+
+/// Returns the number of the first filter in the group; 0 without one.
+pub(crate) fn first_of_group(filters: &[(u32, FilterPlan)], group: u32) -> u32 {
+    for (number, filter) in filters {
+        if is_in_group(filter, group) {
+            return *number;
+        }
+    }
+    0
+}
+
+/// Writes the filters of a group, and the queues that they share. `rows` has the shared queues of all groups.
+pub(crate) fn put_group<A: Allocator + Copy>(
+    said: &mut LintText,
+    plan: &Plan<A>,
+    rows: &[SharedQueue],
+    group: u32,
+) {
+    let mut template = "Filters of group {0}: {1}";
+    for (number, filter) in plan.filters() {
+        if is_in_group(filter, group) {
+            said.put_template(template, &[u64::from(group), u64::from(*number)], &[]);
+            template = ", {1}";
+        }
+    }
+    said.put(".\n");
+    for row in rows {
+        if row.group == group {
+            put_shared_queue(said, plan, row);
+        }
+    }
+}
+
+/// Writes the windows, the bound, the meters and the capacity of a shared queue.
+fn put_shared_queue<A: Allocator + Copy>(said: &mut LintText, plan: &Plan<A>, row: &SharedQueue) {
+    if row.port < 1 || row.port > 16 || row.class > 7 {
+        return;
+    }
+    let Some(port) = plan.port(row.port) else {
+        return;
+    };
+    put_queue(said, row.port, port, row.class);
+    let sharers = queue_sharers(plan, row);
+    put_bound(said, port, row, &sharers);
+    put_capacity(said, row);
+}
+
+/// Writes the delay bound of a shared queue, and what the meters pass, or why the bound doesn't follow from the meters.
+fn put_bound<A: Allocator + Copy>(
+    said: &mut LintText,
+    port: &PortPlan<A>,
+    row: &SharedQueue,
+    sharers: &Sharers,
+) {
+    let length = sharers.sdu.saturating_add(16).min(LONGEST_FRAME);
+    let occupied = occupation(length, port.speed);
+    let word = if sharers.count == 1 { "filter" } else { "filters" };
+    let numbers = [row.bound, sharers.count, u64::from(length), occupied];
+    said.put_template(BOUND, &numbers, &[word]);
+    let capacity = u64::from(row.capacity);
+    match (row.is_metered, sharers.unmetered) {
+        (true, _) => said.put_template(METERS, &[sharers.burst, sharers.rate], &[]),
+        (false, Some(filter)) => {
+            said.put_template(NO_METER, &[capacity, u64::from(filter)], &[]);
+        }
+        (false, None) => said.put_template(OVERLOAD, &[capacity], &[]),
+    }
+}
+
+/// Writes whether the queue has enough places to drop no frame. Writes nothing if the bound doesn't follow from the meters: then no number
+/// of places is enough.
+fn put_capacity(said: &mut LintText, row: &SharedQueue) {
+    let capacity = u64::from(row.capacity);
+    match row.room {
+        Some(room) if room <= row.capacity => {
+            said.put_template(ENOUGH_ROOM, &[u64::from(room), capacity], &[]);
+        }
+        Some(room) => said.put_template(LITTLE_ROOM, &[u64::from(room), capacity], &[]),
+        None if row.is_metered => said.put(NO_ROOM),
+        None => {}
+    }
+}
+
+/// Returns the shared queues of a plan's groups. If memory runs out, discards the text, so the caller's `finish` fails.
+pub(crate) fn shared_queues(
+    alloc: Global,
+    said: &mut LintText,
+    accepted: &Accepted<Global>,
+) -> Vec<SharedQueue> {
+    match plan_shared_queues(alloc, accepted) {
+        Ok(rows) => rows,
+        Err(_) => {
+            said.discard();
+            Vec::new(alloc)
+        }
+    }
+}
