@@ -1,7 +1,10 @@
 -- Tables and pictures that fail.
-use Rattle.std.specs.Prelude.{◌≡◌, ◌⊎◌, ℕ, List, Option, None, Some}
+use Rattle.std.specs.Prelude.{◌≡◌, ◌⊎◌, ℕ, List, Option, None, Some, String}
+use Rattle.std.specs.declared.alloc.Global.{Global}
 use Rattle.std.specs.Io.KnownBytes.{Appends}
 use Rattle.bridge_config.specs.Model.{Plan}
+use Rattle.bridge_semantics.specs.declared.outcome.Outcome.{Outcome}
+use Rattle.show_tables.specs.FrameTable.{frame_table}
 use Rattle.app_failure.specs.declared.fault.Failure.{Failure}
 use Rattle.app_failure.specs.declared.fault.Failure.TheVariants as fault
 use Rattle.app_failure.specs.Jobs.{EndsPlan}
@@ -51,3 +54,13 @@ EndsTold A plan commands input output delays frames picture f = EndsDrawn A plan
 -- Holds if a file has a text: the text was appended to some file, and this file is the result.
 abbrev pub IsWritten : {W : Type 0} → (W → Option (List ℕ)) → List ℕ → W → Type 0
 IsWritten {W} contents text done = (before : W) × Appends (contents before) (contents done) text
+
+-- Holds if `text` is the table of a run's frames.
+abbrev pub IsFrameTable : {A : Type 0} → Outcome A → List ℕ → Type 0
+IsFrameTable outcome text = text ≡ frame_table outcome.filters.items
+
+-- Holds if a requested table was written: a file has a text that is the table. There is no file if the table isn't requested.
+abbrev pub IsTableWritten : {W : Type 0} → (W → Option (List ℕ)) → (List ℕ → Type 0) → Option (String Global) → Option W → Type 0
+IsTableWritten contents is_table None None = Unit {0}
+IsTableWritten contents is_table (Some path) (Some file) = (text : List ℕ) × is_table text × IsWritten contents text file
+IsTableWritten contents is_table path file = ⊥

@@ -85,8 +85,9 @@ fn write_outputs<H: AllocGlobal + Files>(
         ⊎ IsOfTables (option_map string_bytes job.now.tables.now.delays)
         (option_map string_bytes job.now.tables.now.frames) f) }
 {
-    if let Err(fault) = write_tables(files, accepted, outcome, job.tables) {
-        return Err(fault);
+    match write_tables(files, accepted, outcome, job.tables) {
+        Ok(written) => drop(written),
+        Err(fault) => return Err(fault),
     }
     write_run_picture(files, accepted, outcome, job, flags)
 }

@@ -145,7 +145,7 @@ fn write_results<F: Write + OpenFile + Drop>(
             return Err(fault);
         }
     }
-    let totals = put_tables(
+    let written = put_tables(
         alloc,
         file,
         network.links(),
@@ -155,6 +155,8 @@ fn write_results<F: Write + OpenFile + Drop>(
         streams,
         frames,
     )?;
+    let totals = written.totals;
+    drop(written);
     let Ok(lost) = lost_if(alloc, file, network, settled, is_strict) else {
         return Err(Failure::NoMemory);
     };

@@ -191,14 +191,24 @@ pub(crate) fn write_tables<V: Write, W: Write>(
     write_both_tables(alloc, file, links, settled, bounds, streams, frames)
 }
 
-/// Completes the file of a table: writes its buffer, and closes it.
-fn end_table<F: Write + OpenFile + Drop>(output: Output<F>) -> io::Result<()> {
+/// Completes the file of a table, and returns the file: its buffer is written.
+fn end_table<F: Write + OpenFile + Drop>(output: Output<F>) -> io::Result<Output<F>>
+    ensures { IfOk result (λ done. ⟦<Output<F> as Write>⟧.contents done ≡ ⟦<Output<F> as Write>⟧.contents output) }
+{
     let mut output = output;
     output.flush()?;
-    match output.finish() {
-        Ok(_) => Ok(()),
-        Err(error) => Err(error),
-    }
+    output.finish()
+}
+
+/// Files of the tables of a network run, completely written, and the numbers of all streams' frames.
+#[derive(Drop)]
+pub(crate) struct WrittenTables<F: Write + OpenFile + Drop> {
+    /// Numbers of all streams' frames.
+    pub totals: Totals,
+    /// File of the table of streams.
+    pub streams: Output<F>,
+    /// File of the table of frames.
+    pub frames: Output<F>,
 }
 
 /// Returns the program's fault for a table that wasn't written, with the table's path in `folder`.
@@ -216,7 +226,7 @@ fn folder_fault(alloc: Global, folder: &str, fault: TableFault) -> Failure
     }
 }
 
-/// Writes both tables to their files, and completes the files. Returns the numbers of all streams' frames.
+/// Writes both tables to their files, and completes the files. Returns the files and the numbers of all streams' frames.
 fn put_files<F: Write + OpenFile + Drop>(
     alloc: Global,
     file: &NetworkFile<Global>,
@@ -225,10 +235,14 @@ fn put_files<F: Write + OpenFile + Drop>(
     bounds: &[u128],
     streams: Output<F>,
     frames: Output<F>,
-) -> Result<Totals, TableFault>
+) -> Result<WrittenTables<F>, TableFault>
     requires bounds { length bounds.now ≡ length file.now.streams }
     requires views { HaveViews settled.now file.now.streams }
-    ensures { IfOk result (λ all. AreTotals links.now settled.now file.now.streams 0 0 all.frames all.delivered) }
+    ensures counts { IfOk result (λ all. AreTotals links.now settled.now file.now.streams 0 0 all.totals.frames
+        all.totals.delivered) }
+    ensures written { IfOk result (λ all. WriteTables links.now settled.now file.now bounds.now
+        (⟦<Output<F> as Write>⟧.contents streams) (⟦<Output<F> as Write>⟧.contents all.streams)
+        (⟦<Output<F> as Write>⟧.contents frames) (⟦<Output<F> as Write>⟧.contents all.frames)) }
 {
     let mut streams = streams;
     let mut frames = frames;
@@ -241,16 +255,20 @@ fn put_files<F: Write + OpenFile + Drop>(
         &mut streams,
         &mut frames,
     )?;
-    if end_table(streams).is_err() {
+    let Ok(streams) = end_table(streams) else {
         return Err(TableFault::Broken(Table::Streams));
-    }
+    };
     match end_table(frames) {
-        Ok(()) => Ok(totals),
+        Ok(frames) => Ok(WrittenTables {
+            totals,
+            streams,
+            frames,
+        }),
         Err(_) => Err(TableFault::Broken(Table::Frames)),
     }
 }
 
-/// Writes the tables of streams and frames of a network run. A fault names the path of its table in `folder`.
+/// Writes the tables of streams and frames of a network run, and returns their files. A fault names the path of its table in `folder`.
 pub(crate) fn put_tables<F: Write + OpenFile + Drop>(
     alloc: Global,
     file: &NetworkFile<Global>,
@@ -260,14 +278,18 @@ pub(crate) fn put_tables<F: Write + OpenFile + Drop>(
     folder: &str,
     streams: Output<F>,
     frames: Output<F>,
-) -> Result<Totals, Failure>
+) -> Result<WrittenTables<F>, Failure>
     requires bounds { length bounds.now ≡ length file.now.streams }
     requires views { HaveViews settled.now file.now.streams }
-    ensures ok { IfOk result (λ all. AreTotals links.now settled.now file.now.streams 0 0 all.frames all.delivered) }
+    ensures ok { IfOk result (λ all. AreTotals links.now settled.now file.now.streams 0 0 all.totals.frames
+        all.totals.delivered) }
+    ensures written { IfOk result (λ all. WriteTables links.now settled.now file.now bounds.now
+        (⟦<Output<F> as Write>⟧.contents streams) (⟦<Output<F> as Write>⟧.contents all.streams)
+        (⟦<Output<F> as Write>⟧.contents frames) (⟦<Output<F> as Write>⟧.contents all.frames)) }
     ensures err { IfErr result (NamesFile (IsTableFile folder.now)) }
 {
     match put_files(alloc, file, links, settled, bounds, streams, frames) {
-        Ok(totals) => Ok(totals),
+        Ok(written) => Ok(written),
         Err(fault) => Err(folder_fault(alloc, folder, fault)),
     }
 }
