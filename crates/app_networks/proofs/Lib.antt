@@ -9,6 +9,7 @@ pub mod Views
 pub mod Lengths
 pub mod PrintedBounds
 pub mod Ended
+pub mod RunFiles
 pub mod Rows
 pub mod Unchanged
 pub mod Losses

@@ -52,7 +52,9 @@ impl Sharers {
     fn add<A: Allocator + Copy>(&mut self, plan: &Plan<A>, number: u32, filter: &FilterPlan) {
         self.count = self.count.saturating_add(1);
         self.sdu = self.sdu.max(filter.max_sdu.unwrap_or(0));
-        let meter = filter.meter.and_then(|meter| find_meter(plan.meters(), meter));
+        let meter = filter
+            .meter
+            .and_then(|meter| find_meter(plan.meters(), meter));
         match meter {
             None => self.unmetered = self.unmetered.or(Some(number)),
             Some(limits) => {
@@ -151,7 +153,11 @@ fn put_bound<A: Allocator + Copy>(
 ) {
     let length = sharers.sdu.saturating_add(16).min(LONGEST_FRAME);
     let occupied = occupation(length, port.speed);
-    let word = if sharers.count == 1 { "filter" } else { "filters" };
+    let word = if sharers.count == 1 {
+        "filter"
+    } else {
+        "filters"
+    };
     let numbers = [row.bound, sharers.count, u64::from(length), occupied];
     said.put_template(BOUND, &numbers, &[word]);
     let capacity = u64::from(row.capacity);

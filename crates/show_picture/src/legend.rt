@@ -35,7 +35,11 @@ const LANES: &[LegendRow] = &[
 
 /// Legend rows of lanes and their windows, in pictures of plans with groups.
 const GROUP_LANES: &[LegendRow] = &[
-    (Sample::Bar, "own", "window of a protected filter or a group"),
+    (
+        Sample::Bar,
+        "own",
+        "window of a protected filter or a group",
+    ),
     (Sample::Bar, "open", "window of other classes"),
     (Sample::Bar, "hatch", "too much to draw"),
     (

@@ -4,7 +4,7 @@ use Rattle.std.proofs.lemmas.List.{length-take, take_more}
 use Rattle.std.proofs.lemmas.Option.{slice_get_read}
 use Rattle.net_check.specs.Naming.{bridge_name}
 use Rattle.net_run.specs.BridgeRuns.{IsBridgeInput}
-use Rattle.app_networks.specs.Folders.{AreInputsOfPlans, EndsReading}
+use Rattle.app_networks.specs.Folders.{AreInputsOfPlans, EndsBridge, EndsReading}
 use Rattle.app_networks.proofs.Came.{many, more_incoming}
 use Rattle.app_networks.proofs.Ended.{goes_out, reading_at}
 use Rattle.app_networks.proofs.incoming.read_inputs_of_plans.Goals as goal
@@ -19,8 +19,13 @@ returns-in_err-came-clause-ends g c =
     let front : length (take i plans) ≡ min i (length plans) = length-take i plans in
     let bridge : c.len-bridge.result ≡ length c.loop-accepted.all.items = c.len-bridge.ensures ∙ c.loop-accepted.all.ok.0 in
     let here : c.len-bridge.result ≡ i = omega (arith, came, front, bridge, within) in
-    goes_out (EndsReading plans bridges) c.from_residual.result _ c.from_residual.ensures.1
-    (reading_at plans bridges i c.accepted-item.result c.bridge_name-name.result.now _ (slice_get_read plans (length plans) i _ refl within c.accepted-item.is) (c.bridge_name-name.ensures ∙ ap (bridge_name bridges) here) c.in_err-came.ensures.ends)
+    let links = c.args.links.now in
+    let input = c.args.input.now in
+    let name = c.bridge_name-name.result.now in
+    let ends = subst (λ j. EndsBridge links j c.accepted-item.result name c.as_str.result.now c.in_err-came.e) here c.in_err-came.ensures.ends in
+    goes_out (EndsReading links plans bridges input) c.from_residual.result _ c.from_residual.ensures.1
+    (reading_at links plans bridges input name c.as_str.result.now i c.accepted-item.result _ (slice_get_read plans (length plans) i _ refl within c.accepted-item.is) (c.bridge_name-name.ensures ∙ ap (bridge_name bridges) here)
+    (c.as_str.ensures.value ∙ c.in-Ok.ensures) ends)
 
 pub loop-accepted-preserved : goal.loop-accepted-preserved
 loop-accepted-preserved g c =
