@@ -1,150 +1,231 @@
--- The root of a tournament tree has the least time.
-use Rattle.std.proofs.Common.{◌≡◌, ◌∙◌, ℕ, true, false, ◌+◌, ◌*◌, ◌/◌, ◌%◌, ◌<◌, ◌≤◌, arith, refl, sym, subst, inl, inr, Some, None, List, length}
-use Rattle.std.specs.Prelude.{◌⊎◌, min, nat_le, nat_lt, replicate}
-use Rattle.std.proofs.lemmas.List.{get_or_past, get_or-replicate}
+-- The tree's first key has the least time.
+use Rattle.std.proofs.Common.{◌≡◌, ◌∙◌, ℕ, true, false, ◌+◌, ◌-◌, ◌*◌, ◌/◌, ◌%◌, ◌<◌, ◌≤◌, arith, ap, refl, sym, subst, inl, inr, Some, None, List, length, set}
+use Rattle.std.specs.Prelude.{◌⊎◌, min, nat_eq, nat_le, nat_lt, slice_index, if◌then◌else◌}
+use Rattle.std.proofs.lemmas.List.{get_or_past, get_or-set_other, get_or-set_same}
 use Rattle.std.proofs.lemmas.Bool.{cases_lt}
 use Rattle.std.proofs.lemmas.Bool.Decides.{nat_tests}
 use Rattle.bridge_events.specs.Least.{IsLeast}
-use Rattle.bridge_events.specs.Tree.{IsTree, tree_time, key_time, node_key}
-use Rattle.bridge_events.specs.declared.tree_agenda.TheConstants.{NO_MOMENT}
+use Rattle.bridge_events.specs.Tree.{HaveLeastKeys, HaveOwnKeys, IsTree, TreeState, least_of_four, nth_key, nth_time, tree_time}
+use Rattle.bridge_events.specs.declared.tree_agenda.TheConstants.{LATE, LATE_KEY, NO_KEY}
 use Rattle.bridge_limits.proofs.Cases.{by_bool}
 use Rattle.bridge_limits.proofs.Options.{none_of}
 use Rattle.bridge_events.proofs.Rows.{none_some, some_is}
 
--- A key below `NO_MOMENT` has a time.
+-- Statement: `key` is the least key of the indices from `a` to `b` - 1, and one of these indices has it.
+record IsLeastKey (keys : List ℕ) (a b key : ℕ) : Type 0 where
+  place : ℕ
+  from : a ≤ place
+  to : place < b
+  has : nth_key keys place ≡ key
+  least : (i : ℕ) → a ≤ i → i < b → key ≤ nth_key keys i
 
-moment_some : (k : ℕ) → k < NO_MOMENT → key_time k ≡ Some (k / 256)
-moment_some k l = let y : nat_lt k NO_MOMENT ≡ true = grind (arith, nat_tests) in rw y refl
-
-moment_none : (k : ℕ) → NO_MOMENT ≤ k → key_time k ≡ None
-moment_none k l = let y : nat_lt k NO_MOMENT ≡ false = grind (arith, nat_tests) in rw y refl
-
--- A key with a time is below `NO_MOMENT`, and the time is the key divided by 256.
-is_moment : (k u : ℕ) → key_time k ≡ Some u → (k < NO_MOMENT) × (k / 256 ≡ u)
-is_moment k u e = elim (cases_lt k NO_MOMENT) [
-  | inl l ↦ (l, some_is _ (k / 256) u (moment_some k l) e)
-  | inr l ↦ absurd (none_some _ u (moment_none k l) e)
-]
-
--- A lesser key has an earlier time, or an equal time and no higher port.
-in_order : (x y : ℕ) → x ≤ y → (x / 256 < y / 256) ⊎ ((x / 256 ≡ y / 256) × (x % 256 ≤ y % 256))
-in_order x y l = elim (cases_lt (x / 256) (y / 256)) [ inl a ↦ inl a | inr a ↦ inr (omega arith, omega arith) ]
-
--- Statement: `key` is the least key of the ports from `a` to `b` - 1, and one of these ports has it.
-
-record IsLeastKey (nodes : List ℕ) (a b key : ℕ) : Type 0 where
-  port : ℕ
-  from : a ≤ port
-  to : port < b
-  has : node_key nodes (port + 15) ≡ key
-  least : (p : ℕ) → a ≤ p → p < b → key ≤ node_key nodes (p + 15)
-
-leaf : (nodes : List ℕ) (p : ℕ) → IsLeastKey nodes p (p + 1) (node_key nodes (p + 15))
-leaf nodes p = record {
-  port = p;
+leaf : (keys : List ℕ) (i j : ℕ) → j ≡ i + 1 → IsLeastKey keys i j (nth_key keys i)
+leaf keys i j e = record {
+  place = i;
   from = omega arith;
   to = omega arith;
   has = refl;
-  least = λ q h k. let same : q ≡ p = omega arith in subst (λ (n : ℕ). node_key nodes (p + 15) ≤ node_key nodes (n + 15)) (sym same) (omega arith);
+  least = λ k h l. let same : k ≡ i = omega arith in subst (λ (n : ℕ). nth_key keys i ≤ nth_key keys n) (sym same) (omega arith);
 }
 
-join : (nodes : List ℕ) (a b c x y : ℕ) → a ≤ b → b ≤ c → IsLeastKey nodes a b x → IsLeastKey nodes b c y → IsLeastKey nodes a c (min x y)
-join nodes a b c x y l m f g =
+join : (keys : List ℕ) (a b c x y : ℕ) → a ≤ b → b ≤ c → IsLeastKey keys a b x → IsLeastKey keys b c y → IsLeastKey keys a c (min x y)
+join keys a b c x y l m f g =
     let r = f.from in
     let s = f.to in
     let t = g.from in
     let u = g.to in
-    let both : (p : ℕ) → a ≤ p → p < c → min x y ≤ node_key nodes (p + 15) = λ p h k. elim (cases_lt p b) [ inl z ↦ (let w = f.least p h z in omega arith) | inr z ↦ (let w = g.least p z k in omega arith) ] in
+    let both : (i : ℕ) → a ≤ i → i < c → min x y ≤ nth_key keys i = λ i h k. elim (cases_lt i b) [ inl z ↦ (let w = f.least i h z in omega arith) | inr z ↦ (let w = g.least i z k in omega arith) ] in
     elim (cases_lt y x) [
-      | inl z ↦ record { port = g.port; from = omega arith; to = omega arith; has = (let e = g.has in omega arith); least = both }
-      | inr z ↦ record { port = f.port; from = omega arith; to = omega arith; has = (let e = f.has in omega arith); least = both }
+      | inl z ↦ record { place = g.place; from = omega arith; to = omega arith; has = (let e = g.has in omega arith); least = both }
+      | inr z ↦ record { place = f.place; from = omega arith; to = omega arith; has = (let e = f.has in omega arith); least = both }
     ]
 
-inner : (nodes : List ℕ) (j a b c : ℕ) → IsTree nodes → 1 ≤ j → j < 16 → a ≤ b → b ≤ c → IsLeastKey nodes a b (node_key nodes (2 * j)) → IsLeastKey nodes b c (node_key nodes (2 * j + 1)) → IsLeastKey nodes a c (node_key nodes j)
-inner nodes j a b c t l m h k f g = subst (IsLeastKey nodes a c) (sym (t.won j l m)) (join nodes a b c _ _ h k f g)
+group : (keys : List ℕ) (i : ℕ) → IsLeastKey keys i (i + 4) (least_of_four keys i)
+group keys i = join keys i (i + 2) (i + 4) _ _ (omega arith) (omega arith)
+    (join keys i (i + 1) (i + 2) _ _ (omega arith) (omega arith) (leaf keys i (i + 1) refl) (leaf keys (i + 1) (i + 2) (omega arith)))
+    (join keys (i + 2) (i + 3) (i + 4) _ _ (omega arith) (omega arith) (leaf keys (i + 2) (i + 3) (omega arith)) (leaf keys (i + 3) (i + 4) (omega arith)))
 
--- The parent of two leaves has the least key of two ports.
-pair : (nodes : List ℕ) (p j : ℕ) → IsTree nodes → 8 ≤ j → j < 16 → p + 15 ≡ 2 * j → IsLeastKey nodes p (p + 2) (node_key nodes j)
-pair nodes p j t l m e =
-    let d : p + 1 + 15 ≡ 2 * j + 1 = omega arith in
-    let two : p + 1 + 1 ≡ p + 2 = omega arith in
-    inner nodes j p (p + 1) (p + 2) t (omega arith) m (omega arith) (omega arith)
-    (subst (λ (n : ℕ). IsLeastKey nodes p (p + 1) (node_key nodes n)) e (leaf nodes p))
-    (subst (λ (n : ℕ). IsLeastKey nodes (p + 1) n (node_key nodes (2 * j + 1))) two (subst (λ (n : ℕ). IsLeastKey nodes (p + 1) (p + 1 + 1) (node_key nodes n)) d (leaf nodes (p + 1))))
+nth_group : (keys firsts : List ℕ) (g a b : ℕ) → HaveLeastKeys keys firsts → g < 4 → a ≡ 4 * g → b ≡ a + 4 → IsLeastKey keys a b (nth_key firsts g)
+nth_group keys firsts g a b won l e f =
+    subst (IsLeastKey keys a b) (sym (won g l)) (subst (λ (n : ℕ). IsLeastKey keys a n (least_of_four keys (4 * g))) (sym f) (subst (λ (n : ℕ). IsLeastKey keys n (n + 4) (least_of_four keys (4 * g))) (sym e) (group keys (4 * g))))
 
--- The root has the least key of all ports.
-root : (nodes : List ℕ) → IsTree nodes → IsLeastKey nodes 1 17 (node_key nodes 1)
-root nodes t =
-    let n8 = pair nodes 1 8 t (omega arith) (omega arith) refl in
-    let n9 = pair nodes 3 9 t (omega arith) (omega arith) refl in
-    let n10 = pair nodes 5 10 t (omega arith) (omega arith) refl in
-    let n11 = pair nodes 7 11 t (omega arith) (omega arith) refl in
-    let n12 = pair nodes 9 12 t (omega arith) (omega arith) refl in
-    let n13 = pair nodes 11 13 t (omega arith) (omega arith) refl in
-    let n14 = pair nodes 13 14 t (omega arith) (omega arith) refl in
-    let n15 = pair nodes 15 15 t (omega arith) (omega arith) refl in
-    let n4 = inner nodes 4 1 3 5 t (omega arith) (omega arith) (omega arith) (omega arith) n8 n9 in
-    let n5 = inner nodes 5 5 7 9 t (omega arith) (omega arith) (omega arith) (omega arith) n10 n11 in
-    let n6 = inner nodes 6 9 11 13 t (omega arith) (omega arith) (omega arith) (omega arith) n12 n13 in
-    let n7 = inner nodes 7 13 15 17 t (omega arith) (omega arith) (omega arith) (omega arith) n14 n15 in
-    let n2 = inner nodes 2 1 5 9 t (omega arith) (omega arith) (omega arith) (omega arith) n4 n5 in
-    let n3 = inner nodes 3 9 13 17 t (omega arith) (omega arith) (omega arith) (omega arith) n6 n7 in
-    inner nodes 1 1 9 17 t (omega arith) (omega arith) (omega arith) (omega arith) n2 n3
+-- The least of the groups' keys is the least key of all ports.
+root : (keys firsts : List ℕ) → HaveLeastKeys keys firsts → IsLeastKey keys 0 16 (least_of_four firsts 0)
+root keys firsts won =
+    let nth : (g a b : ℕ) → g < 4 → a ≡ 4 * g → b ≡ a + 4 → IsLeastKey keys a b (nth_key firsts g) = λ g a b. nth_group keys firsts g a b won in
+    join keys 0 8 16 _ _ (omega arith) (omega arith)
+    (join keys 0 4 8 _ _ (omega arith) (omega arith) (nth 0 0 4 (omega arith) refl refl) (nth 1 4 8 (omega arith) refl refl))
+    (join keys 8 12 16 _ _ (omega arith) (omega arith) (nth 2 8 12 (omega arith) refl refl) (nth 3 12 16 (omega arith) refl refl))
 
--- The time of a port comes from its leaf.
+-- The time of a port, by its index.
 
-held_at : (nodes : List ℕ) (p : ℕ) → 1 ≤ p → tree_time nodes p ≡ key_time (node_key nodes (p + 15))
-held_at nodes p l = let y : nat_le 1 p ≡ true = grind (arith, nat_tests) in rw y refl
+pub held_next : (keys times : List ℕ) (i : ℕ) → tree_time keys times (i + 1) ≡ nth_time keys times i
+held_next keys times i = let y : nat_le 1 (i + 1) ≡ true = grind (arith, nat_tests) in let z : i + 1 - 1 ≡ i = omega arith in rw (y, z) refl
+
+held_some : (keys times : List ℕ) (i : ℕ) → nth_key keys i < NO_KEY → nth_time keys times i ≡ Some (slice_index times i)
+held_some keys times i l = let y : nat_lt (nth_key keys i) NO_KEY ≡ true = grind (arith, nat_tests) in rw y refl
+
+held_none : (keys times : List ℕ) (i : ℕ) → NO_KEY ≤ nth_key keys i → nth_time keys times i ≡ None
+held_none keys times i l = let y : nat_lt (nth_key keys i) NO_KEY ≡ false = grind (arith, nat_tests) in rw y refl
+
+pub held_past : (keys times : List ℕ) (p : ℕ) → length keys ≡ 16 → 16 < p → tree_time keys times p ≡ None
+held_past keys times p size l =
+    let i = p - 1 in
+    let same : p ≡ i + 1 = omega arith in
+    let past : nth_key keys i ≡ NO_KEY = get_or_past keys i NO_KEY (omega arith) in
+    subst (λ (n : ℕ). tree_time keys times n ≡ None) (sym same) (held_next keys times i ∙ held_none keys times i (omega arith))
 
 -- A port with a time is one of the ports 1 to 16.
-has_leaf : (nodes : List ℕ) (p u : ℕ) → length nodes ≡ 32 → tree_time nodes p ≡ Some u → (1 ≤ p) × (p ≤ 16) × (node_key nodes (p + 15) < NO_MOMENT) × (node_key nodes (p + 15) / 256 ≡ u)
-has_leaf nodes p u size e = elim (cases_lt p 1) [
+has_key : (keys times : List ℕ) (p u : ℕ) → length keys ≡ 16 → tree_time keys times p ≡ Some u → (1 ≤ p) × (p ≤ 16) × (nth_key keys (p - 1) < NO_KEY) × (slice_index times (p - 1) ≡ u)
+has_key keys times p u size e = elim (cases_lt p 1) [
   | inl l ↦ (let y : nat_le 1 p ≡ false = grind (arith, nat_tests) in let z : None ≡ Some u = rw y at e in cc)
   | inr l ↦ (
-      let m = is_moment (node_key nodes (p + 15)) u (sym (held_at nodes p l) ∙ e) in
+      let same : p ≡ p - 1 + 1 = omega arith in
+      let f : nth_time keys times (p - 1) ≡ Some u = sym (held_next keys times (p - 1)) ∙ subst (λ (n : ℕ). tree_time keys times n ≡ Some u) same e in
       elim (cases_lt 16 p) [
-        | inl k ↦ absurd (let z : node_key nodes (p + 15) ≡ NO_MOMENT = get_or_past nodes (p + 15) NO_MOMENT (omega arith) in let w = m.0 in omega arith)
-        | inr k ↦ (l, k, m.0, m.1)
+        | inl k ↦ absurd (none_some _ u (held_past keys times p size k) e)
+        | inr k ↦ elim (cases_lt (nth_key keys (p - 1)) NO_KEY) [
+          | inl m ↦ (l, k, m, some_is _ _ u (held_some keys times (p - 1) m) f)
+          | inr m ↦ absurd (none_some _ u (held_none keys times (p - 1) m) f)
+        ]
       ]
       )
 ]
 
--- If the root has no time, no port has a time.
-pub none_least : (nodes : List ℕ) → IsTree nodes → NO_MOMENT ≤ node_key nodes 1 → IsLeast (tree_time nodes) None
-none_least nodes t l = λ p. none_of (tree_time nodes p) (λ u e.
-    let h = has_leaf nodes p u t.size e in
+-- If the first key has no time, no port has a time.
+pub none_least : (a : TreeState) → IsTree a → a.first ≡ NO_KEY → IsLeast (tree_time a.keys a.times) None
+none_least a t e = λ p. none_of (tree_time a.keys a.times p) (λ u f.
+    let h = has_key a.keys a.times p u t.size f in
     let from = h.0 in
     let to = h.1 in
-    let w = (root nodes t).least p from (omega arith) in
+    let k = h.2 in
+    let z = t.root in
+    let w = (root a.keys a.firsts t.won).least (p - 1) (omega arith) (omega arith) in
     omega arith)
 
--- The root's key gives the least time and its port.
-pub some_least : (nodes : List ℕ) → IsTree nodes → node_key nodes 1 < NO_MOMENT → IsLeast (tree_time nodes) (Some (node_key nodes 1 % 256, node_key nodes 1 / 256))
-some_least nodes t l =
-    let r = root nodes t in
-    let from = r.from in
+-- A lesser key of an early time has an earlier time, or an equal time and no higher index.
+in_order : (x y t u i j : ℕ) → i < 16 → j < 16 → x < LATE_KEY → x ≡ 16 * min t LATE + i → y ≡ 16 * min u LATE + j → x ≤ y → (t < u) ⊎ ((t ≡ u) × (i ≤ j))
+in_order x y t u i j l m early e f le = elim (cases_lt t u) [
+  | inl a ↦ inl a
+  | inr a ↦ elim (cases_lt u t) [ inl b ↦ absurd (omega arith) | inr b ↦ inr (omega arith, omega arith) ]
+]
+
+-- The first key gives the least time and its port, if this time is early.
+pub some_least : (a : TreeState) → IsTree a → a.first < LATE_KEY → IsLeast (tree_time a.keys a.times) (Some (a.first % 16 + 1, a.first / 16))
+some_least a t l =
+    let keys = a.keys in
+    let times = a.times in
+    let z = t.root in
+    let r = root keys a.firsts t.won in
+    let i = r.place in
     let to = r.to in
-    let e = r.has in
-    let own : node_key nodes 1 % 256 ≡ r.port = subst (λ (k : ℕ). k % 256 ≡ r.port) e (t.own r.port from (omega arith) (omega arith)) in (
-      subst (λ (p : ℕ). tree_time nodes p ≡ Some (node_key nodes 1 / 256)) (sym own) (held_at nodes r.port from ∙ (rw e (moment_some (node_key nodes 1) l))),
+    let has = r.has in
+    let key : nth_key keys i ≡ a.first = omega arith in
+    let at = slice_index times i in
+    let own : nth_key keys i ≡ 16 * min at LATE + i = t.own i to (omega arith) in
+    let place : a.first % 16 ≡ i = omega arith in
+    let time : a.first / 16 ≡ at = omega arith in (
+      subst (λ (n : ℕ). tree_time keys times (n + 1) ≡ Some (a.first / 16)) (sym place) (held_next keys times i ∙ (held_some keys times i (omega arith) ∙ ap Some (sym time))),
       λ p u f.
-          let h = has_leaf nodes p u t.size f in
-          let of = t.own p h.0 h.1 h.2 in
-          let least = r.least p h.0 (omega arith) in
-          elim (in_order _ _ least) [ inl a ↦ inl (omega arith) | inr a ↦ inr (omega arith, omega arith) ],
+          let h = has_key keys times p u t.size f in
+          let from = h.0 in
+          let of = t.own (p - 1) (let w = h.1 in omega arith) h.2 in
+          let is = h.3 in
+          let least = r.least (p - 1) (omega arith) (let w = h.1 in omega arith) in
+          elim (in_order (nth_key keys i) (nth_key keys (p - 1)) at (slice_index times (p - 1)) i (p - 1) to (let w = h.1 in omega arith) (omega arith) own of (omega arith)) [ inl b ↦ inl (omega arith) | inr b ↦ (let v = b.0 in let w = b.1 in inr (omega arith, omega arith)) ],
     )
 
--- Nodes without a time form a tree.
+-- A new key.
 
-pub empty_tree : (nodes : List ℕ) → length nodes ≡ 32 → ((i : ℕ) → node_key nodes i ≡ NO_MOMENT) → IsTree nodes
-empty_tree nodes size h = record {
-  size = size;
-  won = λ j a b. rw (h j, h (2 * j), h (2 * j + 1)) refl;
-  own = λ p a b l. absurd (let z = h (p + 15) in omega arith);
-}
+-- The new key's group has its new least key; the other groups are the same.
+pub settled : (keys firsts : List ℕ) (place key x : ℕ) → place < 16 → length keys ≡ 16 → length firsts ≡ 4 → x ≡ least_of_four (set keys place key) (4 * (place / 4)) → HaveLeastKeys keys firsts → HaveLeastKeys (set keys place key) (set firsts (place / 4) x)
+settled keys firsts place key x l size groups is won = λ g m.
+    let c = place / 4 in
+    let other : (g < c) ⊎ (c < g) → nth_key (set firsts c x) g ≡ least_of_four (set keys place key) (4 * g) = λ apart.
+    let same : (k : ℕ) → k < 4 → nth_key (set keys place key) (4 * g + k) ≡ nth_key keys (4 * g + k) = λ k n. get_or-set_other keys place (4 * g + k) key NO_KEY (λ e. elim apart [ inl z ↦ omega arith | inr z ↦ omega arith ]) in
+    let zero : nth_key (set keys place key) (4 * g) ≡ nth_key keys (4 * g) = get_or-set_other keys place (4 * g) key NO_KEY (λ e. elim apart [ inl z ↦ omega arith | inr z ↦ omega arith ]) in
+    let first : nth_key (set firsts c x) g ≡ nth_key firsts g = get_or-set_other firsts c g x NO_KEY (λ e. elim apart [ inl z ↦ omega arith | inr z ↦ omega arith ]) in
+    rw (first, zero, same 1 (omega arith), same 2 (omega arith), same 3 (omega arith)) (won g m) in
+    elim (cases_lt g c) [
+      | inl z ↦ other (inl z)
+      | inr z ↦ elim (cases_lt c g) [
+        | inl k ↦ other (inr k)
+        | inr k ↦ (
+            let same : c ≡ g = omega arith in
+            subst (λ (n : ℕ). nth_key (set firsts c x) n ≡ least_of_four (set keys place key) (4 * n)) same (get_or-set_same firsts c x NO_KEY (omega arith) ∙ is)
+            )
+      ]
+    ]
 
-pub none_held : (nodes : List ℕ) → ((i : ℕ) → node_key nodes i ≡ NO_MOMENT) → (p : ℕ) → tree_time nodes p ≡ None
-none_held nodes h p = by_bool (nat_le 1 p) (λ y. rw (y, h (p + 15)) refl) (λ y. rw y refl)
+-- The new key is the key of its time, or there is no time.
+pub own_keys : (keys times : List ℕ) (place key t : ℕ) → place < 16 → length keys ≡ 16 → length times ≡ 16 → (key < NO_KEY → key ≡ 16 * min t LATE + place) → HaveOwnKeys keys times → HaveOwnKeys (set keys place key) (set times place t)
+own_keys keys times place key t l size sizes is own = λ i m some.
+    let other : (i < place) ⊎ (place < i) → nth_key (set keys place key) i ≡ 16 * min (slice_index (set times place t) i) LATE + i = λ apart.
+    let k : nth_key (set keys place key) i ≡ nth_key keys i = get_or-set_other keys place i key NO_KEY (λ e. elim apart [ inl z ↦ omega arith | inr z ↦ omega arith ]) in
+    let u : slice_index (set times place t) i ≡ slice_index times i = get_or-set_other times place i t 0 (λ e. elim apart [ inl z ↦ omega arith | inr z ↦ omega arith ]) in
+    rw (k, u) (own i m (rw k at some)) in
+    elim (cases_lt i place) [
+      | inl z ↦ other (inl z)
+      | inr z ↦ elim (cases_lt place i) [
+        | inl k ↦ other (inr k)
+        | inr k ↦ (
+            let same : place ≡ i = omega arith in
+            let here : nth_key (set keys place key) place ≡ key = get_or-set_same keys place key NO_KEY (omega arith) in
+            let time : slice_index (set times place t) place ≡ t = get_or-set_same times place t 0 (omega arith) in
+            let less : nth_key (set keys place key) place < NO_KEY = subst (λ (n : ℕ). nth_key (set keys place key) n < NO_KEY) (sym same) some in
+            subst (λ (n : ℕ). nth_key (set keys place key) n ≡ 16 * min (slice_index (set times place t) n) LATE + n) same (rw (here, time) (is (rw here at less)))
+            )
+      ]
+    ]
 
-pub no_moments : (i : ℕ) → node_key (replicate 32 NO_MOMENT) i ≡ NO_MOMENT
-no_moments i = elim (cases_lt i 32) [ inl l ↦ get_or-replicate 32 i NO_MOMENT NO_MOMENT l | inr l ↦ get_or_past (replicate 32 NO_MOMENT) i NO_MOMENT l ]
+-- Without a time, keys and times of the other ports are the same.
+pub own_keys_without : (keys times : List ℕ) (place : ℕ) → place < 16 → length keys ≡ 16 → HaveOwnKeys keys times → HaveOwnKeys (set keys place NO_KEY) times
+own_keys_without keys times place l size own = λ i m some.
+    let other : (i < place) ⊎ (place < i) → nth_key (set keys place NO_KEY) i ≡ 16 * min (slice_index times i) LATE + i = λ apart.
+    let k : nth_key (set keys place NO_KEY) i ≡ nth_key keys i = get_or-set_other keys place i NO_KEY NO_KEY (λ e. elim apart [ inl z ↦ omega arith | inr z ↦ omega arith ]) in
+    rw k (own i m (rw k at some)) in
+    elim (cases_lt i place) [
+      | inl z ↦ other (inl z)
+      | inr z ↦ elim (cases_lt place i) [
+        | inl k ↦ other (inr k)
+        | inr k ↦ absurd (
+            let same : place ≡ i = omega arith in
+            let here : nth_key (set keys place NO_KEY) place ≡ NO_KEY = get_or-set_same keys place NO_KEY NO_KEY (omega arith) in
+            let less : nth_key (set keys place NO_KEY) place < NO_KEY = subst (λ (n : ℕ). nth_key (set keys place NO_KEY) n < NO_KEY) (sym same) some in
+            omega arith)
+      ]
+    ]
+
+-- The other ports keep their times.
+other_held : (keys times keys_after times_after : List ℕ) (p : ℕ) → (1 ≤ p → (nth_key keys_after (p - 1) ≡ nth_key keys (p - 1)) × (slice_index times_after (p - 1) ≡ slice_index times (p - 1))) → tree_time keys_after times_after p ≡ tree_time keys times p
+other_held keys times keys_after times_after p same = by_bool (nat_le 1 p)
+    (λ y. let both = same (grind (arith, nat_tests)) in rw (y, both.0, both.1) refl)
+    (λ y. rw y refl)
+
+-- After a new time, the port has this time.
+pub set_held : (keys times : List ℕ) (port key t : ℕ) → 1 ≤ port → port ≤ 16 → length keys ≡ 16 → length times ≡ 16 → key < NO_KEY → (p : ℕ) → tree_time (set keys (port - 1) key) (set times (port - 1) t) p ≡ (if nat_eq p port then Some t else tree_time keys times p)
+set_held keys times port key t from to size sizes some p = by_bool (nat_eq p port)
+    (λ y.
+    let place = port - 1 in
+    let same : place + 1 ≡ p = grind (arith, nat_tests) in
+    let here : nth_key (set keys place key) place ≡ key = get_or-set_same keys place key NO_KEY (omega arith) in
+    let time : slice_index (set times place t) place ≡ t = get_or-set_same times place t 0 (omega arith) in
+    rw y (subst (λ (n : ℕ). tree_time (set keys place key) (set times place t) n ≡ Some t) same (held_next _ _ place ∙ (held_some (set keys place key) (set times place t) place (omega arith) ∙ ap Some time))))
+    (λ y.
+    let place = port - 1 in
+    rw y (other_held keys times (set keys place key) (set times place t) p (λ l. (
+      get_or-set_other keys place (p - 1) key NO_KEY (λ e. grind (arith, nat_tests)),
+      get_or-set_other times place (p - 1) t 0 (λ e. grind (arith, nat_tests)),
+    ))))
+
+-- Without a time, the port has none.
+pub clear_held : (keys times : List ℕ) (port : ℕ) → 1 ≤ port → port ≤ 16 → length keys ≡ 16 → (p : ℕ) → tree_time (set keys (port - 1) NO_KEY) times p ≡ (if nat_eq p port then None else tree_time keys times p)
+clear_held keys times port from to size p = by_bool (nat_eq p port)
+    (λ y.
+    let place = port - 1 in
+    let same : place + 1 ≡ p = grind (arith, nat_tests) in
+    let here : nth_key (set keys place NO_KEY) place ≡ NO_KEY = get_or-set_same keys place NO_KEY NO_KEY (omega arith) in
+    rw y (subst (λ (n : ℕ). tree_time (set keys place NO_KEY) times n ≡ None) same (held_next _ _ place ∙ held_none (set keys place NO_KEY) times place (omega arith))))
+    (λ y.
+    let place = port - 1 in
+    rw y (other_held keys times (set keys place NO_KEY) times p (λ l. (get_or-set_other keys place (p - 1) NO_KEY NO_KEY (λ e. grind (arith, nat_tests)), refl))))

@@ -1,114 +1,148 @@
-//! Agenda as a tournament tree.
-ghost use Rattle.std.specs.Prelude.{◌≡◌, ◌≤◌, ◌<◌, ◌/◌, ◌%◌, ◌^◌, ℕ, length, Some};
-ghost use Rattle.bridge_events.specs.Tree.{tree_time, key_time, node_key, HaveLesserChildrenElsewhere, HaveLesserChildren};
+//! Agenda as a tree of two levels.
+ghost use Rattle.std.specs.Prelude.{◌≡◌, ◌<◌, ◌+◌, ◌-◌, ◌*◌, ◌^◌, length, min, slice_set};
+ghost use Rattle.bridge_events.specs.Least.{IsLeast};
+ghost use Rattle.bridge_events.specs.Tree.{tree_time, nth_time, least_of_four, HaveLeastKeys};
 
-use crate::agenda::Agenda;
+use crate::agenda::{Agenda, earlier_entry, entry};
 use std::marker::Model;
 
-/// Key of a node if no port below it has a time. It exceeds each key of a time.
-const NO_MOMENT: u128 = 1 << 72;
+/// Key of a port without a time. It exceeds each key of a time.
+const NO_KEY: u64 = u64::MAX;
 
-/// Gives proofs the number `NO_MOMENT`: 2^72. Each key is less, because times are below 2^64 and ports below 2^8.
-pub fn the_limit()
-    ensures { NO_MOMENT ≡ 2 ^ 72 }
+/// Times from this one on have equal times in their keys, because a key has 64 bits.
+const LATE: u64 = (1 << 60) - 2;
+
+/// Least key of a time that is `LATE` or later.
+const LATE_KEY: u64 = 16 * LATE;
+
+/// Gives proofs the numbers of the constants. Keys of late times are below `NO_KEY`.
+pub fn the_limits()
+    ensures late { LATE ≡ 2 ^ 60 - 2 }
+    ensures key { LATE_KEY ≡ 16 * LATE }
+    ensures none { NO_KEY ≡ 2 ^ 64 - 1 }
 {}
 
-/// Tournament tree of the ports 1 to 16. A leaf has the key of its port's time; an inner node has the lesser key of its children. A
-/// new time costs four comparisons.
-///
-/// Node 1 is the root. Nodes 2n and 2n + 1 are the children of node n. Node 15 + p is the leaf of port p.
+/// Tree of the ports 1 to 16, in four groups of four ports. A port's key orders by its time, then by its number: 16 times the time, plus
+/// the number less 1. A new time costs six comparisons.
 #[derive(Debug, Drop)]
 pub struct TreeAgenda {
-    /// Key of each node; the first key is unused.
-    nodes: [u128; 32],
+    /// Key of each port, from port 1.
+    keys: [u64; 16],
+    /// Time of each port in ns, if its key isn't `NO_KEY`.
+    times: [u64; 16],
+    /// Least key of each group.
+    firsts: [u64; 4],
+    /// Least key of all ports.
+    first: u64,
 }
 
 impl Model for TreeAgenda {
-    ghost use Rattle.std.specs.Prelude.{ℕ, List};
-    ghost use Rattle.bridge_events.specs.Tree.{IsTree};
+    ghost use Rattle.bridge_events.specs.Tree.{IsTree, TreeState};
 
-    ghost Value = { List ℕ };
+    ghost Value = { TreeState };
 
-    ghost view = { λ a. a.nodes };
+    ghost view = { λ a. record { keys = a.keys; times = a.times; firsts = a.firsts; first = a.first } };
 
-    ghost invariant = { λ a. IsTree a.nodes };
+    ghost invariant = { λ a. IsTree (record { keys = a.keys; times = a.times; firsts = a.firsts; first = a.first }) };
 }
 
 impl Agenda for TreeAgenda {
-    ghost held = { λ a. tree_time a };
+    ghost held = { λ a. tree_time a.keys a.times };
 
     fn empty() -> Self {
         TreeAgenda {
-            nodes: [NO_MOMENT; 32],
+            keys: [NO_KEY; 16],
+            times: [0; 16],
+            firsts: [NO_KEY; 4],
+            first: NO_KEY,
         }
     }
 
     #[inline(always)]
     fn set(&mut self, port: u8, t: u64) {
-        let leaf = port as usize + 15;
-        self.nodes[leaf] = entry_key(port, t);
-        update_ancestors(&mut self.nodes, leaf);
+        let place = port as usize - 1;
+        self.times[place] = t;
+        self.first = put_key(&mut self.keys, &mut self.firsts, place, entry_key(place, t));
     }
 
     #[inline(always)]
     fn clear(&mut self, port: u8) {
-        let leaf = port as usize + 15;
-        self.nodes[leaf] = NO_MOMENT;
-        update_ancestors(&mut self.nodes, leaf);
+        let place = port as usize - 1;
+        self.first = put_key(&mut self.keys, &mut self.firsts, place, NO_KEY);
     }
 
     #[inline(always)]
     fn least(&self) -> Option<(u8, u64)> {
-        let first = self.nodes[1];
-        if first < NO_MOMENT {
-            Some(((first % 256) as u8, (first / 256) as u64))
-        } else {
+        let first = self.first;
+        if first < LATE_KEY {
+            Some(((first % 16) as u8 + 1, first / 16))
+        } else if first == NO_KEY {
             None
+        } else {
+            least_late_entry(&self.keys, &self.times)
         }
     }
 }
 
-/// Returns the key that orders entries by time, then by port.
+/// Returns the key of the port with index `place`, at time `t` in ns.
 #[inline(always)]
-fn entry_key(port: u8, t: u64) -> u128
-    ensures moment { key_time result ≡ Some t }
-    ensures own { result % 256 ≡ port }
+fn entry_key(place: usize, t: u64) -> u64
+    requires { place < 16 }
+    ensures key { result ≡ 16 * min t LATE + place }
+    ensures some { result < NO_KEY }
 {
-    t as u128 * 256 + port as u128
+    t.min(LATE) * 16 + place as u64
 }
 
-/// Sets the parent of node `at` to the lesser key of its children, and returns this key.
+/// Returns the least of the four keys from index `from` on.
 #[inline(always)]
-fn update_parent(nodes: &mut [u128; 32], at: usize, key: u128) -> u128
-    requires from { 2 ≤ at }
-    requires to { at < 32 }
-    requires key { key ≡ node_key nodes.old at }
-    requires others { HaveLesserChildrenElsewhere nodes.old at }
-    ensures key { result ≡ node_key nodes.new (at / 2) }
-    ensures others { HaveLesserChildrenElsewhere nodes.new (at / 2) }
-    ensures size { length nodes.new ≡ length nodes.old }
-    ensures leaves { (i : ℕ) → 16 ≤ i → node_key nodes.new i ≡ node_key nodes.old i }
+fn least_of_four(keys: &[u64], from: usize) -> u64
+    requires { from + 3 < length keys.now }
+    ensures { result ≡ least_of_four keys.now from }
 {
-    let above = at / 2;
-    let beside = at ^ 1;
-    let least = key.min(nodes[beside]);
-    nodes[above] = least;
-    least
+    let front = keys[from].min(keys[from + 1]);
+    let back = keys[from + 2].min(keys[from + 3]);
+    front.min(back)
 }
 
-/// Updates the four nodes above a leaf. A loop would add a branch for each comparison, and its outcome is unpredictable.
+/// Sets the key of the port with index `place`, and returns the least key of all ports. Has no branches, because the outcomes of the
+/// comparisons are unpredictable.
 #[inline(always)]
-fn update_ancestors(nodes: &mut [u128; 32], leaf: usize)
-    requires from { 16 ≤ leaf }
-    requires to { leaf < 32 }
-    requires others { HaveLesserChildrenElsewhere nodes.old leaf }
-    ensures size { length nodes.new ≡ length nodes.old }
-    ensures won { HaveLesserChildren nodes.new }
-    ensures leaves { (i : ℕ) → 16 ≤ i → node_key nodes.new i ≡ node_key nodes.old i }
+fn put_key(keys: &mut [u64; 16], firsts: &mut [u64; 4], place: usize, key: u64) -> u64
+    requires place { place < 16 }
+    requires won { HaveLeastKeys keys.old firsts.old }
+    ensures keys { keys.new ≡ slice_set keys.old place key }
+    ensures sizes { (length keys.new ≡ 16) × (length firsts.new ≡ 4) }
+    ensures won { HaveLeastKeys keys.new firsts.new }
+    ensures root { result ≡ least_of_four firsts.new 0 }
 {
-    let key = nodes[leaf];
-    let key = update_parent(nodes, leaf, key);
-    let key = update_parent(nodes, leaf / 2, key);
-    let key = update_parent(nodes, leaf / 4, key);
-    let _root = update_parent(nodes, leaf / 8, key);
+    keys[place] = key;
+    let group = place / 4;
+    firsts[group] = least_of_four(keys, 4 * group);
+    least_of_four(firsts, 0)
+}
+
+/// Returns the time of the port with index `place`, if it has one.
+fn nth_time(keys: &[u64; 16], times: &[u64; 16], place: usize) -> Option<u64>
+    requires { place < 16 }
+    ensures { result ≡ nth_time keys.now times.now place }
+{
+    if keys[place] < NO_KEY {
+        Some(times[place])
+    } else {
+        None
+    }
+}
+
+/// Returns the port with the least time, and this time, by all times. Keys can't order times from `LATE` on.
+#[cold]
+#[inline(never)]
+fn least_late_entry(keys: &[u64; 16], times: &[u64; 16]) -> Option<(u8, u64)>
+    ensures { IsLeast (tree_time keys.now times.now) result }
+{
+    let mut best: Option<(u8, u64)> = None;
+    for place in 0usize..16 {
+        best = earlier_entry(best, entry(place as u8 + 1, nth_time(keys, times, place)));
+    }
+    best
 }

@@ -1,5 +1,5 @@
+mod Blocks
 mod Digits
-mod Frames
 mod Fronts
 mod Lookups
 mod Loops

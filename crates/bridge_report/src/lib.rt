@@ -3,12 +3,13 @@
 
 mod figures;
 mod laws;
+mod line_block;
 mod lines;
+mod listed_lines;
 mod lists;
 mod losses;
 mod put_section;
 mod report_fault;
-mod report_line;
 mod report_sink;
 mod report_writer;
 mod sections;

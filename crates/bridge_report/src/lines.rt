@@ -5,12 +5,11 @@ ghost use Rattle.bridge_report.specs.Growth.{HasGrown};
 ghost use Rattle.bridge_report.specs.Section.{bucket_line, counter_lines, delay_line, drop_line, all_flags, named_flag, flags_line, frame_line, header_line, matching_line, departure_line, queued_line, red_line, test_line};
 
 use crate::losses::{count_full, count_never_fitting};
-use crate::report_line::ReportLine;
 use crate::report_sink::{ReportSink, put_wide_number};
-use crate::words::{flag_word, kind_word, refusal_word};
-use bridge_filter::{Counters, Flags, Verdict};
+use crate::words::{flag_word, kind_word};
+use bridge_filter::{Counters, Flags};
 use bridge_meter::Buckets;
-use bridge_semantics::{Departure, Dropped, StoredDeparture, StoredDrop};
+use bridge_semantics::{StoredDeparture, StoredDrop};
 
 /// Writes the header line: the filter's number, and whether it is protected.
 pub fn put_header<T: ReportSink>(text: &mut T, filter: u32, protected: bool)
@@ -133,73 +132,4 @@ pub fn put_delay<T: ReportSink>(text: &mut T, delay: Option<u64>)
         Some(delay) => put_known_delay(text, delay),
         None => text.put("delay none\n"),
     }
-}
-
-/// Writes the end of a frame's line: a space, the word for its verdict and a line feed.
-#[inline(always)]
-fn restart_with_verdict(line: &mut ReportLine, verdict: Verdict)
-    ensures text { line.new ≡ codes " " ++ (verdict_word verdict ++ codes "\n") }
-    ensures short { length line.new ≤ 17 }
-{
-    match verdict {
-        Verdict::Blocked => line.restart(" blocked\n"),
-        Verdict::Oversize => line.restart(" oversize\n"),
-        Verdict::GateClosed => line.restart(" gate-closed\n"),
-        Verdict::ShutByRx => line.restart(" shut-rx\n"),
-        Verdict::ShutByOctets => line.restart(" shut-octets\n"),
-        Verdict::OctetsExceeded => line.restart(" octets-exceeded\n"),
-        Verdict::Red => line.restart(" red\n"),
-        Verdict::YellowDropped => line.restart(" yellow-dropped\n"),
-        Verdict::Pass { eligible: true, .. } => line.restart(" pass-eligible\n"),
-        Verdict::Pass {
-            eligible: false,
-            ..
-        } => line.restart(" pass\n"),
-    }
-}
-
-/// Writes the line of a frame: its number and its verdict. Builds it in `line`.
-#[inline(always)]
-pub fn put_frame<T: ReportSink>(
-    text: &mut T,
-    line: &mut ReportLine,
-    number: usize,
-    verdict: Verdict,
-)
-    ensures { HasGrown T.contents text.old (frame_line number verdict) text.new }
-{
-    restart_with_verdict(line, verdict);
-    line.prepend_number("frame ", number as u64);
-    text.put_line(line);
-}
-
-/// Writes the line of a dropped copy: its frame's number, the port and the reason.
-pub fn put_drop<T: ReportSink>(text: &mut T, dropped: &Dropped)
-    ensures { HasGrown T.contents text.old (drop_line dropped.now) text.new }
-{
-    let Dropped { own, port, refusal } = *dropped;
-    text.put_number("drop ", own);
-    text.put_number(" port ", u64::from(port));
-    text.put(" ");
-    text.put(refusal_word(refusal));
-    text.put("\n");
-}
-
-/// Writes the line of a copy that left: its frame's number, the port, and start and end of its transmission in ns. Builds it in `line`.
-#[inline(always)]
-pub fn put_departure<T: ReportSink>(text: &mut T, line: &mut ReportLine, departure: &Departure)
-    ensures { HasGrown T.contents text.old (departure_line departure.now) text.new }
-{
-    let Departure {
-        own,
-        port,
-        start,
-        done,
-    } = *departure;
-    line.restart("\n");
-    line.prepend_number(" done ", done);
-    line.prepend_number(" start ", start);
-    line.prepend_number(" port ", u64::from(port));
-    line.prepend_number("out ", own);
-    text.put_line(line);
 }

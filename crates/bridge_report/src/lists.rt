@@ -1,41 +1,83 @@
-//! Writes the lists of a section.
-ghost use Rattle.std.specs.Prelude.{flat_map};
+//! Writes the lists of a section, in blocks of lines.
+ghost use Rattle.std.specs.Prelude.{◌≡◌, ◌<◌, ◌≤◌, ◌+◌, ◌^◌, flat_map, length};
 ghost use Rattle.bridge_report.specs.Growth.{HasGrown};
 ghost use Rattle.bridge_report.specs.Section.{drop_line, frame_lines, departure_line};
 
-use crate::lines::{put_departure, put_drop, put_frame};
-use crate::report_line::ReportLine;
+use crate::line_block::LineBlock;
+use crate::listed_lines::{ListedCopy, prepend_frame};
 use crate::report_sink::ReportSink;
 use bridge_semantics::{StoredDeparture, StoredDrop, StoredVerdict};
 
+/// Lines of a full block. A line has at most 128 octets.
+const BLOCK_LINES: usize = 32;
+
+/// Writes the lines of frames, numbered from `number`, from the last to the first.
+fn fill_frames(block: &mut LineBlock, number: usize, verdicts: &[StoredVerdict])
+    requires empty { length block.old ≡ 0 }
+    requires few { length verdicts.now ≤ 32 }
+    requires number { number + length verdicts.now < 2 ^ 64 }
+    ensures { block.new ≡ frame_lines number verdicts.now }
+{
+    let mut left = verdicts.len();
+    while left > 0 {
+        left -= 1;
+        prepend_frame(block, number + left, verdicts[left].verdict());
+    }
+}
+
 /// Writes the lines of a filter's frames, numbered from 1, with their verdicts.
-#[tactic(auto, using(crate::proofs::Puts::goes_on))]
 pub fn put_frames<T: ReportSink>(text: &mut T, verdicts: &[StoredVerdict])
     ensures { HasGrown T.contents text.old (frame_lines 1 verdicts.now) text.new }
 {
-    let mut line = ReportLine::new();
-    for (i, verdict) in verdicts.iter().enumerate() {
-        put_frame(text, &mut line, i + 1, verdict.verdict());
+    let mut block = LineBlock::new();
+    let mut from = 0;
+    while from < verdicts.len() {
+        let count = (verdicts.len() - from).min(BLOCK_LINES);
+        block.clear();
+        fill_frames(&mut block, from + 1, &verdicts[from..from + count]);
+        text.put_block(&block);
+        from += count;
+    }
+}
+
+/// Writes the lines of copies, from the last to the first.
+fn fill_copies<C: ListedCopy>(block: &mut LineBlock, copies: &[C])
+    requires empty { length block.old ≡ 0 }
+    requires few { length copies.now ≤ 32 }
+    ensures { block.new ≡ flat_map C.line copies.now }
+{
+    let mut left = copies.len();
+    while left > 0 {
+        left -= 1;
+        copies[left].prepend_line(block);
+    }
+}
+
+/// Writes one line for each of `copies`.
+fn put_copies<T: ReportSink, C: ListedCopy>(text: &mut T, copies: &[C])
+    ensures { HasGrown T.contents text.old (flat_map C.line copies.now) text.new }
+{
+    let mut block = LineBlock::new();
+    let mut from = 0;
+    while from < copies.len() {
+        let count = (copies.len() - from).min(BLOCK_LINES);
+        block.clear();
+        fill_copies(&mut block, &copies[from..from + count]);
+        text.put_block(&block);
+        from += count;
     }
 }
 
 /// Writes one line for each dropped copy of the filter's frames.
-#[tactic(auto, using(crate::proofs::Puts::goes_on))]
 pub fn put_drops<T: ReportSink>(text: &mut T, drops: &[StoredDrop])
     ensures { HasGrown T.contents text.old (flat_map drop_line drops.now) text.new }
 {
-    for dropped in drops {
-        put_drop(text, &dropped.dropped_copy());
-    }
+    put_copies(text, drops);
 }
 
 /// Writes one line for each copy of the filter's frames that left.
-#[tactic(auto, using(crate::proofs::Puts::goes_on))]
 pub fn put_departures<T: ReportSink>(text: &mut T, departures: &[StoredDeparture])
     ensures { HasGrown T.contents text.old (flat_map departure_line departures.now) text.new }
 {
-    let mut line = ReportLine::new();
-    for departure in departures {
-        put_departure(text, &mut line, &departure.departure());
-    }
+    put_copies(text, departures);
 }

@@ -2,7 +2,7 @@
 ghost use Rattle.std.specs.Prelude.{ℕ, ◌++◌, List, Option, Some, decimal, option_map};
 ghost use Rattle.bridge_report.specs.Growth.{HasGrown};
 
-use crate::report_line::ReportLine;
+use crate::line_block::LineBlock;
 use bridge_text::TextBuilder;
 use itoa::{Buffer, Integer};
 use std::alloc::Allocator;
@@ -20,9 +20,9 @@ pub trait ReportSink {
     fn put_number(&mut self, piece: &str, number: u64)
         ensures { HasGrown contents self.old (piece.now ++ decimal number) self.new };
 
-    /// Appends `line`.
-    fn put_line(&mut self, line: &ReportLine)
-        ensures { HasGrown contents self.old line.now self.new };
+    /// Appends the lines of `block`.
+    fn put_block(&mut self, block: &LineBlock)
+        ensures { HasGrown contents self.old block.now self.new };
 }
 
 /// Appends `piece` and the digits of `number`, which may have more than 64 bits.
@@ -47,7 +47,7 @@ impl<A: Allocator> ReportSink for TextBuilder<A> {
         self.put_number(number);
     }
 
-    fn put_line(&mut self, line: &ReportLine) {
-        self.put(line.text());
+    fn put_block(&mut self, block: &LineBlock) {
+        self.put(block.text());
     }
 }

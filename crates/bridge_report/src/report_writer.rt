@@ -3,8 +3,8 @@ ghost use Rattle.std.specs.Prelude.{◌≡◌, ◌++◌, ◌≤◌, [], OnOk, If
 ghost use Rattle.std.specs.Io.KnownBytes.{Appends, Keeps, append_known};
 ghost use Rattle.bridge_report.specs.Growth.{unless_failed};
 
+use crate::line_block::LineBlock;
 use crate::report_fault::ReportFault;
-use crate::report_line::ReportLine;
 use crate::report_sink::ReportSink;
 use itoa::write_digits;
 use std::alloc::Allocator;
@@ -125,13 +125,13 @@ impl<W: Write + Drop, A: Allocator> BufferedWriter<W, A> {
         push_number(&mut self.octets, number)
     }
 
-    /// Appends `line` to the buffer. A buffer without capacity for it is written first.
+    /// Appends the lines of `block` to the buffer. A buffer without capacity for them is written first.
     #[inline(always)]
-    fn put_line(&mut self, line: &ReportLine) -> Result<(), ReportFault>
+    fn put_block(&mut self, block: &LineBlock) -> Result<(), ReportFault>
         ensures { OnOk result (Appends (append_known (W.contents self.old.writer) self.old.octets.items)
-            (append_known (W.contents self.new.writer) self.new.octets.items) line.now) }
+            (append_known (W.contents self.new.writer) self.new.octets.items) block.now) }
     {
-        let octets = line.octets();
+        let octets = block.octets();
         self.make_room(octets.len())?;
         push_octets(&mut self.octets, octets)
     }
@@ -183,9 +183,9 @@ impl<W: Write + Drop, A: Allocator> ReportSink for ReportWriter<W, A> {
     }
 
     #[inline(always)]
-    fn put_line(&mut self, line: &ReportLine) {
+    fn put_block(&mut self, block: &LineBlock) {
         if self.fault.is_none()
-            && let Err(fault) = self.held.put_line(line)
+            && let Err(fault) = self.held.put_block(block)
         {
             self.fault = Some(fault);
         }

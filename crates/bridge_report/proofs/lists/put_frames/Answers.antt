@@ -1,7 +1,11 @@
-use Rattle.std.proofs.Common.{rules}
-use Rattle.bridge_report.proofs.Frames.{one_more}
-use Rattle.bridge_report.proofs.Puts.{put_two}
+use Rattle.std.proofs.Common.{arith}
+use Rattle.bridge_report.proofs.Blocks.{frames_after}
+use Rattle.bridge_report.proofs.Puts.{put_as, put_two}
 use Rattle.bridge_report.proofs.lists.put_frames.Goals as goal
 
-pub loop-i-preserved : goal.loop-i-preserved
-loop-i-preserved g c = put_two _ _ _ _ _ _ _ c.loop-i.invariant c.put_frame.ensures (one_more _ _ _ (search rules) (search rules))
+pub loop-from-preserved : goal.loop-from-preserved
+loop-from-preserved g c =
+    let past = c.loop-from-test.true in
+    let few = c.min-count.ensures in
+    let grown = put_as _ _ _ _ _ c.put_block.ensures c.fill_frames.ensures in
+    (omega (arith, past, few), put_two _ _ _ _ _ _ _ c.loop-from.invariant.1 grown (frames_after c.args.verdicts.now c.loop-from.from c.min-count.result c.loop-from.invariant.0))

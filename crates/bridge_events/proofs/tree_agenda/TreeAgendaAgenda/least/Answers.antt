@@ -1,21 +1,18 @@
-use Rattle.std.proofs.Common.{◌/◌, ◌%◌, arith, get_or, subst, Some, None}
-use Rattle.std.specs.Prelude.{List, ℕ}
-use Rattle.std.proofs.lemmas.Grind.{get_or_default_zero}
+use Rattle.std.proofs.Common.{◌+◌, ◌/◌, ◌%◌, subst, Some, None}
 use Rattle.bridge_events.specs.Least.{IsLeast}
-use Rattle.bridge_events.specs.Tree.{tree_time}
-use Rattle.bridge_events.specs.declared.tree_agenda.TheConstants.{NO_MOMENT}
+use Rattle.bridge_events.specs.Tree.{TreeState, tree_time}
 use Rattle.bridge_events.proofs.Trees.{none_least, some_least}
 use Rattle.bridge_events.proofs.tree_agenda.TreeAgendaAgenda.least.Goals as goal
 
-pub returns-then-first-lt-NO_MOMENT : goal.returns-then-first-lt-NO_MOMENT
-returns-then-first-lt-NO_MOMENT c =
-    let nodes = c.self.inside.nodes in
-    let first = get_or nodes 1 0 in
-    let e = get_or_default_zero nodes 1 NO_MOMENT (omega arith) in
-    subst (λ (xs : List ℕ). IsLeast (tree_time xs) (Some (first % 256, first / 256))) c.self.view_is (rw e at (some_least nodes c.self.invariant (omega arith)))
+pub returns-then-first-lt-LATE_KEY : goal.returns-then-first-lt-LATE_KEY
+returns-then-first-lt-LATE_KEY c =
+    let first = c.self.inside.first in
+    subst (λ (a : TreeState). IsLeast (tree_time a.keys a.times) (Some (first % 16 + 1, first / 16))) c.self.view_is (some_least _ c.self.invariant c.if-first-lt-LATE_KEY.true)
 
-pub returns-else-first-lt-NO_MOMENT : goal.returns-else-first-lt-NO_MOMENT
-returns-else-first-lt-NO_MOMENT c =
-    let nodes = c.self.inside.nodes in
-    let e = get_or_default_zero nodes 1 NO_MOMENT (omega arith) in
-    subst (λ (xs : List ℕ). IsLeast (tree_time xs) None) c.self.view_is (none_least nodes c.self.invariant (omega arith))
+pub returns-then-first : goal.returns-then-first
+returns-then-first c =
+    subst (λ (a : TreeState). IsLeast (tree_time a.keys a.times) None) c.self.view_is (none_least _ c.self.invariant c.if-first.true)
+
+pub returns-else-first : goal.returns-else-first
+returns-else-first c =
+    subst (λ (a : TreeState). IsLeast (tree_time a.keys a.times) c.least_late_entry.result) c.self.view_is c.least_late_entry.ensures

@@ -1,6 +1,6 @@
 use Rattle.std.proofs.Common.{◌++◌, ap, decimal, arith, ◌∙◌}
 use Rattle.bridge_report.proofs.Fronts.{digits_in_front, longer_in_front, room_in_front}
-use Rattle.bridge_report.proofs.report_line.ReportLine.prepend_digits.Goals as goal
+use Rattle.bridge_report.proofs.line_block.LineBlock.prepend_digits.Goals as goal
 
 pub write_digits-self-inside-requires : goal.write_digits-self-inside-requires
 write_digits-self-inside-requires c = (room_in_front _ _ _ _ c.self.told c.self.invariant.0 c.self.view_is c.requires c.ranges.number.fits, omega (arith, c.self.told, c.self.invariant.0))
