@@ -1,9 +1,8 @@
 -- If a stream's delays pass, each frame of its talker has a route along each path that forwards it.
-use Rattle.std.proofs.Common.{◌≡◌, ◌≤◌, ◌+◌, ℕ, zero, suc, Bool, true, false, ◌&&◌, List, [], ◌∷◌, map, Option, Some, None, nat_eq, refl, sym, ap, ◌∙◌, subst, inl, inr, length, arith}
-use Rattle.std.specs.Prelude.{Vec, option_map, slice_get}
+use Rattle.std.proofs.Common.{◌≡◌, ◌+◌, ℕ, zero, suc, Bool, true, List, [], ◌∷◌, map, Option, Some, nat_eq, refl, sym, ap, ◌∙◌, subst, arith}
+use Rattle.std.specs.Prelude.{slice_get}
 use Rattle.std.specs.List.{list_all}
 use Rattle.std.specs.Map.{lookup}
-use Rattle.std.proofs.lemmas.Bool.{and_parts, false≢true}
 use Rattle.std.proofs.lemmas.Option.{same_Some}
 use Rattle.bridge_limits.specs.Members.{IsMember}
 use Rattle.bridge_limits.proofs.Members as members
@@ -11,7 +10,6 @@ use Rattle.bridge_limits.proofs.Options.{some_is_none}
 use Rattle.bridge_limits.proofs.Orders.{same_eq}
 use Rattle.bridge_capture.specs.Grammar.{CapturedFrame}
 use Rattle.bridge_filter.specs.Counts.{filter_verdicts}
-use Rattle.bridge_filter.specs.declared.FilterInput.{FilterInput}
 use Rattle.bridge_filter.specs.declared.FilterPlan.{FilterPlan}
 use Rattle.bridge_filter.specs.OwnEvents.{is_filter_number}
 use Rattle.bridge_filter.specs.Verdicts.{frame_filter}
@@ -24,9 +22,8 @@ use Rattle.bridge_config.specs.Rules.{find_port}
 use Rattle.bridge_config.proofs.PlanPorts.{at_own, at_port, number_is}
 use Rattle.bridge_check.specs.Reach.{reaches_queue}
 use Rattle.bridge_check.proofs.Isolated.{class_few}
-use Rattle.bridge_semantics.specs.declared.destination.Destination.TheVariants.{Forwarded}
 use Rattle.bridge_semantics.specs.declared.outcome.Outcome.{Outcome}
-use Rattle.bridge_semantics.specs.Events.{Arrival, Arrived, Event, arrival, arrival_filter, frame_destination, is_own_event, own_events, police_steps}
+use Rattle.bridge_semantics.specs.Events.{Arrival, Arrived, Event, arrival, arrival_filter, own_events, police_steps}
 use Rattle.bridge_semantics.specs.Merge.{Input, capture_input, capture_inputs, input_events, own_inputs}
 use Rattle.bridge_semantics.specs.Offers.{CarriedFrame, port_offers}
 use Rattle.bridge_semantics.specs.Outputs.{IsDeparture, departed_frame}
@@ -42,9 +39,7 @@ use Rattle.bridge_bounds.specs.Traffic.{IsTraffic, KeepsTraffic}
 use Rattle.bridge_bounds.proofs.Kept as kept
 use Rattle.bridge_bounds.proofs.Passed as passed
 use Rattle.bridge_bounds.proofs.Reached.{found_in}
-use Rattle.net_model.specs.declared.links.Link.{Link}
 use Rattle.net_model.specs.declared.links.StreamHop.{StreamHop}
-use Rattle.net_model.specs.Handing.{hands_all, hands_between, hands_over, hands_to_port}
 use Rattle.net_model.specs.NetworkParts.{NetworkParts, link_value, network_value}
 use Rattle.net_model.specs.Networks.{IsNetwork, IsNetworkRun, Sender, delayed_frame, external_inputs, inputs_over_link, port_inputs, sender}
 use Rattle.net_model.proofs.Handed.{each_handed}
@@ -53,18 +48,18 @@ use Rattle.net_latency.specs.declared.next_hop.NextHop.{NextHop}
 use Rattle.net_latency.specs.declared.latency.StreamLatency.{StreamLatency}
 use Rattle.net_latency.specs.declared.queue_exit.HopArrival.{HopArrival}
 use Rattle.net_latency.specs.declared.tree.HopQueue.{HopQueue}
-use Rattle.net_latency.specs.Delivered.{AreCommands, CarriesFrame, FollowsPath, HasPorts, HasReachableQueues, HaveSameCopies, IsAcceptedNetwork, IsDeliveredAlong, IsForwardedAlong, IsForwardedByPort, IsFrameOfHop, IsStreamOfNetwork, KeepsTrafficOfHop}
-use Rattle.net_latency.specs.Entering.{IsStreamCourse, are_handed, come_in_once, hands_to_end, hands_to_hop, is_handed}
-use Rattle.net_latency.specs.NextHop.{hop_at_bridge, next_hop, next_hop_over_link}
-use Rattle.net_latency.specs.Phased.{HasHopTiming, IsFedByHop, IsRouteOfStream, KeepsTrafficAtHop, queue_of_route_hop, stream_hop}
-use Rattle.net_latency.specs.StreamLatency.{HopPasses, IsHopLatency, IsHopLatencyByQueues, StreamModel, arrival_over_link, first_hop_arrival}
+use Rattle.net_latency.specs.Delivered.{AreCommands, CarriesFrame, FollowsPath, HasPorts, HasReachableQueues, HaveSameCopies, IsAcceptedNetwork, IsForwardedAlong, IsForwardedByPort, IsStreamOfNetwork}
+use Rattle.net_latency.specs.Entering.{are_handed, come_in_once, is_handed}
+use Rattle.net_latency.specs.NextHop.{hop_at_bridge, next_hop}
+use Rattle.net_latency.specs.Phased.{HasHopTiming, IsRouteOfStream, KeepsTrafficAtHop, queue_of_route_hop, stream_hop}
+use Rattle.net_latency.specs.StreamLatency.{HopPasses, IsHopLatency, IsHopLatencyByQueues, StreamModel, arrival_over_link}
 use Rattle.net_latency.specs.Trees.{is_tree}
 use Rattle.net_latency.specs.Ways.{IsNextHop, IsRoute, IsRouteHop, RouteHop, hop_end}
 use Rattle.net_latency.proofs.FedInTurn.{fed_by_hop, hop_there}
 use Rattle.net_latency.proofs.HandedQueues.{handed_at, leads_to}
 use Rattle.net_latency.proofs.Linked.{are_single, both_ways}
 use Rattle.net_latency.proofs.OneCopy.{one_copy}
-use Rattle.net_latency.proofs.PassingHops.{HasPhases, LeadsOn, hop_passes, leads_on, queue_phases}
+use Rattle.net_latency.proofs.PassingHops.{HasPhases, hop_passes, leads_on, queue_phases}
 use Rattle.net_latency.proofs.Phased.{keeps_next, moved_traffic}
 use Rattle.net_latency.proofs.ProtectedHops.{filter_of}
 use Rattle.net_latency.proofs.SentCopies.{IsCopyOfFrame, at_any_time, frame_copy}

@@ -1,7 +1,6 @@
 -- In an accepted network, the hops of a stream whose hops are a tree feed each other: only copies of the previous hop's queue arrive at a later hop.
-use Rattle.std.proofs.Common.{◌≡◌, ◌≤◌, ◌+◌, ℕ, Bool, true, false, not, ◌&&◌, List, [], ◌∷◌, map, Option, Some, None, nat_eq, nat_le, refl, sym, ap, ◌∙◌, subst, inl, inr, length, arith}
-use Rattle.std.specs.Prelude.{◌⊎◌, Vec, filter, is_some, option_map, slice_get}
-use Rattle.std.specs.List.{list_all, list_any}
+use Rattle.std.proofs.Common.{◌≡◌, ◌≤◌, ◌+◌, ℕ, Bool, true, false, ◌&&◌, List, [], ◌∷◌, map, Option, Some, None, nat_eq, nat_le, refl, sym, ap, ◌∙◌, subst, inl, inr, length, arith}
+use Rattle.std.specs.Prelude.{◌⊎◌, filter, option_map, slice_get}
 use Rattle.std.specs.Map.{lookup}
 use Rattle.std.proofs.lemmas.Bool.{and_from, and_parts, eq-eqb, eqb-true, false≢true}
 use Rattle.std.proofs.lemmas.Bool.Decides.{nat_tests}
@@ -28,7 +27,7 @@ use Rattle.bridge_check.proofs.Isolated.{class_few}
 use Rattle.bridge_bounds.proofs.Reached.{found_in}
 use Rattle.bridge_semantics.specs.declared.outcome.Outcome.{Outcome}
 use Rattle.bridge_semantics.specs.Events.{Arrival, Event, arrival, arrival_filter, frame_destination, is_own_event}
-use Rattle.bridge_semantics.specs.Merge.{Input, capture_input, capture_inputs, input_events, inputs_by_rank, own_inputs}
+use Rattle.bridge_semantics.specs.Merge.{Input, capture_input, capture_inputs, input_events}
 use Rattle.bridge_semantics.specs.Offers.{CarriedFrame, port_offers}
 use Rattle.bridge_semantics.specs.Outputs.{IsDeparture, departed_frame}
 use Rattle.bridge_semantics.proofs.Headline.{as_offer, flow_reaches, in_offered}
@@ -39,7 +38,7 @@ use Rattle.net_model.specs.ClosedTest.{is_protected}
 use Rattle.net_model.specs.Faults.{has_entry, is_entry_port, protected_handle}
 use Rattle.net_model.specs.LinkFrames.{matching_filter}
 use Rattle.net_model.specs.NetworkParts.{NetworkParts, hop_value, link_value, network_value, stream_value}
-use Rattle.net_model.specs.Networks.{IsClosed, IsHop, IsNetwork, IsNetworkRun, IsOfStream, Network, Sender, delayed_frame, external_inputs, hop, inputs_over_link, port_inputs, sender}
+use Rattle.net_model.specs.Networks.{IsClosed, IsHop, IsNetwork, IsNetworkRun, IsOfStream, Sender, delayed_frame, external_inputs, hop, inputs_over_link, port_inputs, sender}
 use Rattle.net_model.proofs.Feeding.{IsTaken, taken_way}
 use Rattle.net_model.proofs.Handles.{names_handle, protected_names}
 use Rattle.net_model.proofs.Marking.{plain}
@@ -49,8 +48,8 @@ use Rattle.net_latency.specs.declared.tree.HopQueue.{HopQueue}
 use Rattle.net_latency.specs.Delivered.{AreCommands, HasReachableQueues, IsAcceptedNetwork, IsStreamOfNetwork}
 use Rattle.net_latency.specs.Entering.{come_in_once, comes_in_at, comes_in_once, may_come_in}
 use Rattle.net_latency.specs.NextHop.{hop_at_bridge, next_hop, next_hop_over_link}
-use Rattle.net_latency.specs.Phased.{AreFedInTurn, IsCommand, IsFedByHop, IsForwardedCopy, IsOwnInput, IsRouteOfStream, queue_of_route_hop, stream_hop}
-use Rattle.net_latency.specs.Trees.{count_feeders, have_distinct_bridges, have_single_feeders, is_feeder, is_linked_to, is_tree}
+use Rattle.net_latency.specs.Phased.{AreFedInTurn, IsCommand, IsFedByHop, IsForwardedCopy, IsRouteOfStream, queue_of_route_hop, stream_hop}
+use Rattle.net_latency.specs.Trees.{count_feeders, have_distinct_bridges, have_single_feeders, is_feeder, is_tree}
 use Rattle.net_latency.specs.Ways.{IsRoute, IsRouteHop, RouteHop}
 use Rattle.net_latency.proofs.Linked.{are_single, both_ways}
 use Rattle.net_latency.proofs.Phased.{first_leg}

@@ -1,5 +1,5 @@
 -- If the frames of a filter arrive in periods of their own, a port has at most one copy of the filter for each arrival time.
-use Rattle.std.proofs.Common.{◌≡◌, ◌+◌, ◌<◌, ◌≤◌, ℕ, Bool, true, false, List, [], ◌∷◌, ◌++◌, Option, Some, nat_eq, refl, sym, ap, ◌∙◌, subst, inl, inr, arith}
+use Rattle.std.proofs.Common.{◌≡◌, ◌<◌, ℕ, true, List, [], ◌∷◌, ◌++◌, Some, nat_eq, refl, sym, ap, ◌∙◌, subst, inl, inr, arith}
 use Rattle.bridge_limits.specs.Members.{IsMember, IsOrdered, RelatesToEach}
 use Rattle.bridge_limits.proofs.Cases.{by_bool}
 use Rattle.bridge_limits.proofs.Members.{in_either}

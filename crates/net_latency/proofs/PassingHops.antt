@@ -1,6 +1,6 @@
 -- If a stream's delays are marked as passing, each of its queues has delays that are marked so, and each of its hops passes all frames.
-use Rattle.std.proofs.Common.{◌≡◌, ℕ, zero, suc, Bool, true, false, ◌&&◌, List, [], ◌∷◌, Option, Some, None, refl, sym, ap, ◌∙◌, subst, inl, inr}
-use Rattle.std.specs.Prelude.{MatchOption, filter, fold, slice_get}
+use Rattle.std.proofs.Common.{◌≡◌, ℕ, zero, suc, Bool, true, ◌&&◌, List, [], ◌∷◌, Option, Some, None, refl, sym, ap, ◌∙◌, subst, inl, inr}
+use Rattle.std.specs.Prelude.{filter, fold, slice_get}
 use Rattle.std.proofs.lemmas.Bool.{and_parts}
 use Rattle.std.proofs.lemmas.Option.{none-some, same_Some}
 use Rattle.bridge_limits.specs.Members.{IsMember}
@@ -17,11 +17,10 @@ use Rattle.net_latency.specs.declared.latency.CombinedLatency.TheVariants as gat
 use Rattle.net_latency.specs.declared.next_hop.NextHop.{NextHop}
 use Rattle.net_latency.specs.declared.queue_exit.HopArrival.{HopArrival}
 use Rattle.net_latency.specs.declared.queue_exit.QueueExit.{QueueExit}
-use Rattle.net_latency.specs.declared.queue_exit.QueueExit.TheVariants as stop
 use Rattle.net_latency.specs.declared.tree.HopQueue.{HopQueue}
 use Rattle.net_latency.specs.NextHop.{next_hop}
-use Rattle.net_latency.specs.StreamLatency.{IsHopLatency, IsHopLatencyByQueues, IsLatencyAfterExit, IsQueueExit, IsQueueExitOfPlan, IsQueueLatency, Pairwise, StreamModel, add_latency, arrival_over_link, combine_if_both, exit_over_link, exit_to_hop, is_in_one_period, is_queue_of_hop, known_latency, latency_at_last_queue, next_hop_arrival}
-use Rattle.net_latency.proofs.Within.{HasStop, behind_some, each_in, in_filter, stop_of}
+use Rattle.net_latency.specs.StreamLatency.{IsHopLatency, IsHopLatencyByQueues, IsLatencyAfterExit, IsQueueExit, IsQueueExitOfPlan, IsQueueLatency, Pairwise, StreamModel, add_latency, arrival_over_link, combine_if_both, exit_over_link, exit_to_hop, is_in_one_period, is_queue_of_hop, known_latency, next_hop_arrival}
+use Rattle.net_latency.proofs.Within.{behind_some, each_in, in_filter, stop_of}
 
 -- THE QUEUES OF A HOP
 

@@ -3,7 +3,6 @@ use Rattle.std.proofs.Common.{◌≡◌, ℕ, true, List, Some, Vec}
 use Rattle.std.specs.Prelude.{slice_get}
 use Rattle.bridge_limits.specs.Members.{IsMember}
 use Rattle.bridge_capture.specs.Grammar.{CapturedFrame}
-use Rattle.bridge_config.specs.Model.{Plan}
 use Rattle.bridge_semantics.specs.declared.outcome.Outcome.{Outcome}
 use Rattle.bridge_semantics.specs.Events.{Arrival, Arrived, own_events}
 use Rattle.bridge_semantics.specs.Merge.{Input, capture_inputs, input_events}

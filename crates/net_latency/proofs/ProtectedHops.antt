@@ -1,5 +1,5 @@
 -- In an accepted network, each hop of a stream is a protected filter of its bridge.
-use Rattle.std.proofs.Common.{◌≡◌, ◌<◌, ◌+◌, ℕ, zero, suc, true, false, ◌&&◌, List, [], ◌∷◌, Option, Some, None, nat_eq, refl, sym, ap, ◌∙◌, subst, inl, inr, length, arith, take}
+use Rattle.std.proofs.Common.{◌≡◌, ◌<◌, ◌+◌, ℕ, zero, suc, true, ◌&&◌, List, [], ◌∷◌, Option, Some, None, nat_eq, refl, sym, ap, subst, inl, inr, length, arith, take}
 use Rattle.std.specs.Prelude.{Vec, is_some, option_map, slice_get}
 use Rattle.std.specs.List.{list_any}
 use Rattle.std.specs.Map.{lookup}
@@ -13,7 +13,6 @@ use Rattle.net_model.specs.declared.fault.NetworkFault.{NetworkFault}
 use Rattle.net_model.specs.declared.fault.NetworkFault.TheVariants as fault
 use Rattle.net_model.specs.declared.links.Link.{Link}
 use Rattle.net_model.specs.declared.links.StreamHop.{StreamHop}
-use Rattle.net_model.specs.ClosedTest.{is_protected}
 use Rattle.net_model.specs.Faults.{doubly_linked_end, end_port, fault_unless, first_by_index, first_fault, first_hop_fault, if_some, is_one_speed, is_protected_hop}
 use Rattle.net_model.specs.NetworkParts.{NetworkParts}
 use Rattle.net_model.proofs.Firsts.{none_at}

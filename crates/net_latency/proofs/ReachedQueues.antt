@@ -1,22 +1,17 @@
 -- The queues of a stream that the program collects from the delay bounds include each queue that a hop can reach.
-use Rattle.std.proofs.Common.{◌≡◌, ◌<◌, ◌≤◌, ℕ, zero, suc, true, List, [], ◌∷◌, ◌++◌, map, Option, Some, None, Vec, nat_eq, refl, sym, ap, subst, inl, inr}
+use Rattle.std.proofs.Common.{◌≡◌, ℕ, zero, suc, List, [], ◌∷◌, Some, Vec, subst, inl, inr}
 use Rattle.std.specs.Prelude.{filter, flat_map, slice_get}
-use Rattle.std.specs.Map.{lookup}
 use Rattle.std.proofs.lemmas.Option.{none-some, same_Some}
 use Rattle.bridge_limits.specs.Members.{IsMember}
-use Rattle.bridge_limits.proofs.Cases.{by_bool}
 use Rattle.bridge_limits.proofs.Members as members
 use Rattle.bridge_limits.proofs.Orders.{same_eq}
-use Rattle.bridge_filter.specs.declared.FilterPlan.{FilterPlan}
 use Rattle.bridge_config.specs.Model.{Plan}
-use Rattle.bridge_check.specs.Reach.{reaches_queue}
 use Rattle.net_model.specs.declared.links.StreamHop.{StreamHop}
 use Rattle.net_latency.specs.declared.bounds.QueueBound.{QueueBound}
-use Rattle.net_latency.specs.declared.tree.HopQueue.{HopQueue}
 use Rattle.net_latency.specs.Bounds.{AreBounds}
 use Rattle.net_latency.specs.Delivered.{HasReachableQueues}
 use Rattle.net_latency.specs.Streams.{AreQueueBoundsOfPlans, bounds_if_any}
-use Rattle.net_latency.specs.Talkers.{filter_queues, hop_queue, hop_queues, is_queue_of_hop, queues_of_hop}
+use Rattle.net_latency.specs.Talkers.{hop_queue, hop_queues, is_queue_of_hop, queues_of_hop}
 use Rattle.net_latency.proofs.Within.{in_filter}
 
 in_flat_map : {X Y : Type 0} (f : X → List Y) (x : X) (y : Y) (xs : List X) → IsMember x xs → IsMember y (f x) → IsMember y (flat_map f xs)

@@ -1,8 +1,7 @@
 -- A frame that its filter passes has a copy at each of its egress ports.
-use Rattle.std.proofs.Common.{◌≡◌, ◌+◌, ℕ, Bool, true, false, ◌&&◌, List, [], ◌∷◌, ◌++◌, Option, Some, None, nat_eq, refl, sym, ap, ◌∙◌, subst, inl, inr}
+use Rattle.std.proofs.Common.{◌≡◌, ◌+◌, ℕ, true, false, ◌&&◌, List, [], ◌∷◌, ◌++◌, Option, Some, None, nat_eq, refl, sym, ap, ◌∙◌, subst, inl, inr}
 use Rattle.std.specs.Prelude.{◌⊎◌, if◌then◌else◌}
 use Rattle.std.specs.List.{list_all}
-use Rattle.std.specs.Map.{lookup}
 use Rattle.std.proofs.lemmas.Bool.{and_parts, eqb-true, false≢true}
 use Rattle.std.proofs.lemmas.List.Folds.{list_all-append}
 use Rattle.bridge_limits.specs.Members.{IsMember}
@@ -25,7 +24,7 @@ use Rattle.bridge_gate.specs.declared.stream_gate.GateAnswer.TheVariants as gate
 use Rattle.bridge_port.specs.Schedule.{Copy}
 use Rattle.bridge_config.specs.declared.ports.PortPlan.{PortPlan}
 use Rattle.bridge_config.specs.Model.{Plan}
-use Rattle.bridge_config.specs.Rules.{IsPlan, find_port}
+use Rattle.bridge_config.specs.Rules.{IsPlan}
 use Rattle.bridge_config.proofs.PlanPorts.{at_port}
 use Rattle.bridge_check.specs.FrameInput as sending
 use Rattle.bridge_check.specs.FrameInput.{frame_vid}

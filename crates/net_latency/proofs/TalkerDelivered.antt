@@ -1,5 +1,5 @@
 -- Each frame of a talker is delivered along each path that forwards it, within the stream's delays.
-use Rattle.std.proofs.Common.{◌≡◌, ℕ, true, ◌&&◌, List, Option, Some, nat_eq, refl, sym, ap, ◌∙◌, subst, length}
+use Rattle.std.proofs.Common.{◌≡◌, ℕ, true, List, Some, nat_eq, sym, ap, ◌∙◌, subst, length}
 use Rattle.std.specs.Prelude.{slice_get}
 use Rattle.std.specs.Map.{lookup}
 use Rattle.std.proofs.lemmas.Bool.{and_parts}
@@ -13,7 +13,7 @@ use Rattle.bridge_semantics.specs.declared.outcome.Outcome.{Outcome}
 use Rattle.bridge_semantics.specs.Events.{Arrival, Arrived, own_events}
 use Rattle.bridge_semantics.specs.Merge.{Input, input_events}
 use Rattle.bridge_bounds.specs.declared.traffic.Traffic.{Traffic}
-use Rattle.bridge_bounds.specs.Traffic.{IsTraffic, KeepsTraffic}
+use Rattle.bridge_bounds.specs.Traffic.{IsTraffic}
 use Rattle.net_model.specs.declared.links.StreamHop.{StreamHop}
 use Rattle.net_model.specs.NetworkParts.{NetworkParts, network_value}
 use Rattle.net_model.specs.Networks.{IsNetworkRun}

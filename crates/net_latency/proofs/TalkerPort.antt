@@ -1,6 +1,6 @@
 -- At the first hop of a stream, all own frames arrive at the talker's port. So only frames that arrive there must keep the traffic.
-use Rattle.std.proofs.Common.{◌≡◌, ℕ, Bool, true, false, not, ◌&&◌, List, [], ◌∷◌, ◌++◌, map, Option, Some, None, nat_eq, refl, sym, ap, ◌∙◌, subst, inl, inr, arith}
-use Rattle.std.specs.Prelude.{◌⊎◌, is_some, option_map, slice_get}
+use Rattle.std.proofs.Common.{◌≡◌, ℕ, Bool, true, false, not, ◌&&◌, List, [], ◌∷◌, map, Option, Some, None, nat_eq, refl, sym, ap, ◌∙◌, subst, inl, inr, arith}
+use Rattle.std.specs.Prelude.{is_some, option_map, slice_get}
 use Rattle.std.specs.Map.{lookup}
 use Rattle.std.proofs.lemmas.Bool.{and_parts, eq-eqb, eqb-true, false≢true}
 use Rattle.std.proofs.lemmas.Option.{same_Some}
@@ -9,7 +9,6 @@ use Rattle.bridge_limits.proofs.Cases.{by_bool}
 use Rattle.bridge_limits.proofs.Members as members
 use Rattle.bridge_limits.proofs.Orders.{same_eq}
 use Rattle.bridge_capture.specs.Grammar.{CapturedFrame}
-use Rattle.bridge_filter.specs.declared.Clear.{Clear}
 use Rattle.bridge_filter.specs.declared.FilterPlan.{FilterPlan}
 use Rattle.bridge_filter.specs.OwnEvents.{is_filter_number}
 use Rattle.bridge_config.specs.declared.ports.PortPlan.{PortPlan}
@@ -35,7 +34,7 @@ use Rattle.net_latency.specs.Delivered.{AreCommands, HasReachableQueues, IsAccep
 use Rattle.net_latency.specs.Entering.{come_in_once, comes_in_at, comes_in_once, is_talker_port, may_come_in}
 use Rattle.net_latency.specs.Phased.{IsCommand}
 use Rattle.net_latency.specs.Trees.{is_feeder, is_tree}
-use Rattle.net_latency.proofs.FedInTurn.{IsFromQueue, at_rank, enters_at, no_root, none_comes, queue_of, sent_over, tree_parts}
+use Rattle.net_latency.proofs.FedInTurn.{at_rank, enters_at, no_root, none_comes, queue_of, sent_over, tree_parts}
 use Rattle.net_latency.proofs.Linked.{are_single, both_ways}
 use Rattle.net_latency.proofs.ProtectedHops.{HasFilter, filter_of}
 use Rattle.bridge_semantics.proofs.Safe.{IsSafe}
