@@ -1,5 +1,5 @@
 -- Each frame of a talker is delivered along each path that forwards it, within the stream's delays.
-use Rattle.std.proofs.Common.{◌≡◌, ℕ, true, List, Some, nat_eq, sym, ap, ◌∙◌, subst, length}
+use Rattle.std.proofs.Common.{◌≡◌, ℕ, true, List, Some, nat_eq, sym, ap, ◌∙◌, subst, length, arith}
 use Rattle.std.specs.Prelude.{slice_get}
 use Rattle.std.specs.Map.{lookup}
 use Rattle.std.proofs.lemmas.Bool.{and_parts}
@@ -12,6 +12,7 @@ use Rattle.bridge_config.specs.Model.{Plan}
 use Rattle.bridge_semantics.specs.declared.outcome.Outcome.{Outcome}
 use Rattle.bridge_semantics.specs.Events.{Arrival, Arrived, own_events}
 use Rattle.bridge_semantics.specs.Merge.{Input, input_events}
+use Rattle.bridge_bounds.specs.declared.timing.Phases.{Phases}
 use Rattle.bridge_bounds.specs.declared.traffic.Traffic.{Traffic}
 use Rattle.bridge_bounds.specs.Traffic.{IsTraffic}
 use Rattle.net_model.specs.declared.links.StreamHop.{StreamHop}
@@ -19,11 +20,11 @@ use Rattle.net_model.specs.NetworkParts.{NetworkParts, network_value}
 use Rattle.net_model.specs.Networks.{IsNetworkRun}
 use Rattle.net_latency.specs.declared.latency.StreamLatency.{StreamLatency}
 use Rattle.net_latency.specs.declared.tree.HopQueue.{HopQueue}
-use Rattle.net_latency.specs.Delivered.{AreCommands, HasReachableQueues, IsAcceptedNetwork, IsDeliveredAlong, IsForwardedAlong, IsFrameOfHop, IsStreamOfNetwork, KeepsTrafficOfHop}
+use Rattle.net_latency.specs.Delivered.{AreCommands, HasReachableQueues, IsAcceptedNetwork, IsDeliveredAlong, IsForwardedAlong, IsFrameOfHop, IsStreamOfNetwork, IsWithinStreamLatency, KeepsTrafficOfHop}
 use Rattle.net_latency.specs.Entering.{IsStreamCourse, are_handed}
-use Rattle.net_latency.specs.Phased.{KeepsTrafficAtHop, stream_hop}
-use Rattle.net_latency.specs.StreamLatency.{first_hop_arrival}
-use Rattle.net_latency.specs.Ways.{RouteHop}
+use Rattle.net_latency.specs.Phased.{IsWithinRouteLatency, KeepsTrafficAtHop, stream_hop}
+use Rattle.net_latency.specs.StreamLatency.{IsLatencyWithinOther, first_hop_arrival}
+use Rattle.net_latency.specs.Ways.{RouteHop, hop_end, last_hop}
 use Rattle.net_latency.proofs.Deliveries.{deliver}
 use Rattle.net_latency.proofs.Phased.{first_leg}
 use Rattle.net_latency.proofs.ProtectedHops.{filter_of}
@@ -34,6 +35,28 @@ keeps_first : {A : Type 0} (n : NetworkParts A) (inputs : ℕ → List Input) (t
 keeps_first n inputs t h leg same at keeps =
     let also : KeepsTrafficOfHop n.plans inputs t (stream_hop leg) = subst (KeepsTrafficOfHop n.plans inputs t) (sym same) keeps in
     λ f found. also leg.plan f at found
+
+-- Delays of a route lie within the delays of its stream.
+within_stream : (period at end : ℕ) (x r : StreamLatency) (done : Phases) → IsLatencyWithinOther x r → IsWithinRouteLatency period at end x done → IsWithinStreamLatency period at end r
+within_stream period at end x r done within is =
+    let best = is.best in
+    let worst = is.worst in
+    let from = is.from in
+    let to = is.to in
+    let lesser = within.best in
+    let greater = within.worst in
+    let first = within.from in
+    let last = within.to in
+    let from_is : x.phases.from ≡ done.from = ap (λ (z : Phases). z.from) is.phases in
+    let to_is : x.phases.to ≡ done.to = ap (λ (z : Phases). z.to) is.phases in
+    record {
+      best = omega (arith, best, lesser);
+      worst = omega (arith, worst, greater);
+      period_start = is.period_start;
+      multiple = is.multiple;
+      from = omega (arith, from, first, from_is);
+      to = omega (arith, to, last, to_is);
+    }
 
 pub delivered : {A : Type 0} (n : NetworkParts A) (hops : List StreamHop) (queues : List HopQueue) (t : Traffic) (r : StreamLatency) (first : StreamHop) (commands : ℕ → List Input) (captures : ℕ → ℕ → List CapturedFrame) (o : ℕ → Outcome A) (run : IsNetworkRun (network_value n) commands captures o) (a : Arrival) (q : ℕ) (ports : List ℕ)
     → IsAcceptedNetwork n → IsStreamOfNetwork n hops → HasReachableQueues n.plans hops queues → AreCommands commands → IsTraffic t → slice_get hops 0 ≡ Some first → KeepsTrafficOfHop n.plans run.inputs t first
@@ -64,6 +87,8 @@ delivered {A} n hops queues t r first commands captures o run a q ports accepted
     }) h.told passes way in
     let at_first : slice_get hops 0 ≡ Some (stream_hop x.leg) = begins ∙ ap Some (sym x.at_hop) in
     let here = first_leg (network_value n) run.lists x.leg x.more x.route in
+    let held = kept n hops queues t r commands captures o run x.leg x.more accepted known all commanded traffic is at_first x.route x.of_stream (keeps_first n run.inputs t first x.leg x.at_hop here.plan keeps) in
+    let end = hop_end (last_hop x.leg x.more) in
     record {
       leg = x.leg;
       more = x.more;
@@ -72,6 +97,6 @@ delivered {A} n hops queues t r first commands captures o run a q ports accepted
       begins = x.at_hop;
       arrives = x.arrives;
       path = x.path;
-      delays = kept n hops queues t r commands captures o run x.leg x.more accepted known all commanded traffic is at_first x.route x.of_stream (keeps_first n run.inputs t first x.leg x.at_hop here.plan keeps);
+      delays = subst (λ (at : ℕ). IsWithinStreamLatency t.period at end r) x.arrives (within_stream t.period x.leg.copy.at end held.figures r held.done held.within held.keeps);
       only = x.only;
     }

@@ -1,5 +1,5 @@
 -- Streams of accepted networks in whole runs: only a talker's frames arrive at each hop, and each of them is delivered.
-use Rattle.std.specs.Prelude.{◌≡◌, ℕ, true, ◌<◌, ◌≤◌, List, [], ◌∷◌, Some, None, Vec, map, nat_eq, slice_get}
+use Rattle.std.specs.Prelude.{◌≡◌, ℕ, true, ◌+◌, ◌<◌, ◌≤◌, List, [], ◌∷◌, Some, None, Vec, map, nat_eq, slice_get}
 use Rattle.std.specs.Map.{lookup}
 use Rattle.bridge_limits.specs.Members.{IsMember}
 use Rattle.bridge_capture.specs.Grammar.{CapturedFrame}
@@ -15,6 +15,7 @@ use Rattle.bridge_semantics.specs.declared.destination.Destination.TheVariants.{
 use Rattle.bridge_semantics.specs.Events.{Arrival, Arrived, arrival, frame_destination, own_events}
 use Rattle.bridge_semantics.specs.Merge.{Input, capture_inputs, input_events}
 use Rattle.bridge_semantics.specs.Offers.{CarriedFrame}
+use Rattle.bridge_bounds.specs.Latency.{IsMultiple}
 use Rattle.bridge_bounds.specs.declared.traffic.Traffic.{Traffic}
 use Rattle.bridge_bounds.specs.Traffic.{KeepsTraffic}
 use Rattle.net_model.specs.declared.links.Link.{Link}
@@ -27,8 +28,8 @@ use Rattle.net_latency.specs.declared.latency.StreamLatency.{StreamLatency}
 use Rattle.net_latency.specs.declared.tree.HopQueue.{HopQueue}
 use Rattle.net_latency.specs.Entering.{is_talker_port}
 use Rattle.net_latency.specs.NextHop.{hop_at_bridge, next_hop}
-use Rattle.net_latency.specs.Phased.{IsCommand, IsRouteOfStream, KeepsStreamLatency, stream_hop}
-use Rattle.net_latency.specs.Ways.{IsRoute, RouteHop}
+use Rattle.net_latency.specs.Phased.{IsCommand, IsRouteOfStream, stream_hop}
+use Rattle.net_latency.specs.Ways.{IsRoute, RouteHop, hop_end, last_hop}
 
 -- ACCEPTED NETWORKS
 
@@ -101,8 +102,8 @@ pub record IsForwardedByPort {A : Type 0} (p : Plan A) (octets : List ℕ) (len 
   pub goes : has_port ports q ≡ true
   pub at : find_port p.ports q ≡ Some out
 
--- Holds if the frame that arrives at port `r` of bridge `b` is forwarded along a path: by port `q`, and by the ports `more` of the next hops. The last port leads
--- to no hop.
+-- Holds if the bridges forward the frame along a path. The frame arrives at port `r` of bridge `b`, leaves by port `q`, and leaves the next hops by the ports
+-- `more`. The last port leads to no hop.
 abbrev pub IsForwardedAlong : {A : Type 0} → List (Plan A) → List Link → List StreamHop → List ℕ → ℕ → ℕ → ℕ → ℕ → List ℕ → Type 0
 IsForwardedAlong {A} plans links hops octets len b r q [] =
     (p : Plan A) × (slice_get plans b ≡ Some p) × IsForwardedByPort p octets len r q × (next_hop links hops b q ≡ None)
@@ -136,7 +137,16 @@ HaveSameCopies x [] y [] = x.copy ≡ y.copy
 HaveSameCopies x (v ∷ vs) y (w ∷ ws) = (x.copy ≡ y.copy) × HaveSameCopies v.1 vs w.1 ws
 HaveSameCopies x vs y ws = ⊥
 
--- Holds if the run has exactly one route of frame `a` from hop `first` along the path `q ∷ ports`, and its delay and phases lie within those of the stream.
+-- Holds if a frame that arrives at time `at` and ends its last transmission at time `end` keeps the delays `r`. The end lies between the phases of a period.
+pub record IsWithinStreamLatency (period at end : ℕ) (r : StreamLatency) : Type 0 where
+  pub best : at + r.best ≤ end
+  pub worst : end ≤ at + r.worst
+  pub period_start : ℕ
+  pub multiple : IsMultiple period period_start
+  pub from : r.phases.from + period_start ≤ end
+  pub to : end ≤ r.phases.to + period_start
+
+-- Holds if the run has exactly one route of frame `a` from hop `first` along the path `q ∷ ports`. The route keeps the stream's delays `r`.
 pub record IsDeliveredAlong {A : Type 0} (n : NetworkParts A) (hops : List StreamHop) (queues : List HopQueue)
     (lists : ℕ → ℕ → List (Copy CarriedFrame)) (t : Traffic) (r : StreamLatency) (first : StreamHop) (a : Arrival) (q : ℕ)
     (ports : List ℕ) : Type 0 where
@@ -147,6 +157,6 @@ pub record IsDeliveredAlong {A : Type 0} (n : NetworkParts A) (hops : List Strea
   pub begins : stream_hop leg ≡ first
   pub arrives : leg.copy.at ≡ a.at
   pub path : FollowsPath a.octets a.len leg more q ports
-  pub delays : KeepsStreamLatency t leg more r
+  pub delays : IsWithinStreamLatency t.period a.at (hop_end (last_hop leg more)) r
   pub only : (x : RouteHop A) (xs : List (ℕ × RouteHop A)) → IsRoute (network_value n) lists x xs → IsRouteOfStream n.links hops queues x xs
       → stream_hop x ≡ first → x.copy.at ≡ a.at → HasPorts x xs q ports → HaveSameCopies leg more x xs
