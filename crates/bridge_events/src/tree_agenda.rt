@@ -22,8 +22,9 @@ pub fn the_limits()
     ensures none { NO_KEY ≡ 2 ^ 64 - 1 }
 {}
 
-/// Tree of the ports 1 to 16, in four groups of four ports. A port's key orders by its time, then by its number: 16 times the time, plus
-/// the number less 1. A new time costs six comparisons.
+/// Tree of the ports 1 to 16, in four groups of four ports. A new time costs six comparisons.
+///
+/// A port's key orders by its time, then by its number: 16 times the time, plus the number less 1.
 #[derive(Debug, Drop)]
 pub struct TreeAgenda {
     /// Key of each port, from port 1.

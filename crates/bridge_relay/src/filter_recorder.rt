@@ -1,5 +1,5 @@
 //! The record of one filter during a run.
-ghost use Rattle.std.specs.Prelude.{◌≡◌, true, false, ◌<◌, ◌≤◌, ◌+◌, ◌-◌, ◌^◌, ◌++◌, ◌∷◌, [], Option, None, OnErr, OnOk, length};
+ghost use Rattle.std.specs.Prelude.{◌≡◌, true, false, ◌<◌, ◌≤◌, ◌+◌, ◌-◌, ◌^◌, ◌++◌, ◌∷◌, [], Option, None, OnErr, OnOk, length, vec_capacity, vec_len};
 ghost use Rattle.bridge_filter.specs.Verdicts.{HasValidPriority};
 ghost use Rattle.bridge_relay.specs.Recorders.{RecorderState, longer_delay};
 ghost use Rattle.bridge_relay.specs.Records.{empty_recorder, HasRecorded};
@@ -13,6 +13,43 @@ use std::mem;
 
 /// Largest number of a filter's frames: frame numbers have 32 bits. A run has fewer frames.
 const MAX_FRAMES: usize = 4_294_967_295;
+
+/// A list with fewer items grows by half. A longer list doubles.
+const SHORT_LIST: usize = 1024;
+
+/// Reserves capacity for `more` further items. Short lists grow by half, because a run with many filters has many short lists.
+#[inline(always)]
+fn reserve_items<T, A: Allocator>(list: &mut Vec<T, A>, more: usize) -> Result<(), NoMemory>
+    ensures items { list.new.items ≡ list.old.items }
+    ensures length { vec_len list.new ≡ vec_len list.old }
+    ensures room { vec_capacity list.old ≤ vec_capacity list.new }
+    ensures ok { OnOk result (vec_len list.new + more ≤ vec_capacity list.new) }
+{
+    if list.capacity() - list.len() < more {
+        return grow_list(list, more);
+    }
+    Ok(())
+}
+
+/// Grows a list that has no capacity for `more` further items.
+#[cold]
+#[inline(never)]
+fn grow_list<T, A: Allocator>(list: &mut Vec<T, A>, more: usize) -> Result<(), NoMemory>
+    ensures items { list.new.items ≡ list.old.items }
+    ensures length { vec_len list.new ≡ vec_len list.old }
+    ensures room { vec_capacity list.old ≤ vec_capacity list.new }
+    ensures ok { OnOk result (vec_len list.new + more ≤ vec_capacity list.new) }
+{
+    let step = if list.len() < SHORT_LIST {
+        list.len() / 2
+    } else {
+        list.len()
+    };
+    match list.reserve_exact(step.max(more).max(4)) {
+        Ok(()) => Ok(()),
+        Err(_) => Err(NoMemory),
+    }
+}
 
 /// Record of a filter, moved out of its recorder when a run ends.
 #[derive(Drop)]
@@ -101,16 +138,16 @@ impl<A: Allocator + Copy> FilterRecorder<A> {
         if self.verdicts.len() >= MAX_FRAMES {
             return Err(NoMemory);
         }
-        let Ok(()) = self.verdicts.reserve(1) else {
+        let Ok(()) = reserve_items(&mut self.verdicts, 1) else {
             return Err(NoMemory);
         };
-        let Ok(()) = self.origins.reserve(1) else {
+        let Ok(()) = reserve_items(&mut self.origins, 1) else {
             return Err(NoMemory);
         };
-        let Ok(()) = self.departures.reserve(owed) else {
+        let Ok(()) = reserve_items(&mut self.departures, owed) else {
             return Err(NoMemory);
         };
-        let Ok(()) = self.drops.reserve(owed) else {
+        let Ok(()) = reserve_items(&mut self.drops, owed) else {
             return Err(NoMemory);
         };
         self.owed = owed;

@@ -151,11 +151,12 @@ pub fn record_departure<A: Allocator + Copy>(
     }
 }
 
-/// Records a dropped copy of a filter's frame, if `answer` is a refusal. Does nothing for an unfiltered frame.
+/// Records a dropped copy of a filter's frame, if `answer` is a refusal. Tries the index `hint` first. Does nothing for an unfiltered frame.
 #[inline(always)]
 pub fn record_answer<A: Allocator + Copy>(
     tables: &mut FilterRecorders<A>,
     flow: Option<u32>,
+    hint: usize,
     own: u32,
     port: u8,
     answer: Result<(), Refusal>,
@@ -166,7 +167,7 @@ pub fn record_answer<A: Allocator + Copy>(
     if let Err(refusal) = answer
         && let Some(number) = flow
     {
-        let place = recorder_index(tables, number);
+        let place = recorder_index_by_hint(tables, hint, number);
         let (_, table) = tables.pair_mut(place);
         table.record_drop(StoredDrop::new(own, port, refusal));
     }
@@ -215,19 +216,20 @@ pub fn record_verdict<A: Allocator + Copy>(
     table.record_verdict(verdict, origin)
 }
 
-/// Releases the reservation of `copies` copies of a frame that filter `number` refused.
+/// Releases the reservation of `copies` copies of a frame that filter `number` refused. Tries the index `hint` first.
+#[inline(always)]
 pub fn release_room<A: Allocator + Copy>(
     tables: &mut FilterRecorders<A>,
     number: u32,
+    hint: usize,
     copies: usize,
 )
     requires { OwesCopies tables.old.entries copies number }
     ensures { tables.new.entries ≡ update_number number (λ t. without_room t copies) tables.old.entries }
 {
-    match tables.get_mut(&number) {
-        Some(table) => table.release_room(copies),
-        None => unreachable!(),
-    }
+    let place = recorder_index_by_hint(tables, hint, number);
+    let (_, table) = tables.pair_mut(place);
+    table.release_room(copies);
 }
 
 /// Moves a filter's record out, and leaves an empty recorder. Allocates no memory.

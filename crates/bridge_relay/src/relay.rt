@@ -44,6 +44,7 @@ use bridge_port::Item;
 use bridge_semantics::{Destination, Origin, QueuedFrame, StoredDeparture};
 use std::alloc::Allocator;
 use std::marker::Model;
+use std::mem;
 
 /// Largest index of a recorder that a queued frame stores.
 const MAX_RECORDERS: usize = 4_294_967_295;
@@ -328,12 +329,13 @@ impl<'a, G: Agenda + Drop, A: Allocator + Copy> Relay<'a, G, A> {
         let t = load.at;
         let flow = load.flow;
         let own = load.own;
+        let hint = load.recorder as usize;
         let mut back = None;
         let answer = self
             .ports
             .offer(number, t, priority, Item { len, load }, &mut back);
         return_octets(back, spares);
-        record_answer(&mut self.tables, flow, own, number, answer);
+        record_answer(&mut self.tables, flow, hint, own, number, answer);
         self.earliest = t;
     }
 
@@ -504,6 +506,8 @@ impl<'a, G: Agenda + Drop, A: Allocator + Copy> Relay<'a, G, A> {
     }
 
     /// Offers copies of a frame to the ports of `set`, by rising number. If `eligible` is true, their tags are marked drop eligible.
+    ///
+    /// Forgets an empty list instead of dropping it: such a list has no memory, and most frames have one.
     #[inline(always)]
     fn offer_copies(
         &mut self,
@@ -522,6 +526,7 @@ impl<'a, G: Agenda + Drop, A: Allocator + Copy> Relay<'a, G, A> {
         ensures offered { IsOfferingSet G.held self.old self.new set priority (leaving_frame first len eligible) 17 }
     {
         if copies.is_empty() {
+            mem::forget(copies);
             self.offer_only_copy(set, priority, len, eligible, first, spares);
         } else {
             let mut list = copies;
@@ -591,22 +596,25 @@ impl<'a, G: Agenda + Drop, A: Allocator + Copy> Relay<'a, G, A> {
         }
     }
 
-    /// Releases the capacity that was reserved for a frame which its filter refused.
+    /// Releases the capacity that was reserved for a frame which its filter refused. Tries the recorder's index `hint` first.
     #[inline(always)]
-    fn release_room(&mut self, filter: u32, set: PortSet)
+    fn release_room(&mut self, filter: u32, hint: usize, set: PortSet)
         requires { (own : ℕ) × AwaitsCopies self.old (count_outputs self.old.ports.slots set 16) own 1 filter }
         ensures state { self.new ≡ relay_with_release self.old filter (count_outputs self.old.ports.slots set 16) }
         ensures sound { IsSound G.held self.new }
     {
         let (count, _) = self.ports.count_outputs(set);
-        release_room(&mut self.tables, filter, count);
+        release_room(&mut self.tables, filter, hint, count);
     }
 
     /// Returns the copies of a refused frame to the pool, and keeps their list for the next frame with several egress ports.
+    #[inline(always)]
     fn keep_copies(&mut self, copies: Vec<Vec<u8, A>, A>, spares: &mut BufferPool<A>)
         ensures same { self.new ≡ self.old }
     {
-        if !copies.is_empty() {
+        if copies.is_empty() {
+            mem::forget(copies);
+        } else {
             self.copies = return_copies(copies, spares);
         }
     }
@@ -667,7 +675,7 @@ impl<'a, G: Agenda + Drop, A: Allocator + Copy> Relay<'a, G, A> {
                 }
                 _ => {
                     spares.put(octets);
-                    self.release_room(filter, set);
+                    self.release_room(filter, route_index(found), set);
                     self.keep_copies(copies, spares);
                 }
             },

@@ -13,3 +13,16 @@ pub mod Queued
 pub mod Tightened
 pub mod Timed
 pub mod WaysOf
+pub mod Linked
+pub mod FedInTurn
+pub mod StreamKept
+pub mod ReachedQueues
+pub mod PassingHops
+pub mod SentCopies
+pub mod ProtectedHops
+pub mod HandedQueues
+pub mod OneCopy
+pub mod Deliveries
+pub mod TalkerDelivered
+pub mod TalkerPort
+pub mod PrintedStream

@@ -76,7 +76,7 @@ lies a b c d h = by_bool (nat_le a b)
     (λ k. by_bool (nat_lt c d) (λ m. (grind (arith, nat_tests), grind (arith, nat_tests))) (λ m. let z : false ≡ true = rw (k, m) at h in absurd (false≢true z)))
     (λ k. let z : false ≡ true = rw k at h in absurd (false≢true z))
 
-moved_traffic : (a : HopArrival) (x : Timing) (done : Phases) (delay : ℕ) (passes : Bool) → IsTraffic a.traffic → is_in_one_period (arrival_over_link a x done delay passes).traffic ≡ true → IsTraffic (arrival_over_link a x done delay passes).traffic
+pub moved_traffic : (a : HopArrival) (x : Timing) (done : Phases) (delay : ℕ) (passes : Bool) → IsTraffic a.traffic → is_in_one_period (arrival_over_link a x done delay passes).traffic ≡ true → IsTraffic (arrival_over_link a x done delay passes).traffic
 moved_traffic a x done delay passes is h =
     let t = (arrival_over_link a x done delay passes).traffic in
     let (phases, within) = lies t.from t.to t.to t.period h in
@@ -129,7 +129,7 @@ not_cleared a clear m h = cc
 
 -- THE ROUTE
 
-first_leg : {A : Type 0} (n : Network A) (lists : ℕ → ℕ → List (Copy CarriedFrame)) (leg : RouteHop A) (more : List (ℕ × RouteHop A)) → IsRoute n lists leg more → IsRouteHop n lists leg
+pub first_leg : {A : Type 0} (n : Network A) (lists : ℕ → ℕ → List (Copy CarriedFrame)) (leg : RouteHop A) (more : List (ℕ × RouteHop A)) → IsRoute n lists leg more → IsRouteHop n lists leg
 first_leg n lists leg [] way = way
 first_leg n lists leg (x ∷ more) way = way.0
 
@@ -189,9 +189,9 @@ module _ {A : Type 0} (n : Network A) (commands : ℕ → List Input) (captures 
       not_cleared _ clear k (sym (ap (λ (z : Input). z.event) same) ∙ is)
 
   -- The arrivals at the next hop are the traffic of this hop, delayed.
-  keeps_next : (a : HopArrival) (leg next : RouteHop A) (x : Timing) (done : Phases) (delay : ℕ) (passes : Bool) → IsRouteHop n run.lists leg → IsRouteHop n run.lists next → IsTraffic a.traffic → KeepsTrafficAtHop run.inputs a.traffic leg → HasHopTiming leg a x done → IsNextHop n leg next delay → IsFedByHop n run.inputs run.lists leg next delay
+  pub keeps_next : (a : HopArrival) (leg next : RouteHop A) (x : Timing) (done : Phases) (delay : ℕ) (passes : Bool) → IsRouteHop n run.lists leg → slice_get n.bridges next.bridge ≡ Some next.plan → IsTraffic a.traffic → KeepsTrafficAtHop run.inputs a.traffic leg → HasHopTiming leg a x done → IsNextHop n leg next delay → IsFedByHop n run.inputs run.lists leg next delay
       → KeepsTrafficAtHop run.inputs (arrival_over_link a x done delay passes).traffic next
-  keeps_next a leg next x done delay passes is then traffic keeps timed joined fed_by f found =
+  keeps_next a leg next x done delay passes is at traffic keeps timed joined fed_by f found =
       let outcome = run.outcome leg.bridge leg.plan is.plan in
       let b = is.bound in
       let t = (arrival_over_link a x done delay passes).traffic in
@@ -204,7 +204,7 @@ module _ {A : Type 0} (n : Network A) (commands : ℕ → List Input) (captures 
       let sent : (z : Input) → IsMember z mine → z.rank ≡ joined.port → IsForwardedCopy run.lists leg joined.port delay z =
       λ z i k. elim (fed_by joined.port z linked (f, found, i)) [
         | inl s ↦ s
-        | inr command ↦ absurd (no_command next.bridge joined.port next.plan next.filter f _ z then.plan linked (rank_in joined.port z mine i k) command)
+        | inr command ↦ absurd (no_command next.bridge joined.port next.plan next.filter f _ z at linked (rank_in joined.port z mine i k) command)
       ] in
       let elsewhere : (z : Input) → IsMember z mine → ¬ (z.rank ≡ joined.port) → IsCommand z =
       λ z i k. elim (fed_by joined.port z linked (f, found, i)) [
@@ -216,7 +216,7 @@ module _ {A : Type 0} (n : Network A) (commands : ℕ → List Input) (captures 
       let s = sent z (in_at joined.port z mine i) (rank_of joined.port z mine i) in
       record { copy = s.copy; start = s.start; listed = s.listed; flow = s.flow; class = s.class; started = s.started; at = ap (λ (w : Input). w.at) s.is } in
       let (top, came) = comes_on leg.plan leg.filter b.filter (input_events (run.inputs leg.bridge)) outcome.moments (run.lists leg.bridge) leg.port leg.copy.class delay leg.out a.traffic x done xs
-      plan good listed b.protected outcome.run outcome.whole is.port traffic (keeps b.filter b.found) timed.timing timed.phases (linked_apart next.bridge joined.port next.plan next.filter f _ then.plan linked) each in
+      plan good listed b.protected outcome.run outcome.whole is.port traffic (keeps b.filter b.found) timed.timing timed.phases (linked_apart next.bridge joined.port next.plan next.filter f _ at linked) each in
       let T = a.traffic.period in
       let phase = done.from + delay in
       let w = whole_periods T phase in
@@ -264,7 +264,7 @@ module _ {A : Type 0} (n : Network A) (commands : ℕ → List Input) (captures 
       let sum : first + a.later + whole_periods T phase ≡ first + (a.later + whole_periods T phase) = omega arith in
       record {
         traffic = moved_traffic a x done delay passes here.traffic one;
-        keeps = keeps_next a leg next x done delay passes is then here.traffic here.keeps timed joined fed_by;
+        keeps = keeps_next a leg next x done delay passes is then.plan here.traffic here.keeps timed joined fed_by;
         multiple = subst (IsMultiple T) sum (add_multiples T (first + a.later) (whole_periods T phase) here.multiple (whole_multiple T phase));
         low = omega (arith, port_inputs, early, when, start, below);
         high = omega (arith, port_inputs, late, when, start, below);

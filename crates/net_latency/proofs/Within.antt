@@ -23,14 +23,14 @@ use Rattle.net_latency.specs.declared.tree.HopQueue.{HopQueue}
 use Rattle.net_latency.specs.StreamLatency.{IsLatencyAfterExit, Pairwise, IsQueueExit, IsQueueExitOfPlan, IsHopLatencyByQueues, IsQueueLatency, IsLatencyWithinOther, StreamModel, combine, combine_if_both, next_hop_arrival, latency_at_last_queue, known_latency, exit_over_link, is_queue_of_hop, is_in_one_period, arrival_over_link, exit_to_hop, exit_by_phases, exit_by_timing, add_latency}
 use Rattle.net_latency.specs.NextHop.{next_hop}
 
-in_filter : {X : Type 0} (p : X → Bool) (x : X) (xs : List X) → IsMember x xs → p x ≡ true → IsMember x (filter p xs)
+pub in_filter : {X : Type 0} (p : X → Bool) (x : X) (xs : List X) → IsMember x xs → p x ≡ true → IsMember x (filter p xs)
 in_filter p x [] i own = absurd i
 in_filter {X} p x (y ∷ ys) (inl same) own =
     let k : p y ≡ true = subst (λ (z : X). p z ≡ true) same own in
     rw k (inl same)
 in_filter p x (y ∷ ys) (inr i) own = by_bool (p y) (λ k. rw k (inr (in_filter p x ys i own))) (λ k. rw k (in_filter p x ys i own))
 
-each_in : {X Y : Type 0} (R : X → Y → Type 0) (x : X) (xs : List X) (ys : List Y) → Pairwise R xs ys → IsMember x xs → (y : Y) × IsMember y ys × R x y
+pub each_in : {X Y : Type 0} (R : X → Y → Type 0) (x : X) (xs : List X) (ys : List Y) → Pairwise R xs ys → IsMember x xs → (y : Y) × IsMember y ys × R x y
 each_in R x [] ys each i = absurd i
 each_in R x (z ∷ xs) [] each i = absurd each
 each_in {X} R x (z ∷ xs) (w ∷ ys) (here, more) (inl same) = (w, inl refl, subst (λ (v : X). R v w) (sym same) here)
@@ -122,12 +122,12 @@ one_told T n a x r is among =
     one_of T n a x is.passes r o ((each_lies gathered.NoQueue is.figures r (sym is.all)).1 o i) told
 
 -- The next step of frames at a queue.
-record HasStop {A : Type 0} (n : StreamModel A) (p : Plan A) (a : HopArrival) (x : HopQueue) (passes : Bool) (s : Option QueueExit) : Type 0 where
-  timing : Timing
-  done : Phases
-  is : IsTiming p x.hop.filter x.port x.class a.traffic timing
-  phases : timing.phases ≡ Some done
-  stop : s ≡ exit_over_link n.from a timing done passes (next_hop n.links n.hops x.hop.bridge x.port)
+pub record HasStop {A : Type 0} (n : StreamModel A) (p : Plan A) (a : HopArrival) (x : HopQueue) (passes : Bool) (s : Option QueueExit) : Type 0 where
+  pub timing : Timing
+  pub done : Phases
+  pub is : IsTiming p x.hop.filter x.port x.class a.traffic timing
+  pub phases : timing.phases ≡ Some done
+  pub stop : s ≡ exit_over_link n.from a timing done passes (next_hop n.links n.hops x.hop.bridge x.port)
 
 stop_phases : {A : Type 0} (n : StreamModel A) (p : Plan A) (a : HopArrival) (x : HopQueue) (passes : Bool) (s : Option QueueExit) (t : Timing) (o : Option Phases) → IsTiming p x.hop.filter x.port x.class a.traffic t → t.phases ≡ o → s ≡ exit_by_phases n.from a t o passes (next_hop n.links n.hops x.hop.bridge x.port) → ¬ (s ≡ None) → HasStop n p a x passes s
 stop_phases n p a x passes s t None is o e some = absurd (some e)
@@ -137,13 +137,13 @@ stop_timing : {A : Type 0} (n : StreamModel A) (p : Plan A) (a : HopArrival) (x 
 stop_timing n p a x passes s None is e some = absurd (some e)
 stop_timing n p a x passes s (Some t) is e some = stop_phases n p a x passes s t t.phases is refl e some
 
-stop_of : {A : Type 0} (n : StreamModel A) (p : Plan A) (a : HopArrival) (x : HopQueue) (passes : Bool) (s : Option QueueExit) → slice_get n.plans x.hop.bridge ≡ Some p → IsQueueExit n x a passes s → ¬ (s ≡ None) → HasStop n p a x passes s
+pub stop_of : {A : Type 0} (n : StreamModel A) (p : Plan A) (a : HopArrival) (x : HopQueue) (passes : Bool) (s : Option QueueExit) → slice_get n.plans x.hop.bridge ≡ Some p → IsQueueExit n x a passes s → ¬ (s ≡ None) → HasStop n p a x passes s
 stop_of {A} n p a x passes s at is some =
     let (t, about, e) : (t : Option Timing) × MatchOption t (HasNoBound p x.hop.filter x.port x.class) (IsTiming p x.hop.filter x.port x.class a.traffic) × (s ≡ exit_by_timing n x a passes t) =
     subst (λ (z : Option (Plan A)). IsQueueExitOfPlan z n x a passes s) at is in
     stop_timing n p a x passes s t about e some
 
-behind_some : (T : StreamHop → HopArrival → Option StreamLatency → Type 0) (s : Option QueueExit) (x : StreamLatency) → IsLatencyAfterExit T s (Some x) → ¬ (s ≡ None)
+pub behind_some : (T : StreamHop → HopArrival → Option StreamLatency → Type 0) (s : Option QueueExit) (x : StreamLatency) → IsLatencyAfterExit T s (Some x) → ¬ (s ≡ None)
 behind_some T None x is e = some_is_none x is
 behind_some T (Some s) x is e = some_is_none s e
 

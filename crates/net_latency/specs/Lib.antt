@@ -5,6 +5,7 @@ pub mod Entering
 pub mod Examples
 pub mod Bounds
 pub mod Phased
+pub mod Delivered
 pub mod SharedLines
 pub mod SharedWarnings
 pub mod Printing

@@ -3,6 +3,7 @@
 
 mod bounds;
 mod cycles;
+pub mod delivered;
 mod entering;
 mod hop_faults;
 mod hops;

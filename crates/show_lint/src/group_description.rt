@@ -18,10 +18,10 @@ const BOUND: &str =
 const METERS: &str = "The meters pass at most {0} octets at once, and {1} bit/s in the long run.\n";
 
 const NO_METER: &str =
-    "This bound holds by the queue's {0} places only, because filter {1} has no meter. Give it one for a lower bound.\n";
+    "The bound follows from the queue's {0} places, because filter {1} has no meter. With a meter for each filter, the bound may be less.\n";
 
 const OVERLOAD: &str =
-    "This bound holds by the queue's {0} places only, because the meters pass more than the windows carry. Lower their rates, or lengthen the windows.\n";
+    "The bound follows from the queue's {0} places, because the meters pass more than the windows carry. Lower their rates, or lengthen the windows.\n";
 
 const ENOUGH_ROOM: &str =
     "With {0} places, the queue drops no frame that passed its filter. It has {1}.\n";
