@@ -10,7 +10,7 @@ use Rattle.bridge_port.specs.Schedule.{Copy}
 use Rattle.bridge_config.specs.declared.ports.PortPlan.{PortPlan}
 use Rattle.bridge_config.specs.Model.{Plan}
 use Rattle.bridge_config.specs.Rules.{find_port}
-use Rattle.bridge_check.specs.Reach.{reaches_queue}
+use Rattle.bridge_check.specs.Reach.{are_null_kinds, reaches_queue}
 use Rattle.bridge_semantics.specs.declared.destination.Destination.TheVariants.{Forwarded}
 use Rattle.bridge_semantics.specs.Events.{Arrival, Arrived, arrival, frame_destination, own_events}
 use Rattle.bridge_semantics.specs.Merge.{Input, capture_inputs, input_events}
@@ -112,6 +112,21 @@ IsForwardedAlong {A} plans links hops octets len b r q (k ∷ more) =
     × (s : Sender) × (sender (map link_value links) b q ≡ Some s)
     × (h : StreamHop) × (hop_at_bridge hops s.from.bridge ≡ Some h)
     × IsForwardedAlong plans links hops octets len s.from.bridge s.from.port k more
+
+-- Holds if all stream entries with the handle of a hop's filter compare the destination address, at each hop.
+abbrev pub CompareDestinations : {A : Type 0} → List (Plan A) → List StreamHop → Type 0
+CompareDestinations {A} plans hops =
+    (h : StreamHop) (p : Plan A) (handle : ℕ)
+    → IsMember h hops
+    → slice_get plans h.bridge ≡ Some p
+    → protected_handle p.filters h.filter ≡ Some handle
+    → are_null_kinds handle p.streams ≡ true
+
+-- Holds if the bridges forward frame `a` of hop `h` along some path.
+pub record HasPath {A : Type 0} (n : NetworkParts A) (hops : List StreamHop) (h : StreamHop) (a : Arrival) : Type 0 where
+  pub port : ℕ
+  pub ports : List ℕ
+  pub along : IsForwardedAlong n.plans n.links hops a.octets a.len h.bridge a.port port ports
 
 -- Holds if the route hop has a copy of the frame at port `q`.
 pub record CarriesFrame {A : Type 0} (octets : List ℕ) (len q : ℕ) (leg : RouteHop A) : Type 0 where

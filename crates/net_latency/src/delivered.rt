@@ -18,8 +18,8 @@ ghost use Rattle.net_model.specs.Networks.{IsNetworkRun};
 ghost use Rattle.net_latency.specs.declared.bounds.QueueBound.{QueueBound};
 ghost use Rattle.net_latency.specs.declared.latency.StreamLatency.{StreamLatency};
 ghost use Rattle.net_latency.specs.declared.tree.HopQueue.{HopQueue};
-ghost use Rattle.net_latency.specs.Delivered.{AreCommands, HasReachableQueues, IsAcceptedNetwork, IsDeliveredAlong, IsForwardedAlong};
-ghost use Rattle.net_latency.specs.Delivered.{IsFrameOfHop, IsStreamOfNetwork, KeepsTalkerTraffic, KeepsTrafficOfHop};
+ghost use Rattle.net_latency.specs.Delivered.{AreCommands, CompareDestinations, HasPath, HasReachableQueues, IsAcceptedNetwork};
+ghost use Rattle.net_latency.specs.Delivered.{IsDeliveredAlong, IsForwardedAlong, IsFrameOfHop, IsStreamOfNetwork, KeepsTalkerTraffic, KeepsTrafficOfHop};
 ghost use Rattle.net_latency.specs.Entering.{IsStreamCourse, come_in_once};
 ghost use Rattle.net_latency.specs.Phased.{AreFedInTurn, IsRouteOfStream, KeepsStreamLatency, KeepsTrafficAtHop, stream_hop};
 ghost use Rattle.net_latency.specs.Streams.{AreQueueBoundsOfPlans, is_passing};
@@ -113,6 +113,26 @@ pub fn stream_is_delivered<A: Allocator + Copy>()
         → IsFrameOfHop n.plans run.inputs first a
         → IsForwardedAlong n.plans n.links hops a.octets a.len first.bridge a.port q ports
         → IsDeliveredAlong n hops queues run.lists t r first a q ports }
+{}
+
+/// If the stream entries of a stream compare destination addresses, the bridges forward each frame of its talker along some path. Without
+/// `refusable`, the frame is then delivered along this path.
+pub fn talker_frame_has_path<A: Allocator + Copy>()
+    ensures { (n : NetworkParts A) (hops : List StreamHop) (queues : List HopQueue) (t : Traffic) (r : StreamLatency)
+        (first : StreamHop) (commands : ℕ → List Input) (captures : ℕ → ℕ → List CapturedFrame) (o : ℕ → Outcome A)
+        (run : IsNetworkRun (network_value n) commands captures o) (a : Arrival)
+        → IsAcceptedNetwork n
+        → IsStreamOfNetwork n hops
+        → HasReachableQueues n.plans hops queues
+        → AreCommands commands
+        → IsTraffic t
+        → slice_get hops 0 ≡ Some first
+        → KeepsTrafficOfHop n.plans run.inputs t first
+        → IsStreamCourse n.plans n.links hops queues t (Some r)
+        → r.passes ≡ true
+        → IsFrameOfHop n.plans run.inputs first a
+        → CompareDestinations n.plans hops
+        → HasPath n hops first a }
 {}
 
 /// If `net check` prints the delays of a stream without the word `refusable`, each frame of its talker is delivered, whatever arrives at all
