@@ -78,8 +78,7 @@ KeepsTrafficOfHop {A} plans inputs t h =
     → lookup (nat_eq h.filter) p.filters ≡ Some f
     → KeepsTraffic t (own_events p h.filter f (input_events (inputs h.bridge)))
 
--- Holds if port `q` is the talker's port at hop `h`, and the frames of the hop's filter that arrive there keep the traffic. The talker's port is the first open
--- port that has an entry with the filter's handle.
+-- Holds if `q` is the talker's port of hop `h` (`is_talker_port`), and the frames of the hop's filter that arrive there keep the traffic.
 pub record KeepsTalkerTraffic {A : Type 0} (n : NetworkParts A) (captures : ℕ → ℕ → List CapturedFrame) (t : Traffic) (h : StreamHop) (q : ℕ)
     : Type 0 where
   pub plan : Plan A
@@ -102,8 +101,7 @@ pub record IsForwardedByPort {A : Type 0} (p : Plan A) (octets : List ℕ) (len 
   pub goes : has_port ports q ≡ true
   pub at : find_port p.ports q ≡ Some out
 
--- Holds if the bridges forward the frame along a path. The frame arrives at port `r` of bridge `b`, leaves by port `q`, and leaves the next hops by the ports
--- `more`. The last port leads to no hop.
+-- Holds if the bridges forward a frame from port `r` of bridge `b` by port `q`, then by the ports `more` of next hops.
 abbrev pub IsForwardedAlong : {A : Type 0} → List (Plan A) → List Link → List StreamHop → List ℕ → ℕ → ℕ → ℕ → ℕ → List ℕ → Type 0
 IsForwardedAlong {A} plans links hops octets len b r q [] =
     (p : Plan A) × (slice_get plans b ≡ Some p) × IsForwardedByPort p octets len r q × (next_hop links hops b q ≡ None)
