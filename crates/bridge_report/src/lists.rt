@@ -12,6 +12,7 @@ use bridge_semantics::{StoredDeparture, StoredDrop, StoredVerdict};
 const BLOCK_LINES: usize = 32;
 
 /// Writes the lines of frames, numbered from `number`, from the last to the first.
+#[inline(always)]
 fn fill_frames(block: &mut LineBlock, number: usize, verdicts: &[StoredVerdict])
     requires empty { length block.old ≡ 0 }
     requires few { length verdicts.now ≤ 32 }
@@ -41,6 +42,7 @@ pub fn put_frames<T: ReportSink>(text: &mut T, verdicts: &[StoredVerdict])
 }
 
 /// Writes the lines of copies, from the last to the first.
+#[inline(always)]
 fn fill_copies<C: ListedCopy>(block: &mut LineBlock, copies: &[C])
     requires empty { length block.old ≡ 0 }
     requires few { length copies.now ≤ 32 }

@@ -48,7 +48,7 @@ use Rattle.net_latency.specs.declared.next_hop.NextHop.{NextHop}
 use Rattle.net_latency.specs.declared.latency.StreamLatency.{StreamLatency}
 use Rattle.net_latency.specs.declared.queue_exit.HopArrival.{HopArrival}
 use Rattle.net_latency.specs.declared.tree.HopQueue.{HopQueue}
-use Rattle.net_latency.specs.Delivered.{AreCommands, CarriesFrame, FollowsPath, HasPorts, HasReachableQueues, HaveSameCopies, IsAcceptedNetwork, IsForwardedAlong, IsForwardedByPort, IsStreamOfNetwork}
+use Rattle.net_latency.specs.Delivered.{AreCommands, FollowsPath, HasPorts, HasReachableQueues, HaveSameCopies, IsAcceptedNetwork, IsForwardedAlong, IsForwardedByPort, IsStreamOfNetwork}
 use Rattle.net_latency.specs.Entering.{are_handed, come_in_once, is_handed}
 use Rattle.net_latency.specs.NextHop.{hop_at_bridge, next_hop}
 use Rattle.net_latency.specs.Phased.{HasHopTiming, IsRouteOfStream, KeepsTrafficAtHop, queue_of_route_hop, stream_hop}
@@ -72,7 +72,7 @@ module _ {A : Type 0} (n : NetworkParts A) (hops : List StreamHop) (queues : Lis
   net = accepted.checked.network
 
   -- The stream, as its delays are computed of.
-  abbrev model : StreamModel A
+  abbrev pub model : StreamModel A
   model = record { plans = n.plans; links = n.links; hops = hops; queues = queues; from = from }
 
   -- A frame's route along a path.
@@ -98,7 +98,7 @@ module _ {A : Type 0} (n : NetworkParts A) (hops : List StreamHop) (queues : Lis
     pub keeps : KeepsTraffic t (own_events plan h.filter filter (input_events (run.inputs h.bridge)))
     pub own : IsMember (Arrived a) (own_events plan h.filter filter (input_events (run.inputs h.bridge)))
 
-  safe_at : (h : StreamHop) (t : Traffic) (a : Arrival) (is : IsAtHop h t a) → IsSafe is.plan h.filter is.filter
+  pub safe_at : (h : StreamHop) (t : Traffic) (a : Arrival) (is : IsAtHop h t a) → IsSafe is.plan h.filter is.filter
   safe_at h t a is =
       let i = found_in is.plan.filters h.filter is.filter is.found in
       record { plan = net.plan h.bridge is.plan is.at; listed = i; passes = net.acceptable h.bridge is.plan is.at h.filter is.filter i is.protected }
@@ -115,7 +115,7 @@ module _ {A : Type 0} (n : NetworkParts A) (hops : List StreamHop) (queues : Lis
       subst (λ vs. list_all passes vs ≡ true) view.verdicts pass
 
   -- The copy of a hop's frame at a port is in a queue of the stream.
-  copy_queue : (h : StreamHop) (t : Traffic) (a : Arrival) (q : ℕ) (is : IsAtHop h t a) (fw : IsForwardedByPort is.plan a.octets a.len a.port q) (c : IsCopyOfFrame (run.lists h.bridge q) h.filter a) → IsMember (record { hop = h; port = q; class = c.copy.class }) queues
+  pub copy_queue : (h : StreamHop) (t : Traffic) (a : Arrival) (q : ℕ) (is : IsAtHop h t a) (fw : IsForwardedByPort is.plan a.octets a.len a.port q) (c : IsCopyOfFrame (run.lists h.bridge q) h.filter a) → IsMember (record { hop = h; port = q; class = c.copy.class }) queues
   copy_queue h t a q is fw c =
       let es : List Event = input_events (run.inputs h.bridge) in
       let told = run.outcome h.bridge is.plan is.at in
@@ -126,18 +126,11 @@ module _ {A : Type 0} (n : NetworkParts A) (hops : List StreamHop) (queues : Lis
       let (from, to) = number_is is.plan.ports q fw.out safe.plan.ports fw.at in
       all h is.plan is.filter q c.copy.class is.listed is.at is.found is.protected from to (class_few is.plan is.filter q c.copy.class fw.out safe.plan fw.at reach) reach
 
-  -- The route hop of a frame's copy whose delays have phases.
-  record HasLeg (h : StreamHop) (a : Arrival) (q : ℕ) : Type 0 where
-    leg : RouteHop A
-    is : IsRouteHop (network_value n) run.lists leg
-    at_hop : stream_hop leg ≡ h
-    arrives : leg.copy.at ≡ a.at
-    frame : CarriesFrame a.octets a.len q leg
-
-  abbrev leg_of : (h : StreamHop) (t : Traffic) (a : Arrival) (q : ℕ) (is : IsAtHop h t a) (fw : IsForwardedByPort is.plan a.octets a.len a.port q) (c : IsCopyOfFrame (run.lists h.bridge q) h.filter a) → ℕ → ℕ → RouteHop A
+  -- The route hop of a frame's copy.
+  abbrev pub leg_of : (h : StreamHop) (t : Traffic) (a : Arrival) (q : ℕ) (is : IsAtHop h t a) (fw : IsForwardedByPort is.plan a.octets a.len a.port q) (c : IsCopyOfFrame (run.lists h.bridge q) h.filter a) → ℕ → ℕ → RouteHop A
   leg_of h t a q is fw c start bound = record { bridge = h.bridge; plan = is.plan; port = q; out = fw.out; filter = h.filter; copy = c.copy; start = start; bound = bound }
 
-  leg_is : (h : StreamHop) (arr : HopArrival) (a : Arrival) (q : ℕ) (is : IsAtHop h arr.traffic a) (fw : IsForwardedByPort is.plan a.octets a.len a.port q) (c : IsCopyOfFrame (run.lists h.bridge q) h.filter a)
+  pub leg_is : (h : StreamHop) (arr : HopArrival) (a : Arrival) (q : ℕ) (is : IsAtHop h arr.traffic a) (fw : IsForwardedByPort is.plan a.octets a.len a.port q) (c : IsCopyOfFrame (run.lists h.bridge q) h.filter a)
       (ph : HasPhases is.plan arr (record { hop = h; port = q; class = c.copy.class })) → (start : ℕ) × IsRouteHop (network_value n) run.lists (leg_of h arr.traffic a q is fw c start ph.is.bound)
   leg_is h arr a q is fw c ph =
       let es : List Event = input_events (run.inputs h.bridge) in
@@ -154,7 +147,7 @@ module _ {A : Type 0} (n : NetworkParts A) (hops : List StreamHop) (queues : Lis
       subst (λ (f : FilterPlan). Passes is.plan f t) (same_Some g is.filter (sym found ∙ is.found)) each
 
   -- The frame's copy at a hop.
-  copy_at : (h : StreamHop) (arr : HopArrival) (a : Arrival) (q k : ℕ) (r : StreamLatency) (is : IsAtHop h arr.traffic a) → IsHopLatencyByQueues (IsHopLatency model k) model h arr (Some r) → r.passes ≡ true → IsForwardedByPort is.plan a.octets a.len a.port q → IsCopyOfFrame (run.lists h.bridge q) h.filter a
+  pub copy_at : (h : StreamHop) (arr : HopArrival) (a : Arrival) (q k : ℕ) (r : StreamLatency) (is : IsAtHop h arr.traffic a) → IsHopLatencyByQueues (IsHopLatency model k) model h arr (Some r) → r.passes ≡ true → IsForwardedByPort is.plan a.octets a.len a.port q → IsCopyOfFrame (run.lists h.bridge q) h.filter a
   copy_at h arr a q k r is told pass fw =
       let safe = safe_at h arr.traffic a is in
       let passing = hop_filter h arr.traffic a is (told.is_passing.0 (hop_passes model k h arr r told pass)) in
@@ -177,13 +170,13 @@ module _ {A : Type 0} (n : NetworkParts A) (hops : List StreamHop) (queues : Lis
   }
 
   -- The frame that arrives over a link.
-  abbrev frame_over_link : RouteHop A → Sender → Arrival
+  abbrev pub frame_over_link : RouteHop A → Sender → Arrival
   frame_over_link leg s = arrival (hop_end leg + s.delay) s.from.port leg.copy.item.octets leg.copy.item.len
 
   -- A hop at the far end of a queue's link.
-  record IsOverLink (leg : RouteHop A) (s : Sender) (h : StreamHop) : Type 0 where
-    linked : sender (map link_value n.links) leg.bridge leg.port ≡ Some s
-    found : hop_at_bridge hops s.from.bridge ≡ Some h
+  pub record IsOverLink (leg : RouteHop A) (s : Sender) (h : StreamHop) : Type 0 where
+    pub linked : sender (map link_value n.links) leg.bridge leg.port ≡ Some s
+    pub found : hop_at_bridge hops s.from.bridge ≡ Some h
 
   back_over : (leg : RouteHop A) (s : Sender) (h : StreamHop) → IsOverLink leg s h → sender (map link_value n.links) h.bridge s.from.port ≡ Some (record { from = record { bridge = leg.bridge; port = leg.port }; delay = s.delay })
   back_over leg s h over =
@@ -223,7 +216,7 @@ module _ {A : Type 0} (n : NetworkParts A) (hops : List StreamHop) (queues : Lis
       (found_in leg.plan.filters leg.filter b.filter b.found) b.protected is.port port test offered is.flow goes in
       rw goes mine
 
-  own_over : (leg : RouteHop A) (s : Sender) (h : StreamHop) (p : Plan A) (f : FilterPlan) (k : ℕ) → IsRouteHop (network_value n) run.lists leg → IsOverLink leg s h → IsMember (queue_of_route_hop leg) queues → slice_get n.plans h.bridge ≡ Some p
+  pub own_over : (leg : RouteHop A) (s : Sender) (h : StreamHop) (p : Plan A) (f : FilterPlan) (k : ℕ) → IsRouteHop (network_value n) run.lists leg → IsOverLink leg s h → IsMember (queue_of_route_hop leg) queues → slice_get n.plans h.bridge ≡ Some p
       → IsForwardedByPort p leg.copy.item.octets leg.copy.item.len s.from.port k → IsMember (Arrived (frame_over_link leg s)) (own_events p h.filter f (input_events (run.inputs h.bridge)))
   own_over leg s h p f k is over among at fw =
       let x : Input = capture_input s.from.port (delayed_frame s.delay (departed_frame leg.out.speed leg.start leg.copy.item)) in
@@ -233,7 +226,7 @@ module _ {A : Type 0} (n : NetworkParts A) (hops : List StreamHop) (queues : Lis
       subst (IsMember (Arrived (frame_over_link leg s))) (sym (events_own p h.filter f (run.inputs h.bridge))) event
 
   -- The frames that arrive at the next hop keep the traffic there.
-  keeps_over : (leg : RouteHop A) (s : Sender) (h : StreamHop) (p : Plan A) (f : FilterPlan) (arr : HopArrival) (x : Timing) (done : Phases) (passes : Bool) → IsRouteHop (network_value n) run.lists leg → IsOverLink leg s h → IsMember (queue_of_route_hop leg) queues
+  pub keeps_over : (leg : RouteHop A) (s : Sender) (h : StreamHop) (p : Plan A) (f : FilterPlan) (arr : HopArrival) (x : Timing) (done : Phases) (passes : Bool) → IsRouteHop (network_value n) run.lists leg → IsOverLink leg s h → IsMember (queue_of_route_hop leg) queues
       → slice_get n.plans h.bridge ≡ Some p → lookup (nat_eq h.filter) p.filters ≡ Some f → f.protected ≡ true → IsTraffic arr.traffic → KeepsTrafficAtHop run.inputs arr.traffic leg → HasHopTiming leg arr x done
       → KeepsTraffic (arrival_over_link arr x done s.delay passes).traffic (own_events p h.filter f (input_events (run.inputs h.bridge)))
   keeps_over leg s h p f arr x done passes is over among at found protected traffic keeps timed =
@@ -244,7 +237,7 @@ module _ {A : Type 0} (n : NetworkParts A) (hops : List StreamHop) (queues : Lis
 
   -- THE ROUTE
 
-  keeps_at : (h : StreamHop) (t : Traffic) (a : Arrival) (is : IsAtHop h t a) (leg : RouteHop A) → stream_hop leg ≡ h → slice_get n.plans leg.bridge ≡ Some leg.plan → KeepsTrafficAtHop run.inputs t leg
+  pub keeps_at : (h : StreamHop) (t : Traffic) (a : Arrival) (is : IsAtHop h t a) (leg : RouteHop A) → stream_hop leg ≡ h → slice_get n.plans leg.bridge ≡ Some leg.plan → KeepsTrafficAtHop run.inputs t leg
   keeps_at h t a is leg same at f found =
       let bridge : leg.bridge ≡ h.bridge = ap (λ (z : StreamHop). z.bridge) same in
       let number : leg.filter ≡ h.filter = ap (λ (z : StreamHop). z.filter) same in
@@ -256,7 +249,7 @@ module _ {A : Type 0} (n : NetworkParts A) (hops : List StreamHop) (queues : Lis
       subst (λ (k : ℕ). KeepsTraffic t (own_events leg.plan k f (input_events (run.inputs leg.bridge)))) (sym number) (subst (λ (b : ℕ). KeepsTraffic t (own_events leg.plan h.filter f (input_events (run.inputs b)))) (sym bridge) one)
 
   -- The queue of a frame's copy, and the route hop there.
-  abbrev queue_at : StreamHop → ℕ → Copy CarriedFrame → HopQueue
+  abbrev pub queue_at : StreamHop → ℕ → Copy CarriedFrame → HopQueue
   queue_at h q y = record { hop = h; port = q; class = y.class }
 
   by_plan : (p : Plan A) (h : StreamHop) (t : Traffic) (a : Arrival) (is : IsAtHop h t a) (q : ℕ) → slice_get n.plans h.bridge ≡ Some p → IsForwardedByPort p a.octets a.len a.port q → IsForwardedByPort is.plan a.octets a.len a.port q

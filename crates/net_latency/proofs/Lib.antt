@@ -23,6 +23,8 @@ pub mod ProtectedHops
 pub mod HandedQueues
 pub mod OneCopy
 pub mod Deliveries
+pub mod Forwarded
+pub mod TalkerPath
 pub mod TalkerDelivered
 pub mod TalkerPort
 pub mod PrintedStream

@@ -101,7 +101,7 @@ frame_among (e ∷ es) a (inl same) = record { newer = []; older = es; is = ap (
 frame_among (e ∷ es) a (inr i) = let h = frame_among es a i in record { newer = e ∷ h.newer; older = h.older; is = ap (λ (zs : List Event). e ∷ zs) h.is }
 
 -- An own frame is among the events, and belongs to the filter.
-own_frame : {A : Type 0} (p : Plan A) (n : ℕ) (f : FilterPlan) (a : Arrival) (es : List Event) → IsMember (Arrived a) (own_events p n f es) → IsMember (Arrived a) es × (is_filter_number n (arrival_filter p a) ≡ true)
+pub own_frame : {A : Type 0} (p : Plan A) (n : ℕ) (f : FilterPlan) (a : Arrival) (es : List Event) → IsMember (Arrived a) (own_events p n f es) → IsMember (Arrived a) es × (is_filter_number n (arrival_filter p a) ≡ true)
 own_frame p n f a [] i = absurd i
 own_frame p n f a (Cleared c m ∷ es) i = by_bool (is_own_command n f c m)
     (λ k.
@@ -115,12 +115,15 @@ own_frame p n f a (Arrived b ∷ es) i = by_bool (is_filter_number n (arrival_fi
     (λ k. let j : IsMember (Arrived a) (own_events p n f es) = rw k at i in let r = own_frame p n f a es j in (inr r.0, r.1))
 
 -- The arrival time doesn't matter for the destination.
-pub at_any_time : {A : Type 0} (p : Plan A) (octets : List ℕ) (len r t set : ℕ) (c : FilterInput) → frame_destination p (arrival 0 r octets len) ≡ way.Forwarded set c → (d : FilterInput) × (frame_destination p (arrival t r octets len) ≡ way.Forwarded set d)
-at_any_time p octets len r t set c is =
-    let g = going p (arrival 0 r octets len) set c is in
+pub at_other_time : {A : Type 0} (p : Plan A) (octets : List ℕ) (len r u t set : ℕ) (c : FilterInput) → frame_destination p (arrival u r octets len) ≡ way.Forwarded set c → (d : FilterInput) × (frame_destination p (arrival t r octets len) ≡ way.Forwarded set d)
+at_other_time p octets len r u t set c is =
+    let g = going p (arrival u r octets len) set c is in
     by_bool (nat_eq (forward p.database g.on.number (frame_vid g.on g.parsed.tag) g.parsed.da) 0)
     (λ k. let z : way.Nowhere ≡ way.Forwarded set c = rw (g.at_port, g.is, k) at is in absurd (cc))
     (λ k. (sending.frame_input p g.on t g.parsed (metered_octets len), rw (g.at_port, g.is, k) (ap (λ (z : ℕ). way.Forwarded z (sending.frame_input p g.on t g.parsed (metered_octets len))) g.set_is)))
+
+pub at_any_time : {A : Type 0} (p : Plan A) (octets : List ℕ) (len r t set : ℕ) (c : FilterInput) → frame_destination p (arrival 0 r octets len) ≡ way.Forwarded set c → (d : FilterInput) × (frame_destination p (arrival t r octets len) ≡ way.Forwarded set d)
+at_any_time p octets len r t set c is = at_other_time p octets len r 0 t set c is
 
 -- THE COPY
 

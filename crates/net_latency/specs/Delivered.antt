@@ -10,7 +10,7 @@ use Rattle.bridge_port.specs.Schedule.{Copy}
 use Rattle.bridge_config.specs.declared.ports.PortPlan.{PortPlan}
 use Rattle.bridge_config.specs.Model.{Plan}
 use Rattle.bridge_config.specs.Rules.{find_port}
-use Rattle.bridge_check.specs.Reach.{reaches_queue}
+use Rattle.bridge_check.specs.Reach.{are_null_kinds, reaches_queue}
 use Rattle.bridge_semantics.specs.declared.destination.Destination.TheVariants.{Forwarded}
 use Rattle.bridge_semantics.specs.Events.{Arrival, Arrived, arrival, frame_destination, own_events}
 use Rattle.bridge_semantics.specs.Merge.{Input, capture_inputs, input_events}
@@ -78,8 +78,7 @@ KeepsTrafficOfHop {A} plans inputs t h =
     → lookup (nat_eq h.filter) p.filters ≡ Some f
     → KeepsTraffic t (own_events p h.filter f (input_events (inputs h.bridge)))
 
--- Holds if port `q` is the talker's port at hop `h`, and the frames of the hop's filter that arrive there keep the traffic. The talker's port is the first open
--- port that has an entry with the filter's handle.
+-- Holds if `q` is the talker's port of hop `h` (`is_talker_port`), and the frames of the hop's filter that arrive there keep the traffic.
 pub record KeepsTalkerTraffic {A : Type 0} (n : NetworkParts A) (captures : ℕ → ℕ → List CapturedFrame) (t : Traffic) (h : StreamHop) (q : ℕ)
     : Type 0 where
   pub plan : Plan A
@@ -102,8 +101,7 @@ pub record IsForwardedByPort {A : Type 0} (p : Plan A) (octets : List ℕ) (len 
   pub goes : has_port ports q ≡ true
   pub at : find_port p.ports q ≡ Some out
 
--- Holds if the bridges forward the frame along a path. The frame arrives at port `r` of bridge `b`, leaves by port `q`, and leaves the next hops by the ports
--- `more`. The last port leads to no hop.
+-- Holds if the bridges forward a frame from port `r` of bridge `b` by port `q`, then by the ports `more` of next hops.
 abbrev pub IsForwardedAlong : {A : Type 0} → List (Plan A) → List Link → List StreamHop → List ℕ → ℕ → ℕ → ℕ → ℕ → List ℕ → Type 0
 IsForwardedAlong {A} plans links hops octets len b r q [] =
     (p : Plan A) × (slice_get plans b ≡ Some p) × IsForwardedByPort p octets len r q × (next_hop links hops b q ≡ None)
@@ -112,6 +110,21 @@ IsForwardedAlong {A} plans links hops octets len b r q (k ∷ more) =
     × (s : Sender) × (sender (map link_value links) b q ≡ Some s)
     × (h : StreamHop) × (hop_at_bridge hops s.from.bridge ≡ Some h)
     × IsForwardedAlong plans links hops octets len s.from.bridge s.from.port k more
+
+-- Holds if all stream entries with the handle of a hop's filter compare the destination address, at each hop.
+abbrev pub CompareDestinations : {A : Type 0} → List (Plan A) → List StreamHop → Type 0
+CompareDestinations {A} plans hops =
+    (h : StreamHop) (p : Plan A) (handle : ℕ)
+    → IsMember h hops
+    → slice_get plans h.bridge ≡ Some p
+    → protected_handle p.filters h.filter ≡ Some handle
+    → are_null_kinds handle p.streams ≡ true
+
+-- Holds if the bridges forward frame `a` of hop `h` along some path.
+pub record HasPath {A : Type 0} (n : NetworkParts A) (hops : List StreamHop) (h : StreamHop) (a : Arrival) : Type 0 where
+  pub port : ℕ
+  pub ports : List ℕ
+  pub along : IsForwardedAlong n.plans n.links hops a.octets a.len h.bridge a.port port ports
 
 -- Holds if the route hop has a copy of the frame at port `q`.
 pub record CarriesFrame {A : Type 0} (octets : List ℕ) (len q : ℕ) (leg : RouteHop A) : Type 0 where

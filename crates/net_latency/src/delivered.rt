@@ -18,8 +18,8 @@ ghost use Rattle.net_model.specs.Networks.{IsNetworkRun};
 ghost use Rattle.net_latency.specs.declared.bounds.QueueBound.{QueueBound};
 ghost use Rattle.net_latency.specs.declared.latency.StreamLatency.{StreamLatency};
 ghost use Rattle.net_latency.specs.declared.tree.HopQueue.{HopQueue};
-ghost use Rattle.net_latency.specs.Delivered.{AreCommands, HasReachableQueues, IsAcceptedNetwork, IsDeliveredAlong, IsForwardedAlong};
-ghost use Rattle.net_latency.specs.Delivered.{IsFrameOfHop, IsStreamOfNetwork, KeepsTalkerTraffic, KeepsTrafficOfHop};
+ghost use Rattle.net_latency.specs.Delivered.{AreCommands, CompareDestinations, HasPath, HasReachableQueues, IsAcceptedNetwork};
+ghost use Rattle.net_latency.specs.Delivered.{IsDeliveredAlong, IsForwardedAlong, IsFrameOfHop, IsStreamOfNetwork, KeepsTalkerTraffic, KeepsTrafficOfHop};
 ghost use Rattle.net_latency.specs.Entering.{IsStreamCourse, come_in_once};
 ghost use Rattle.net_latency.specs.Phased.{AreFedInTurn, IsRouteOfStream, KeepsStreamLatency, KeepsTrafficAtHop, stream_hop};
 ghost use Rattle.net_latency.specs.Streams.{AreQueueBoundsOfPlans, is_passing};
@@ -41,8 +41,7 @@ pub fn read_commands_are_commands<A: Allocator + Copy>()
     ensures { (commands : ℕ → List Command) → AreCommands (λ (b : ℕ). commands_of (commands b)) }
 {}
 
-/// In an accepted network, if a stream's hops are a tree and only its talker's frames can get its handles, the own frames of the first hop
-/// arrive at the talker's port. If they keep the traffic there, the first hop's own events keep it, whatever arrives at other ports.
+/// If the frames at the talker's port of a stream keep the traffic, the own events of the first hop keep it, whatever arrives elsewhere.
 pub fn talker_port_keeps_traffic<A: Allocator + Copy>()
     ensures { (n : NetworkParts A) (hops : List StreamHop) (queues : List HopQueue) (first : StreamHop) (t : Traffic)
         (q : ℕ) (commands : ℕ → List Input) (captures : ℕ → ℕ → List CapturedFrame) (o : ℕ → Outcome A)
@@ -58,8 +57,7 @@ pub fn talker_port_keeps_traffic<A: Allocator + Copy>()
         → KeepsTrafficOfHop n.plans run.inputs t first }
 {}
 
-/// In an accepted network, if a stream's hops are a tree and only its talker's frames can get its handles, each hop of a route feeds the
-/// next one. A later hop's own events are only commands and copies that the previous hop's queue sent, whatever all others send.
+/// Each hop of a stream's route feeds the next one if the hops are a tree and only the talker's frames can get the stream's handles.
 pub fn stream_is_fed_in_turn<A: Allocator + Copy>()
     ensures { (n : NetworkParts A) (hops : List StreamHop) (queues : List HopQueue) (first : StreamHop)
         (commands : ℕ → List Input) (captures : ℕ → ℕ → List CapturedFrame) (o : ℕ → Outcome A)
@@ -95,8 +93,7 @@ pub fn stream_keeps_latency<A: Allocator + Copy>()
         → KeepsStreamLatency t leg more r }
 {}
 
-/// If the line of a stream lacks the word `refusable`, each frame of its talker is delivered, whatever all others send. Each path along
-/// which the bridges forward the frame has a route with copies of the frame, within the printed delays and phases.
+/// If a stream's delays pass, each frame of its talker is delivered along each path that forwards it, whatever all others send.
 pub fn stream_is_delivered<A: Allocator + Copy>()
     ensures { (n : NetworkParts A) (hops : List StreamHop) (queues : List HopQueue) (t : Traffic) (r : StreamLatency)
         (first : StreamHop) (commands : ℕ → List Input) (captures : ℕ → ℕ → List CapturedFrame) (o : ℕ → Outcome A)
@@ -115,8 +112,27 @@ pub fn stream_is_delivered<A: Allocator + Copy>()
         → IsDeliveredAlong n hops queues run.lists t r first a q ports }
 {}
 
-/// If `net check` prints the delays of a stream without the word `refusable`, each frame of its talker is delivered, whatever arrives at all
-/// other ports. `a` is a frame at the talker's port `q`, and `out ∷ ports` a path along which the bridges forward it.
+/// If the stream entries of a stream compare destination addresses, the bridges forward each frame of its talker along some path. Without
+/// `refusable`, the frame is then delivered along this path.
+pub fn talker_frame_has_path<A: Allocator + Copy>()
+    ensures { (n : NetworkParts A) (hops : List StreamHop) (queues : List HopQueue) (t : Traffic) (r : StreamLatency)
+        (first : StreamHop) (commands : ℕ → List Input) (captures : ℕ → ℕ → List CapturedFrame) (o : ℕ → Outcome A)
+        (run : IsNetworkRun (network_value n) commands captures o) (a : Arrival)
+        → IsAcceptedNetwork n
+        → IsStreamOfNetwork n hops
+        → HasReachableQueues n.plans hops queues
+        → AreCommands commands
+        → IsTraffic t
+        → slice_get hops 0 ≡ Some first
+        → KeepsTrafficOfHop n.plans run.inputs t first
+        → IsStreamCourse n.plans n.links hops queues t (Some r)
+        → r.passes ≡ true
+        → IsFrameOfHop n.plans run.inputs first a
+        → CompareDestinations n.plans hops
+        → HasPath n hops first a }
+{}
+
+/// If `net check` prints delays of a stream without `refusable`, each frame at its talker's port is delivered. Other ports don't matter.
 pub fn printed_stream_is_delivered<A: Allocator + Copy>()
     ensures { (n : NetworkParts A) (bounds : List (Vec QueueBound A)) (hops : List StreamHop) (talker : Talker)
         (r : StreamLatency) (first : StreamHop) (q : ℕ) (commands : ℕ → List Input)
