@@ -20,7 +20,7 @@ pub digits_in_front : (n : ℕ) (all behind : List ℕ) → all ≡ decimal n ++
 digits_in_front n all behind is fits text = subst IsUtf8 (sym is) (IsUtf8-append (decimal n) behind (IsUtf8-from_ascii (decimal n) (IsAscii-decimal n fits)) text)
 
 -- The line has space for the longest number.
-pub room_in_front : (n start : ℕ) (octets text : List ℕ) → length octets ≡ 4096 → start ≤ 4096 → drop start octets ≡ text → 20 + length text ≤ 4096 → n < 2 ^ 64 → length (decimal n) ≤ start
+pub room_in_front : (n start : ℕ) (octets text : List ℕ) → length octets ≡ 1920 → start ≤ 1920 → drop start octets ≡ text → 20 + length text ≤ 1920 → n < 2 ^ 64 → length (decimal n) ≤ start
 room_in_front n start octets text wide within is room fits = omega (arith, wide, within, room, length-drop start octets, ap length is, length-decimal-le 20 n (omega arith) (omega (arith, fits)) fits)
 
 -- The length of text with a number in front.

@@ -6,9 +6,9 @@ use itoa::write_digits;
 use std::marker::Model;
 
 /// Most octets of a block.
-const BLOCK_WIDTH: usize = 4096;
+const BLOCK_WIDTH: usize = 1920;
 
-/// End of a block of lines, at most 4,096 octets; each call writes its text in front. Numbers need no digit count beforehand, and lines need
+/// End of a block of lines, at most 1,920 octets; each call writes its text in front. Numbers need no digit count beforehand, and lines need
 /// no allocation. A sink gets many lines at once.
 #[derive(Drop)]
 pub struct LineBlock {
@@ -26,7 +26,7 @@ impl Model for LineBlock {
 
     ghost view = { λ l. drop l.start l.octets };
 
-    ghost invariant = { λ l. (l.start ≤ 4096) × IsUtf8 (drop l.start l.octets) };
+    ghost invariant = { λ l. (l.start ≤ 1920) × IsUtf8 (drop l.start l.octets) };
 }
 
 impl LineBlock {
@@ -50,7 +50,7 @@ impl LineBlock {
     /// Writes `piece` in front of the block.
     #[inline(always)]
     pub fn prepend(&mut self, piece: &str)
-        requires { length piece.now + length self.old ≤ 4096 }
+        requires { length piece.now + length self.old ≤ 1920 }
         ensures text { self.new ≡ piece.now ++ self.old }
         ensures room { length self.new ≡ length piece.now + length self.old }
     {
@@ -62,7 +62,7 @@ impl LineBlock {
     /// Writes the digits of `number` in front of the block.
     #[inline(always)]
     fn prepend_digits(&mut self, number: u64)
-        requires { 20 + length self.old ≤ 4096 }
+        requires { 20 + length self.old ≤ 1920 }
         ensures digits { self.new ≡ decimal number ++ self.old }
         ensures room { length self.new ≤ 20 + length self.old }
     {
@@ -72,7 +72,7 @@ impl LineBlock {
     /// Writes `piece` and the digits of `number` in front of the block.
     #[inline(always)]
     pub fn prepend_number(&mut self, piece: &str, number: u64)
-        requires { length piece.now + 20 + length self.old ≤ 4096 }
+        requires { length piece.now + 20 + length self.old ≤ 1920 }
         ensures text { self.new ≡ piece.now ++ (decimal number ++ self.old) }
         ensures room { length self.new ≤ length piece.now + 20 + length self.old }
     {

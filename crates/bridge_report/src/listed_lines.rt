@@ -15,7 +15,7 @@ pub trait ListedCopy {
 
     /// Writes the copy's line in front of `block`.
     fn prepend_line(&self, block: &mut LineBlock)
-        requires { 128 + length block.old ≤ 4096 }
+        requires { 128 + length block.old ≤ 1920 }
         ensures text { block.new ≡ line self.now ++ block.old }
         ensures room { length block.new ≤ 128 + length block.old };
 }
@@ -41,7 +41,7 @@ impl ListedCopy for StoredDeparture {
 /// Writes the end of a frame's line in front of `block`: a space, the word for its verdict and a line feed.
 #[inline(always)]
 fn prepend_verdict(block: &mut LineBlock, verdict: Verdict)
-    requires { 17 + length block.old ≤ 4096 }
+    requires { 17 + length block.old ≤ 1920 }
     ensures text { block.new ≡ codes " " ++ (verdict_word verdict ++ (codes "\n" ++ block.old)) }
     ensures room { length block.new ≤ 17 + length block.old }
 {
@@ -65,7 +65,7 @@ fn prepend_verdict(block: &mut LineBlock, verdict: Verdict)
 /// Writes the line of a frame in front of `block`: its number and its verdict.
 #[inline(always)]
 pub fn prepend_frame(block: &mut LineBlock, number: usize, verdict: Verdict)
-    requires { 128 + length block.old ≤ 4096 }
+    requires { 128 + length block.old ≤ 1920 }
     ensures text { block.new ≡ frame_line number verdict ++ block.old }
     ensures room { length block.new ≤ 128 + length block.old }
 {
@@ -76,7 +76,7 @@ pub fn prepend_frame(block: &mut LineBlock, number: usize, verdict: Verdict)
 /// Writes the end of a dropped copy's line in front of `block`: a space, the word for the reason and a line feed.
 #[inline(always)]
 fn prepend_refusal(block: &mut LineBlock, refusal: Refusal)
-    requires { 7 + length block.old ≤ 4096 }
+    requires { 7 + length block.old ≤ 1920 }
     ensures text { block.new ≡ codes " " ++ (refusal_word refusal ++ (codes "\n" ++ block.old)) }
     ensures room { length block.new ≤ 7 + length block.old }
 {
@@ -89,7 +89,7 @@ fn prepend_refusal(block: &mut LineBlock, refusal: Refusal)
 /// Writes the line of a dropped copy in front of `block`: its frame's number, the port and the reason.
 #[inline(always)]
 fn prepend_drop(block: &mut LineBlock, dropped: &Dropped)
-    requires { 128 + length block.old ≤ 4096 }
+    requires { 128 + length block.old ≤ 1920 }
     ensures text { block.new ≡ drop_line dropped.now ++ block.old }
     ensures room { length block.new ≤ 128 + length block.old }
 {
@@ -102,7 +102,7 @@ fn prepend_drop(block: &mut LineBlock, dropped: &Dropped)
 /// Writes the line of a copy that left in front of `block`: its frame's number, the port, and start and end of its transmission in ns.
 #[inline(always)]
 fn prepend_departure(block: &mut LineBlock, departure: &Departure)
-    requires { 128 + length block.old ≤ 4096 }
+    requires { 128 + length block.old ≤ 1920 }
     ensures text { block.new ≡ departure_line departure.now ++ block.old }
     ensures room { length block.new ≤ 128 + length block.old }
 {

@@ -9,13 +9,13 @@ use crate::report_sink::ReportSink;
 use bridge_semantics::{StoredDeparture, StoredDrop, StoredVerdict};
 
 /// Lines of a full block. A line has at most 128 octets.
-const BLOCK_LINES: usize = 32;
+const BLOCK_LINES: usize = 15;
 
 /// Writes the lines of frames, numbered from `number`, from the last to the first.
 #[inline(always)]
 fn fill_frames(block: &mut LineBlock, number: usize, verdicts: &[StoredVerdict])
     requires empty { length block.old ≡ 0 }
-    requires few { length verdicts.now ≤ 32 }
+    requires few { length verdicts.now ≤ 15 }
     requires number { number + length verdicts.now < 2 ^ 64 }
     ensures { block.new ≡ frame_lines number verdicts.now }
 {
@@ -45,7 +45,7 @@ pub fn put_frames<T: ReportSink>(text: &mut T, verdicts: &[StoredVerdict])
 #[inline(always)]
 fn fill_copies<C: ListedCopy>(block: &mut LineBlock, copies: &[C])
     requires empty { length block.old ≡ 0 }
-    requires few { length copies.now ≤ 32 }
+    requires few { length copies.now ≤ 15 }
     ensures { block.new ≡ flat_map C.line copies.now }
 {
     let mut left = copies.len();

@@ -8,7 +8,7 @@ none_left : (xs : List ℕ) (n : ℕ) → n ≡ length xs → drop n xs ≡ []
 none_left xs n is = ap (λ k. drop k xs) is ∙ drop-length xs
 
 pub invariant_of-self : goal.invariant_of-self
-invariant_of-self c = (omega arith, subst IsUtf8 (sym (none_left c.self.inside.octets 4096 (sym c.self.told))) IsUtf8-nil)
+invariant_of-self c = (omega arith, subst IsUtf8 (sym (none_left c.self.inside.octets 1920 (sym c.self.told))) IsUtf8-nil)
 
 pub returns : goal.returns
-returns c = none_left c.self.inside.octets 4096 (sym c.self.told)
+returns c = none_left c.self.inside.octets 1920 (sym c.self.told)
