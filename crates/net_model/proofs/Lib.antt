@@ -15,3 +15,4 @@ pub mod Sound
 pub mod Reaching
 pub mod Sampled
 pub mod Walked
+pub mod EntryPorts

@@ -1,16 +1,25 @@
 -- State of the test of handed frames in the code. No public clause uses it.
-use Rattle.std.specs.Prelude.{◌≤◌, Bool, Option}
+use Rattle.std.specs.Prelude.{◌≡◌, ◌≤◌, ℕ, Bool, true, false, not, nat_eq, Option, Some, None}
 use Rattle.bridge_frame.specs.declared.Tag.{Tag}
 use Rattle.bridge_ident.specs.declared.StreamEntry.{StreamEntry}
+use Rattle.bridge_filter.specs.OwnEvents.{is_filter_number}
 use Rattle.bridge_config.specs.declared.ports.PortPlan.{PortPlan}
 use Rattle.bridge_config.specs.Rules.{find_port}
 use Rattle.net_model.specs.declared.handing.Handing.{Handing}
+use Rattle.net_model.specs.LinkFrames.{matching_filter}
 use Rattle.net_model.specs.Handing as handing
 
--- Holds if the sender's port number and the next bridge's port number are from 1 to 16.
+-- True if the optional handle `own` is known and isn't `h`.
+abbrev pub is_other_handle : Option ℕ → ℕ → Bool
+is_other_handle None h = false
+is_other_handle (Some own) h = not (nat_eq own h)
+
+-- Holds if the sender's port number and the next bridge's port number are from 1 to 16, and the sender's filter gets only
+-- frames with its handle, if this handle is known.
 pub record IsHanding {A : Type 0} (h : Handing A) : Type 0 where
   pub from : 1 ≤ h.port
   pub to : h.port ≤ 16
+  pub names : (n k : ℕ) → is_filter_number h.filter (matching_filter h.plan.now (Some n) k) ≡ true → is_other_handle h.handle n ≡ false
   pub taker_from : 1 ≤ h.taker.on.now.number
   pub taker_to : h.taker.on.now.number ≤ 16
 

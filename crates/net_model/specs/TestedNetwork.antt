@@ -1,5 +1,5 @@
 -- State of a network under test. No public clause uses it.
-use Rattle.std.specs.Prelude.{◌≡◌, ℕ, true, Option, Some}
+use Rattle.std.specs.Prelude.{◌≡◌, ◌+◌, ℕ, true, Option, Some}
 use Rattle.bridge_filter.specs.OwnEvents.{is_filter_number}
 use Rattle.net_model.specs.declared.network_tests.TestedNetwork.{TestedNetwork}
 use Rattle.net_model.specs.declared.network_tests.TestedHop.{TestedHop}
@@ -7,6 +7,8 @@ use Rattle.net_model.specs.LinkFrames.{matching_filter}
 use Rattle.bridge_config.specs.declared.ports.PortPlan.{PortPlan}
 use Rattle.net_model.specs.declared.sending_port.FoundFrames.{FoundFrames}
 use Rattle.net_model.specs.declared.sending_port.FrameQuery.{FrameQuery}
+use Rattle.bridge_check.specs.ReachTables.{test_results}
+use Rattle.net_model.specs.Faults.{has_entry}
 use Rattle.net_model.specs.Networks as networks
 use Rattle.net_model.specs.FrameSearch.{first_taken_over_link}
 use Rattle.net_model.specs.NetworkParts.{NetworkParts, stream_value}
@@ -15,9 +17,10 @@ use Rattle.net_model.specs.NetworkParts.{NetworkParts, stream_value}
 abbrev pub tested_parts : {A : Type 0} → TestedNetwork A → NetworkParts A
 tested_parts c = record { plans = c.plans.now; links = c.links.now; streams = c.streams.now }
 
--- Holds if the hop's filter gets only frames with its handle.
+-- Holds if the hop's filter gets only frames with its handle, and the flags name the ports on which entries give this handle.
 pub record IsTestedHop {A : Type 0} (c : TestedHop A) : Type 0 where
   pub names : (h k : ℕ) → is_filter_number c.hop.filter (matching_filter c.next.now (Some h) k) ≡ true → h ≡ c.handle
+  pub ports : c.ports ≡ test_results 16 (λ i. has_entry c.next.now (i + 1) c.handle)
 
 -- The first frames that the search asks for and that arrive at the hop's port `on` over a link from `e`, or `None`.
 abbrev pub first_taken_from_end : {A : Type 0} → TestedHop A → FrameQuery → PortPlan A → networks.End → Option FoundFrames

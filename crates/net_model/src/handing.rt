@@ -8,11 +8,11 @@ ghost use Rattle.bridge_check.specs.FrameInput as classified;
 ghost use Rattle.net_model.specs.LinkFrames as feeding;
 ghost use Rattle.net_model.specs.LinkFrames.{frame_pattern, possible_tags, tags_by_priority};
 ghost use Rattle.net_model.specs.Handing as spec;
-ghost use Rattle.net_model.specs.Handed.{IsHanding, hands_entry, hands_tag};
+ghost use Rattle.net_model.specs.Handed.{IsHanding, hands_entry, hands_tag, is_other_handle};
 ghost use Rattle.net_model.specs.NetworkParts.{end_value};
 
 use crate::links::{BridgePort, StreamHop};
-use crate::network_tests::find_plan;
+use crate::network_tests::{find_plan, protected_handle};
 use crate::sending_port::{
     can_match, classified_vid, frame_priority, is_same_kind, maps_tag_to_filter, matching_filter,
     may_go,
@@ -94,11 +94,23 @@ impl<'a, A: Allocator + Copy> Taker<'a, A> {
     }
 }
 
+/// Whether the filter's handle `own` is known and isn't `handle`.
+fn is_other_handle(own: Option<u32>, handle: u32) -> bool
+    ensures { result ≡ is_other_handle own handle }
+{
+    match own {
+        None => false,
+        Some(own) => own != handle,
+    }
+}
+
 /// One link under test: the sender's filter, the port by which its frames leave, and the filter that must get them at the next bridge.
 #[derive(Drop)]
 struct Handing<'a, A: Allocator + Copy> {
     plan: &'a Plan<A>,
     filter: u32,
+    /// Stream handle of the sender's filter. `None` if the filter is unprotected or names no handle.
+    handle: Option<u32>,
     port: u8,
     taker: Taker<'a, A>,
 }
@@ -163,11 +175,15 @@ impl<'a, A: Allocator + Copy> Handing<'a, A> {
         untagged & (priority & tagged)
     }
 
-    /// Whether the next filter gets each frame that `entry` identifies. True if the sender lacks the entry's port: no frame arrives there.
+    /// Whether the next filter gets each frame that `entry` identifies. True if the sender's filter has another handle, or if the sender
+    /// lacks the entry's port.
     fn hands_entry(&self, entry: &StreamEntry) -> bool
         requires handing { IsHanding self.now }
         ensures { result ≡ hands_entry self.now entry.now }
     {
+        if is_other_handle(self.handle, entry.handle) {
+            return true;
+        }
         match self.plan.port(entry.port) {
             Some(from) => self.is_fed_by_entry(entry, from),
             None => true,
@@ -198,6 +214,8 @@ fn receives_every_frame<A: Allocator + Copy>(
     requires to { port ≤ 16 }
     ensures { result ≡ spec.hands_to_port plan.now filter port next.now (find_port next.now.ports at) taker }
 {
+    let filters = plan.filters();
+    let handle = protected_handle(filters, filter);
     match next.port(at) {
         None => false,
         Some(on) => {
@@ -209,6 +227,7 @@ fn receives_every_frame<A: Allocator + Copy>(
             let handing = Handing {
                 plan,
                 filter,
+                handle,
                 port,
                 taker,
             };

@@ -1,5 +1,5 @@
 //! Tests of a network's links and hops.
-ghost use Rattle.std.specs.Prelude.{◌≡◌, ◌<◌, Some, IfSome, length, option_map, slice_get};
+ghost use Rattle.std.specs.Prelude.{◌≡◌, ◌+◌, ◌<◌, Some, IfSome, length, option_map, slice_get};
 ghost use Rattle.bridge_config.specs.Rules.{IsPlan};
 ghost use Rattle.bridge_check.specs.Faults.{first_option};
 ghost use Rattle.net_model.specs.ClosedTest.{is_protected};
@@ -8,6 +8,7 @@ ghost use Rattle.net_model.specs.NetworkParts.{end_value, stream_value};
 ghost use Rattle.net_model.specs.Faults as spec;
 ghost use Rattle.net_model.specs.TestedNetwork.{IsTestedHop, tested_parts, first_taken_from_end};
 
+use crate::entry_ports::entry_ports;
 use crate::fault::NetworkFault;
 use crate::links::{BridgePort, Link, StreamHop, has_hop, peer_port};
 use crate::sending_port::{FoundFrames, FrameQuery, SendingPort};
@@ -193,9 +194,20 @@ pub(crate) struct TestedHop<'a, A: Allocator + Copy> {
     pub next: &'a Plan<A>,
     /// Stream handle of the hop's filter.
     pub handle: u32,
+    /// A flag for each port of the hop's bridge, from port 1: whether an entry gives the handle there.
+    pub ports: [bool; 16],
 }
 
 impl<'a, A: Allocator + Copy> TestedHop<'a, A> {
+    /// Whether an entry gives the handle at port `j` + 1.
+    fn is_entry_index(&self, j: u8) -> bool
+        requires case { IsTestedHop self.now }
+        requires index { j < 16 }
+        ensures { result ≡ spec.has_entry self.now.next.now (j + 1) self.now.handle }
+    {
+        self.ports[j as usize]
+    }
+
     /// Returns an example of the frames that `question` asks for, which `plan` can send from `end` to the hop's port `on`. Returns `None`
     /// if there are none or the sending port is missing.
     fn first_frame_of_sender(
@@ -278,21 +290,25 @@ impl<'a, A: Allocator + Copy> TestedHop<'a, A> {
         }
     }
 
-    /// Returns `before` if it has frames, otherwise an example of frames at port `port`. One step of the loop in `first_frame_by_port`.
+    /// Returns `before` if it has frames, otherwise an example of frames at port `j` + 1. Only ports with an entry can get frames.
     fn first_or_frame_on_port(
         &self,
         before: Option<(u8, FoundFrames)>,
         question: FrameQuery,
-        port: u8,
+        j: u8,
     ) -> Option<(u8, FoundFrames)>
-        requires { IsTestedHop self.now }
+        requires case { IsTestedHop self.now }
+        requires index { j < 16 }
         ensures { result ≡ first_option before (spec.first_taken_at_port_number question
-            (tested_parts self.now.case) self.now.stream.now self.now.hop self.now.next.now port) }
+            (tested_parts self.now.case) self.now.stream.now self.now.hop self.now.next.now (j + 1)) }
     {
         if before.is_some() {
             return before;
         }
-        self.first_frame_on_port(question, port)
+        if !self.is_entry_index(j) {
+            return before;
+        }
+        self.first_frame_on_port(question, j + 1)
     }
 
     /// Returns the lowest port at which the hop can accept frames that `question` asks for over a link, with an example. Returns `None` if
@@ -306,7 +322,7 @@ impl<'a, A: Allocator + Copy> TestedHop<'a, A> {
     {
         let mut first = None;
         for j in 0..16u8 {
-            first = self.first_or_frame_on_port(first, question, j + 1);
+            first = self.first_or_frame_on_port(first, question, j);
         }
         first
     }
@@ -472,6 +488,7 @@ impl<'a, A: Allocator + Copy> TestedNetwork<'a, A> {
                     hop,
                     next,
                     handle,
+                    ports: entry_ports(next, handle),
                 };
                 case.frames_test_fault(test, i, k)
             }
