@@ -1,11 +1,13 @@
 #!/usr/bin/env python3
-"""Times `tsnbridge net check` of a large network: planning.py [BRIDGES STREAMS ENTRIES]
+"""Times `tsnbridge net check` of a large network: planning.py [BRIDGES STREAMS ENTRIES] [--talkers] [--late COUNT]
 
 A ring of so many bridges (64 by default), each with six links to the next one, and so many streams (1,000 by default), half
 of which go forward and half backward over five bridges, each with a VLAN of its own; each plan has so many streams (4,096 by
-default) in all. It prints the time, the processor's time, the peak memory, and what the program says. All files go into a new
-folder, which is removed at the end.
+default) in all. With --talkers, each stream has a periodic talker. With --late, also COUNT of the streams miss their deadlines,
+and the program explains how to meet them (`--explain`). The script prints the time, the processor's time, the peak memory, and
+what the program says. All files go into a new folder, which is removed at the end.
 """
+import argparse
 import os
 import shutil
 import subprocess
@@ -20,6 +22,9 @@ HOPS = 5
 LANES = 6
 TALKERS = 16
 LISTENERS = 13
+# A periodic talker, and deadlines in ns: no stream of the ring misses the first one, and none meets the second one.
+TALKER = "period = 1600000\nfrom = 5000\nto = 6000\nleast = 60\nlongest = 100\n"
+MET, MISSED = 10_000_000, 120_000
 
 
 def address_of(stream):
@@ -82,7 +87,12 @@ def other_text(count):
     return rows + '[[gate]]\nnumber = 5000\nstate = "open"\nipv = 0\n\n[[filter]]\nnumber = 5000\ngate = 5000\n'
 
 
-def write_network(folder, bridges, streams, entries):
+def talker_text(stream, talkers, late):
+    """The talker of a stream and its deadline, if the streams have talkers. The first `late` streams miss their deadlines."""
+    return f"{TALKER}deadline = {MISSED if stream < late else MET}\n" if talkers else ""
+
+
+def write_network(folder, bridges, streams, entries, talkers=False, late=0):
     """Makes the plans and the file of the network, and answers how many octets the plans have."""
     hops, lines = [[] for _ in range(bridges)], ""
     for stream in range(streams):
@@ -90,7 +100,7 @@ def write_network(folder, bridges, streams, entries):
         for bridge, source, target, number in way:
             hops[bridge].append(hop_text(stream, source, target, number))
         names = ", ".join(f'"b{bridge}.{stream + 10}"' for bridge, _, _, _ in way)
-        lines += f'[[stream]]\nname = "s{stream}"\nhops = [{names}]\n\n'
+        lines += f'[[stream]]\nname = "s{stream}"\nhops = [{names}]\n{talker_text(stream, talkers, late)}\n'
     octets = 0
     for bridge in range(bridges):
         text = "".join(port_of(q) for q in range(1, 17)) + "".join(hops[bridge]) + other_text(entries - len(hops[bridge]))
@@ -109,11 +119,12 @@ def main():
     """Measures five times, and prints the least."""
     folder = tempfile.mkdtemp()
     try:
-        octets = write_network(folder, BRIDGES, STREAMS, ENTRIES)
+        octets = write_network(folder, BRIDGES, STREAMS, ENTRIES, HAS_TALKERS, LATE)
+        words = [PROGRAM, "net", "check", os.path.join(folder, "network.toml"), *(["--explain"] if LATE else [])]
         best = None
         for _ in range(5):
             start = time.perf_counter()
-            child = subprocess.Popen([PROGRAM, "net", "check", os.path.join(folder, "network.toml")], stdout=subprocess.PIPE)
+            child = subprocess.Popen(words, stdout=subprocess.PIPE, stderr=subprocess.DEVNULL)
             said = child.stdout.readline().decode().strip()
             child.stdout.read()
             _, status, usage = os.wait4(child.pid, 0)
@@ -124,7 +135,19 @@ def main():
         shutil.rmtree(folder)
 
 
-BRIDGES, STREAMS, ENTRIES = (int(word) for word in sys.argv[1:4]) if len(sys.argv) > 3 else (64, 1000, 4096)
+def options():
+    """The options of the command line."""
+    parser = argparse.ArgumentParser()
+    parser.add_argument("sizes", nargs="*", type=int)
+    parser.add_argument("--talkers", action="store_true")
+    parser.add_argument("--late", type=int, default=0)
+    return parser.parse_args()
+
+
+OPTIONS = options()
+BRIDGES, STREAMS, ENTRIES = OPTIONS.sizes if len(OPTIONS.sizes) == 3 else (64, 1000, 4096)
+LATE = OPTIONS.late
+HAS_TALKERS = OPTIONS.talkers or LATE > 0
 
 if __name__ == "__main__":
     main()
