@@ -33,16 +33,44 @@ pub(crate) fn find_changes(
     requires placed { All (λ v. All HasValidPort v.items) bounds.now }
     requires talkers { All (λ s. ForSome s.talker IsTalker) streams.now }
 {
+    let searched = searched_streams(alloc, network, bounds, streams)?;
     let mut changes = Changes {
         shifts: Vec::new(alloc),
         sends: Vec::new(alloc),
     };
     for pass in 0..PASSES {
-        if relieve_streams(alloc, network, bounds, streams, pass, &mut changes)? {
+        if relieve_streams(
+            alloc,
+            network,
+            bounds,
+            streams,
+            &searched,
+            pass,
+            &mut changes,
+        )? {
             return Some(changes);
         }
     }
     None
+}
+
+/// Returns for each stream whether the search may change it. Computed once, because each pass of the search asks for it. Returns `None` if
+/// memory runs out.
+fn searched_streams(
+    alloc: Global,
+    network: &Network<Global>,
+    bounds: &[Vec<QueueBound>],
+    streams: &[StreamRow<Global>],
+) -> Option<Vec<bool>>
+    requires placed { All (λ v. All HasValidPort v.items) bounds.now }
+    requires talkers { All (λ s. ForSome s.talker IsTalker) streams.now }
+{
+    let mut searched = Vec::new(alloc);
+    for stream in streams {
+        let can_change = is_searched(alloc, network, bounds, stream);
+        searched.push(can_change).ok()?;
+    }
+    Some(searched)
 }
 
 /// Whether the search may change a stream: its delays are known, all its frames pass, and it can meet its deadline.
@@ -92,12 +120,14 @@ fn can_meet(alloc: Global, route: &StreamRoute<'_>, deadline: Option<u64>) -> bo
     }
 }
 
-/// Changes lists and talkers for each late stream. Returns whether no stream was late. Returns `None` if memory runs out.
+/// Changes lists and talkers for each late stream that is `searched`. Returns whether no such stream was late. Returns `None` if memory runs
+/// out.
 fn relieve_streams(
     alloc: Global,
     network: &Network<Global>,
     bounds: &[Vec<QueueBound>],
     streams: &[StreamRow<Global>],
+    searched: &[bool],
     pass: u32,
     changes: &mut Changes,
 ) -> Option<bool>
@@ -107,8 +137,12 @@ fn relieve_streams(
     let mut is_met = true;
     let mut index = 0usize;
     for stream in streams {
-        if !relieve_listed_stream(alloc, network, bounds, stream, index, pass, changes)? {
-            is_met = false;
+        let can_change = searched.get(index).copied().unwrap_or(false);
+        if can_change {
+            let was_met = relieve_listed_stream(
+                alloc, network, bounds, stream, index, pass, changes,
+            )?;
+            is_met = is_met & was_met;
         }
         index = index.saturating_add(1);
     }
@@ -131,9 +165,6 @@ fn relieve_listed_stream(
     let Some(talker) = stream.talker() else {
         return Some(true);
     };
-    if !is_searched(alloc, network, bounds, stream) {
-        return Some(true);
-    }
     let hops = stream_hops(alloc, stream.hops()).ok()?;
     let route = StreamRoute {
         network,
