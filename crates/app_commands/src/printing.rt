@@ -15,8 +15,8 @@ use std::io;
 use std::io::Write;
 use std::process::ExitCode;
 
-/// Prints the output's text for standard output. If this fails, returns the output of that failure instead, so that its fault reaches
-/// standard error.
+/// Prints the text for standard output, and returns `output`. If printing fails, returns an output that reports this failure on standard
+/// error.
 pub fn put_stdout(
     rt: &(impl AllocGlobal + Print),
     words: &[String],

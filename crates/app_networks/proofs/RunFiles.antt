@@ -1,6 +1,6 @@
 -- The files that a fault of a network run names.
-use Rattle.std.proofs.Common.{◌≡◌, ℕ, List, Option, Some, None, Result, Ok, Err, ap, inl, inr, refl, subst, sym, string_bytes, ◌∙◌}
-use Rattle.std.specs.Prelude.{IfErr, codes, false, is_some, map, slice_get}
+use Rattle.std.proofs.Common.{◌≡◌, ℕ, List, Global, Option, Some, String, inl, inr, option_map, refl, subst, sym, string_bytes, ◌∙◌}
+use Rattle.std.specs.Prelude.{codes, false, is_some, map, slice_get}
 use Rattle.bridge_limits.specs.Members.{IsMember}
 use Rattle.bridge_config.specs.Model.{Plan}
 use Rattle.bridge_core.specs.WholeRuns.{ArePortNumbers}
@@ -58,6 +58,25 @@ commands_fail p name folder path fault.NoMemory same h = tt
 commands_fail p name folder path f same h = absurd h
 
 -- OUTPUTS
+
+-- The fault of the capture of one of these ports.
+pub one_capture : (folder ports : List ℕ) (port : ℕ) (f : Failure) → IsMember port ports → IsFileFault (capture_path folder port) f → FailsCaptures folder ports f
+one_capture folder ports port (fault.File e) here h = (port, here, h)
+one_capture folder ports port fault.NoMemory here h = tt
+one_capture folder ports port f here h = absurd h
+
+-- The fault of a table names a table.
+pub streams_table : (folder : List ℕ) (f : Failure) → IsFileFault (table_path folder (codes "streams")) f → NamesFile (IsTableFile folder) f
+streams_table folder f h = names_one (IsTableFile folder) (table_path folder (codes "streams")) f (inl refl) h
+
+pub frames_table : (folder : List ℕ) (f : Failure) → IsFileFault (table_path folder (codes "frames")) f → NamesFile (IsTableFile folder) f
+frames_table folder f h = names_one (IsTableFile folder) (table_path folder (codes "frames")) f (inr refl) h
+
+-- The fault of the requested picture.
+pub picture_file : (asked : Option (String Global)) (named : String Global) (path : List ℕ) (f : Failure) → asked ≡ Some named → path ≡ string_bytes named → IsFileFault path f
+    → NamesFile (IsPictureFile (option_map string_bytes asked)) f
+picture_file asked named path f is same h =
+    subst (λ (o : Option (String Global)). NamesFile (IsPictureFile (option_map string_bytes o)) f) (sym is) (names_one (λ x. x ≡ string_bytes named) path f same h)
 
 -- The fault of a capture is a fault of an output of a bridge.
 pub capture_of_bridge : {A : Type 0} (p : Plan A) (folder ports listed : List ℕ) (f : Failure) → ArePortNumbers p ports → listed ≡ ports → FailsCaptures folder listed f → NamesFile (IsBridgeOutputFile p folder) f

@@ -262,7 +262,8 @@ fn open_run<H: AllocGlobal + Files>(
     }
 }
 
-/// Runs a network between two folders with nonempty paths, and writes its outputs. Returns the run's lines and its number of rounds.
+/// Runs a network with the inputs of one folder, and writes the outputs to another. Both paths are nonempty. Returns the lines to print and
+/// the number of rounds.
 fn run_network_folders<H: AllocGlobal + Eprint + Files>(
     files: &mut CommandFiles<'_, H>,
     file: &NetworkFile<Global>,

@@ -4,7 +4,8 @@ ghost use Rattle.bridge_semantics.specs.declared.outcome.Outcome.{Outcome};
 ghost use Rattle.net_run.specs.Rounds.{AreOutcomes};
 ghost use Rattle.app_networks.specs.Counted.{AreTotals};
 ghost use Rattle.app_networks.specs.InTime.{AreHopRuns, HasView, HaveViews, HaveViewsOf, IsHopRun};
-ghost use Rattle.app_networks.specs.RunFiles.{IsTableFile, NamesFile};
+ghost use Rattle.app_failure.specs.Reading.{IsFileFault};
+ghost use Rattle.app_networks.specs.RunFiles.{IsTableFile, NamesFile, table_path};
 ghost use Rattle.app_networks.specs.Tables.{TablesStream, WriteStreams, WriteTables, hop_text};
 
 use crate::refusing::bridge_name;
@@ -211,18 +212,24 @@ pub(crate) struct WrittenTables<F: Write + OpenFile + Drop> {
     pub frames: Output<F>,
 }
 
+/// Returns the program's fault for the table `name` in `folder`, which wasn't written.
+fn table_fault(alloc: Global, folder: &str, name: &str) -> Failure
+    ensures { IsFileFault (table_path folder.now name.now) result }
+{
+    match format!(in alloc; "{folder}/{name}.csv") {
+        Ok(path) => file_failure(file_fault(alloc, path.as_str(), Cause::NotWritable)),
+        Err(_) => Failure::NoMemory,
+    }
+}
+
 /// Returns the program's fault for a table that wasn't written, with the table's path in `folder`.
 fn folder_fault(alloc: Global, folder: &str, fault: TableFault) -> Failure
     ensures { NamesFile (IsTableFile folder.now) result }
 {
-    let path = match fault {
-        TableFault::Broken(Table::Streams) => format!(in alloc; "{folder}/streams.csv"),
-        TableFault::Broken(Table::Frames) => format!(in alloc; "{folder}/frames.csv"),
-        TableFault::NoMemory => return Failure::NoMemory,
-    };
-    match path {
-        Ok(path) => file_failure(file_fault(alloc, path.as_str(), Cause::NotWritable)),
-        Err(_) => Failure::NoMemory,
+    match fault {
+        TableFault::Broken(Table::Streams) => table_fault(alloc, folder, "streams"),
+        TableFault::Broken(Table::Frames) => table_fault(alloc, folder, "frames"),
+        TableFault::NoMemory => Failure::NoMemory,
     }
 }
 

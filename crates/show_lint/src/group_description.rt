@@ -12,25 +12,33 @@ use bridge_groups::{SharedQueue, plan_shared_queues};
 use bridge_limits::LONGEST_FRAME;
 use std::alloc::{Allocator, Global};
 
+/// Sentence on the delay bound of a shared queue.
 const BOUND: &str =
-    "Delay bound: {0} ns from arrival to the end of transmission, whatever the members send ({1} {a}, frames of up to {2} octets, {3} ns each).\n";
+    "Delay bound: {0} ns from arrival to the end of transmission, whatever the talkers of the {1} {a} send. Their longest frame has {2} octets and needs {3} ns.\n";
 
-const METERS: &str = "The meters pass at most {0} octets at once, and {1} bit/s in the long run.\n";
+/// Sentence on the meters from which the bound follows.
+const METERS: &str =
+    "Together, the meters pass at most {0} metered octets at once, and {1} bit/s in the long run.\n";
 
+/// Sentence on a bound by capacity, because a filter has no meter.
 const NO_METER: &str =
-    "The bound follows from the queue's {0} places, because filter {1} has no meter. With a meter for each filter, the bound may be less.\n";
+    "The bound follows from the queue's capacity of {0} frames, because filter {1} has no meter. With a meter for each filter, the bound can be less.\n";
 
+/// Sentence on a bound by capacity, because no bound by the meters is known.
 const OVERLOAD: &str =
-    "The bound follows from the queue's {0} places, because the meters pass more than the windows carry. Lower their rates, or lengthen the windows.\n";
+    "The bound follows from the queue's capacity of {0} frames, because no bound by the meters is known. The meters may pass more than the windows carry: lower their rates, or lengthen the windows.\n";
 
+/// Sentence on a queue that drops no frame.
 const ENOUGH_ROOM: &str =
-    "With {0} places, the queue drops no frame that passed its filter. It has {1}.\n";
+    "With a capacity of {0} frames, the queue drops no frame that passed its filter. Its capacity is {1}.\n";
 
+/// Sentence on a queue with too small a capacity.
 const LITTLE_ROOM: &str =
-    "The queue may drop frames: it needs {0} places and has {1}. Raise its number in `rooms`.\n";
+    "The queue may drop frames: it needs a capacity of {0} frames, and its capacity is {1}. Raise the class's number in `rooms` to {0}.\n";
 
+/// Sentence on a queue for which no sufficient capacity is known.
 const NO_ROOM: &str =
-    "The queue may drop frames: over a schedule change, no sufficient number of places is known.\n";
+    "The queue may drop frames: no sufficient capacity is known. A capacity is known for at most 4096 frames, and only without a schedule change.\n";
 
 /// What the filters that share a queue can send: the sums of their meters, and their longest frame.
 #[derive(Clone, Copy)]
@@ -170,8 +178,8 @@ fn put_bound<A: Allocator + Copy>(
     }
 }
 
-/// Writes whether the queue has enough places to drop no frame. Writes nothing if the bound doesn't follow from the meters: then no number
-/// of places is enough.
+/// Writes whether the queue's capacity suffices to drop no frame. Writes nothing if the bound doesn't follow from the meters: then no
+/// capacity is known to suffice.
 fn put_capacity(said: &mut LintText, row: &SharedQueue) {
     let capacity = u64::from(row.capacity);
     match row.room {

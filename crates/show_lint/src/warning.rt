@@ -283,7 +283,7 @@ pub struct QueueId {
     pub class: u8,
 }
 
-/// Queue that gets more frames than it has time for.
+/// Queue whose class is open too briefly to send the frames that its stream gate passes.
 #[derive(Clone, Copy)]
 pub struct QueueOverload {
     /// Queue, filter and stream gate.

@@ -32,8 +32,8 @@ const SHARED_WINDOW: &str =
 const NEVER_FITS: &str =
     "refused: the longest frame of filter {0} never fits in class {2} of port {3}";
 
-/// Returns the explanation of a fault, and the other filter, class and port that it names (0 if none). In it, `{0}` is the filter; `{1}`,
-/// `{2}` and `{3}` are the returned numbers.
+/// Returns a template that explains a fault, and three numbers: `{1}` the other filter, `{2}` the class and `{3}` the port (0 if the fault
+/// has none). `{0}` in the template is the faulty filter.
 fn fault_template(fault: CheckFault) -> (&'static str, u32, u8, u8) {
     match fault {
         CheckFault::QueueShared {
