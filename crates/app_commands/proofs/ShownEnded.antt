@@ -1,10 +1,10 @@
 -- Faults that end a run over files with tables and picture.
-use Rattle.std.proofs.Common.{◌≡◌, ◌⊎◌, ℕ, List, [], Option, Some, None, Result, Ok, Err, IfErr, inl, inr, codes, sym, subst, refl}
+use Rattle.std.proofs.Common.{◌≡◌, ◌⊎◌, ℕ, List, [], Global, String, Option, Some, None, Result, Ok, Err, IfErr, inl, inr, codes, sym, subst, refl}
 use Rattle.bridge_config.specs.Model.{Plan}
 use Rattle.app_failure.specs.declared.fault.Failure.{Failure}
 use Rattle.app_failure.specs.declared.fault.Failure.TheVariants as fault
 use Rattle.app_commands.specs.RunFiles.{EndsReading, EndsSending, IsAcceptedPlan}
-use Rattle.app_commands.specs.ShownFiles.{EndsDrawn, EndsShown, EndsTabled, EndsTold, IsOfShowing, IsOfTable, IsOfTables}
+use Rattle.app_commands.specs.ShownFiles.{EndsDrawn, EndsShown, EndsTabled, EndsTold, IsOfShowing, IsOfTables, IsTableWritten, IsWritten}
 
 -- A run whose picture was made or failed.
 pub sent_shown : {A : Type 0} (p : Plan A) (input output : List ℕ) (file : Option (List ℕ)) (f : Failure) → EndsSending p input output f → EndsShown p input output file f
@@ -39,10 +39,11 @@ pub all_behind : {X : Type 0} (delays frames file : Option (List ℕ)) (r : Resu
 all_behind delays frames file (Ok line) h = tt
 all_behind delays frames file (Err f) h = inl h
 
--- The table of frames, which follows the table of delays.
-pub frames_told : {X : Type 0} (delays frames : Option (List ℕ)) (r : Result X Failure) → IfErr r (IsOfTable frames) → IfErr r (IsOfTables delays frames)
-frames_told delays frames (Ok done) h = tt
-frames_told delays frames (Err f) h = inr h
+-- A requested table that was written.
+pub table_written : {W : Type 0} (contents : W → Option (List ℕ)) (is_table : List ℕ → Type 0) (path : Option (String Global)) (named : String Global) (text : List ℕ) (file : W)
+    → path ≡ Some named → is_table text → IsWritten contents text file → IsTableWritten contents is_table path (Some file)
+table_written contents is_table path named text file is h written =
+    subst (λ (p : Option (String Global)). IsTableWritten contents is_table p (Some file)) (sym is) (text, h, written)
 
 pub reading_drawn : (A : Type 0) (plan : List ℕ) (commands : Option (List ℕ)) (input output : List ℕ) (file : Option (List ℕ)) (f : Failure) → EndsReading A plan commands f → EndsDrawn A plan commands input output file f
 reading_drawn A plan commands input output None f h = inl h
