@@ -1,6 +1,8 @@
 -- The files that a fault of a network run names.
-use Rattle.std.proofs.Common.{◌≡◌, ℕ, List, Global, Option, Some, String, inl, inr, option_map, refl, subst, sym, string_bytes, ◌∙◌}
+use Rattle.std.proofs.Common.{◌≡◌, ℕ, zero, suc, List, [], ◌∷◌, ap, Global, Option, None, Some, String, inl, inr, option_map, refl, subst, sym, string_bytes, ◌∙◌}
+use Rattle.std.specs.Io.KnownBytes.{Appends, Keeps}
 use Rattle.std.specs.Prelude.{codes, false, is_some, map, slice_get}
+use Rattle.std.proofs.lemmas.Option.{same_Some}
 use Rattle.bridge_limits.specs.Members.{IsMember}
 use Rattle.bridge_config.specs.Model.{Plan}
 use Rattle.bridge_core.specs.WholeRuns.{ArePortNumbers}
@@ -15,7 +17,7 @@ use Rattle.app_failure.specs.Reading.{FailsCaptures, IsFileFault, LacksPath}
 use Rattle.app_files.specs.Paths.{capture_path, report_path}
 use Rattle.app_networks.specs.OutputFiles.{folder_path}
 use Rattle.app_networks.specs.Folders.{EndsBridge, EndsCommands, EndsReading, EndsRun}
-use Rattle.app_networks.specs.RunFiles.{IsBridgeOutputFile, IsInputFile, IsOpenCapture, IsOutputFile, IsOutputOfBridges, IsPictureFile, IsTableFile, IsWrittenFile, NamesFile, commands_path}
+use Rattle.app_networks.specs.RunFiles.{IsBridgeOutputFile, IsInputFile, IsOpenCapture, IsOutputFile, IsOutputOfBridges, IsPictureFile, IsTableFile, IsWrittenFile, NamesFile, commands_path, table_path}
 
 -- A fault names one of more files.
 pub wider : (P Q : List ℕ → Type 0) (f : Failure) → ((path : List ℕ) → P path → Q path) → NamesFile P f → NamesFile Q f
@@ -88,6 +90,12 @@ capture_of_bridge p folder ports listed f own same h = absurd h
 pub report_of_bridge : {A : Type 0} (p : Plan A) (folder path : List ℕ) (f : Failure) → path ≡ report_path folder → IsFileFault path f → NamesFile (IsBridgeOutputFile p folder) f
 report_of_bridge p folder path f same h = names_one (IsBridgeOutputFile p folder) path f (inr (inl same)) h
 
+-- The name of the bridge at an index.
+pub name_at : (bridges : List Bridge) (i : ℕ) (x : Bridge) → slice_get bridges i ≡ Some x → bridge_name bridges i ≡ x.name
+name_at [] i x is = absurd (cc)
+name_at (y ∷ ys) zero x is = ap (λ (b : Bridge). b.name) (same_Some y x is)
+name_at (y ∷ ys) (suc i) x is = name_at ys i x is
+
 -- A bridge's output is an output of the bridges.
 pub output_at : {A : Type 0} (plans : List (Plan A)) (bridges : List Bridge) (output folder : List ℕ) (b : ℕ) (p : Plan A) (f : Failure)
     → slice_get plans b ≡ Some p → folder ≡ folder_path output (bridge_name bridges b) → NamesFile (IsBridgeOutputFile p folder) f → NamesFile (IsOutputOfBridges plans bridges output) f
@@ -147,3 +155,23 @@ reading_ends n bridges input output picture (fault.Network lines) e = e
 reading_ends n bridges input output picture (fault.Rounds line) (b, p, there, e) = absurd e
 reading_ends n bridges input output picture fault.Words (b, p, there, e) = absurd e
 reading_ends n bridges input output picture (fault.File x) (b, p, there, e) = inr (inl (b, p, there, e))
+
+-- A fault of reading ends the run, by the list of bridges.
+pub inputs_end : {A : Type 0} (n : NetworkParts A) (bridges listed : List Bridge) (input output : List ℕ) (picture : Option (List ℕ)) (f : Failure) → listed ≡ bridges
+    → EndsReading n.links n.plans listed input f → EndsRun n bridges input output picture f
+inputs_end n bridges listed input output picture f same h =
+    reading_ends n bridges input output picture f (subst (λ (l : List Bridge). EndsReading n.links n.plans l input f) same h)
+
+-- A fault of an output ends the run, by the lists of plans and bridges.
+pub outputs_end : {A : Type 0} (n : NetworkParts A) (bridges listed : List Bridge) (plans : List (Plan A)) (input output : List ℕ) (picture : Option (List ℕ)) (f : Failure) → plans ≡ n.plans → listed ≡ bridges
+    → NamesFile (IsOutputFile plans listed output) f → EndsRun n bridges input output picture f
+outputs_end n bridges listed plans input output picture f are same h =
+    written_ends n bridges input output picture f (written_output n.plans bridges output picture f
+    (subst (λ (l : List Bridge). NamesFile (IsOutputFile n.plans l output) f) same (subst (λ (ps : List (Plan _)). NamesFile (IsOutputFile ps listed output) f) are h)))
+
+-- Octets appended to contents that remained.
+pub appended_kept : (a b c : Option (List ℕ)) (octets : List ℕ) → Appends a b octets → Keeps b c → Appends a c octets
+appended_kept None b c octets appends keeps = tt
+appended_kept (Some x) None c octets appends keeps = absurd appends
+appended_kept (Some x) (Some y) None octets appends keeps = absurd keeps
+appended_kept (Some x) (Some y) (Some z) octets appends keeps = keeps ∙ appends

@@ -1,5 +1,6 @@
 //! Writes the tables of streams and of their frames.
 ghost use Rattle.std.specs.Prelude.{◌≡◌, ℕ, IfErr, IfOk, OnOk, length, map, string_bytes};
+ghost use Rattle.std.specs.Io.KnownBytes.{Keeps};
 ghost use Rattle.bridge_semantics.specs.declared.outcome.Outcome.{Outcome};
 ghost use Rattle.net_run.specs.Rounds.{AreOutcomes};
 ghost use Rattle.app_networks.specs.Counted.{AreTotals};
@@ -194,7 +195,8 @@ pub(crate) fn write_tables<V: Write, W: Write>(
 
 /// Completes the file of a table, and returns the file: its buffer is written.
 fn end_table<F: Write + OpenFile + Drop>(output: Output<F>) -> io::Result<Output<F>>
-    ensures { IfOk result (λ done. ⟦<Output<F> as Write>⟧.contents done ≡ ⟦<Output<F> as Write>⟧.contents output) }
+    ensures { IfOk result (λ done. Keeps (⟦<Output<F> as Write>⟧.contents output)
+        (⟦<Output<F> as Write>⟧.contents done)) }
 {
     let mut output = output;
     output.flush()?;

@@ -23,7 +23,7 @@ returns-in_err-commands-clause-ends g c =
     let p = c.args.accepted.now in
     let name = c.args.place.now.name.now in
     let folder = c.args.place.now.folder.now in
-    goes_out (EndsBridge links c.args.bridge p name folder) c.from_residual-2.result _ c.from_residual-2.ensures.1
+    goes_out (EndsBridge links c.args.bridge p name folder) c.from_residual-in_err-commands.result _ c.from_residual-in_err-commands.ensures.1
     (commands_end links c.args.bridge p name folder _ c.in_err-commands.ensures.ends)
 
 pub returns-clause-came : goal.returns-clause-came

@@ -22,7 +22,7 @@ returns-in_err-came-clause-ends g c =
     let links = c.args.links.now in
     let input = c.args.input.now in
     let name = c.bridge_name-name.result.now in
-    let ends = subst (λ j. EndsBridge links j c.accepted-item.result name c.as_str.result.now c.in_err-came.e) here c.in_err-came.ensures.ends in
+    let ends = subst (λ j. EndsBridge links j c.accepted-item.result name c.as_str.result.now c.in_err-came.field-0.0) here c.in_err-came.ensures.ends in
     goes_out (EndsReading links plans bridges input) c.from_residual.result _ c.from_residual.ensures.1
     (reading_at links plans bridges input name c.as_str.result.now i c.accepted-item.result _ (slice_get_read plans (length plans) i _ refl within c.accepted-item.is) (c.bridge_name-name.ensures ∙ ap (bridge_name bridges) here)
     (c.as_str.ensures.value ∙ c.in-Ok.ensures) ends)

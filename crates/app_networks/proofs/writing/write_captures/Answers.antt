@@ -4,6 +4,8 @@ use Rattle.std.proofs.lemmas.List.{map-id}
 use Rattle.std.proofs.lemmas.Iterator.Adapters.{YieldsList-from_vec}
 use Rattle.std.proofs.lemmas.Iterator.Consumers.{YieldsList-end}
 use Rattle.app_networks.specs.OutputFiles.{AreWrittenBy, IsTapWritten}
+use Rattle.app_files.proofs.Failed.{index_in}
+use Rattle.app_networks.proofs.RunFiles.{one_capture}
 use Rattle.app_networks.proofs.Written.{file_contents, written_many, written_push}
 use Rattle.app_networks.proofs.writing.write_captures.Goals as goal
 
@@ -27,3 +29,9 @@ loop-output-preserved g c =
     ap (slice_get sources) (sym here) ∙ (slice_get-get_or sources c.len-place.result _ within ∙ ap Some (sym c.index-taps-place.is)) in
     subst (AreWrittenBy (IsTapWritten (file_contents g.F.Write.contents)) (yielded ++ c.in-Some.output ∷ []) sources) (sym c.in-Ok-push.ensures.items)
     (written_push (IsTapWritten (file_contents g.F.Write.contents)) yielded sources c.loop-output.done.items c.in-Some.output c.index-taps-place.result _ c.loop-output.invariant at c.in-Ok.ensures.written)
+
+pub returns-in-Err-clause-fails : goal.returns-in-Err-clause-fails
+returns-in-Err-clause-fails g c =
+    let ports = c.args.ports.now in
+    let within : c.len-place.result < length ports = search rules in
+    one_capture c.args.folder.now ports _ c.in-Err.fault (index_in ports c.len-place.result within) c.in-Err.ensures.fails
