@@ -180,7 +180,7 @@ impl<'a, G: Agenda + Drop, A: Allocator + Copy> Bridge<'a, G, A> {
         sent
     }
 
-    /// Returns the number of frames that have arrived.
+    /// Returns the number of frames that have arrived. `arrive` requires that it is below `MAX_ARRIVALS`.
     pub fn arrived(&self) -> u64
         ensures { result ≡ bridge_arrivals self.now }
     {

@@ -24,8 +24,8 @@ pub struct CaptureWriter {
     pub writer: Writer,
 }
 
-/// Writes the header of each port's capture to its sink; a failed write is a fault of the port. Ports and sinks have equal order. Allocates
-/// no memory.
+/// Makes a writer for each port, and writes the capture's header to the sink with the same index. A failed write is the fault of its port.
+/// `lines` is empty and has capacity for all ports, so the call allocates no memory.
 pub fn begin_writers<W: ByteSink, A: Allocator + Copy>(
     ports: &[u8],
     lines: Vec<CaptureWriter, A>,
@@ -74,6 +74,7 @@ fn writer_index(lines: &[CaptureWriter], port: u8) -> Option<usize>
 
 /// Writes a departed frame to the capture of its port. A failed write is the fault `RunFault::Write` of this port. Without a writer, does
 /// nothing.
+#[inline(always)]
 pub fn write_frame<W: ByteSink, A: Allocator + Copy>(
     lines: &mut [CaptureWriter],
     sinks: &mut [W],
