@@ -1,11 +1,13 @@
 #!/usr/bin/env python3
-"""Times `tsnbridge net` beside the same runs of single bridges over files: networks.py [BRIDGES FRAMES] [--tables]
+"""Times `tsnbridge net` beside the same runs of single bridges over files: networks.py [BRIDGES FRAMES] [--tables] [--instructions]
 
 Two networks of so many bridges (16 by default), a row and a ring, and so many frames (1,000,000 by default) of 64 octets of
 one stream, which go from the first bridge to the last one. `net` runs the network; beside it `run` runs bridge after bridge,
 each over what the one before it wrote. The links have no delay, so the captures of both have to be the same, octet for
 octet. It prints the times and the peak memory, and whether the captures are the same. With `--tables` the single runs write
-their tables too, as `net` does, where frames go through them. All files go into a new folder, which is removed at the end.
+their tables too, as `net` does, where frames go through them. With `--instructions` it counts instructions by callgrind instead
+of times, so that the ratio doesn't depend on the load of the machine; take about 5,000 frames. All files go into a new folder,
+which is removed at the end.
 """
 import filecmp
 import os
@@ -15,6 +17,8 @@ import subprocess
 import sys
 import tempfile
 import time
+
+import instructions
 
 TOP = os.path.dirname(os.path.dirname(os.path.abspath(__file__)))
 BUILT = os.path.join(TOP, "crates", "tsnbridge", "out", "tsnbridge")
@@ -123,7 +127,13 @@ def timed(words):
     return time.perf_counter() - start, usage.ru_utime + usage.ru_stime, usage.ru_maxrss / 1024
 
 
-def run_single(folder, bridges, is_ring, has_tables):
+def counted(words):
+    """The instructions of a call of the program, in thousand millions, in place of both times, and no memory."""
+    count = instructions.count(PROGRAM, words) / 1e9
+    return count, count, 0.0
+
+
+def run_single(folder, bridges, is_ring, has_tables, cost):
     """Runs bridge after bridge over files, each once without frames, as the first round does, and then over what comes; then
     with its tables, where these are wanted."""
     wall, processor, peak = 0.0, 0.0, 0.0
@@ -135,7 +145,7 @@ def run_single(folder, bridges, is_ring, has_tables):
             if b > 0 and n == 1:
                 shutil.copy(os.path.join(folder, "single", f"b{b - 1}", "2.pcap"), os.path.join(came, f"{source}.pcap"))
             tables = ["--delays", os.path.join(left, "delays.csv"), "--frames", os.path.join(left, "frames.csv")]
-            more = timed(["run", os.path.join(folder, f"b{b}.toml"), came, left] + tables * (has_tables and n == calls - 1))
+            more = cost(["run", os.path.join(folder, f"b{b}.toml"), came, left] + tables * (has_tables and n == calls - 1))
             wall, processor, peak = wall + more[0], processor + more[1], max(peak, more[2])
     return wall, processor, peak
 
@@ -150,20 +160,20 @@ def are_same(folder, bridges, is_ring):
     return all(filecmp.cmp(os.path.join(folder, "out", n), os.path.join(folder, "single", n), shallow=False) for n in names)
 
 
-def measure(bridges, frames, is_ring, has_tables):
+def measure(bridges, frames, is_ring, has_tables, cost):
     """Prints the row of a network."""
     folder = tempfile.mkdtemp()
     try:
         write_plans(folder, bridges, is_ring)
         write_inputs(folder, bridges, is_ring, frames)
         os.mkdir(os.path.join(folder, "out"))
-        net = timed(["net", os.path.join(folder, "network.toml"), os.path.join(folder, "in"), os.path.join(folder, "out")])
-        single = run_single(folder, bridges, is_ring, has_tables)
+        net = cost(["net", os.path.join(folder, "network.toml"), os.path.join(folder, "in"), os.path.join(folder, "out")])
+        single = run_single(folder, bridges, is_ring, has_tables, cost)
         same = "the same" if are_same(folder, bridges, is_ring) else "DIFFERENT"
         shape = "ring" if is_ring else "row"
         print(
-            f"| {shape} of {bridges}, {frames} frames | {net[0]:.1f} | {net[1]:.1f} | {net[2]:.0f} "
-            f"| {single[0]:.1f} | {single[1]:.1f} | {single[2]:.0f} | {net[1] / single[1]:.2f} | {same} |",
+            f"| {shape} of {bridges}, {frames} frames | {net[0]:.2f} | {net[1]:.2f} | {net[2]:.0f} "
+            f"| {single[0]:.2f} | {single[1]:.2f} | {single[2]:.0f} | {net[1] / single[1]:.2f} | {same} |",
             flush=True,
         )
     finally:
@@ -172,13 +182,14 @@ def measure(bridges, frames, is_ring, has_tables):
 
 def main():
     """Measures both networks."""
-    words = [it for it in sys.argv[1:] if it != "--tables"]
+    words = [it for it in sys.argv[1:] if not it.startswith("--")]
     has_tables = "--tables" in sys.argv
+    cost = counted if "--instructions" in sys.argv else timed
     bridges, frames = (int(words[0]), int(words[1])) if len(words) > 1 else (16, 1_000_000)
     print("| network | `net` s | processor s | peak MiB | single runs s | processor s | peak MiB | ratio | captures |")
     print("|---|---|---|---|---|---|---|---|---|", flush=True)
-    measure(bridges, frames, False, has_tables)
-    measure(bridges, frames, True, has_tables)
+    measure(bridges, frames, False, has_tables, cost)
+    measure(bridges, frames, True, has_tables, cost)
 
 
 if __name__ == "__main__":

@@ -10,17 +10,17 @@ use Rattle.app_cli.specs.Helping.{explains, is_strict}
 abbrev wire_words : List Text
 wire_words = codes "wire" ∷ codes "1000" ∷ codes "4" ∷ codes "a.pcap" ∷ codes "b.pcap" ∷ []
 
--- These arguments are valid.
+-- `clap` finds no fault in the arguments `wire_words`.
 pub wire_faultless : fault_of commands wire_words ≡ []
 unfolding clap_on_literals
 wire_faultless = refl
 
--- They name `wire`.
+-- The arguments `wire_words` name the command `wire`.
 pub wire_named : option_map (λ p. p.0) (subcommand_of commands wire_words) ≡ Some (codes "wire")
 unfolding clap_on_literals
 wire_named = refl
 
--- Each value has its name.
+-- `clap` gives each value in `wire_words` the name of its argument.
 pub wire_mbps : option_map (λ p. first_of (codes "mbps") p.1) (subcommand_of commands wire_words) ≡ Some (Some (codes "1000"))
 unfolding clap_on_literals
 wire_mbps = refl
@@ -41,17 +41,17 @@ wire_output = refl
 abbrev check_words : List Text
 check_words = codes "check" ∷ codes "plan.toml" ∷ []
 
--- These arguments are valid.
+-- `clap` finds no fault in the arguments `check_words`.
 pub check_faultless : fault_of commands check_words ≡ []
 unfolding clap_on_literals
 check_faultless = refl
 
--- They name `check`.
+-- The arguments `check_words` name the command `check`.
 pub check_named : option_map (λ p. p.0) (subcommand_of commands check_words) ≡ Some (codes "check")
 unfolding clap_on_literals
 check_named = refl
 
--- The value has its name.
+-- `clap` gives the value in `check_words` the name of its argument, `plan`.
 pub check_plan : option_map (λ p. first_of (codes "plan") p.1) (subcommand_of commands check_words) ≡ Some (Some (codes "plan.toml"))
 unfolding clap_on_literals
 check_plan = refl
@@ -60,17 +60,17 @@ check_plan = refl
 abbrev run_words : List Text
 run_words = codes "run" ∷ codes "plan.toml" ∷ codes "in" ∷ codes "out" ∷ []
 
--- These arguments are valid.
+-- `clap` finds no fault in the arguments `run_words`.
 pub run_faultless : fault_of commands run_words ≡ []
 unfolding clap_on_literals
 run_faultless = refl
 
--- They name `run`.
+-- The arguments `run_words` name the command `run`.
 pub run_named : option_map (λ p. p.0) (subcommand_of commands run_words) ≡ Some (codes "run")
 unfolding clap_on_literals
 run_named = refl
 
--- Each value has its name.
+-- `clap` gives each value in `run_words` the name of its argument.
 pub run_plan : option_map (λ p. first_of (codes "plan") p.1) (subcommand_of commands run_words) ≡ Some (Some (codes "plan.toml"))
 unfolding clap_on_literals
 run_plan = refl
@@ -83,7 +83,7 @@ pub run_output : option_map (λ p. first_of (codes "output") p.1) (subcommand_of
 unfolding clap_on_literals
 run_output = refl
 
--- A missing option has no value.
+-- The option `--commands`, which `run_words` lacks, has no value.
 pub run_no_commands : option_map (λ p. first_of (codes "commands") p.1) (subcommand_of commands run_words) ≡ Some None
 unfolding clap_on_literals
 run_no_commands = refl
@@ -92,12 +92,12 @@ run_no_commands = refl
 abbrev commanded_words : List Text
 commanded_words = codes "run" ∷ codes "plan.toml" ∷ codes "--commands" ∷ codes "clear.toml" ∷ codes "in" ∷ codes "out" ∷ []
 
--- These arguments are valid.
+-- `clap` finds no fault in the arguments `commanded_words`.
 pub commanded_faultless : fault_of commands commanded_words ≡ []
 unfolding clap_on_literals
 commanded_faultless = refl
 
--- The option has its value, and the other arguments have theirs.
+-- In `commanded_words`, the option `--commands` has its value, and the arguments before and after it have theirs.
 pub commanded_commands : option_map (λ p. first_of (codes "commands") p.1) (subcommand_of commands commanded_words) ≡ Some (Some (codes "clear.toml"))
 unfolding clap_on_literals
 commanded_commands = refl
@@ -106,7 +106,7 @@ pub commanded_output : option_map (λ p. first_of (codes "output") p.1) (subcomm
 unfolding clap_on_literals
 commanded_output = refl
 
--- A repeated option is refused.
+-- `clap` refuses a repeated option.
 pub commands_twice : fault_of commands (codes "run" ∷ codes "p" ∷ codes "i" ∷ codes "o" ∷ codes "--commands" ∷ codes "a" ∷ codes "--commands" ∷ codes "b" ∷ []) ≡ ArgumentConflict ∷ []
 unfolding clap_on_literals
 commands_twice = refl
@@ -115,12 +115,12 @@ commands_twice = refl
 abbrev tabled_words : List Text
 tabled_words = codes "run" ∷ codes "plan.toml" ∷ codes "in" ∷ codes "out" ∷ codes "--delays" ∷ codes "delays.csv" ∷ codes "--frames=frames.csv" ∷ []
 
--- These arguments are valid.
+-- `clap` finds no fault in the arguments `tabled_words`.
 pub tabled_faultless : fault_of commands tabled_words ≡ []
 unfolding clap_on_literals
 tabled_faultless = refl
 
--- Both options have their values.
+-- In `tabled_words`, the options `--delays` and `--frames` have their values.
 pub tabled_delays : option_map (λ p. first_of (codes "delays") p.1) (subcommand_of commands tabled_words) ≡ Some (Some (codes "delays.csv"))
 unfolding clap_on_literals
 tabled_delays = refl
@@ -129,7 +129,7 @@ pub tabled_frames : option_map (λ p. first_of (codes "frames") p.1) (subcommand
 unfolding clap_on_literals
 tabled_frames = refl
 
--- A table of a command other than `run` is refused.
+-- `clap` refuses a table of a command other than `run`.
 pub table_of_check : fault_of commands (codes "check" ∷ codes "p" ∷ codes "--delays" ∷ codes "d" ∷ []) ≡ UnknownArgument ∷ []
 unfolding clap_on_literals
 table_of_check = refl
@@ -138,17 +138,17 @@ table_of_check = refl
 abbrev explained_words : List Text
 explained_words = codes "check" ∷ codes "--explain" ∷ codes "plan.toml" ∷ []
 
--- These arguments are valid.
+-- `clap` finds no fault in the arguments `explained_words`.
 pub explained_faultless : fault_of commands explained_words ≡ []
 unfolding clap_on_literals
 explained_faultless = refl
 
--- The value has its name, with or without the flag.
+-- In `explained_words`, the value after the flag `--explain` has the name of its argument, `plan`.
 pub explained_plan : option_map (λ p. first_of (codes "plan") p.1) (subcommand_of commands explained_words) ≡ Some (Some (codes "plan.toml"))
 unfolding clap_on_literals
 explained_plan = refl
 
--- The flag is found by `clap` and among the arguments.
+-- `clap` finds the flag `--explain` in `explained_words`, and so does `explains`.
 pub explained_flag : option_map (λ p. first_of (codes "explain") p.1) (subcommand_of commands explained_words) ≡ Some (Some (codes "true"))
 unfolding clap_on_literals
 explained_flag = refl
@@ -156,7 +156,7 @@ explained_flag = refl
 pub explained_explains : explains explained_words ≡ true
 explained_explains = refl
 
--- The arguments `check -- --explain` have a path, and no flag.
+-- The arguments `check -- --explain`. After `--`, the argument `--explain` is the plan's path and no flag.
 abbrev path_words : List Text
 path_words = codes "check" ∷ codes "--" ∷ codes "--explain" ∷ []
 
@@ -175,12 +175,12 @@ path_explains = refl
 abbrev traffic_words : List Text
 traffic_words = codes "bounds" ∷ codes "plan.toml" ∷ codes "--traffic" ∷ codes "talkers.toml" ∷ []
 
--- These arguments are valid.
+-- `clap` finds no fault in the arguments `traffic_words`.
 pub traffic_faultless : fault_of commands traffic_words ≡ []
 unfolding clap_on_literals
 traffic_faultless = refl
 
--- The option has its value.
+-- In `traffic_words`, the option `--traffic` has its value.
 pub traffic_file : option_map (λ p. first_of (codes "traffic") p.1) (subcommand_of commands traffic_words) ≡ Some (Some (codes "talkers.toml"))
 unfolding clap_on_literals
 traffic_file = refl
@@ -189,7 +189,7 @@ traffic_file = refl
 abbrev net_check_words : List Text
 net_check_words = codes "net" ∷ codes "check" ∷ codes "net.toml" ∷ codes "--strict" ∷ []
 
--- These arguments are valid without a third one.
+-- `clap` finds no fault in the arguments `net_check_words`, which lack the third argument.
 pub net_check_faultless : fault_of commands net_check_words ≡ []
 unfolding clap_on_literals
 net_check_faultless = refl
@@ -209,12 +209,12 @@ net_check_strict = refl
 abbrev net_words : List Text
 net_words = codes "net" ∷ codes "net.toml" ∷ codes "in" ∷ codes "--picture" ∷ codes "run.svg" ∷ codes "out" ∷ []
 
--- These arguments are valid.
+-- `clap` finds no fault in the arguments `net_words`.
 pub net_faultless : fault_of commands net_words ≡ []
 unfolding clap_on_literals
 net_faultless = refl
 
--- Each value has its name.
+-- `clap` gives each value in `net_words` the name of its argument or option.
 pub net_input : option_map (λ p. first_of (codes "second") p.1) (subcommand_of commands net_words) ≡ Some (Some (codes "in"))
 unfolding clap_on_literals
 net_input = refl
@@ -230,7 +230,7 @@ net_picture = refl
 pub net_strict : is_strict net_words ≡ false
 net_strict = refl
 
--- Only a network, and four arguments, are refused.
+-- `clap` refuses the command `net` with one argument or with four arguments.
 pub net_missing : fault_of commands (codes "net" ∷ codes "net.toml" ∷ []) ≡ MissingRequiredArgument ∷ []
 unfolding clap_on_literals
 net_missing = refl
@@ -239,7 +239,8 @@ pub net_too_many : fault_of commands (codes "net" ∷ codes "a" ∷ codes "b" �
 unfolding clap_on_literals
 net_too_many = refl
 
--- A missing argument, an argument too many, and requests for help and version.
+-- `clap` refuses a missing argument and an argument too many. Requests for help and for the version have kinds of error
+-- of their own.
 pub one_missing : fault_of commands (codes "wire" ∷ codes "1000" ∷ codes "4" ∷ codes "a.pcap" ∷ []) ≡ MissingRequiredArgument ∷ []
 unfolding clap_on_literals
 one_missing = refl

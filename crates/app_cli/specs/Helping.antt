@@ -15,11 +15,11 @@ is_help_kind kind.DisplayHelp = true
 is_help_kind kind.DisplayVersion = true
 is_help_kind _ = false
 
--- Holds if `clap` may answer with help or the version.
+-- Holds if help or the version is among the kinds of error with which `clap` may answer.
 abbrev pub IsHelp : Kinds → Type 0
 IsHelp kinds = IsAmong kind.DisplayHelp kinds ⊎ IsAmong kind.DisplayVersion kinds
 
--- Holds if `clap` answers only with help, or only with the version.
+-- Holds if `clap` can answer with one kind of error only: help, or the version.
 abbrev pub AsksForHelp : Kinds → Type 0
 AsksForHelp kinds = (kinds ≡ kind.DisplayHelp ∷ []) ⊎ (kinds ≡ kind.DisplayVersion ∷ [])
 

@@ -14,6 +14,6 @@ IsRoom word = IsNumeral 10 word × (1 ≤ digits_value 10 word) × (digits_value
 abbrev pub IsSpeed : List ℕ → Speed → Type 0
 IsSpeed word speed = IsNumeral 10 word × (speed_by_mbps (digits_value 10 word) ≡ Some speed)
 
--- Holds if the argument is a time in ns, below the end of time.
+-- Holds if the argument is a time in ns, below END_OF_TIME.
 abbrev pub IsMoment : List ℕ → Type 0
 IsMoment word = IsNumeral 10 word × (digits_value 10 word < END_OF_TIME)

@@ -567,7 +567,7 @@ fn with_words<'a>(
     Ok(grown)
 }
 
-/// Builds the `clap` argument of an argument, by its form.
+/// Builds the `clap` argument for an argument of the table of commands, by its form.
 fn clap_arg<'a>(alloc: Global, word: Argument) -> Arg<'a>
     ensures rule { rule_of result ≡ rule_in word.form word.id.now }
     ensures local { result.global ≡ false }

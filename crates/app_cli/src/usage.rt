@@ -16,7 +16,7 @@ pub struct Usage {
     pub reason: &'static str,
 }
 
-/// Returns how many of these arguments are required and stand by position.
+/// Returns the number of required arguments in `words`. Users give them by position, without an option's name.
 fn count_operands(words: &[Argument]) -> usize {
     let mut count = 0usize;
     for word in words {
@@ -71,7 +71,7 @@ fn is_option_named(word: &Argument, name: &str) -> bool {
     is_option(word) & (word.id == name)
 }
 
-/// Returns whether option `name` among `words` has a value. Returns `None` if `words` lacks the option.
+/// Returns whether option `name` of a command with arguments `words` has a value. Returns `None` if the command lacks the option.
 fn find_option(words: &[Argument], name: &str) -> Option<bool> {
     for word in words {
         if is_option_named(word, name) {
@@ -94,7 +94,7 @@ pub fn has_value(name: &str) -> Option<bool> {
     None
 }
 
-/// Appends to `names` the names of the options in `words` that it lacks.
+/// Appends to `names` the name of each option in `words` that isn't in `names` yet: several commands can have one option.
 fn push_options(
     names: &mut Vec<&'static str>,
     words: &'static [Argument],

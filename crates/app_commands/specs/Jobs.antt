@@ -48,7 +48,7 @@ EndsWire input (fault.Run f) = StopsText input f
 EndsWire input fault.NoMemory = Unit {0}
 EndsWire input f = ⊥
 
--- Holds if the fault concerns the one input or output capture, or memory ran out.
+-- Holds if the fault concerns the only input or output capture, named as port 1, or memory ran out.
 abbrev pub IsOfRun : Failure → Type 0
 IsOfRun (fault.Run f) = NamesPortOne f
 IsOfRun fault.NoMemory = Unit {0}

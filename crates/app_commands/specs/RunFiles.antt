@@ -53,7 +53,8 @@ EndsReading A plan commands f = ((text : List ℕ) × EndsPlan A plan text f) �
 abbrev pub IsCaptureOfRun : {A : Type 0} → Plan A → List ℕ → List ℕ → List ℕ → Type 0
 IsCaptureOfRun p input output path = (ports : List ℕ) × ArePortNumbers p ports × (IsCapture input ports path ⊎ IsCapture output ports path)
 
--- Holds if a file fault of the run can name `path`: an input or output capture, the report, or the output folder. The folder is named if both folders are one.
+-- Holds if a file fault of the run can name `path`: a capture, the report or the output folder. The fault names this
+-- folder if input and output folder are one.
 abbrev pub IsFileOfRun : {A : Type 0} → Plan A → List ℕ → List ℕ → List ℕ → Type 0
 IsFileOfRun p input output path = IsCaptureOfRun p input output path ⊎ ((path ≡ output) ⊎ (path ≡ report_path output))
 

@@ -1,4 +1,4 @@
--- A run over hexadecimal text.
+-- A run of one queue whose captures are hexadecimal text, given on standard input and printed on standard output.
 use Rattle.std.specs.Prelude.{◌≡◌, ℕ, List}
 use Rattle.bridge_frame.specs.declared.Speed.TheVariants.{Mbps1000}
 use Rattle.bridge_capture.specs.declared.capture_fault.CaptureFault.{CaptureFault}
@@ -34,7 +34,8 @@ abbrev pub HasFault : CaptureFault → List ℕ → Type 0
 HasFault faults.Read octets = Unit {0}
 HasFault f octets = (frames : List CapturedFrame) × IsCapture octets frames (AtFault f)
 
--- Holds if the octets end after some frames, or another frame follows them.
+-- Holds if the octets of a capture begin with some frames, after which they end or another frame follows. A write can
+-- fail there.
 abbrev pub LooksOn : List ℕ → Type 0
 LooksOn octets = (frames : List CapturedFrame) × (moment : ℕ) × EndsOrContinues moment octets frames
 

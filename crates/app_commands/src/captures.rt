@@ -9,7 +9,7 @@ use bridge_wire::{RunFault, WireCount, wire};
 use std::alloc::Allocator;
 use std::io::{Read, Write};
 
-/// Why a run through one queue stopped, with its writer. `writer` is `None` if a part of its contents may be missing.
+/// Why a run through one queue stopped, with its flushed writer. `writer` is `None` if a part of its contents may be missing.
 #[derive(Drop)]
 pub struct StoppedRun<W> {
     pub fault: RunFault,

@@ -103,7 +103,7 @@ fn check_of_accepted(
     })
 }
 
-/// Returns the exit status of a successful command: 0 if `is_well`, otherwise 1: a warning or loss is an error.
+/// Returns the exit status of a command that has done its work: 0 if `is_well` is true, 1 if a warning or a loss is an error.
 pub fn status_if(is_well: bool) -> u8
     ensures { result ≡ status_if is_well }
 {

@@ -132,7 +132,7 @@ pub fn explain_wire_fault(
     }
 }
 
-/// Explains why a run stopped, by the paths of an input and an output capture: which of them is named depends on the fault.
+/// Explains why a run stopped, by the path of an input or an output capture. The fault decides which of the two the explanation names.
 fn explain_captures(
     rt: &(impl AllocGlobal + Files),
     read: &str,
@@ -146,7 +146,8 @@ fn explain_captures(
     }
 }
 
-/// Explains why the capture at `path` is refused, by reading it again. Returns `None` if it isn't refused then, or isn't a regular file.
+/// Explains why the capture at `path` is refused, by reading it again. Returns `None` if this reading finds no fault, or if the path leads
+/// to no regular file.
 pub fn explain_capture_file(rt: &(impl AllocGlobal + Files), path: &str) -> Option<String> {
     let fault = capture_fault(rt, path)?;
     explain_capture(rt, path, &RunFault::Capture { port: 1, fault })

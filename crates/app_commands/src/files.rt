@@ -64,8 +64,8 @@ pub fn wire_files<H: Input + AllocGlobal + Clock + Print + Eprint + Files>(
     said
 }
 
-/// Sends a reader's capture to the file at `output` or to standard output. `file` is the reader's file, if the system identifies it; it is
-/// refused as output.
+/// Sends a reader's capture to the file at `output` or to standard output. Refuses an output that is `file`, the reader's own file. `file`
+/// is `None` if the system can't identify it.
 fn wire_to_output<R: Read + Drop, H: AllocGlobal + Print + Files>(
     rt: &H,
     speed: Speed,

@@ -52,7 +52,7 @@ pub fn wire_text<A: Allocator + Copy>(alloc: A, text: &[u8]) -> Result<String<A>
     }
 }
 
-/// Returns why a text isn't run: it isn't hexadecimal, is too long, or memory ran out.
+/// Returns why `wire_text` doesn't run a text: it isn't hexadecimal, is too long, or memory ran out.
 fn text_fault(fault: HexFault) -> TextFault
     ensures { result ≡ text_fault fault }
 {

@@ -13,7 +13,8 @@ use bridge_port::LARGEST_ROOM;
 use std::alloc::Global;
 use std::io::{Read, Write};
 
-/// Largest number of octets read from standard input: one more than a text may have.
+/// Largest number of octets read from standard input. It exceeds the longest text by one octet, so that a longer text is refused and not
+/// cut.
 const MOST_INPUT: u64 = 4_194_305;
 
 /// Reads hexadecimal text from a reader, sends its capture through one queue, and returns the output capture as text.

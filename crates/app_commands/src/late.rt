@@ -12,14 +12,15 @@ const LATE_CHANGE: &str =
 const LATE_COMMAND: &str =
     "Warning: `command` {0} at {1} ns comes after the last frame, which arrives at {2} ns. It changes the verdict of no frame. Move its `at`, or use longer captures.\n";
 
-/// Times in ns of a run: `came` of the last arrival, `left` of the last arrival or end of transmission.
+/// Times in ns of a run: `came` is the last arrival, `left` the last end of transmission, or `came` if that is later.
 #[derive(Clone, Copy)]
 pub(crate) struct Last {
     pub came: u64,
     pub left: u64,
 }
 
-/// Returns the number of frames that arrived in a run.
+/// Returns the number of frames that arrived in a run, by the counts of the ports. `last_frame` compares it with the number of recorded
+/// frames.
 fn count_frames(outcome: &Outcome<Global>) -> u64 {
     let mut frames = 0u64;
     for port in &outcome.ports {

@@ -109,7 +109,7 @@ fn draw_selected_run(
     draw_run(alloc, accepted, outcome, &part)
 }
 
-/// Returns the numbers of an optional list. An absent list gives no numbers, which stand for all.
+/// Returns the numbers of an optional list of ports or filters. An absent list gives the empty list, which stands for all.
 fn parse_numbers(alloc: Global, list: &Option<String>) -> Result<Vec<u32>, NoMemory> {
     match list {
         Some(list) => Ok(parse_number_list(alloc, list.as_str())?),

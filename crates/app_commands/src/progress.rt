@@ -138,7 +138,7 @@ impl RecordCounter {
         }
     }
 
-    /// Returns the captured length in a header's word.
+    /// Returns the captured length in octets that the four octets `word` of a record's header encode.
     fn captured_length(&self, word: [u8; 4]) -> u64 {
         if self.is_big == Some(true) {
             u32::from_be_bytes(word) as u64
@@ -147,7 +147,7 @@ impl RecordCounter {
         }
     }
 
-    /// Passes a part of `octets`: the rest of a record, a whole header, or one octet of a cut header. Returns the octets after it, and
+    /// Skips a part of `octets`: the rest of a record, a whole header, or one octet of a cut header. Returns the octets after it, and
     /// whether a header ended there.
     fn pass_part<'b>(&mut self, octets: &'b [u8]) -> (&'b [u8], bool)
         requires { 0 < length octets.now }
@@ -165,7 +165,7 @@ impl RecordCounter {
         (&octets[1..], self.pass_header_octet(octets[0]))
     }
 
-    /// Passes one octet of a header that a block's end cut. Returns whether the header ends there.
+    /// Reads one octet of a header that a block's end cut. Returns whether the header ends there.
     fn pass_header_octet(&mut self, octet: u8) -> bool {
         if self.seen >= 8 && self.seen < 12 {
             self.word[self.seen - 8] = octet;
@@ -197,7 +197,7 @@ impl RecordCounter {
     }
 }
 
-/// Reader of one input of a run. It passes all octets on, and adds them to the run's progress.
+/// Reader of one input of a run. It returns all octets of the input unchanged, and adds them to the run's progress.
 #[derive(Drop)]
 pub(crate) struct WatchedReader<'a, R, H> {
     /// Reader of the input.
@@ -209,7 +209,7 @@ pub(crate) struct WatchedReader<'a, R, H> {
 }
 
 impl<'a, R: Read, H: Clock + Eprint> WatchedReader<'a, R, H> {
-    /// Returns a reader of the same octets that adds them to the progress.
+    /// Wraps `reader`, so that `progress` counts all octets and records that it reads.
     pub(crate) fn new(reader: R, progress: &'a Progress<'a, H>) -> WatchedReader<'a, R, H>
         ensures { result.reader ≡ reader }
     {

@@ -11,8 +11,8 @@ use app_files::CommandFiles;
 use std::alloc::Global;
 use std::rt::{Clock, Files};
 
-/// Runs captures through the bridge of a plan, and returns the output of `run`. If a warning is an error, nothing runs. The status is 1
-/// then, and if a loss is an error.
+/// Runs captures through a plan's bridge, and returns the output of `run`. Nothing runs if warnings are errors and the plan has one. A
+/// warning or loss that is an error gives status 1.
 pub fn run_bridge<H: AllocGlobal + Clock + Eprint + Files>(
     files: &mut CommandFiles<'_, H>,
     job: &RunRequest<'_>,

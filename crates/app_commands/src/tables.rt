@@ -96,7 +96,8 @@ fn write_frame_table<H: AllocGlobal + Files>(
     }
 }
 
-/// Writes `text` as the whole contents of the file at `path`, and returns the file. The file must not be in use, and is in use afterwards.
+/// Writes `text` to the file at `path` in place of any earlier contents, and returns the file. Fails if the file is in use; afterwards it is
+/// in use.
 pub(crate) fn write_table<H: AllocGlobal + Files>(
     files: &mut CommandFiles<'_, H>,
     path: &str,

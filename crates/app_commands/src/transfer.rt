@@ -55,7 +55,7 @@ pub fn buffered_sinks<W: Write + Drop, A: Allocator + Copy>(
 }
 
 /// Flushes the sinks in list order, and returns the writers before the first that fails. Later sinks are dropped, which writes their
-/// buffers too. `flushed` is empty, with room for all writers.
+/// buffers too. `flushed` is empty, with capacity for all writers.
 pub fn finish_sinks<W: Write + Drop, A: Allocator + Copy>(
     sinks: Vec<WriteBehind<W, A>, A>,
     flushed: Vec<W, A>,

@@ -15,8 +15,8 @@ use bridge_wire::WireCount;
 use std::alloc::{Allocator, Global};
 use std::rt::{Clock, Files};
 
-/// Sends one capture through one queue of `room` frames (1 to 4,096), and returns the output of `wire`. The counts go to standard error if
-/// the capture goes to standard output. If `is_watched`, a long run shows its progress.
+/// Sends a capture through a queue of `room` frames (1 to 4,096), and returns the output of `wire`. The counts go to standard error if
+/// standard output gets the capture. `is_watched` shows progress.
 pub fn send_capture<H: Input + AllocGlobal + Clock + Print + Eprint + Files>(
     rt: &H,
     speed: Speed,

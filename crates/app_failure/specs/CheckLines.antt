@@ -3,21 +3,21 @@ use Rattle.std.specs.Prelude.{ℕ, List, ◌++◌, codes, decimal}
 use Rattle.bridge_check.specs.declared.check_fault.CheckFault.{CheckFault}
 use Rattle.bridge_check.specs.declared.check_fault.CheckFault.TheVariants as check
 
--- The fault line for a filter, with the fault's name.
+-- The fault line for a test that concerns no queue: the fault's name and the filter's number.
 abbrev pub filter_refused : List ℕ → ℕ → List ℕ
 filter_refused name filter = codes "plan refused: " ++ (name ++ (codes " filter " ++ decimal filter))
 
--- The fault line for a reachable queue of a filter, with the fault's name.
+-- The fault line for a test that concerns a reachable queue: the fault's name, filter, port and class.
 abbrev pub queue_refused : List ℕ → ℕ → ℕ → ℕ → List ℕ
 queue_refused name filter port class = codes "plan refused: " ++ (name ++ (codes " filter " ++ (decimal filter
     ++ (codes " port " ++ (decimal port ++ (codes " class " ++ decimal class))))))
 
--- The fault line for a queue that filter `other` can reach too.
+-- The fault line for a reachable queue of filter `filter` that filter `other` can reach too.
 abbrev pub queue_shared : ℕ → ℕ → ℕ → ℕ → List ℕ
 queue_shared filter port class other = codes "plan refused: QueueShared filter " ++ (decimal filter
     ++ (codes " port " ++ (decimal port ++ (codes " class " ++ (decimal class ++ (codes " other " ++ decimal other))))))
 
--- The fault line for a window that another class shares, first at the offset `at` in ns.
+-- The fault line for a window of a filter's queue that another class shares, first at the offset `at` in ns.
 abbrev pub window_shared : ℕ → ℕ → ℕ → ℕ → List ℕ
 window_shared filter port class at = codes "plan refused: WindowShared filter " ++ (decimal filter
     ++ (codes " port " ++ (decimal port ++ (codes " class " ++ (decimal class ++ (codes " at " ++ decimal at))))))

@@ -15,7 +15,7 @@ abbrev pub commands_for : {A : Type 0} → Plan A → Option (List ℕ) → Resu
 commands_for plan None = Ok []
 commands_for plan (Some text) = text_commands plan text
 
--- Holds if the optional file has a reader with this text, or both are missing.
+-- Holds if an optional file is present and its reader has the given text, or if file and text are both missing.
 abbrev pub TellsText : {S R : Type 0} → (R → Option (List ℕ)) → Option (S × R) → Option (List ℕ) → Type 0
 TellsText remaining None None = Unit {0}
 TellsText remaining (Some file) (Some text) = remaining file.1 ≡ Some text

@@ -45,7 +45,7 @@ pub fn read_commands_and_check<R: Read + Drop, A: Allocator + Copy>(
     }
 }
 
-/// Reads the commands of a plan from an optional reader. Without a reader there are none, and no fault.
+/// Reads the commands of a plan from an optional reader. Without a reader, the list of commands is empty.
 fn read_optional_commands<R: Read + Drop, A: Allocator + Copy>(
     alloc: A,
     heap: Global,

@@ -12,7 +12,8 @@ use bridge_config::{Plan, plan_of};
 use std::alloc::{Allocator, Global};
 use std::io::Read;
 
-/// Reads a plan from a reader, and accepts it if it isolates each of its protected filters. A fault of the reader names `path`.
+/// Reads a plan from a reader, and accepts it if it isolates each of its protected filters and groups. A fault of the reader names `path`.
+/// The text's document uses `heap`, the plan `alloc`.
 pub fn read_accepted_plan<R: Read + Drop, A: Allocator + Copy>(
     alloc: A,
     heap: Global,

@@ -34,7 +34,7 @@ pub fn fault_line<A: Allocator + Copy>(
     }
 }
 
-/// Writes the fault line of a fault by the function for its kind. Networks bring their own lines.
+/// Writes the fault line of a fault by the function for its kind. A fault of a network has its line already.
 fn put_fault<A: Allocator + Copy>(alloc: A, text: &mut TextBuilder<A>, fault: &Failure)
     ensures { HasGrown text.old (fault_line fault.now) text.new }
 {

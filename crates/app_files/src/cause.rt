@@ -38,7 +38,7 @@ pub enum Cause {
     Unknown,
 }
 
-/// Whether the folder of a path exists. If not, it is the reason why the file is missing. Returns true for a path without folder.
+/// Whether the folder of a path exists. If it doesn't, the missing folder is the cause. Returns true for a path without folder.
 fn has_folder(rt: &impl Files, path: &str) -> bool {
     match parent_folder(path) {
         None | Some("") => true,
@@ -49,7 +49,8 @@ fn has_folder(rt: &impl Files, path: &str) -> bool {
     }
 }
 
-/// Returns the cause that the error's kind shows, both for reading and for writing. Other kinds are `Unknown`, and callers look further.
+/// Returns the cause that an error's kind alone shows, for reading and for writing. Returns `Unknown` for other kinds: `read_cause` and
+/// `write_cause` then look further.
 fn kind_cause(kind: ErrorKind) -> Cause {
     match kind {
         ErrorKind::IsADirectory => Cause::Folder,
@@ -58,7 +59,7 @@ fn kind_cause(kind: ErrorKind) -> Cause {
     }
 }
 
-/// Returns why a file can't be opened or read, by the error and the folder. `Unknown` if neither shows it.
+/// Returns why a file can't be opened or read, by the error and the folder. Returns `Unknown` if neither shows the cause.
 pub fn read_cause(rt: &impl Files, path: &str, error: &Error) -> Cause {
     match error.kind() {
         ErrorKind::NotFound => {
@@ -73,7 +74,7 @@ pub fn read_cause(rt: &impl Files, path: &str, error: &Error) -> Cause {
     }
 }
 
-/// Returns why a file can't be opened or created for writing, by the error and the folder. `Unknown` if neither shows it.
+/// Returns why a file can't be opened or created for writing, by the error and the folder. Returns `Unknown` if neither shows the cause.
 pub fn write_cause(rt: &impl Files, path: &str, error: &Error) -> Cause {
     match error.kind() {
         ErrorKind::NotFound => {

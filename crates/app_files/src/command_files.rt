@@ -211,7 +211,7 @@ impl<H: AllocGlobal + Files> ReadFiles for CommandFiles<'_, H> {
     }
 }
 
-/// Opens the file at `path` for reading. Adds it to no files in use, for commands that write no file.
+/// Opens the file at `path` for reading. Doesn't add it to files in use: commands that write no file need none.
 pub fn open_input<H: AllocGlobal + Files>(rt: &H, path: &str) -> Result<H::File, FileFault>
     ensures { IfErr result (IsOfPath path.now) }
 {
@@ -244,7 +244,7 @@ pub fn read_open<R: Read + Drop>(
     }
 }
 
-/// Reads at most `MOST_TEXT` octets of the file at `path`. Adds it to no files in use, for commands that write no file.
+/// Reads at most `MOST_TEXT` octets of the file at `path`. Doesn't add it to files in use: commands that write no file need none.
 pub fn read_text_file<H: AllocGlobal + Files>(rt: &H, path: &str) -> Result<Vec<u8>, FileFault>
     ensures { IfErr result (IsOfPath path.now) }
 {

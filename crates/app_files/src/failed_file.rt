@@ -41,7 +41,7 @@ impl From<AllocError> for FileFault {
     }
 }
 
-/// Returns the fault of the file at `path`. If memory for the path runs out, returns that fault instead.
+/// Returns the fault of the file at `path`. If memory for the path runs out, returns `NoMemory` instead.
 pub fn file_fault(alloc: Global, path: &str, cause: Cause) -> FileFault
     ensures { IsOfPath path.now result }
 {

@@ -138,12 +138,12 @@ pub fn has_file(files: &[FileId], file: Option<FileId>) -> bool
     }
 }
 
-/// Message of a successful `wire`: its line of counts, and where it goes.
+/// Line of counts that the command `wire` prints when it succeeds. The variant names the output that gets the line.
 #[derive(Drop)]
 pub enum Said {
-    /// For standard output.
+    /// Line for standard output.
     Printed(String),
-    /// For standard error, because the capture goes to standard output.
+    /// Line for standard error, because the capture goes to standard output.
     Noted(String),
 }
 

@@ -11,8 +11,8 @@ use std::fs::OpenFile;
 use std::io;
 use std::io::Write;
 
-/// Writes `octets` as the whole contents of an output file, and returns the file. The result needs the file, so no caller can ignore a
-/// failed write. A fault names `path`.
+/// Writes `octets` as the whole contents of an output file, and returns the file. Callers get the file only after a successful write. A
+/// fault names `path`.
 pub fn write_file<F: Write + OpenFile + Drop>(
     alloc: Global,
     path: &str,

@@ -11,6 +11,7 @@ pub mod PrintedBounds
 pub mod Ended
 pub mod RunFiles
 pub mod Rows
+pub mod Figured
 pub mod Unchanged
 pub mod Losses
 pub mod Warned

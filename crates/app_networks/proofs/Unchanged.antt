@@ -32,6 +32,7 @@ use Rattle.net_report.specs.declared.frame_table.TheConstants.{FRAMES_HEADER}
 use Rattle.net_report.specs.declared.stream_table.TheConstants.{STREAMS_HEADER}
 use Rattle.net_report.proofs.Same.{AreSameHops, stream_once, tallies_once, traces_same}
 use Rattle.app_networks.specs.InTime.{AreHopRuns}
+use Rattle.app_networks.specs.declared.figures.StreamFigures.{StreamFigures}
 use Rattle.app_networks.specs.Tables.{AreRows, AreTables, IsTabled, heading}
 use Rattle.app_networks.proofs.Accepted.{hop_protected}
 
@@ -124,10 +125,10 @@ module _ {A : Type 0} (f : file.Network) (plans : List (Plan A)) (n : NetworkPar
       same_hops o r s.hops hops gops many more (told o outcomes) (says r others) (tells s is o r outcomes others)
 
   -- The rows of the stream are equal.
-  stream_same : (s : Stream) (bound frames delivered other_frames other_delivered : ℕ) (row other_row line other_line : List ℕ) → IsMember s f.streams
-      → IsTabled n.links settled f.bridges s bound frames delivered row line → IsTabled n.links other f.bridges s bound other_frames other_delivered other_row other_line
+  stream_same : (s : Stream) (x : StreamFigures) (frames delivered other_frames other_delivered : ℕ) (row other_row line other_line : List ℕ) → IsMember s f.streams
+      → IsTabled n.links settled f.bridges s x frames delivered row line → IsTabled n.links other f.bridges s x other_frames other_delivered other_row other_line
       → (row ≡ other_row) × (line ≡ other_line)
-  stream_same s bound frames delivered other_frames other_delivered row other_row line other_line is one two =
+  stream_same s x frames delivered other_frames other_delivered row other_row line other_line is one two =
       let hops = one.count.hops in
       let gops = two.count.hops in
       let same : AreSameHops hops gops = hops_same s is s.hops refl hops gops one.count.many two.count.many one.count.told two.count.told in
@@ -135,10 +136,10 @@ module _ {A : Type 0} (f : file.Network) (plans : List (Plan A)) (n : NetworkPar
       subst (λ (ts : List Trace). IsTraced n.links ts (contents two.count.known)) (sym (traces_same hops gops same)) two.count.traced in
       let roots : contents one.count.known ≡ contents two.count.known = traced_once n.links (traces hops) (contents one.count.known) (contents two.count.known) one.count.traced traced in
       let tallies = tallies_once n.links hops gops one.count.known two.count.known one.count.tallies two.count.tallies same roots one.count.counted two.count.counted in
-      stream_once n.links hops gops one.count.known two.count.known one.count.tallies two.count.tallies (heading f.bridges s bound) row other_row line other_line same roots tallies one.are_rows two.are_rows
+      stream_once n.links hops gops one.count.known two.count.known one.count.tallies two.count.tallies (heading f.bridges s x) row other_row line other_line same roots tallies one.are_rows two.are_rows
 
   -- The rows of all streams are equal.
-  rows_same : (ss : List Stream) (bs : List ℕ) (rows other_rows lines other_lines : List ℕ) → ((s : Stream) → IsMember s ss → IsMember s f.streams)
+  rows_same : (ss : List Stream) (bs : List StreamFigures) (rows other_rows lines other_lines : List ℕ) → ((s : Stream) → IsMember s ss → IsMember s f.streams)
       → AreRows n.links settled f.bridges ss bs rows lines → AreRows n.links other f.bridges ss bs other_rows other_lines → (rows ≡ other_rows) × (lines ≡ other_lines)
   rows_same [] bs rows other_rows lines other_lines within one two = (one.0 ∙ sym two.0, one.1 ∙ sym two.1)
   rows_same (s ∷ ss) [] rows other_rows lines other_lines within one two = (one.0 ∙ sym two.0, one.1 ∙ sym two.1)
@@ -151,16 +152,16 @@ module _ {A : Type 0} (f : file.Network) (plans : List (Plan A)) (n : NetworkPar
         lines_are ∙ (ap (λ (x : List ℕ). x ++ rest) here.1 ∙ (ap (λ (x : List ℕ). other_line ++ x) there.1 ∙ sym other_lines_are)),
       )
 
-  pub tables_of : (bounds a b c d : List ℕ) → AreTables n.links settled f bounds a b → AreTables n.links other f bounds c d → (a ≡ c) × (b ≡ d)
-  tables_of bounds a b c d one two =
-      let same = rows_same f.streams bounds one.rows two.rows one.lines two.lines (λ s i. i) one.are_rows two.are_rows in (
+  pub tables_of : (figures : List StreamFigures) (a b c d : List ℕ) → AreTables n.links settled f figures a b → AreTables n.links other f figures c d → (a ≡ c) × (b ≡ d)
+  tables_of figures a b c d one two =
+      let same = rows_same f.streams figures one.rows two.rows one.lines two.lines (λ s i. i) one.are_rows two.are_rows in (
         one.streams_are ∙ (ap (λ (x : List ℕ). STREAMS_HEADER.now ++ x) same.0 ∙ sym two.streams_are),
         one.frames_are ∙ (ap (λ (x : List ℕ). FRAMES_HEADER.now ++ x) same.1 ∙ sym two.frames_are),
       )
 
-pub tables_same : {A : Type 0} (f : file.Network) (plans : List (Plan A)) (n : NetworkParts A) (came other_came : List (BridgeInput A)) (settled other : List (BridgeResult A)) (bounds a b c d : List ℕ)
+pub tables_same : {A : Type 0} (f : file.Network) (plans : List (Plan A)) (n : NetworkParts A) (came other_came : List (BridgeInput A)) (settled other : List (BridgeResult A)) (figures : List StreamFigures) (a b c d : List ℕ)
     → IsNetworkOfFile f plans n → IsNetwork (network_value n) → AreClosed n → first_fault n ≡ None → (ran : RunsNetwork n came settled) (also : RunsNetwork n other_came other)
     → ((stream : Vec StreamHop A) → IsMember stream n.streams → HaveSameExternalInputs (network_value n) (stream_value stream.items) (commands_of_bridge came) ran.frames (commands_of_bridge other_came) also.frames)
-    → AreTables n.links settled f bounds a b → AreTables n.links other f bounds c d → (a ≡ c) × (b ≡ d)
-tables_same f plans n came other_came settled other bounds a b c d made network closed none ran also first one two =
-    tables_of f plans n came other_came settled other made network closed none ran also first bounds a b c d one two
+    → AreTables n.links settled f figures a b → AreTables n.links other f figures c d → (a ≡ c) × (b ≡ d)
+tables_same f plans n came other_came settled other figures a b c d made network closed none ran also first one two =
+    tables_of f plans n came other_came settled other made network closed none ran also first figures a b c d one two

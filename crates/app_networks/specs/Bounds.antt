@@ -12,7 +12,8 @@ use Rattle.net_latency.specs.Printing.{PrintsBounds}
 use Rattle.net_latency.specs.SharedWarnings.{AreSharedWarnings}
 use Rattle.net_latency.specs.TrafficText.{EndsTexts, PrintsRows}
 
--- Holds if a plan has these warnings: `unprotected` exactly if no filter is protected or grouped, and one warning in `shared` for each marked shared queue.
+-- Holds if a plan has these warnings: `unprotected` exactly if no filter is protected or grouped, and one warning in
+-- `shared` for each shared queue with a mark.
 abbrev pub WarnsOfPlan : Plan Global → Option (String Global) → List ℕ → Type 0
 WarnsOfPlan plan unprotected shared = WarnsOfNone plan.filters unprotected × AreSharedWarnings plan shared
 
@@ -20,17 +21,18 @@ WarnsOfPlan plan unprotected shared = WarnsOfNone plan.filters unprotected × Ar
 abbrev pub WarnsOfText : List ℕ → Option (String Global) → List ℕ → Type 0
 WarnsOfText text unprotected shared = (plan : Plan Global) × Accepts text plan × WarnsOfPlan plan unprotected shared
 
--- Holds if these are the warnings of an accepted plan. There are none unless warnings are errors or an explanation is requested.
+-- Holds if these are the warnings that `bounds` prints for the plan in `text`: none unless warnings are errors or an
+-- explanation is requested.
 abbrev pub WarnsBy : Bool → Bool → List ℕ → Option (String Global) → List ℕ → Type 0
 WarnsBy true explained text unprotected shared = WarnsOfText text unprotected shared
 WarnsBy false true text unprotected shared = WarnsOfText text unprotected shared
 WarnsBy false false text unprotected shared = (unprotected ≡ None) × (shared ≡ [])
 
--- True if there is a warning.
+-- True if there is at least one of the two kinds of warnings.
 abbrev pub is_warned : Option (String Global) → List ℕ → Bool
 is_warned unprotected shared = is_some unprotected || has_text shared
 
--- All warnings, one after another.
+-- The warnings as one text: the plan's own, then those about shared queues.
 abbrev pub warnings_text : Option (String Global) → List ℕ → List ℕ
 warnings_text None shared = shared
 warnings_text (Some unprotected) shared = string_bytes unprotected ++ shared
@@ -46,8 +48,8 @@ IsBoundsOutput strict explained output =
     (input : List ℕ) × (lines : List ℕ) × (unprotected : Option (String Global)) × (shared : List ℕ) × PrintsBounds Global input lines
     × WarnsBy strict explained input unprotected shared × Prints lines (warnings_text unprotected shared) (status_by true strict (is_warned unprotected shared)) output
 
--- Holds if the program prints the delay bounds of an accepted plan and the lines of its traffic. Standard error has the reasons why the traffic isn't kept, if an
--- explanation is requested, then the plan's warnings. The status is 0 exactly if all traffic is kept and no warning is an error.
+-- Holds if `bounds --traffic` prints this output: bounds and traffic lines. Standard error has the requested reasons,
+-- then the warnings. The status is 0 exactly if all traffic is kept without a warning as error.
 abbrev pub IsTrafficOutput : Bool → Bool → Output → Type 0
 IsTrafficOutput strict explained output =
     (input : List ℕ) × (words : List ℕ) × (lines : List ℕ) × (kept : Bool) × (reasons : List ℕ) × (unprotected : Option (String Global)) × (shared : List ℕ)

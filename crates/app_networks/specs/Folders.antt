@@ -1,4 +1,4 @@
--- Network runs between folders: inputs of the bridges, faults, and the printed line.
+-- The command `net`: inputs of the bridges, faults, and the printed line of a network run.
 use Rattle.std.specs.Prelude.{◌≡◌, ◌⊎◌, ℕ, ◌-◌, ◌^◌, List, [], ◌∷◌, ◌++◌, Err, None, Option, Some, length, slice_get, codes, decimal, string_bytes}
 use Rattle.bridge_config.specs.Document.{text_commands}
 use Rattle.bridge_config.specs.Model.{Plan}
@@ -23,8 +23,8 @@ use Rattle.net_run.specs.declared.bridge_run.BridgeInput.{BridgeInput}
 use Rattle.net_run.specs.Rounds.{AreBridgeInputs, IsolatesStreams, OthersChangeNothing, RunsNetwork, SettlesIn, StopsNetworkRun}
 use Rattle.net_run.specs.BridgeRuns.{IsBridgeInput}
 use Rattle.bridge_schema.specs.declared.plan_fault.PlanFault.{PlanFault}
-use Rattle.net_loops.specs.declared.forwarding_loop.ForwardingLoop.{ForwardingLoop}
-use Rattle.net_loops.specs.ForwardingLoops.{AreForwardingLoops}
+use Rattle.net_model.specs.declared.forwarding_loop.ForwardingLoop.{ForwardingLoop}
+use Rattle.net_model.specs.ForwardingLoops.{AreForwardingLoops}
 use Rattle.app_networks.specs.Counted.{AreTotals}
 use Rattle.app_networks.specs.OutputFiles.{folder_path}
 use Rattle.app_networks.specs.RunFiles.{FailsRunFiles, IsBridgeInputFile, commands_path}
@@ -39,7 +39,8 @@ AreInputsOfPlans ps cs = ⊥
 abbrev pub IsCaptureLine : List ℕ → RunFault → List ℕ → Type 0
 IsCaptureLine name e line = (rest : List ℕ) → run_fault_line e ≡ codes "capture " ++ rest → line ≡ codes "capture " ++ (name ++ (codes "." ++ rest))
 
--- The fault line of a network that doesn't settle, with a port whose input still changes.
+-- The fault line of a network run whose inputs still change after the last allowed round: the bridge and the first such
+-- port.
 abbrev pub unsettled_line : List ℕ → ℕ → List ℕ
 unsettled_line name port = codes "network not settled " ++ (name ++ (codes "." ++ decimal port))
 
@@ -83,17 +84,17 @@ EndsBridge links b p name folder (fault.Network lines) = RefusesCommandsOf p nam
 EndsBridge links b p name folder fault.NoMemory = Unit {0}
 EndsBridge links b p name folder f = ⊥
 
--- Holds if the fault ends the reading of the input of one of these bridges, from its folder of the input folder.
+-- Holds if the fault ends the reading of a bridge's captures or commands. Each bridge has its own folder in the folder `input`.
 abbrev pub EndsReading : {A : Type 0} → List Link → List (Plan A) → List Bridge → List ℕ → Failure → Type 0
 EndsReading {A} links plans bridges input f =
     (b : ℕ) × (p : Plan A) × (slice_get plans b ≡ Some p) × EndsBridge links b p (bridge_name bridges b) (folder_path input (bridge_name bridges b)) f
 
--- The number of rounds after which a changing run ends: 64 with forwarding loops, otherwise 2^32 - 1.
+-- The largest number of rounds of a network run: 64 with forwarding loops, otherwise 2^32 - 1.
 abbrev pub rounds_by : List ForwardingLoop → ℕ
 rounds_by [] = 2 ^ 32 - 1
 rounds_by (c ∷ cs) = 64
 
--- Holds if `rounds` is the number of rounds after which a changing run of the network ends.
+-- Holds if `rounds` is the largest number of rounds of a run of the network.
 abbrev pub IsMostRounds : {A : Type 0} → NetworkParts A → ℕ → Type 0
 IsMostRounds {A} n rounds = (loops : List ForwardingLoop) × AreForwardingLoops n.plans n.links loops × (rounds ≡ rounds_by loops)
 
@@ -127,12 +128,14 @@ pub record IsAccepted {A : Type 0} (n : NetworkParts A) (f : file.Network) : Typ
 unfoldable pub network_words : file.Network → List ℕ
 network_words f = codes "bridges " ++ (decimal (length f.bridges) ++ (codes " links " ++ (decimal (length f.links) ++ (codes " streams " ++ (decimal (length f.streams) ++ codes " ")))))
 
--- The line of a network run: numbers of bridges, links and streams, frames that arrived at first hops, and frames delivered and lost.
+-- The line that `net` prints: how many bridges, links and streams the network has, how many frames arrived at first
+-- hops, and how many of these were delivered and lost.
 unfoldable pub rounds_line : file.Network → ℕ → ℕ → List ℕ
 rounds_line f frames delivered = network_words f ++ (codes "frames " ++ (decimal frames ++ (codes " delivered " ++ (decimal delivered
     ++ (codes " lost " ++ (decimal (frames - delivered) ++ codes "\n"))))))
 
--- Holds if `line` has the numbers of all streams' frames and delivered frames in a run.
+-- Holds if `line` is the line of a run with the results `settled`: its numbers are the frames of all streams, and the
+-- delivered and lost ones.
 abbrev pub IsLine : {A : Type 0} → List Link → List (BridgeResult A) → file.Network → List ℕ → Type 0
 IsLine links settled f line = (frames : ℕ) × (delivered : ℕ) × AreTotals links settled f.streams 0 0 frames delivered × (line ≡ rounds_line f frames delivered)
 
@@ -146,7 +149,7 @@ pub record IsIsolatedRun {A : Type 0} (n : NetworkParts A) (came : List (BridgeI
 abbrev pub IsRunLine : {A : Type 0} → NetworkParts A → file.Network → List ℕ → Type 0
 IsRunLine {A} n f line = (came : List (BridgeInput A)) × (settled : List (BridgeResult A)) × IsIsolatedRun n came settled × IsLine n.links settled f line
 
--- Holds if `line` is the line of a complete run of the network, which settled in `rounds` rounds.
+-- Holds if `line` is the line of a complete run of the network, which ended after `rounds` rounds.
 abbrev pub TellsRunIn : {A : Type 0} → NetworkParts A → file.Network → List ℕ → ℕ → Type 0
 TellsRunIn {A} n f line rounds = (came : List (BridgeInput A)) × (settled : List (BridgeResult A)) × IsIsolatedRun n came settled × IsLine n.links settled f line × SettlesIn n came rounds
 
@@ -156,7 +159,7 @@ PrintsRounds A line =
     (f : file.Network) × (plans : List (Plan A)) × (n : NetworkParts A) × IsNetworkOfFile f plans n × (first_fault n ≡ None) × (first_misfit n.plans 1 f.streams ≡ None)
     × IsRunLine n f line
 
--- Holds if `line` is the line of a complete run of some accepted network, which settled in `rounds` rounds.
+-- Holds if `line` is the line of a complete run of some accepted network, which ended after `rounds` rounds.
 abbrev pub PrintsRoundsIn : (A : Type 0) → List ℕ → ℕ → Type 0
 PrintsRoundsIn A line rounds =
     (f : file.Network) × (plans : List (Plan A)) × (n : NetworkParts A) × IsNetworkOfFile f plans n × (first_fault n ≡ None) × (first_misfit n.plans 1 f.streams ≡ None)

@@ -1,4 +1,4 @@
--- The longest time of a stream's frame through its hops in a network run.
+-- Limits for the time of a stream's frame through its hops in a network run: its route, and the records of its hops.
 use Rattle.std.specs.Prelude.{◌≡◌, ◌≢◌, ℕ, ◌+◌, ◌<◌, ◌≤◌, true, Option, Some, List, [], ◌∷◌, map, nat_eq, slice_get}
 use Rattle.std.specs.Map.{lookup}
 use Rattle.bridge_limits.specs.Members.{IsMember, IsOrdered}
@@ -44,12 +44,12 @@ GoesOnce i legs = IsOrdered (λ a b. a ≢ b) (route_hops i legs)
 abbrev pub ComeFromLowerRank : {A : Type 0} → List Link → List (HopRun A) → (ℕ → ℕ) → Type 0
 ComeFromLowerRank {A} links hops rank = (i j : ℕ) (h g : HopRun A) (o : Origin) (d : Departure) → slice_get hops i ≡ Some h → slice_get hops j ≡ Some g → IsMember o h.view.now.origins.items → ArrivedOverLink links h g o d → rank j < rank i
 
--- The sum of a limit for each hop on a route, by its index, and of the delays of the links.
+-- The sum in ns over a route: `most` for the index of each hop, and the delay of each link.
 abbrev pub route_time : (ℕ → ℕ) → ℕ → List (ℕ × ℕ) → ℕ
 route_time most i [] = most i
 route_time most i (leg ∷ legs) = most i + (leg.1 + route_time most leg.0 legs)
 
--- Holds if each frame of a hop with a known source passed no hop twice.
+-- Holds if no frame of hop `i` with a known source passed a hop twice.
 abbrev pub GoOnce : {A : Type 0} → List Link → List (HopRun A) → ℕ → List (Option SourceFrame) → Type 0
 GoOnce links hops i known = (k : ℕ) (r : SourceFrame) (legs : List (ℕ × ℕ)) → slice_get known k ≡ Some (Some r) → HasSourceOverRoute links hops r legs i k → GoesOnce i legs
 
@@ -75,7 +75,7 @@ pub record IsHopRun {A : Type 0} (o : ℕ → Outcome A) (x : ℕ × ℕ) (h : H
   pub bridge : h.bridge ≡ x.0
   pub view : lookup (nat_eq x.1) (o x.0).filters.items ≡ Some h.view.now
 
--- Holds if `hops` has the records of a stream's hops, each at its index.
+-- Holds if each item of `hops` is the record of the stream's hop with the same index.
 abbrev pub AreHopRuns : {A : Type 0} → (ℕ → Outcome A) → List (ℕ × ℕ) → List (HopRun A) → Type 0
 AreHopRuns {A} o stream hops = (i : ℕ) (h : HopRun A) → slice_get hops i ≡ Some h → (x : ℕ × ℕ) × (slice_get stream i ≡ Some x) × IsHopRun o x h
 
@@ -88,6 +88,6 @@ pub record IsHopBounded {A : Type 0} (n : Network A) (x : ℕ × ℕ) (most : �
   pub protected : filter.protected ≡ true
   pub bounds : (q c : ℕ) → reaches_queue plan filter q c ≡ true → (b : ℕ) × IsQueueBound plan x.1 q c b × (b ≤ most)
 
--- Holds if each hop of a stream is bounded, by its index.
+-- Holds if the bounds of each hop of a stream are at most `most i`, where `i` is the hop's index.
 abbrev pub AreHopsBounded : {A : Type 0} → Network A → List (ℕ × ℕ) → (ℕ → ℕ) → Type 0
 AreHopsBounded n stream most = (i : ℕ) (x : ℕ × ℕ) → slice_get stream i ≡ Some x → IsHopBounded n x (most i)

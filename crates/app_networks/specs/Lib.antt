@@ -4,6 +4,7 @@ pub mod InTime
 pub mod Counted
 pub mod Folders
 pub mod Losing
+pub mod Figures
 pub mod Tables
 pub mod Bounds
 pub mod Networks

@@ -13,7 +13,7 @@ use Rattle.app_networks.specs.declared.job.NetworkRunResult.{NetworkRunResult}
 
 -- NET CHECK
 
--- The exit status of a network's check: 0 if each stream is kept and no warning is an error, otherwise 1.
+-- The exit status of `net check`: 0 if `kept` is true and no warning is an error, otherwise 1.
 abbrev pub status_by : Bool → Bool → List ℕ → ℕ
 status_by kept strict warnings = status_if (kept && not (strict && has_text warnings))
 
@@ -22,8 +22,8 @@ abbrev pub IsOutputOfCheck : NetworkOutput → Bool → String Global → Output
 IsOutputOfCheck s strict reasons output =
     Prints (string_bytes s.lines ++ string_bytes s.told) (string_bytes reasons) (status_by s.kept strict (string_bytes s.told)) output
 
--- Holds if the program prints the lines of an accepted network with its warnings. The status is 0 exactly if each periodic talker's stream passes in time and
--- no warning is an error.
+-- Holds if the program prints the lines of an accepted network with its warnings. The status is 0 exactly if all
+-- streams pass and meet their deadlines, and no warning is an error.
 abbrev pub IsNetworkOutput : Bool → Bool → Output → Type 0
 IsNetworkOutput strict explained output =
     (lines : List ℕ) × (warnings : List ℕ) × (kept : Bool) × (reasons : List ℕ) × PrintsNetwork Global lines warnings kept × (explained ≡ false → reasons ≡ [])
@@ -31,7 +31,7 @@ IsNetworkOutput strict explained output =
 
 -- NET
 
--- Holds if `text` has these lines. In an explanation, further text may follow.
+-- Holds if `text` begins with these lines. Further text follows only in an explanation (`true`).
 abbrev pub IsWithRounds : List ℕ → Bool → List ℕ → Type 0
 IsWithRounds lines false text = text ≡ lines
 IsWithRounds lines true text = (more : List ℕ) × (text ≡ lines ++ more)

@@ -7,11 +7,12 @@ use Rattle.net_run.specs.declared.rounds.BridgeResult.{BridgeResult}
 use Rattle.app_files.specs.declared.output.Output.{Output}
 use Rattle.app_networks.specs.declared.outputs.BridgeOutputs.{BridgeOutputs}
 
--- The path of a bridge's folder in a folder.
+-- The path of the folder of bridge `name` in the input or output folder.
 abbrev pub folder_path : List ℕ → List ℕ → List ℕ
 folder_path folder name = folder ++ (codes "/" ++ name)
 
--- Holds if each file of the first list became the file at its index in the last list, by relation `R` with the middle list's item.
+-- Holds if the three lists have equal length, and `R old source new` holds at each index: `old` became `new` by writing
+-- `source`.
 abbrev pub AreWrittenBy : {O S : Type 0} → (O → S → O → Type 0) → List O → List S → List O → Type 0
 AreWrittenBy R [] sources [] = Unit {0}
 AreWrittenBy R (old ∷ olds) (source ∷ sources) (new ∷ news) = R old source new × AreWrittenBy R olds sources news

@@ -14,7 +14,7 @@ fn can_read_again(rt: &impl Files, path: &str) -> bool {
     }
 }
 
-/// Whether all files at `paths` can be read a second time. One pipe among them would block an explanation.
+/// Whether all files at `paths` can be read a second time. Even one pipe among them could make an explanation wait forever.
 fn can_read_all_again(rt: &impl Files, paths: &[String]) -> bool {
     for path in paths {
         if !can_read_again(rt, path.as_str()) {
@@ -24,8 +24,8 @@ fn can_read_all_again(rt: &impl Files, paths: &[String]) -> bool {
     true
 }
 
-/// Whether the network file at `path` and the plans that it names can be read a second time. Returns true if the file can't be read now,
-/// and false without memory.
+/// Whether the network file at `path` and the plans that it names can be read a second time. Returns true if the network file can't be read
+/// now, and false if memory runs out.
 pub fn can_read_network_again<H: AllocGlobal + Files>(rt: &H, path: &str) -> bool {
     if !can_read_again(rt, path) {
         return false;

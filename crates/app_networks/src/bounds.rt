@@ -1,4 +1,4 @@
-//! The command `bounds`: delay bounds of a plan, and its traffic.
+//! The command `bounds`, with traffic or without: delay bounds of a plan's queues, delays of its talkers' frames, and warnings.
 ghost use Rattle.std.specs.Prelude.{[], ◌≡◌, ◌&&◌, ◌++◌, IfErr, IfOk, OnOk, false, not, string_bytes};
 ghost use Rattle.std.specs.declared.alloc.Global.{Global};
 ghost use Rattle.app_commands.specs.Checked.{EndsChecked};
@@ -15,16 +15,17 @@ use std::alloc::{AllocError, Global};
 use std::io::Read;
 use std::rt::Files;
 
-/// Warnings of an accepted plan.
+/// Warnings of an accepted plan, which `bounds` prints to standard error.
 #[derive(Drop)]
 struct BoundsWarnings {
     /// Warning of a plan without a protected or grouped filter; otherwise `None`.
     unprotected: Option<String>,
-    /// Warnings of marked shared queues; empty if there are none.
+    /// Warnings about shared queues with the mark `unmetered` or `lossy`; empty if there are none.
     shared: String,
 }
 
-/// Returns the output of `bounds` for a plan without traffic. The status is 1 if warnings are errors and the plan has one.
+/// Returns the output of `bounds` for a plan without traffic. The status is 1 if warnings are errors and the plan has one. Stores the
+/// plan's text in `texts` for an explanation.
 pub(crate) fn bound_plan<H: AllocGlobal + Files>(
     files: &CommandFiles<'_, H>,
     plan: &str,
@@ -61,8 +62,8 @@ fn bound_text(alloc: Global, plan: &str, text: &[u8], flags: Flags) -> Result<Ou
     }
 }
 
-/// Returns the warnings of the accepted plan in `text`, if warnings are errors or an explanation is requested. Otherwise returns no
-/// warning.
+/// Returns the warnings of the accepted plan in `text`, if warnings are errors or an explanation is requested. Otherwise returns none,
+/// because `bounds` then prints no warnings.
 fn warnings_if(alloc: Global, text: &[u8], flags: Flags) -> Result<BoundsWarnings, NoMemory>
     ensures { IfOk result (λ w. WarnsBy flags.is_strict flags.is_explained text.now w.unprotected
         (string_bytes w.shared)) }
@@ -76,7 +77,8 @@ fn warnings_if(alloc: Global, text: &[u8], flags: Flags) -> Result<BoundsWarning
     })
 }
 
-/// Returns the warnings of a text that was accepted as a plan. Reads it again, so every fault becomes `NoMemory`.
+/// Returns the warnings of a text that was accepted as a plan before. It checks the text again, so a fault can only mean that memory ran
+/// out.
 fn text_warnings(alloc: Global, text: &[u8]) -> Result<BoundsWarnings, NoMemory>
     ensures { IfOk result (λ w. WarnsOfText text.now w.unprotected (string_bytes w.shared)) }
 {
@@ -90,7 +92,7 @@ fn text_warnings(alloc: Global, text: &[u8]) -> Result<BoundsWarnings, NoMemory>
     }
 }
 
-/// Returns the warnings of an accepted plan: that no filter is protected or grouped, and those of its shared queues.
+/// Returns the warnings of an accepted plan: that no filter is protected or grouped, and warnings about its shared queues.
 fn plan_warnings(alloc: Global, accepted: &Accepted<Global>) -> Result<BoundsWarnings, NoMemory>
     ensures { IfOk result (λ w. WarnsOfPlan accepted.now w.unprotected (string_bytes w.shared)) }
 {
@@ -102,14 +104,14 @@ fn plan_warnings(alloc: Global, accepted: &Accepted<Global>) -> Result<BoundsWar
     })
 }
 
-/// Whether there is a warning.
+/// Whether `warnings` has at least one warning.
 fn is_warned(warnings: &BoundsWarnings) -> bool
     ensures { result ≡ is_warned warnings.now.unprotected (string_bytes warnings.now.shared) }
 {
     warnings.unprotected.is_some() || !warnings.shared.as_str().is_empty()
 }
 
-/// Appends all warnings.
+/// Appends all warnings to `text`: the plan's own, then those about shared queues.
 fn push_warnings(text: &mut String, warnings: &BoundsWarnings) -> Result<(), AllocError>
     ensures { OnOk result (string_bytes text.new ≡ string_bytes text.old
         ++ warnings_text warnings.now.unprotected (string_bytes warnings.now.shared)) }
@@ -120,8 +122,8 @@ fn push_warnings(text: &mut String, warnings: &BoundsWarnings) -> Result<(), All
     text.push_str(warnings.shared.as_str())
 }
 
-/// Returns the output of `bounds`: delay bounds, text about the traffic, and the plan's warnings. The status is 1 if the traffic isn't
-/// kept, or a warning is an error.
+/// Returns the output of `bounds`: `lines` on standard output, `notes` about the traffic and warnings on standard error. The status is 1 if
+/// `is_kept` is false, or a warning is an error.
 fn bounds_output(
     lines: String,
     is_kept: bool,

@@ -1,4 +1,4 @@
-//! Draws the network of a file.
+//! The picture of the network of a file, for the command `picture`.
 ghost use Rattle.std.specs.Prelude.{◌≤◌, IfOk, IfErr, length, string_bytes};
 ghost use Rattle.net_check.specs.Networks.{EndsNetwork};
 

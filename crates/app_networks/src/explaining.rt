@@ -1,5 +1,5 @@
-//! Explains refused networks, refused traffic and stopped network runs, by reading the files again. These functions never fail: if a file
-//! can't be read again, its explanation is left out.
+//! Explanations of refused networks, refused traffic and stopped network runs. The functions read the files again. If this fails, there is
+//! no explanation (`None`).
 
 use crate::refusing::explain_stopped;
 use app_commands::{explain_capture_file, explain_plan_fault};
@@ -32,14 +32,15 @@ pub(crate) fn explain_refused_traffic(
     }
 }
 
-/// Returns the rest of a text's first line after `front`: a bridge's name. Returns `None` if the text begins otherwise or has one line.
+/// Returns the rest of a fault line's first line after `front`: a bridge's name. Returns `None` if the text doesn't begin with `front`, or
+/// has only one line.
 fn name_after_prefix<'a>(text: &'a str, front: &str) -> Option<&'a str> {
     let (name, _) = text.strip_prefix(front)?.split_once('\n')?;
     Some(name)
 }
 
-/// Explains why a network is refused, by its fault line: a plan, commands in folder `input`, its text, or its tests. Returns `None` if a
-/// file can't be read again.
+/// Explains why the network at `path` is refused, by its fault line `line`: a plan, commands in folder `input`, its text, or a test.
+/// Returns `None` if a file can't be read again.
 pub(crate) fn explain_refused_network(
     rt: &(impl AllocGlobal + Files),
     path: &str,
@@ -60,7 +61,8 @@ pub(crate) fn explain_refused_network(
     }
 }
 
-/// Returns the path of the plan of bridge `name`, by the path of the network's file. Returns `None` if the file or the bridge is missing.
+/// Returns the path of the plan of bridge `name` in the network file at `path`. Returns `None` if the file can't be read or has no such
+/// bridge.
 fn plan_path(rt: &(impl AllocGlobal + Files), path: &str, name: &str) -> Option<String> {
     let alloc = rt.alloc();
     let mut files = CommandFiles::new(rt);
@@ -114,7 +116,7 @@ fn explain_bridge_commands(
     }
 }
 
-/// Explains a stopped network run, by its fault line: why a capture is refused, or which loops keep the network from settling. Returns
+/// Explains a stopped network run, by its fault line `line`: why a capture is refused, or which loops let inputs change forever. Returns
 /// `None` if a file can't be read again.
 pub(crate) fn explain_stopped_run(
     rt: &(impl AllocGlobal + Files),

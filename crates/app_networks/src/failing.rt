@@ -1,4 +1,4 @@
-//! Explains failed commands. These functions never fail: if a file can't be read again, its explanation is left out.
+//! Explanations of failed commands. Some functions read files again. If this fails, there is no explanation (`None`).
 
 use crate::again::{can_read_network_again, can_read_traffic_again};
 use crate::explaining::{explain_refused_network, explain_refused_traffic, explain_stopped_run};
@@ -15,7 +15,8 @@ use show_explain::explain_part;
 use std::fs;
 use std::rt::Files;
 
-/// Explains why a request's command failed, by the texts that it has read. Returns `None` if there is no explanation or memory runs out.
+/// Explains why the command of `request` failed with `fault`, with the help of the `texts` that the command read. Returns `None` without an
+/// explanation or if memory runs out.
 pub(crate) fn explain_failure<H: AllocGlobal + Files>(
     rt: &H,
     words: &[String],
@@ -81,7 +82,7 @@ fn explain_traffic_fault<H: AllocGlobal + Files>(
     }
 }
 
-/// Explains why a file can't be read. If its cause is unknown, examines the file to find one.
+/// Explains why a file couldn't be read. If the cause is unknown, it examines the file to find one.
 fn explain_unread<H: AllocGlobal + Files>(rt: &H, error: &FileError) -> Option<String> {
     let FileError { path, cause } = error;
     let cause = match cause {
@@ -120,7 +121,8 @@ fn explain_network_fault<H: AllocGlobal + Files>(
     }
 }
 
-/// Explains why a file of a network failed. For a plan, the position of its path in the network's file comes first.
+/// Explains why a file of the network at `path` couldn't be read or written. For a plan, it begins with the position of the plan's path in
+/// the network file.
 fn explain_network_file<H: AllocGlobal + Files>(
     rt: &H,
     path: &str,

@@ -1,4 +1,4 @@
-//! Reads captures of open ports and commands, which arrive at a network's bridges from outside.
+//! Reading of the inputs of a network run: captures of open ports and commands, from a folder for each bridge.
 ghost use Rattle.std.specs.Prelude.{◌≡◌, ℕ, List, IfErr, IfOk, length};
 ghost use Rattle.bridge_config.specs.Commands.{AreCommands};
 ghost use Rattle.net_run.specs.Rounds.{AreBridgeInputs};
@@ -32,7 +32,7 @@ fn read_file<F: ReadFiles>(files: &mut F, path: &str, most: u64) -> Result<Vec<u
     }
 }
 
-/// Reads the capture of a port in a bridge's folder. A missing file is a fault.
+/// Reads the capture of port `port` from a bridge's folder. A missing file is a fault.
 fn read_capture<F: ReadFiles>(
     alloc: Global,
     files: &mut F,
@@ -73,7 +73,7 @@ fn read_captures<F: ReadFiles>(
     Ok(captures)
 }
 
-/// Returns the commands in a text for a bridge's plan. A fault names the bridge.
+/// Returns the commands in a text, which must suit the bridge's plan. A fault has the bridge's name `name`.
 fn bridge_commands(
     alloc: Global,
     accepted: &Accepted<Global>,
@@ -113,7 +113,7 @@ fn read_commands<F: ReadFiles>(
     bridge_commands(alloc, accepted, name, &text)
 }
 
-/// Reads everything that arrives at a bridge from outside: captures of open ports, and commands.
+/// Reads the input of a bridge from outside: captures of its open ports, and its commands. `place` has its name and folder.
 fn read_bridge_input<F: ReadFiles>(
     alloc: Global,
     files: &mut F,
@@ -143,7 +143,8 @@ struct Place<'a> {
     folder: &'a str,
 }
 
-/// Reads the input of each bridge from its folder in `input`. Faults come by bridge, then by rising port, with commands last.
+/// Reads the input of each bridge from its folder in `input`. Returns the first fault: by bridge, then by rising port, with the bridge's
+/// commands last.
 fn read_inputs_of_plans<F: ReadFiles>(
     alloc: Global,
     files: &mut F,

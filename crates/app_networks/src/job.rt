@@ -1,12 +1,15 @@
-//! Runs a network between folders: reads the inputs, opens the outputs, runs, then writes everything.
-ghost use Rattle.std.specs.Prelude.{◌≡◌, ◌≤◌, IfOk, IfErr, IfSome, None, Some, false, true, length, option_map, string_bytes};
+//! The command `net`: reads the inputs of a network run from one folder, opens the outputs in another, runs the network, and writes the
+//! outputs.
+ghost use Rattle.std.specs.Prelude.{◌≡◌, ◌≤◌, All, IfOk, IfErr, IfSome, None, Some, false, true, length, option_map, string_bytes};
 ghost use Rattle.app_files.specs.Folders.{HavePaths};
 ghost use Rattle.app_networks.specs.Losing.{AreToldLines, AreWarningsIf, PrintsRunLosses, PrintsWarnings, TellsRunLosses, TellsWarnings, has_lines};
+ghost use Rattle.net_latency.specs.Bounds.{HasValidPort};
 ghost use Rattle.app_networks.specs.InTime.{HaveViews};
 ghost use Rattle.net_run.specs.Rounds.{AreBridgeInputs};
 ghost use Rattle.app_networks.specs.RunFiles.{IsOutputFile, IsWrittenFile, NamesFile};
 ghost use Rattle.app_networks.specs.Folders.{EndsRounds, EndsRun, IsAccepted, IsLine, IsMostRounds, PrintsRounds, PrintsRoundsIn, IsRunLine, TellsRunIn, network_words, rounds_line};
 
+use crate::figures::stream_figures;
 use crate::incoming::read_bridge_inputs;
 use crate::losing::fault_lines;
 use crate::outputs::{Outputs, open_outputs};
@@ -21,20 +24,20 @@ use app_files::{CommandFiles, Output, test_folders};
 use bridge_limits::NoMemory;
 use net_check::{all_warnings, check_network_file, read_network, read_plans};
 use net_file::NetworkFile;
-use net_latency::{QueueBound, all_queue_bounds, stream_bounds};
-use net_loops::find_forwarding_loops;
-use net_model::Network;
+use net_latency::{QueueBound, all_queue_bounds};
+use net_model::{Network, find_forwarding_loops};
 use net_run::{BridgeInput, BridgeResult, run_network};
 use std::alloc::Global;
 use std::fs::OpenFile;
 use std::io::Write;
 use std::rt::Files;
 
-/// Number of rounds after which a run ends, if the network has forwarding loops and still changes. Otherwise such a run might never end.
+/// Number of rounds after which a network run ends although inputs still change, if the network has forwarding loops. Without this limit,
+/// it might never end.
 const MOST_ROUNDS: u32 = 64;
 
-/// Returns the number of rounds after which a changing run ends. Without forwarding loops each round settles a later time, so the run ends
-/// by itself.
+/// Returns the largest number of rounds of a network run. Without forwarding loops there is no need for a limit, because each round settles
+/// the inputs up to a later time.
 fn most_rounds(alloc: Global, network: &Network<Global>) -> Result<u32, NoMemory>
     requires few { length network.now.plans ≤ 64 }
     ensures { IfOk result (IsMostRounds network.now) }
@@ -86,7 +89,7 @@ fn run_line(
 struct RunLines {
     /// Line with the counts of the run.
     line: String,
-    /// Lines of streams with lost frames or missed deadlines; empty unless losses are errors.
+    /// Lines about streams with lost frames or missed deadlines; empty unless losses are errors (`--strict`).
     lost: String,
 }
 
@@ -120,6 +123,7 @@ fn write_results<F: Write + OpenFile + Drop>(
     outputs: Outputs<F>,
     is_strict: bool,
 ) -> Result<RunLines, Failure>
+    requires placed { All (λ v. All HasValidPort v.items) queues.now }
     requires views { HaveViews settled.now file.now.streams }
     ensures ok { IfOk result (λ lines. IsLine network.now.links settled.now file.now (string_bytes lines.line)) }
     ensures lost { IfOk result (λ lines. AreToldLines network.now.links settled.now file.now is_strict
@@ -131,7 +135,7 @@ fn write_results<F: Write + OpenFile + Drop>(
         streams,
         frames,
     } = outputs;
-    let Ok(bounds) = stream_bounds(alloc, queues, file.links(), file.streams()) else {
+    let Ok(figures) = stream_figures(alloc, network, queues, file.links(), file.streams()) else {
         drop(bridges);
         drop(streams);
         drop(frames);
@@ -150,7 +154,7 @@ fn write_results<F: Write + OpenFile + Drop>(
         file,
         network.links(),
         settled,
-        &bounds,
+        &figures,
         output,
         streams,
         frames,
@@ -166,7 +170,8 @@ fn write_results<F: Write + OpenFile + Drop>(
     }
 }
 
-/// Writes the captures, reports, tables and requested picture of a network run, and returns its lines. All outputs are open before.
+/// Writes the captures, reports, tables and requested picture of a network run to their files, which are already open. Returns the run's
+/// lines.
 fn write_results_and_picture<H: AllocGlobal + Files>(
     rt: &H,
     file: &NetworkFile<Global>,
@@ -262,8 +267,7 @@ fn open_run<H: AllocGlobal + Files>(
     }
 }
 
-/// Runs a network with the inputs of one folder, and writes the outputs to another. Both paths are nonempty. Returns the lines to print and
-/// the number of rounds.
+/// Runs a network with the inputs of one folder, and writes the outputs to another. Returns the lines to print and the number of rounds.
 fn run_network_folders<H: AllocGlobal + Eprint + Files>(
     files: &mut CommandFiles<'_, H>,
     file: &NetworkFile<Global>,
@@ -326,14 +330,14 @@ fn run_network_folders<H: AllocGlobal + Eprint + Files>(
 pub struct NetworkRunResult {
     /// Line for standard output. `None` if a warning kept the network from running.
     pub line: Option<String>,
-    /// Text for standard error: warnings of `net check`, or lines of streams with lost frames or missed deadlines. The text is empty unless
-    /// they are errors.
+    /// Text for standard error: warnings of `net check`, or lines about streams with lost frames or missed deadlines. It is empty unless
+    /// warnings and losses are errors.
     pub told: String,
     /// Whether warnings are errors and the network has one.
     pub is_warned: bool,
     /// Whether losses are errors and a stream lost frames or missed its deadline.
     pub is_lossy: bool,
-    /// Number of rounds. In the last round, every link carried the same frames as in the round before.
+    /// Number of rounds. The last round changed no port's input. 0 if a warning kept the network from running.
     pub rounds: u32,
 }
 
@@ -412,7 +416,7 @@ fn run_accepted<H: AllocGlobal + Eprint + Files>(
     }
 }
 
-/// Returns the result of `net` after a complete run.
+/// Returns the result of `net` after a complete run with these lines and this number of rounds.
 fn ran(lines: RunLines, rounds: u32) -> NetworkRunResult
     ensures line { result.line ≡ Some lines.line }
     ensures told { result.told ≡ lines.lost }

@@ -37,8 +37,8 @@ ghost use Rattle.app_networks.specs.InTime.{AreHopRuns, AreHopsBounded, ComeFrom
 
 use std::alloc::Allocator;
 
-/// A frame has a source over `n` links exactly if it has this source over a route of `n` legs. A leg is an earlier hop with its link's
-/// delay. Delay laws need legs.
+/// A frame has a source over `n` links exactly if it has this source over a route of `n` legs. A leg is an earlier hop and the delay of the
+/// link after it.
 pub fn legs_are_links<A: Allocator + Copy>()
     ensures there { (links : List Link) (hops : List (HopRun A)) (r : SourceFrame) (n i k : ℕ)
         → HasSource links hops r n i k
@@ -48,8 +48,8 @@ pub fn legs_are_links<A: Allocator + Copy>()
         → HasSource links hops r (length legs) i k }
 {}
 
-/// Each frame leaves in time, in a complete run of an accepted network. Its delay since the first hop is at most the sum of its hops'
-/// bounds and its links' delays.
+/// In a complete run of an accepted network, each copy's delay since the first hop is at most the sum of the bounds of its hops and the
+/// delays of its links.
 pub fn measured_in_time<A: Allocator + Copy>()
     ensures { (n : Network A) (commands : ℕ → List Input) (captures : ℕ → ℕ → List CapturedFrame) (o : ℕ → Outcome A)
         (stream : List (ℕ × ℕ)) (links : List Link) (hops : List (HopRun A)) (most : ℕ → ℕ) (r : SourceFrame)
@@ -64,8 +64,8 @@ pub fn measured_in_time<A: Allocator + Copy>()
         → d.done ≤ r.came + route_time most i legs }
 {}
 
-/// No measured delay exceeds its stream's bound, in a complete run of an accepted network, if the frame passed no hop twice (`copy`). The
-/// delays of such frames at a hop are within the bound (`delays`).
+/// In a complete run of an accepted network, a frame that passed no hop twice keeps its stream's bound (`copy`). If this holds for a hop's
+/// frames, its delays are within the bound (`delays`).
 pub fn measured_within_bound<A: Allocator + Copy>()
     ensures copy { (f : file.Network) (plans : List (Plan A)) (n : NetworkParts A) (came : List (BridgeInput A))
         (settled : List (BridgeResult A)) (o : ℕ → Outcome A) (bounds : List (Vec QueueBound A)) (s : Stream)
@@ -104,7 +104,8 @@ pub fn measured_within_bound<A: Allocator + Copy>()
         → delay ≤ stream_bound bounds f.links s.hops }
 {}
 
-/// No frame passes a hop twice, if every link leads from a hop of lower rank, for example from an earlier hop of the stream.
+/// No frame passes a hop twice if hops have ranks, and each frame that arrives at a hop over a link comes from a hop of lower rank, such as
+/// an earlier hop.
 pub fn ranked_route_goes_once<A: Allocator + Copy>()
     ensures { (links : List Link) (hops : List (HopRun A)) (rank : ℕ
         → ℕ) (r : SourceFrame) (legs : List (ℕ × ℕ)) (i k : ℕ)
@@ -113,7 +114,7 @@ pub fn ranked_route_goes_once<A: Allocator + Copy>()
         → GoesOnce i legs }
 {}
 
-/// Each frame leaves within the tight bound of its queue, in a complete run of one bridge over captures. Captured octets never exceed a
+/// In a complete run of one bridge over captures, each frame leaves within the tight bound of its queue. Captured octets never exceed a
 /// frame's length, so `in_time_by_octets` applies.
 pub fn read_in_time_by_octets<A: Allocator + Copy, W>()
     ensures { (p : Plan A) (ports : List ℕ) (commands : List Command) (texts : ℕ → List ℕ) (contents : W

@@ -1,12 +1,13 @@
 #![tactic(auto)]
-//! Carries out the arguments: commands for networks and bounds, and by `app_commands` all other commands. Returns the output and the exit
-//! status.
+//! The program from its arguments to its output and exit status. It has the commands for networks and bounds; `app_commands` has all other
+//! commands.
 
 mod again;
 mod bounds;
 mod drawing;
 mod explaining;
 mod failing;
+mod figures;
 mod incoming;
 mod job;
 pub mod laws;

@@ -1,4 +1,4 @@
-//! Finds streams with lost frames or missed deadlines in a network run, for `net --strict`.
+//! Lines about streams with lost frames or missed deadlines in a network run, for `net --strict`.
 ghost use Rattle.std.specs.Prelude.{◌≡◌, IfOk, OnOk, length, string_bytes};
 ghost use Rattle.app_networks.specs.InTime.{HaveViews, HaveViewsOf};
 ghost use Rattle.app_networks.specs.Losing.{AreFaultLines, AreLosses, IsLossOf, PutsLines, place_words};
@@ -28,7 +28,8 @@ fn hop_prefix(
     Ok(format!(in alloc; "{name}.{filter} ")?)
 }
 
-/// Returns the losses of a stream's hop.
+/// Returns the losses of a stream's hop: its name and its counts. `runs` has the records of all hops of the stream, `run` the record of
+/// this hop.
 fn hop_loss(
     alloc: Global,
     bridges: &[BridgeRow<Global>],
@@ -44,7 +45,7 @@ fn hop_loss(
     Ok(HopLosses { place, counts })
 }
 
-/// Returns the losses of each hop of a stream.
+/// Returns the losses of each hop of a stream, in the order of `hops`. `runs` has the records of these hops.
 fn stream_losses(
     alloc: Global,
     bridges: &[BridgeRow<Global>],

@@ -38,7 +38,8 @@ pub(crate) fn check_network<H: AllocGlobal + Files>(
     }
 }
 
-/// Returns the explanation of the streams, if it is requested. The text is empty otherwise, if memory runs out, and if a file is a pipe.
+/// Returns the explanation of the streams if it is requested (`is_asked`). The text is empty otherwise, or if memory runs out or a file is
+/// a pipe.
 fn stream_explanations(rt: &(impl AllocGlobal + Files), path: &str, is_asked: bool) -> String
     ensures { is_asked ≡ false → string_bytes result ≡ [] }
 {
@@ -71,7 +72,7 @@ fn output_of_check(said: NetworkOutput, reasons: String, flags: Flags) -> Result
     })
 }
 
-/// Runs a network and returns the output of `net`. If a warning is an error, nothing runs. The status is 1 then, and if a loss is an error.
+/// Runs a network and returns the output of `net`. The status is 1 if a loss is an error, or if a warning is an error; then nothing runs.
 pub(crate) fn run_network<H: AllocGlobal + Eprint + Files>(
     files: &mut CommandFiles<'_, H>,
     job: &NetworkRunRequest<'_>,
@@ -87,7 +88,8 @@ pub(crate) fn run_network<H: AllocGlobal + Eprint + Files>(
     }
 }
 
-/// Returns the output of a network run: its line, and the lines of lost and late streams. In an explanation, the number of rounds follows.
+/// Returns the output of a network run: its line on standard output, lines about lost and late streams on standard error. With `--explain`,
+/// the number of rounds follows these lines.
 fn output_of_run(alloc: Global, said: NetworkRunResult, flags: Flags) -> Output
     ensures { IsOutputOfRun said flags.is_explained result }
 {
@@ -107,7 +109,7 @@ fn output_of_run(alloc: Global, said: NetworkRunResult, flags: Flags) -> Output
     }
 }
 
-/// Returns the lines of a network run, followed in an explanation by its rounds. If memory runs out, the rounds are left out.
+/// Returns the text `told`, followed by the number of rounds if `is_explained`. If memory runs out, the number is left out.
 fn with_rounds(alloc: Global, told: String, rounds: u32, is_explained: bool) -> String
     ensures { IsWithRounds (string_bytes told) is_explained (string_bytes result) }
 {

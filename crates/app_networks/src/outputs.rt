@@ -17,7 +17,7 @@ use std::fs::OpenFile;
 use std::io::Write;
 use std::rt::Files;
 
-/// Returns the path of a bridge's folder: the bridge's name in the folder of all bridges.
+/// Returns the path of a bridge's folder: the folder `name` in the input or output folder `folder`.
 pub(crate) fn bridge_folder(alloc: Global, folder: &str, name: &str) -> Result<String, NoMemory>
     ensures { IfOk result (λ path. string_bytes path ≡ folder_path folder.now name.now) }
 {
@@ -39,7 +39,8 @@ pub(crate) struct Outputs<F: Write + OpenFile + Drop> {
     pub(crate) frames: Output<F>,
 }
 
-/// Returns the identities of the input folders, as far as the system has them. No output folder may be one of them.
+/// Returns the identities of the input folder and of the bridges' folders in it, if they exist. `make_folder` refuses them as output
+/// folders.
 fn input_folders<H: AllocGlobal + Files>(
     rt: &H,
     bridges: &[BridgeRow<Global>],

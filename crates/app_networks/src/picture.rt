@@ -34,7 +34,7 @@ pub(crate) fn open_picture<H: AllocGlobal + Files>(
     }
 }
 
-/// Returns the names of a stream's rows: the stream's name and the hop's name, for each hop.
+/// Returns the name of each row of a stream in the picture: the stream's name and the hop's name, hop by hop.
 fn row_names(
     alloc: Global,
     bridges: &[BridgeRow<Global>],
@@ -80,7 +80,8 @@ fn put_queue_windows(
     }
 }
 
-/// Draws the windows of a hop's queues in its row. `queues` has the reachable queues of each bridge.
+/// Draws the windows of a hop's reachable queues in its row, which has index `place` in the stream. `queues` has the bounds of each
+/// bridge's queues.
 fn put_hop_windows(
     picture: &mut RunPicture,
     network: &Network<Global>,
@@ -99,7 +100,7 @@ fn put_hop_windows(
     }
 }
 
-/// Draws the windows of the queues of a stream's hops.
+/// Draws the windows of the reachable queues of each hop of a stream in the hop's row.
 fn put_stream_windows(
     picture: &mut RunPicture,
     network: &Network<Global>,

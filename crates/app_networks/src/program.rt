@@ -21,8 +21,8 @@ use app_files::CommandFiles;
 use std::alloc::Global;
 use std::rt::{Clock, Files};
 
-/// Carries out the arguments, and returns the program's output. The status is 4 for help or the version. If `is_watched`, a long run shows
-/// its progress on standard error.
+/// Carries out the arguments `words`, and returns the program's output. The status is 4 for help or the version. If `is_watched`, a long
+/// run shows its progress on standard error.
 pub fn perform<H: Input + AllocGlobal + Clock + Print + Eprint + Files>(
     rt: &H,
     words: &[String],
@@ -66,8 +66,8 @@ fn perform_request<H: Input + AllocGlobal + Clock + Print + Eprint + Files>(
     }
 }
 
-/// Returns the output of a request: of its successful command, or of its failure. Keeps the texts that the command reads, for the
-/// explanation.
+/// Returns the output of a request: of its successful command, or of its failure. Keeps the texts that the command reads, so that an
+/// explanation needs no second reading.
 fn request_output<H: Input + AllocGlobal + Clock + Print + Eprint + Files>(
     rt: &H,
     words: &[String],
@@ -102,7 +102,7 @@ fn report_failure<H: AllocGlobal + Files>(
     report_fault(rt.alloc(), fault, explanation)
 }
 
-/// Returns the request of a run with the fields of its command. The command and its explanation need it.
+/// Builds the request of a run of one bridge from the values of the command `run`. The run and the explanation of its failure use it.
 pub(crate) fn requested_run<'a>(
     request: &'a Request,
     plan: &'a String,
@@ -213,7 +213,8 @@ fn run_network_request<H: AllocGlobal + Eprint + Files>(
     run_network(files, &request, flags)
 }
 
-/// Draws a plan or a network, or the requested part of a plan, and returns the output of `picture`.
+/// Draws the file at `path`: a network, a plan, or the requested part of a plan. Returns the output of `picture`. A part of a network is
+/// refused.
 fn draw<H: AllocGlobal + Files>(
     files: &mut CommandFiles<'_, H>,
     path: &String,

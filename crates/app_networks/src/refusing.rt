@@ -11,11 +11,11 @@ use net_file::BridgeRow;
 use net_run::RoundsFault;
 use std::alloc::Global;
 
-/// Exit status after refused commands, except out of memory.
+/// Exit status for refused commands. By it, `bridge_commands_fault` distinguishes them from memory that ran out.
 const REFUSED_COMMANDS: u8 = 1;
 
-/// Returns the fault of a bridge's refused commands: its line has the bridge's name, followed by the fault line of the commands. Out of
-/// memory stays out of memory.
+/// Returns the program's fault for the refused commands of bridge `name`: a line with this name, then the commands' own fault line. Returns
+/// `NoMemory` if memory ran out.
 #[tactic(auto, unfolding(crate::specs::Folders::commands_lines))]
 pub(crate) fn bridge_commands_fault(alloc: Global, name: &str, fault: PlanFault) -> Failure
     ensures { SaysCommands name.now fault result }
@@ -54,7 +54,7 @@ fn capture_fault_line(alloc: Global, name: &str, fault: RunFault) -> Result<Stri
     }
 }
 
-/// Returns the fault line of a network that doesn't settle, with a port whose input still changes.
+/// Returns the fault line of a network run whose inputs still change after the last allowed round: the bridge and the first such port.
 fn unsettled_line(alloc: Global, name: &str, port: u8) -> Result<String, NoMemory>
     ensures { IfOk result (λ line. string_bytes line ≡ unsettled_line name.now port) }
 {
@@ -84,7 +84,8 @@ pub(crate) fn run_failure(
     }
 }
 
-/// Returns the explanation of a network that doesn't settle, by its fault line; `None` for other fault lines.
+/// Returns the first lines of the explanation of a network run whose inputs still change after 64 rounds; the caller appends the loops.
+/// Returns `None` for other fault lines.
 pub fn explain_stopped(alloc: Global, line: &str) -> Option<String> {
     let rest = line.strip_prefix("network not settled ")?;
     format!(in alloc;

@@ -13,6 +13,7 @@ ghost use Rattle.net_check.specs.Networks.{IsNetworkOfFile};
 ghost use Rattle.net_run.specs.Rounds.{RunsNetwork, commands_of_bridge};
 ghost use Rattle.net_run.specs.declared.rounds.BridgeResult.{BridgeResult};
 ghost use Rattle.net_run.specs.declared.bridge_run.BridgeInput.{BridgeInput};
+ghost use Rattle.app_networks.specs.declared.figures.StreamFigures.{StreamFigures};
 ghost use Rattle.app_networks.specs.Tables.{AreTables};
 
 use std::alloc::Allocator;
@@ -21,7 +22,7 @@ use std::alloc::Allocator;
 /// commands of the streams' own filters are equal.
 pub fn others_change_no_table<A: Allocator + Copy>()
     ensures { (f : file.Network) (plans : List (Plan A)) (n : NetworkParts A) (came other_came : List (BridgeInput A))
-        (settled other : List (BridgeResult A)) (bounds a b c d : List ℕ)
+        (settled other : List (BridgeResult A)) (figures : List StreamFigures) (a b c d : List ℕ)
         → IsNetworkOfFile f plans n
         → IsNetwork (network_value n)
         → AreClosed n
@@ -31,7 +32,7 @@ pub fn others_change_no_table<A: Allocator + Copy>()
         → ((stream : Vec StreamHop A) → IsMember stream n.streams
         → HaveSameExternalInputs (network_value n) (stream_value stream.items) (commands_of_bridge came) ran.frames
         (commands_of_bridge other_came) also.frames)
-        → AreTables n.links settled f bounds a b
-        → AreTables n.links other f bounds c d
+        → AreTables n.links settled f figures a b
+        → AreTables n.links other f figures c d
         → (a ≡ c) × (b ≡ d) }
 {}

@@ -1,4 +1,4 @@
-//! Writes the tables of streams and of their frames.
+//! Writing of the tables `streams.csv` and `frames.csv` of a network run.
 ghost use Rattle.std.specs.Prelude.{◌≡◌, ℕ, IfErr, IfOk, OnOk, length, map, string_bytes};
 ghost use Rattle.std.specs.Io.KnownBytes.{Keeps};
 ghost use Rattle.bridge_semantics.specs.declared.outcome.Outcome.{Outcome};
@@ -9,6 +9,7 @@ ghost use Rattle.app_failure.specs.Reading.{IsFileFault};
 ghost use Rattle.app_networks.specs.RunFiles.{IsTableFile, NamesFile, table_path};
 ghost use Rattle.app_networks.specs.Tables.{TablesStream, WriteStreams, WriteTables, hop_text};
 
+use crate::figures::StreamFigures;
 use crate::refusing::bridge_name;
 use app_failure::{Failure, file_failure};
 use app_files::{Cause, Output, file_fault};
@@ -26,14 +27,14 @@ use std::fs::OpenFile;
 use std::io;
 use std::io::Write;
 
-/// Numbers of all streams' frames, for the line of a run: frames that arrived at first hops, and frames delivered.
+/// Numbers for the line of a run, summed over all streams: frames that arrived at first hops, and frames that were delivered.
 #[derive(Clone, Copy)]
 pub(crate) struct Totals {
     pub(crate) frames: u64,
     pub(crate) delivered: u64,
 }
 
-/// Returns the record of a hop in a run, with its bridge. An accepted network has a record for each hop.
+/// Returns the record of a hop in a run, with the index of its bridge. A run of an accepted network has a record for each hop.
 fn hop_run<'a>(settled: &'a [BridgeResult<Global>], hop: (u16, u32)) -> HopRun<'a, Global>
     requires { HasView settled.now hop }
     ensures { (o : ℕ → Outcome Global) → AreOutcomes settled.now o → IsHopRun o hop result }
@@ -102,12 +103,12 @@ fn put_stream<V: Write, W: Write>(
     links: &[Link],
     settled: &[BridgeResult<Global>],
     stream: &StreamRow<Global>,
-    bound: u128,
+    figures: StreamFigures,
     streams: &mut V,
     frames: &mut W,
 ) -> Result<Totals, TableFault>
     requires { HaveViewsOf settled.now stream.now.hops }
-    ensures { IfOk result (λ more. TablesStream links.now settled.now file.now.bridges stream.now bound more.frames
+    ensures { IfOk result (λ more. TablesStream links.now settled.now file.now.bridges stream.now figures more.frames
         more.delivered
         (V.contents streams.old) (V.contents streams.new) (W.contents frames.old) (W.contents frames.new)) }
 {
@@ -119,7 +120,8 @@ fn put_stream<V: Write, W: Write>(
     let heading = Heading {
         name: stream.name(),
         hops: &names,
-        bound,
+        bound: figures.bound,
+        worst: figures.worst,
         deadline: stream.deadline(),
     };
     write_stream(
@@ -137,15 +139,15 @@ fn write_both_tables<V: Write, W: Write>(
     file: &NetworkFile<Global>,
     links: &[Link],
     settled: &[BridgeResult<Global>],
-    bounds: &[u128],
+    figures: &[StreamFigures],
     streams: &mut V,
     frames: &mut W,
 ) -> Result<Totals, TableFault>
-    requires bounds { length bounds.now ≡ length file.now.streams }
+    requires figures { length figures.now ≡ length file.now.streams }
     requires views { HaveViews settled.now file.now.streams }
     ensures counts { IfOk result (λ all. AreTotals links.now settled.now file.now.streams 0 0 all.frames
         all.delivered) }
-    ensures tables { OnOk result (WriteStreams links.now settled.now file.now.bridges file.now.streams bounds.now
+    ensures tables { OnOk result (WriteStreams links.now settled.now file.now.bridges file.now.streams figures.now
         (V.contents streams.old) (V.contents streams.new) (W.contents frames.old) (W.contents frames.new)) }
 {
     let mut totals = Totals {
@@ -159,7 +161,7 @@ fn write_both_tables<V: Write, W: Write>(
             links,
             settled,
             stream,
-            bounds[place],
+            figures[place],
             streams,
             frames,
         )?;
@@ -177,23 +179,23 @@ pub(crate) fn write_tables<V: Write, W: Write>(
     file: &NetworkFile<Global>,
     links: &[Link],
     settled: &[BridgeResult<Global>],
-    bounds: &[u128],
+    figures: &[StreamFigures],
     streams: &mut V,
     frames: &mut W,
 ) -> Result<Totals, TableFault>
-    requires bounds { length bounds.now ≡ length file.now.streams }
+    requires figures { length figures.now ≡ length file.now.streams }
     requires views { HaveViews settled.now file.now.streams }
     ensures counts { IfOk result (λ all. AreTotals links.now settled.now file.now.streams 0 0 all.frames
         all.delivered) }
-    ensures tables { OnOk result (WriteTables links.now settled.now file.now bounds.now
+    ensures tables { OnOk result (WriteTables links.now settled.now file.now figures.now
         (V.contents streams.old) (V.contents streams.new) (W.contents frames.old) (W.contents frames.new)) }
 {
     put_table(streams, STREAMS_HEADER, Table::Streams)?;
     put_table(frames, FRAMES_HEADER, Table::Frames)?;
-    write_both_tables(alloc, file, links, settled, bounds, streams, frames)
+    write_both_tables(alloc, file, links, settled, figures, streams, frames)
 }
 
-/// Completes the file of a table, and returns the file: its buffer is written.
+/// Writes the buffer of a table's file, completes the file and returns it.
 fn end_table<F: Write + OpenFile + Drop>(output: Output<F>) -> io::Result<Output<F>>
     ensures { IfOk result (λ done. Keeps (⟦<Output<F> as Write>⟧.contents output)
         (⟦<Output<F> as Write>⟧.contents done)) }
@@ -241,15 +243,15 @@ fn put_files<F: Write + OpenFile + Drop>(
     file: &NetworkFile<Global>,
     links: &[Link],
     settled: &[BridgeResult<Global>],
-    bounds: &[u128],
+    figures: &[StreamFigures],
     streams: Output<F>,
     frames: Output<F>,
 ) -> Result<WrittenTables<F>, TableFault>
-    requires bounds { length bounds.now ≡ length file.now.streams }
+    requires figures { length figures.now ≡ length file.now.streams }
     requires views { HaveViews settled.now file.now.streams }
     ensures counts { IfOk result (λ all. AreTotals links.now settled.now file.now.streams 0 0 all.totals.frames
         all.totals.delivered) }
-    ensures written { IfOk result (λ all. WriteTables links.now settled.now file.now bounds.now
+    ensures written { IfOk result (λ all. WriteTables links.now settled.now file.now figures.now
         (⟦<Output<F> as Write>⟧.contents streams) (⟦<Output<F> as Write>⟧.contents all.streams)
         (⟦<Output<F> as Write>⟧.contents frames) (⟦<Output<F> as Write>⟧.contents all.frames)) }
 {
@@ -260,7 +262,7 @@ fn put_files<F: Write + OpenFile + Drop>(
         file,
         links,
         settled,
-        bounds,
+        figures,
         &mut streams,
         &mut frames,
     )?;
@@ -283,21 +285,21 @@ pub(crate) fn put_tables<F: Write + OpenFile + Drop>(
     file: &NetworkFile<Global>,
     links: &[Link],
     settled: &[BridgeResult<Global>],
-    bounds: &[u128],
+    figures: &[StreamFigures],
     folder: &str,
     streams: Output<F>,
     frames: Output<F>,
 ) -> Result<WrittenTables<F>, Failure>
-    requires bounds { length bounds.now ≡ length file.now.streams }
+    requires figures { length figures.now ≡ length file.now.streams }
     requires views { HaveViews settled.now file.now.streams }
     ensures ok { IfOk result (λ all. AreTotals links.now settled.now file.now.streams 0 0 all.totals.frames
         all.totals.delivered) }
-    ensures written { IfOk result (λ all. WriteTables links.now settled.now file.now bounds.now
+    ensures written { IfOk result (λ all. WriteTables links.now settled.now file.now figures.now
         (⟦<Output<F> as Write>⟧.contents streams) (⟦<Output<F> as Write>⟧.contents all.streams)
         (⟦<Output<F> as Write>⟧.contents frames) (⟦<Output<F> as Write>⟧.contents all.frames)) }
     ensures err { IfErr result (NamesFile (IsTableFile folder.now)) }
 {
-    match put_files(alloc, file, links, settled, bounds, streams, frames) {
+    match put_files(alloc, file, links, settled, figures, streams, frames) {
         Ok(written) => Ok(written),
         Err(fault) => Err(folder_fault(alloc, folder, fault)),
     }

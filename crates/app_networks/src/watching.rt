@@ -40,7 +40,7 @@ impl<'a, H: Eprint> ProgressPrinter<'a, H> {
         }
     }
 
-    /// Removes the line, if one was shown.
+    /// Removes the progress line from standard error, if the observer shows one.
     pub(crate) fn clear(&self) {
         if self.is_wanted {
             clear_line(self.rt);
@@ -57,7 +57,7 @@ fn capture_octets(captures: &[Vec<u8>]) -> u64 {
     octets
 }
 
-/// Whether a network's inputs have enough octets for a long run.
+/// Whether a network's run may be long: its input captures have at least `LONG_INPUT` octets.
 fn is_long_run(incoming: &[BridgeInput<Global>]) -> bool {
     let mut octets = 0u64;
     for came in incoming {

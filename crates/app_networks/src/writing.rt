@@ -21,7 +21,8 @@ use std::alloc::Global;
 use std::fs::OpenFile;
 use std::io::Write;
 
-/// Writes the capture of a bridge's port to `output` in the bridge's folder, and returns the file. A fault names its path.
+/// Writes the capture of a bridge's port to the open file `output`, and returns the file. A fault names the file's path in the bridge's
+/// folder.
 fn put_tap<F: Write + OpenFile + Drop>(
     alloc: Global,
     folder: &str,

@@ -61,7 +61,8 @@ pub record IsOpeningsTime (lets opens : ℕ → Bool) (occ k d : ℕ) : Type 0 w
   pub longest : IsLongestTimeFrom lets opens occ (occ - 1) k d
   pub attained : IsTimeAttainedFrom lets opens occ (occ - 1) k d
 
--- Holds if some time attains exactly `d` ns, so that `d` is least. With a schedule change, the statement always holds.
+-- Holds if frames that wait from some time need exactly `d` ns, so that no lesser time is a longest time. With a
+-- schedule change, the statement always holds.
 abbrev pub IsLeastTime : GateSchedule → ℕ → ℕ → ℕ → ℕ → Type 0
 IsLeastTime Always c occ k d = IsTimeAttained (opens Always c) occ k d
 IsLeastTime (One l) c occ k d = IsTimeAttained (opens (One l) c) occ k d
@@ -127,8 +128,8 @@ IsGateBound (Fixed lets ipv) priority out c m b = IsRoomBound out c m b
 IsGateBound (Cyclic gate) priority out c m b = IsGateListBound gate out.list (fills_at out priority c gate) out c m b
 IsGateBound (Joined j) priority out c m b = IsRoomBound out c m b
 
--- Holds if `b` ns is the delay bound by capacity of protected filter `n` in its reachable queue of class `c` at port `q`. Delays run from arrival to the end of
--- transmission.
+-- Holds if `b` ns bounds the delays of protected filter `n` in its reachable queue of class `c` at port `q`, from
+-- arrival to the end of transmission. `b` follows from the queue's capacity.
 pub record IsQueueBound {A : Type 0} (p : Plan A) (n q c b : ℕ) : Type 0 where
   pub filter : FilterPlan
   pub max_sdu : ℕ
@@ -166,7 +167,8 @@ pub record IsCoarse {A : Type 0} (p : Plan A) (n q : ℕ) : Type 0 where
 abbrev pub HasNoBound : {A : Type 0} → Plan A → ℕ → ℕ → ℕ → Type 0
 HasNoBound p n q c = (f : FilterPlan) → lookup (nat_eq n) p.filters ≡ Some f → f.protected ≡ true → reaches_queue p f q c ≡ false
 
--- Holds if `b` is the lesser of `a` and the bound for `k` frames. If open intervals are less than the longest time of `k` frames apart, `b` is `a`.
+-- Holds if `b` is the lesser of `a` and the bound for `k` frames. If open intervals aren't apart by the longest time of
+-- `k` frames, `b` is `a`.
 pub record IsLesserBound {A : Type 0} (l : cyclic.Cyclic GateEntry) (out : PortPlan A) (c m k a b : ℕ) : Type 0 where
   pub few : ℕ
   pub is : IsFramesBound out c m k few

@@ -12,7 +12,7 @@ abbrev pub count_recent : ℕ → ℕ → List ℕ → ℕ
 count_recent w t [] = 0
 count_recent w t (u ∷ us) = (if nat_le u t && nat_lt t (u + w) then 1 else 0) + count_recent w t us
 
--- Holds if any `w` ns contain at most `n` of the times, newest first.
+-- Holds if any `w` ns contain at most `n` of the times in ns. The list has the newest time first.
 abbrev pub AreSeldom : ℕ → ℕ → List ℕ → Type 0
 AreSeldom w n [] = Unit {0}
 AreSeldom w n (t ∷ ts) = (count_recent w t ts < n) × AreSeldom w n ts
@@ -34,7 +34,7 @@ HaveEtherTypes [] = Unit {0}
 HaveEtherTypes (Asked t n ∷ es) = (2 ≤ n) × HaveEtherTypes es
 HaveEtherTypes (e ∷ es) = HaveEtherTypes es
 
--- Holds if an octet limit passes at most `k` frames of at least two octets.
+-- Holds if an octet limit is present and passes at most `k` frames of at least two octets.
 abbrev pub IsFrameLimit : Option ℕ → ℕ → Type 0
 IsFrameLimit None k = ⊥
 IsFrameLimit (Some limit) k = limit / 2 ≤ k
@@ -50,7 +50,7 @@ pub record LetsFew (turn_at : ℕ → Option (Turn GateEntry)) (k w : ℕ) : Typ
   pub few : (t : ℕ) (x : Turn GateEntry) → turn_at t ≡ Some x → x.state.lets ≡ true → IsFrameLimit x.state.octets k
   pub apart : AreTurnsApart turn_at w
 
--- Holds if no frame passes from time `from` until time `until`.
+-- Holds if the stream gate is closed from time `from` up to, not including, time `until`.
 abbrev pub IsShut : (ℕ → Option (Turn GateEntry)) → ℕ → ℕ → Type 0
 IsShut turn_at from until = (u : ℕ) (x : Turn GateEntry) → from ≤ u → u < until → turn_at u ≡ Some x → x.state.lets ≡ false
 

@@ -9,13 +9,14 @@ pub record IsWindowEnd (opens : ℕ → Bool) (occ at c : ℕ) : Type 0 where
   pub all : (v : ℕ) → at ≤ v → v ≤ c → Fits opens occ v
   pub edge : IsEdge opens occ c
 
--- Holds if `start` is the latest time from which frames fill the window at `to` up to its end and miss the last fit by
--- 1 ns, or `from` if that time is earlier. If the window never ends, any `start` will do.
+-- Holds if `start` is the later of `from` and this time: frames sent from it one after another miss the last fit of the
+-- window at `to` by 1 ns. If the window never ends, any `start` will do.
 abbrev pub IsLatestStart : (ℕ → Bool) → ℕ → ℕ → ℕ → ℕ → Type 0
 IsLatestStart opens occ from to start =
     Fits opens occ to → ((v : ℕ) → to ≤ v → Fits opens occ v) ⊎ ((c : ℕ) × IsWindowEnd opens occ to c × (start ≡ max from (to + 1 + (c - to) % occ - occ)))
 
--- Holds if `d` ns is the longest time of `k` frames that wait from `from`, or from 1 ns after an edge between `from` and `to`.
+-- Holds if `d` ns is the longest time in which `k` frames leave. They begin to wait at `from`, or 1 ns after a window's
+-- last fit between `from` and `to`.
 pub record IsLongestAfterEdges (opens : ℕ → Bool) (occ k from to d : ℕ) : Type 0 where
   pub start : (v : ℕ) → FramesEnd opens occ k from v → v ≤ from + d
   pub edges : (c v : ℕ) → from ≤ c → c < to → IsEdge opens occ c → FramesEnd opens occ k (c + 1) v → v ≤ c + 1 + d

@@ -46,8 +46,8 @@ StartsWithinWait opens occ wait t f = (s : ℕ) × (f ≡ Started s) × IsFirstF
 abbrev pub IsMultiple : ℕ → ℕ → Type 0
 IsMultiple base p = (k : ℕ) × (p ≡ k * base)
 
--- Holds if the offers, newest first, have periods of their own. A period begins at a multiple of `base`, at least `period` ns before the next one. Arrival
--- phases and transmission times keep their limits.
+-- Holds if the offers, newest first, have periods of their own, which begin at multiples of `base`, at least `period`
+-- ns apart. They arrive at phases `from` to `upto` and take `least` to `most` ns.
 abbrev pub OffersInPeriods : ℕ → (Offer → ℕ) → ℕ → ℕ → ℕ → ℕ → ℕ → ℕ → List Offer → Type 0
 OffersInPeriods base occ period from upto least most next [] = Unit {0}
 OffersInPeriods base occ period from upto least most next (o ∷ os) =
@@ -59,7 +59,8 @@ abbrev pub StartsInPeriod : (ℕ → Bool) → ℕ → ℕ → ℕ → ℕ → �
 StartsInPeriod opens occ t first last p f =
     (s : ℕ) × (f ≡ Started s) × IsFirstFit opens occ t s × (first + p ≤ s) × (s ≤ last + p)
 
--- Holds if the copies, newest first, start in periods of their own. A period begins at least `period` ns before the next one.
+-- Holds if the copies, newest first, start in periods of their own, between phases `first` and `last`. Periods begin at
+-- least `period` ns apart; the newest one ends by time `next`.
 abbrev pub StartInPeriods : ℕ → (ℕ → Bool) → (CarriedFrame → ℕ) → ℕ → ℕ → ℕ → ℕ → List (Copy CarriedFrame) → Type 0
 StartInPeriods base opens occ period first last next [] = Unit {0}
 StartInPeriods base opens occ period first last next (x ∷ xs) =
@@ -67,14 +68,16 @@ StartInPeriods base opens occ period first last next (x ∷ xs) =
     × StartsInPeriod opens (occ x.item) x.at first last p x.fate
     × StartInPeriods base opens occ period first last p xs
 
--- Holds if the inputs, newest first, arrive in periods of their own, between phases `from` and `upto`.
+-- Holds if the inputs, newest first, arrive in periods of their own, between phases `from` and `upto`. Periods begin at
+-- multiples of `base`, at least `period` ns apart.
 abbrev pub InputsInPeriods : ℕ → ℕ → ℕ → ℕ → ℕ → List Input → Type 0
 InputsInPeriods base period from upto next [] = Unit {0}
 InputsInPeriods base period from upto next (x ∷ xs) =
     (p : ℕ) × IsMultiple base p × (p + period ≤ next) × (from + p ≤ x.at) × (x.at ≤ upto + p)
     × InputsInPeriods base period from upto p xs
 
--- Holds if input `x` is the arrival of a started copy: `delay` ns after the copy's end of transmission.
+-- Holds if input `x` is the arrival of a started copy of `ys` after a link: `delay` ns after the copy's end of
+-- transmission.
 pub record IsDelayedCopy (occ : CarriedFrame → ℕ) (delay : ℕ) (ys : List (Copy CarriedFrame)) (x : Input) : Type 0 where
   pub copy : Copy CarriedFrame
   pub start : ℕ

@@ -1,4 +1,4 @@
--- Times at which the frames of a traffic row have left a queue, and their delays.
+-- Times at which the frames of a periodic talker have left a queue, and their delays.
 use Rattle.std.specs.Prelude.{◌≡◌, ℕ, true, ◌+◌, ◌-◌, ◌<◌, ◌≤◌, min, MatchOption}
 use Rattle.bridge_cycle.specs.Fits.{IsFirstFit}
 use Rattle.bridge_frame.specs.Link.{transmission_time}
@@ -62,7 +62,8 @@ pub record IsTimingWithoutPhases (o : GateSchedule) (c short long bound : ℕ) (
   pub worst : x.worst ≡ bound
   pub best : x.best ≡ short
 
--- Holds if `x` has the worst and the best delay in ns of traffic `t` in class `c` at port `out`. Its phases decide which definition of the delays applies.
+-- Holds if `x` has the worst and the best delay in ns of traffic `t` in class `c` at port `out`: by
+-- `IsTimingWithPhases` if `x` has phases, otherwise by `IsTimingWithoutPhases`.
 abbrev pub IsPortTiming : {A : Type 0} → PortPlan A → ℕ → ℕ → ℕ → Traffic → Timing → Type 0
 IsPortTiming out c m bound t x =
     MatchOption x.phases (IsTimingWithoutPhases (gate_schedule out.list) c (shortest_link_time out m t) (longest_link_time out m t) bound t x)

@@ -25,8 +25,8 @@ fn lack_common_cycle<A: Allocator + Copy>(schedule: &Schedule<A>, lists: &Option
     }
 }
 
-/// Whether the delay bounds of a filter at a port are coarse: they count all arrival times, although only some times put frames into
-/// queues. Returns false if the filter or the port is missing.
+/// Whether the delay bounds of a filter at a port are coarse: they count all arrival times, because gate and port have no common cycle.
+/// Returns false if filter or port is missing.
 pub fn is_coarse<A: Allocator + Copy>(accepted: &Accepted<A>, number: u32, port: u8) -> bool
     ensures coarse { (result ≡ true) ↔ IsCoarse accepted.now number port }
     ensures limit { MAX_INTERVALS ≡ 1_024 }

@@ -10,7 +10,8 @@ use std::alloc::Allocator;
 /// Largest number of intervals of both lists in a common cycle. It limits the work for one bound.
 pub const MAX_INTERVALS: u64 = 1024;
 
-/// Returns the least number of cycles, at most `most`, whose time in ns is a multiple of `other`. Returns `None` if there is none.
+/// Returns the least number, at most `most`, of cycles of `cycle` ns that are whole cycles of `other` ns; `None` if there is none.
+/// `common_cycle` calls it.
 fn least_cycles(cycle: u64, other: u64, most: u64) -> Option<u64>
     requires cycle { cycle ≤ LONGEST_CYCLE }
     requires other { 1 ≤ other }

@@ -43,7 +43,7 @@ pub(crate) fn frames_below_room(entries: &[(GateEntry, u64)], room: u16) -> Opti
     Some(most as u16)
 }
 
-/// Whether the stream gate passes no frame from time `from` until time `until`, both in ns.
+/// Whether the stream gate is closed from time `from` up to, not including, time `until`, both in ns.
 fn is_shut<A: Allocator + Copy>(list: &CyclicList<GateEntry, A>, from: u64, until: u64) -> bool
     requires until { until ≤ END_OF_TIME }
     requires lawful { IsLawful list.now }

@@ -1,4 +1,4 @@
-//! Longest time in which a full queue leaves that begins to wait between two times.
+//! Longest time in which the frames of a full queue leave, if they begin to wait between two times.
 ghost use Rattle.std.specs.Prelude.{◌≡◌, ◌+◌, ◌-◌, ◌*◌, ◌%◌, ◌<◌, ◌≤◌, ◌⊎◌, ℕ, max, MatchOption, true};
 ghost use Rattle.bridge_cycle.specs.Cyclic.{IsLawful};
 ghost use Rattle.bridge_port.specs.GateSchedule.{list_can_fit, list_opens};
@@ -9,9 +9,10 @@ use crate::longest_time::{frames_duration, last_fit, list_first_fit, longest_tim
 use bridge_cycle::{CyclicList, LONGEST_CYCLE};
 use std::alloc::Allocator;
 
-/// Returns the latest time in ns, from `from` to `to`, from which frames fill the window at `to` and miss its last fit by 1 ns.
+/// Returns the latest time in ns, from `from` to `to`, from which frames, one after another, miss the last fit of the window at `to` by 1
+/// ns.
 ///
-/// Returns `from` if there is no such time.
+/// Returns `from` without such a time.
 fn latest_start<A: Allocator + Copy>(
     list: &CyclicList<u8, A>,
     class: u8,
@@ -39,7 +40,7 @@ fn latest_start<A: Allocator + Copy>(
     }
 }
 
-/// Returns the longest time in ns in which `room` frames leave that begin to wait together at a time from `from` to `to`.
+/// Returns the longest time in ns in which `room` frames leave, if all begin to wait at one time from `from` to `to`.
 ///
 /// It is attained at `from`, 1 ns after a window's last fit, or at the latest start before `to`.
 pub(crate) fn interval_longest_time<A: Allocator + Copy>(

@@ -24,8 +24,8 @@ ghost use Rattle.bridge_bounds.specs.GateFrames.{AreSeldom, AreWithinLengths, Ha
 
 use std::alloc::Allocator;
 
-/// Frames that wait from a time have one end (`once`), at most the longest time later (`bounds`). An attained time is at most each longest
-/// time (`least`).
+/// Frames that wait from one time have one end of transmission (`once`), at most the longest time later (`bounds`). A time that frames need
+/// from some time is at most each longest time (`least`).
 pub fn longest_bounds()
     ensures once { (opens : ℕ → Bool) (occ k u v w : ℕ)
         → FramesEnd opens occ k u v

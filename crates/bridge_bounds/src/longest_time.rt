@@ -119,8 +119,8 @@ fn frames_end<A: Allocator + Copy>(
     end
 }
 
-/// Returns the number of frames, at most `room`, that leave before a window's first frame starts whole cycles after the first of all, and
-/// their end in ns. `end_after_rounds` skips rounds of these frames.
+/// Returns the number of frames in a round, at most `room`, and the round's end in ns. After a round, the next frame starts whole cycles
+/// after the first. `end_after_rounds` skips such rounds.
 fn repeating_round<A: Allocator + Copy>(
     list: &CyclicList<u8, A>,
     class: u8,
@@ -155,8 +155,8 @@ fn repeating_round<A: Allocator + Copy>(
     (room, end)
 }
 
-/// Returns the time in ns at which `room` frames have left, if the first `done` have left at `end`. If the next frame starts whole cycles
-/// after the first, the calculation skips whole rounds.
+/// Returns the time in ns at which `room` frames have left, if the first `done` of them have left at `end`. If the next frame starts whole
+/// cycles after the first, skips whole rounds.
 fn end_after_rounds<A: Allocator + Copy>(
     list: &CyclicList<u8, A>,
     class: u8,
@@ -219,7 +219,7 @@ pub(crate) fn frames_duration<A: Allocator + Copy>(
     end_after_rounds(list, class, occ, room - lead, next, done, end) - from
 }
 
-/// Whether a frame fits at time `moment` in ns, and doesn't fit 1 ns later. Frames that come just after such a time wait longest.
+/// Whether a frame fits at time `moment` in ns, and doesn't fit 1 ns later. Frames that arrive just after this time wait longest.
 fn is_edge<A: Allocator + Copy>(list: &CyclicList<u8, A>, class: u8, occ: u64, moment: u64) -> bool
     requires class { class < 8 }
     requires occ { occ ≤ LONGEST_CYCLE }
@@ -232,8 +232,8 @@ fn is_edge<A: Allocator + Copy>(list: &CyclicList<u8, A>, class: u8, occ: u64, m
         && list_first_fit(list, class, occ, moment + 1) != moment + 1
 }
 
-/// Returns the longest time in ns in which `room` frames leave that wait from `from`, or from 1 ns after a window's last fit between `from`
-/// and `to`.
+/// Returns the longest time in ns in which `room` frames leave. They begin to wait at `from`, or 1 ns after a window's last fit between
+/// `from` and `to`.
 pub(crate) fn longest_time_after_edges<A: Allocator + Copy>(
     list: &CyclicList<u8, A>,
     class: u8,
@@ -286,9 +286,14 @@ fn list_longest_time<A: Allocator + Copy>(
     longest_time_after_edges(list, class, occ, room, 0, list.cycle() + 1)
 }
 
-/// Returns a longest time in ns in which `room` waiting frames leave under gate control lists. With a schedule change, this is the sum for
-/// both lists.
-fn lists_longest_time<A: Allocator + Copy>(lists: &Egress<A>, class: u8, occ: u64, room: u16) -> u64
+/// Returns a longest time in ns in which `room` waiting frames leave a port under its gate control lists. With a schedule change, this is
+/// the longest time under the old list plus the longest time under the new list.
+fn egress_longest_time<A: Allocator + Copy>(
+    lists: &Egress<A>,
+    class: u8,
+    occ: u64,
+    room: u16,
+) -> u64
     requires class { class < 8 }
     requires some { 1 ≤ occ }
     requires occ { occ ≤ LONGEST_CYCLE }
@@ -327,6 +332,6 @@ pub(crate) fn port_longest_time<A: Allocator + Copy>(
 {
     match lists {
         None => room as u64 * occ,
-        Some(lists) => lists_longest_time(lists, class, occ, room),
+        Some(lists) => egress_longest_time(lists, class, occ, room),
     }
 }

@@ -19,14 +19,14 @@ use bridge_gate::{GateEntry, Schedule};
 use bridge_limits::LONGEST_FRAME;
 use std::alloc::Allocator;
 
-/// Whether `entry` is open and can give a frame priority `k`. `priority` is the filter's priority.
+/// Whether `entry` is open and can give priority `k` to a frame of a filter with optional priority `priority`.
 fn gives_priority(entry: &GateEntry, priority: Option<u8>, k: u8) -> bool
     ensures { result ≡ reached.gives_priority entry.now priority k }
 {
     entry.lets && entry.ipv.or(priority).is_none_or(|own| own == k)
 }
 
-/// Whether `entry` is open and can put a frame into class `class` of a port. `priority` is the filter's priority.
+/// Whether `entry` is open and can put a frame of a filter with optional priority `priority` into class `class` of a port.
 fn fills_class<A: Allocator + Copy>(
     entry: &GateEntry,
     port: &PortPlan<A>,
@@ -42,8 +42,8 @@ fn fills_class<A: Allocator + Copy>(
     found
 }
 
-/// Returns the longest time in ns in which a full queue leaves. It waits from `occ` - 1 ns after a time at which the stream gate can put a
-/// frame into the class.
+/// Returns the longest time in ns in which the frames of a full queue leave. They wait from `occ` - 1 ns after a time at which the stream
+/// gate can put a frame into the class.
 ///
 /// Returns `None` if there is no such time.
 fn openings_longest_time<A: Allocator + Copy>(
@@ -121,7 +121,8 @@ fn list_bound<A: Allocator + Copy>(
     }
 }
 
-/// Returns the delay bound in ns of a queue under one list of the stream gate.
+/// Returns the delay bound in ns of a queue under one list of the stream gate. If the port has no list, or its list changes, all arrival
+/// times count.
 fn gate_list_bound<A: Allocator + Copy>(
     gate: &CyclicList<GateEntry, A>,
     port: &PortPlan<A>,

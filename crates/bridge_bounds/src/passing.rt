@@ -79,7 +79,8 @@ fn is_limit_reset_in_time(octets: Option<u32>, end: u64, until: u64) -> bool
     }
 }
 
-/// Whether each interval from `from` to `to` passes one frame of `sdu` octets. Looks at no more than one cycle of the list.
+/// Whether each interval that contains a time from `from` to `to` passes one frame of `sdu` octets. Looks at no more than one cycle of the
+/// list.
 fn can_pass_turns<A: Allocator + Copy>(
     list: &CyclicList<GateEntry, A>,
     from: u64,
@@ -124,7 +125,8 @@ fn can_pass_list<A: Allocator + Copy>(
     is_limit_reset_in_time(last.state.octets, last.end, traffic.from + traffic.period)
 }
 
-/// Whether a stream gate's schedule passes each frame of the traffic. If the schedule changes, both lists must pass them.
+/// Whether a stream gate's schedule passes each frame of the traffic. With a schedule change, the old list and the new list must both pass
+/// each frame.
 fn can_pass_schedule<A: Allocator + Copy>(
     schedule: &Schedule<A>,
     traffic: &Traffic,
@@ -146,8 +148,8 @@ fn can_pass_schedule<A: Allocator + Copy>(
     }
 }
 
-/// Whether each own frame of `filter` passes if they keep `traffic`. Sizes must be allowed, the filter has no meter, and the stream gate
-/// passes one frame in each interval.
+/// Whether each own frame of `filter` passes if these frames keep `traffic`. Their size must be allowed, the filter must have no meter, and
+/// the stream gate must pass one frame in each interval.
 pub fn passes<A: Allocator + Copy>(plan: &Plan<A>, filter: &FilterPlan, traffic: &Traffic) -> bool
     requires traffic { IsTraffic traffic.now }
     ensures { (result ≡ true) ↔ Passes plan.now filter.now traffic.now }

@@ -63,8 +63,8 @@ pub fn frames_keep_periods<A: Allocator + Copy>()
         → IsDelayInBounds out x y start }
 {}
 
-/// Both phases are reached. A frame that arrives alone at an empty queue starts at its first fit. This holds for a shortest frame at the
-/// first phase and a longest at the last.
+/// Both ends of the computed phases are reached, so no narrower phases hold: a shortest frame that arrives at the first phase, or a longest
+/// at the last, starts at its first fit if it arrives alone at an empty queue.
 pub fn phases_are_reached<X: Drop>()
     ensures { (r : PortRules X) (c at start : ℕ) (item : X)
         → r.ever c (r.occ item) ≡ true

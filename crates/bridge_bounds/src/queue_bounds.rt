@@ -42,8 +42,8 @@ pub fn class_bound<A: Allocator + Copy>(port: &PortPlan<A>, class: u8, sdu: u32)
     occupied - 1 + longest
 }
 
-/// Returns the delay bound in ns of a queue that a protected filter reaches. The result is never `None`, because such a filter has a
-/// maximum SDU.
+/// Returns the delay bound in ns, by capacity, of a queue that protected filter `number` can reach. The result is never `None`, because
+/// such a filter has a maximum SDU.
 fn reached_queue_bound<A: Allocator + Copy>(
     plan: &Plan<A>,
     number: u32,

@@ -23,8 +23,8 @@ use bridge_gate::{GateEntry, Schedule};
 use bridge_limits::LONGEST_FRAME;
 use std::alloc::Allocator;
 
-/// Returns the lesser of `bound` and the bound of `few` frames. If the frames of one interval may still wait when the next one opens,
-/// returns `bound`.
+/// Returns the lesser of `bound` and the bound of `few` frames, in ns. If the frames of one interval may still wait when the next one
+/// opens, returns `bound`.
 fn lesser_bound<A: Allocator + Copy>(
     list: &CyclicList<GateEntry, A>,
     port: &PortPlan<A>,

@@ -36,11 +36,13 @@ pub struct Timing {
     pub worst: u64,
     /// Best delay.
     pub best: u64,
-    /// Phases of the ends of transmission. `None` if a frame may still wait when the next one arrives.
+    /// Phases of the ends of transmission. `None` if the lists don't repeat with the period, or a frame may still wait when the next one
+    /// arrives.
     pub phases: Option<Phases>,
 }
 
-/// Returns delays without phases: `bound` at worst, `short` at best, both in ns.
+/// Returns worst delay `bound` and best delay `short` in ns, without phases. `timing_by_lists` calls it if the lists don't repeat with the
+/// period, or a frame may wait when the next one arrives.
 fn timing_without_phases(bound: u64, short: u64) -> Timing
     requires { short ≤ bound }
     ensures { result ≡ record { worst = bound; best = short; phases = None } }
@@ -90,7 +92,8 @@ fn timing_by_lists<A: Allocator + Copy>(
     }
 }
 
-/// Returns the delays of traffic in a class of a port. `sdu` is the filter's maximum, which limits the transmission times.
+/// Returns the delays of traffic in a class of a port. `bound` is the queue's delay bound in ns; the filter's maximum SDU `sdu` limits the
+/// transmission times.
 fn port_timing<A: Allocator + Copy>(
     port: &PortPlan<A>,
     class: u8,
@@ -112,8 +115,8 @@ fn port_timing<A: Allocator + Copy>(
     timing_by_lists(&port.list, class, short, long, bound, traffic)
 }
 
-/// Returns the delays of traffic in a queue that the filter `number` can reach. `bound` is the queue's delay bound in ns. Returns `None` if
-/// the filter is missing or has no maximum.
+/// Returns the delays of traffic in a queue that filter `number` can reach. `bound` is the queue's delay bound in ns. Returns `None` if the
+/// filter is missing or has no maximum SDU.
 fn filter_timing<A: Allocator + Copy>(
     plan: &Plan<A>,
     number: u32,
@@ -134,7 +137,7 @@ fn filter_timing<A: Allocator + Copy>(
     Some(port_timing(out, class, sdu, bound, traffic))
 }
 
-/// Returns the delays of a protected filter's frames in one queue if they keep `traffic`. Ignores frames above the filter's maximum.
+/// Returns the delays of a protected filter's frames in one queue if they keep `traffic`. Ignores frames above the filter's maximum SDU.
 /// Returns `None` if the queue isn't reachable. Allocates no memory.
 pub fn queue_timing<A: Allocator + Copy>(
     accepted: &Accepted<A>,

@@ -1,4 +1,4 @@
-//! Periodic traffic of a filter: the input of all computations of this crate.
+//! Periodic traffic of a filter: the input of the computations for periodic talkers.
 
 /// Periodic traffic: at most one frame in each period, between two phases and between two lengths. Periods begin at multiples of the
 /// period.

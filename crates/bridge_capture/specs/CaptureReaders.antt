@@ -20,7 +20,7 @@ pub record IsFrameAhead {A : Type 0} (lane : CaptureReader A) (p : Packet A) : T
   pub small : length p.octets.items ≤ MAX_CAPTURED_OCTETS
   pub within : length p.octets.items ≤ p.len
 
--- Statement: If a packet is ahead, it obeys `IsFrameAhead`.
+-- Statement: If the reader has a frame ahead, this frame has the guarantees of `IsFrameAhead`.
 abbrev pub IsReader : {A : Type 0} → CaptureReader A → Type 0
 IsReader {A} lane = (p : Packet A) → lane.ahead ≡ Some p → IsFrameAhead lane p
 
@@ -42,29 +42,31 @@ abbrev pub frame_ahead : {A : Type 0} → Option (Packet A) → List CapturedFra
 frame_ahead None = []
 frame_ahead (Some p) = packet_frame p ∷ []
 
--- Statement: After these frames, the file contents have the next frame, or end.
+-- Statement: After the frames `given`, the file contents have this packet as their next frame; for `None`, they end
+-- without a fault.
 abbrev pub FindsNext : {A : Type 0} → List ℕ → List CapturedFrame → Option (Packet A) → Type 0
 FindsNext text given None = IsCapture text given AtEnd
 FindsNext text given (Some p) = HasReadFrames text (given ++ packet_frame p ∷ [])
 
--- Statement: These frames were taken, and the next frame or the end is ahead.
+-- Statement: The frames `taken` were taken from the reader; its frame ahead is the next frame of the file contents, or
+-- `None` at their end.
 pub record IsOneAhead {A : Type 0} (lane : CaptureReader A) (remaining : Option (List ℕ)) (text : List ℕ) (taken : List CapturedFrame) : Type 0 where
   pub stands : StandsFor lane.capture remaining text (taken ++ frame_ahead lane.ahead)
   pub finds : FindsNext text taken lane.ahead
 
--- Statement: Reading ahead finds the next frame, the end or a fault.
+-- Statement: After the frames `taken`, reading ahead found the next frame or the end, or returned a fault.
 abbrev pub ReadsAhead : {A : Type 0} → CaptureReader A → Option (List ℕ) → List ℕ → List CapturedFrame → Result (Unit {0}) CaptureFault → Type 0
 ReadsAhead lane remaining text taken (Ok u) = IsOneAhead lane remaining text taken
 ReadsAhead lane remaining text taken (Err fault) = IsRefusal fault remaining text taken
 
--- Statement: The fault is the first fault of the file contents. Or the source failed in the header or first record, or memory for this record ran
--- out.
+-- Statement: The fault is the first fault of the file contents. Or the source failed in the header or first record, or
+-- memory ran out in the first record.
 abbrev pub FailsAtFirst : CaptureFault → Option (List ℕ) → List ℕ → Type 0
 FailsAtFirst faults.Read remaining text = TakesFewer 24 (Some text) remaining ⊎ IsRefusal faults.Read remaining text []
 FailsAtFirst faults.NoMemory remaining text = IsRefusal faults.NoMemory remaining text []
 FailsAtFirst fault remaining text = IsCapture text [] (AtFault fault)
 
--- Statement: The first read finds the first frame, the end or a fault.
+-- Statement: The first read found the first frame or the end, or returned a fault.
 abbrev pub BeginsReader : {A : Type 0} → Option (List ℕ) → List ℕ → Result (CaptureReader A) CaptureFault → Type 0
 BeginsReader remaining text (Ok lane) = IsOneAhead lane remaining text []
 BeginsReader remaining text (Err fault) = FailsAtFirst fault remaining text
@@ -89,11 +91,12 @@ HaveRests {R} remaining ports rests sources = (i q : ℕ) (r : R) → slice_get 
 abbrev pub AreUnread : (ℕ → List ℕ) → (ℕ → Option (List ℕ)) → List ℕ → Type 0
 AreUnread texts rests ports = (i q : ℕ) → slice_get ports i ≡ Some q → rests q ≡ Some (texts q)
 
--- Statement: For each reader, the frames `taken` of its port were taken, and the next frame or the end is ahead.
+-- Statement: For each reader, the frames `taken` of its port were taken; its frame ahead is the capture's next frame,
+-- or `None` at the end.
 abbrev pub AreOneAhead : {A R : Type 0} → (R → Option (List ℕ)) → (ℕ → List ℕ) → (ℕ → List CapturedFrame) → List (CaptureReader A) → List R → Type 0
 AreOneAhead {A} {R} remaining texts taken lanes sources = (i : ℕ) (lane : CaptureReader A) (r : R) → slice_get lanes i ≡ Some lane → slice_get sources i ≡ Some r → IsOneAhead lane (remaining r) (texts lane.number) (taken lane.number)
 
--- Statement: Each reader obeys `IsReader`.
+-- Statement: Each reader of the list has the guarantees of `IsReader`.
 abbrev pub AreReaders : {A : Type 0} → List (CaptureReader A) → Type 0
 AreReaders {A} lanes = (i : ℕ) (lane : CaptureReader A) → slice_get lanes i ≡ Some lane → IsReader lane
 

@@ -43,8 +43,8 @@ format_by_magic magic =
     else if magic == 0xD4C3B2A1 then Some (record { order = Big; unit = Micro })
     else None
 
--- Form of a capture header, or its first fault: unknown magic number (`None`), version other than 2.4, link type other
--- than 1 (Ethernet).
+-- Format of a capture from its header, or the header's first fault: unknown magic number (`None`), version other than
+-- 2.4, link type other than 1 (Ethernet).
 abbrev pub format_after_magic : Option CaptureFormat → List ℕ → Result CaptureFormat CaptureFault
 format_after_magic None octets = Err BadMagic
 format_after_magic (Some form) octets =
@@ -54,8 +54,8 @@ format_after_magic (Some form) octets =
     else Err BadVersion)
     else Err BadVersion
 
--- Form (byte order and time unit) that the 24 header octets of a capture show, or the first fault; HeaderCut if octets
--- are missing.
+-- Format (byte order and time unit) that the 24 header octets of a capture show, or the first fault; HeaderCut if
+-- octets are missing.
 unfoldable pub header_format : List ℕ → Result CaptureFormat CaptureFault
 header_format text =
     if nat_lt (length text) 24 then Err HeaderCut
@@ -102,9 +102,8 @@ captured_length form octets = word32 form.order (octet_range 8 4 octets)
 abbrev pub original_length : CaptureFormat → List ℕ → ℕ
 original_length form octets = word32 form.order (octet_range 12 4 octets)
 
--- First fault of a record's header: captured octets above MOST_CAPTURED or the original length, time at END_OF_TIME or
--- later, time before the previous record's time.
--- `None` means a header without a fault.
+-- First fault of a record's header: captured octets above MAX_CAPTURED_OCTETS or the original length, time at
+-- END_OF_TIME or later, time before the previous record's time. `None` means a header without a fault.
 abbrev pub record_header_fault : RecordPosition → ℕ → ℕ → ℕ → Option CaptureFault
 record_header_fault place time captured original =
     if nat_lt MAX_CAPTURED_OCTETS captured then Some (RecordTooLarge place.number)

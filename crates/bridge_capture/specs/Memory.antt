@@ -1,8 +1,8 @@
 -- A source or a sink over memory.
 use Rattle.std.specs.Prelude.{ℕ, List, Option, Bool, not, is_some, ◌&&◌, ◌||◌}
 
--- Source or sink in memory with its remaining or written `octets`. It fails after `allowance` octets (`None`: unlimited) and moves at most `step`
--- octets per call. `ran_out`: memory ran out.
+-- Source or sink in memory. `octets` remain to be read, or were written. It fails after `allowance` octets (`None`:
+-- unlimited), and moves at most `step` octets per call. `ran_out`: memory ran out.
 pub record MemoryDevice : Type 0 where
   pub octets : List ℕ
   pub allowance : Option ℕ

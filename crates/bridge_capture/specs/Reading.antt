@@ -14,19 +14,20 @@ use Rattle.bridge_capture.specs.TakenOctets.{TakesFewer}
 abbrev pub packet_frame : {A : Type 0} → Packet A → CapturedFrame
 packet_frame p = record { time = p.time; len = p.len; octets = p.octets.items }
 
--- Result of a call that stored a packet's octets in a vector.
+-- Result of `Capture::read_packet` as a result with a packet; `octets` are the contents of the caller's vector after
+-- the call.
 abbrev pub packet_result : {A : Type 0} → Vec ℕ A → Result (Option PacketInfo) CaptureFault → Result (Option (Packet A)) CaptureFault
 packet_result octets (Ok (Some stamp)) = Ok (Some (record { time = stamp.time; len = stamp.len; octets = octets }))
 packet_result octets (Ok None) = Ok None
 packet_result octets (Err fault) = Err fault
 
--- Statement: The packet has the property, if the call returned a packet.
+-- Statement: If the call returned a packet, the packet has the property.
 abbrev pub IfPacket : {A : Type 0} → Result (Option (Packet A)) CaptureFault → (Packet A → Type 0) → Type 0
 IfPacket (Ok (Some packet)) P = P packet
 IfPacket (Ok None) P = Unit {0}
 IfPacket (Err fault) P = Unit {0}
 
--- Statement: The fault is at the front, or the device failed, or memory ran out.
+-- Statement: The fault is the fault at the front of the octets, or says that the source failed or memory ran out.
 abbrev pub IsFaultOfFront : CaptureFault → FrontItem → Type 0
 IsFaultOfFront faults.Read front = Unit {0}
 IsFaultOfFront faults.NoMemory front = Unit {0}
@@ -38,7 +39,8 @@ TakesFront front rest (Ok None) = front ≡ Nothing
 TakesFront front rest (Ok (Some p)) = (more : List ℕ) × (front ≡ Record (packet_frame p) more) × (rest ≡ Some more)
 TakesFront front rest (Err fault) = IsFaultOfFront fault front
 
--- Statement: A record's octets are cut, or the device failed before they were complete, or memory ran out before the first octet.
+-- Statement: A record's octets are cut, or the source failed before they were complete, or memory ran out before the
+-- first octet.
 abbrev pub CutsOctets : ℕ → ℕ → Option (List ℕ) → Option (List ℕ) → CaptureFault → Type 0
 CutsOctets number count old new faults.Read = TakesFewer count old new
 CutsOctets number count old new faults.NoMemory = new ≡ old
@@ -72,7 +74,7 @@ pub record IsInBounds {A : Type 0} (number earliest : ℕ) (packet : Packet A) :
   pub small : length packet.octets.items ≤ MAX_CAPTURED_OCTETS
   pub within : length packet.octets.items ≤ packet.len
 
--- Statement: The result agrees with the source: it is a read fault exactly if the source has failed.
+-- Statement: The result is a read fault exactly if the source has failed, and never a write fault.
 pub record AgreesWithSource {S X : Type 0} (has_failed never_fails : S → Bool) (old new : S) (result : Result X CaptureFault) : Type 0 where
   pub failed : result ≡ Err faults.Read → has_failed new ≡ true
   pub sure : never_fails old ≡ true → result ≢ Err faults.Read

@@ -18,7 +18,7 @@ pub record CaptureState : Type 0 where
   pub latest : ℕ
   pub progress : Progress
 
--- Position of the next record.
+-- Position of the next record: its number and its earliest allowed time.
 abbrev pub read_position : CaptureState → RecordPosition
 read_position capture = record { number = capture.records + 1; earliest = capture.latest }
 
@@ -80,7 +80,7 @@ AnswersNext capture remaining text given (Ok (Some packet)) = StandsFor capture 
 AnswersNext capture remaining text given (Ok None) = StandsFor capture remaining text given × IsCapture text given AtEnd
 AnswersNext capture remaining text given (Err fault) = StandsFor capture remaining text given × IsRefusal fault remaining text given
 
--- Statement: These octets are taken if the next record is refused.
+-- Statement: If the next record was refused with `fault`, the call took the octets that `TakesRefusedRecord` states.
 abbrev pub TakesRefusedNext : CaptureState → Option (List ℕ) → Option (List ℕ) → CaptureFault → Type 0
 TakesRefusedNext capture old new fault = TakesRefusedRecord capture.form (read_position capture) old new fault
 

@@ -7,11 +7,11 @@ use Rattle.bridge_capture.specs.declared.capture_fault.CaptureFault.{CaptureFaul
 use Rattle.bridge_capture.specs.declared.capture_fault.CaptureFault.TheVariants as faults
 use Rattle.bridge_capture.specs.Grammar.{RecordPosition, record_time, captured_length, original_length, record_header_fault}
 
--- Statement: Exactly `count` octets were taken.
+-- Statement: Exactly `count` octets were taken from a source: `old` are its octets before, `new` after.
 abbrev pub TakesExactly : ℕ → Option (List ℕ) → Option (List ℕ) → Type 0
 TakesExactly count old new = (octets : List ℕ) × (length octets ≡ count) × Consumes old new octets
 
--- Statement: Fewer than `count` octets were taken.
+-- Statement: Fewer than `count` octets were taken from a source: `old` are its octets before, `new` after.
 abbrev pub TakesFewer : ℕ → Option (List ℕ) → Option (List ℕ) → Type 0
 TakesFewer count old new = (octets : List ℕ) × (length octets < count) × Consumes old new octets
 

@@ -1,8 +1,9 @@
-//! Allowance: how many octets a memory device moves before it fails.
+//! Allowance: the number of octets that a source or sink in memory moves before it fails.
 ghost use Rattle.std.specs.Prelude.{◌≡◌, ◌≢◌, ◌≤◌, ◌<◌, ◌-◌, ◌⊎◌, Some, true, false, option_map};
 ghost use Rattle.std.specs.Option.{ForSome};
 
-/// Whether moving `count` octets fails: the device has failed, or its allowance is used up. `None` is an unlimited allowance.
+/// Whether a source or sink fails to move `count` octets: it has failed before, or its allowance is used up. `None` is an unlimited
+/// allowance.
 pub(crate) fn is_failing(is_broken: bool, allowance: Option<usize>, count: usize) -> bool
     ensures over { result ≡ true → (is_broken ≡ true) ⊎ (allowance ≡ Some 0) }
     ensures sound { result ≡ false → is_broken ≡ false }
@@ -14,7 +15,7 @@ pub(crate) fn is_failing(is_broken: bool, allowance: Option<usize>, count: usize
     }
 }
 
-/// Returns how many of `count` octets the device moves within its allowance.
+/// Returns the number of octets, of `count`, that a source or sink moves within its allowance; `count` for `None`.
 pub(crate) fn allowed_octets(allowance: Option<usize>, count: usize) -> usize
     ensures few { result ≤ count }
     ensures within { ForSome allowance (λ left. result ≤ left) }
@@ -26,7 +27,7 @@ pub(crate) fn allowed_octets(allowance: Option<usize>, count: usize) -> usize
     }
 }
 
-/// Returns the allowance after `count` octets; `None` stays unlimited.
+/// Returns the allowance that remains after `count` octets were moved; `None` stays unlimited.
 pub(crate) fn remaining_allowance(allowance: Option<usize>, count: usize) -> Option<usize>
     requires { ForSome allowance (λ left. count ≤ left) }
     ensures { result ≡ option_map (λ left. left - count) allowance }

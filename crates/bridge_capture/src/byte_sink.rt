@@ -30,8 +30,8 @@ pub trait ByteSink {
         ensures lasts { never_fails self.old ≡ true → never_fails self.new ≡ true }
         ensures stays { has_failed self.old ≡ true → IsErr result };
 
-    /// May write both numbers, each as eight little-endian octets, and `octets`, all at once. Returns whether it did; otherwise it
-    /// writes nothing.
+    /// Writes `first` and `second`, each as eight little-endian octets, then `octets`, if the sink can accept all at once; otherwise writes
+    /// nothing. Returns whether it wrote. `Writer::put` calls it.
     fn write_words(&mut self, first: u64, second: u64, octets: &[u8]) -> bool
         ensures bytes { result ≡ true
             → Appends (contents self.old) (contents self.new) ((to_le_bytes w64 first ++ to_le_bytes w64 second)

@@ -37,12 +37,12 @@ pub trait ByteSource {
     fn failed(&self) -> bool
         ensures { result ≡ has_failed self.now };
 
-    /// Returns the buffered octets that are next; none after a failure.
+    /// Returns the buffered octets that are next; none after a failure. `read_next_record` copies a record from them without a read.
     fn buffered_octets(&self) -> &[u8]
         ensures lent { result.now ≡ at_hand self.now }
         ensures sound { 0 < length result.now → has_failed self.now ≡ false };
 
-    /// Drops the first `count` buffered octets.
+    /// Drops the first `count` buffered octets. `read_next_record` calls it for the octets that it has copied.
     fn consume(&mut self, count: usize)
         requires { count ≤ length (at_hand self.old) }
         ensures bytes { Consumes (remaining self.old) (remaining self.new) (take count (at_hand self.old)) }

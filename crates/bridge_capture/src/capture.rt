@@ -11,7 +11,7 @@ use bridge_limits::{END_OF_TIME, MAX_CAPTURED_OCTETS};
 use std::alloc::Allocator;
 use std::marker::Model;
 
-/// Capture that is being read. It stores no source: each call needs the source of `begin`, unchanged in between.
+/// Capture that is being read. It stores no source: each call needs the source that `begin` read, and nothing else may read from it.
 #[derive(Drop)]
 pub struct Capture {
     /// Byte order and time unit.

@@ -1,7 +1,7 @@
 //! Reasons why a capture is refused.
 use thiserror::Error;
 
-/// Reason why the program can't read or write a capture. A number is the number of the record, from 1.
+/// Reason why the program can't read or write a capture. The number in a variant is the number of the record, from 1.
 #[derive(Clone, Copy, Debug, PartialEq, Eq, Error)]
 pub enum CaptureFault {
     /// The first four octets are none of the four magic numbers.

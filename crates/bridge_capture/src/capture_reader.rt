@@ -20,7 +20,7 @@ use std::alloc::Allocator;
 pub struct CaptureReader<A: Allocator + Copy> {
     /// Port of the capture.
     pub number: u8,
-    /// Capture after the frame ahead.
+    /// Capture, which has been read up to the end of the frame ahead.
     pub capture: Capture,
     /// Next frame; `None` at the capture's end.
     pub ahead: Option<Packet<A>>,
@@ -52,7 +52,8 @@ impl<A: Allocator + Copy> CaptureReader<A> {
         })
     }
 
-    /// Reads the next record. Its octets reuse the buffer `spare`.
+    /// Reads the next frame into `ahead`, with `spare` as the buffer of its octets. At the capture's end or at a fault, `ahead` becomes
+    /// `None`.
     #[inline(always)]
     pub fn read_ahead<R: ByteSource>(
         &mut self,
@@ -106,7 +107,8 @@ pub fn run_fault(port: u8, fault: CaptureFault) -> RunFault
     }
 }
 
-/// Reads the header and the first record of each capture, in the order of the ports. Stops at the first fault.
+/// Reads the header and the first record of each capture; `ports[i]` is the port of `sources[i]`. Returns the readers in this order, or the
+/// first fault.
 pub fn begin_readers<R: ByteSource, A: Allocator + Copy>(
     alloc: A,
     ports: &[u8],

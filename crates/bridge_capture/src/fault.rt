@@ -4,7 +4,7 @@ ghost use Rattle.std.specs.Prelude.{◌≡◌};
 use crate::capture_fault::CaptureFault;
 use thiserror::Error;
 
-/// Reason why a run stops. If memory for a capture or a writer runs out, it is `NoMemory`.
+/// Reason why a run stops. If memory for a capture or a writer runs out, the reason is `NoMemory`.
 #[derive(Clone, Copy, Debug, PartialEq, Eq, Error)]
 pub enum RunFault {
     /// The capture of a port was refused, or reading it failed.

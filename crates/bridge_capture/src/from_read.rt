@@ -25,7 +25,7 @@ impl<R: Read> FromRead<R> {
         }
     }
 
-    /// Returns the reader with its remaining octets. It doesn't show whether the source has failed.
+    /// Returns the reader, which has the remaining octets. The information whether the source has failed is lost.
     pub fn into_inner(self) -> R
         ensures { R.remaining result ≡ ⟦<FromRead<R> as ByteSource>⟧.remaining self }
     {

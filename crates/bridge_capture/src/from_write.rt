@@ -26,7 +26,7 @@ impl<W: Write> FromWrite<W> {
         }
     }
 
-    /// Returns the writer with its octets. It doesn't show whether the sink has failed.
+    /// Returns the writer, which has accepted the octets. The information whether the sink has failed is lost.
     pub fn into_inner(self) -> W
         ensures { W.contents result ≡ ⟦<FromWrite<W> as ByteSink>⟧.contents self }
     {

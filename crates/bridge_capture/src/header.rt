@@ -22,7 +22,7 @@ pub fn read_word(order: ByteOrder, octets: &[u8]) -> u32
     }
 }
 
-/// Reads a 16-bit number from the first two octets.
+/// Reads a 16-bit number from the first two octets. `parse_header` reads the version by it.
 fn read_short_word(order: ByteOrder, octets: &[u8]) -> u16
     requires { length octets.now ≡ 2 }
     ensures { result ≡ word16 order octets.now }
@@ -34,7 +34,8 @@ fn read_short_word(order: ByteOrder, octets: &[u8]) -> u16
     }
 }
 
-/// Returns the format for a magic number that was read as little-endian; `None` for an unknown number.
+/// Returns the format for a magic number that was read as little-endian; `None` for an unknown number. `parse_header` calls it first,
+/// because the format gives the order of all other numbers.
 fn format_by_magic(magic: u32) -> Option<CaptureFormat>
     ensures { result ≡ format_by_magic magic }
 {

@@ -18,7 +18,7 @@ fn is_blank(c: u8) -> bool
     matches!(c, b' ' | b'\t' | b'\r' | b'\n')
 }
 
-/// Returns the octet of two hexadecimal digits of either case; `None` if a character isn't a digit.
+/// Returns the octet of two hexadecimal digits of either case; `None` if a character isn't a digit. `parse_octets` calls it for each pair.
 fn parse_octet(high: u8, low: u8) -> Option<u8>
     ensures { result ≡ digits_octet high low }
 {

@@ -15,7 +15,7 @@ const HEADER_LEN: usize = 24;
 /// Length of a record's header in octets.
 const WORDS_LEN: usize = 16;
 
-/// Returns the length in octets of the first record, with its header.
+/// Returns the length in octets, with header, of the record at the front of `octets`; 16 if its header is incomplete. `hex_lines` calls it.
 fn record_len(octets: &[u8]) -> usize
     ensures words { 16 ≤ result }
     ensures whole { 16 ≤ length octets.now → result ≡ 16 + captured_length written_format octets.now }
@@ -36,7 +36,7 @@ fn hex_digit(n: u8) -> char
     char::from(if n < 10 { b'0' + n } else { b'a' + (n - 10) })
 }
 
-/// Adds the two digits of each octet, and a line feed.
+/// Appends the two digits of each octet, and a line feed, to `text`. `hex_lines` calls it for the header and for each record.
 fn push_line<A: Allocator>(text: &mut String<A>, octets: &[u8]) -> Result<(), AllocError>
     ensures { OnOk result (string_bytes text.new ≡ string_bytes text.old ++ hex_line octets.now) }
 {
@@ -47,8 +47,8 @@ fn push_line<A: Allocator>(text: &mut String<A>, octets: &[u8]) -> Result<(), Al
     text.push('\n')
 }
 
-/// Returns a written capture in lower-case hexadecimal: one line for the header, one line for each record. Allocates memory once.
-/// Other octets give a text without meaning.
+/// Returns a written capture in lower-case hexadecimal: one line for the header, one line for each record. Octets that aren't a written
+/// capture give a text without meaning. Allocates memory once.
 pub fn hex_lines<A: Allocator>(alloc: A, capture: &[u8]) -> Result<String<A>, NoMemory>
     ensures { IfOk result (λ text. (frames : List CapturedFrame) → All (λ frame. length frame.octets < 2 ^ 32) frames →
         capture.now ≡ written_text frames → string_bytes text ≡ hex_text frames) }

@@ -10,7 +10,7 @@ use bridge_limits::NoMemory;
 use std::alloc::Allocator;
 use std::io::Read;
 
-/// Number of octets per read.
+/// Largest number of octets that one read of the reader returns, if `new` makes the source.
 const MAX_READ: usize = 131_072;
 
 /// Reader as a source that reads blocks of 131,072 octets or of another width. Each error of the reader is permanent, even an
@@ -51,7 +51,7 @@ impl<R: Read + Drop, A: Allocator> ReadAhead<R, A> {
 }
 
 impl<R: Read, A: Allocator> ReadAhead<R, A> {
-    /// Reads if the buffer needs more octets than are in memory, or if the reader has failed.
+    /// Reads octets into `buf`, for `read`, if `buf` is longer than the octets that were read ahead, or if the reader has failed.
     #[cold]
     #[inline(never)]
     fn read_with_refill(&mut self, buf: &mut [u8]) -> Result<usize, Broken>

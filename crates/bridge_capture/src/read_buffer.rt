@@ -107,7 +107,8 @@ impl<A: Allocator> ReadBuffer<A> {
     }
 }
 
-/// Reads octets of the source over the old ones, and returns their number; 0 at the source's end.
+/// Reads octets of the source into `octets`, over the old ones, by one read. Returns their number; 0 at the source's end. `refill` calls
+/// it.
 fn overwrite_octets<R: ByteSource, A: Allocator>(
     source: &mut R,
     octets: &mut Vec<u8, A>,

@@ -78,7 +78,8 @@ fn parse_words(order: ByteOrder, unit: FractionUnit, octets: &[u8]) -> RecordHea
     }
 }
 
-/// Checks the header of record `number` after a record at time `earliest`, and returns its first fault.
+/// Checks the header of record `number` after a record at time `earliest`, and returns its first fault. `parse_buffered_header` and
+/// `read_unbuffered_record` call it.
 #[inline(always)]
 fn check_record_header(number: u32, earliest: u64, head: RecordHeader) -> Result<(), CaptureFault>
     ensures judged { let fault = record_header_fault (record { number = number; earliest = earliest })
@@ -101,7 +102,7 @@ fn check_record_header(number: u32, earliest: u64, head: RecordHeader) -> Result
     Ok(())
 }
 
-/// Reads `captured` octets of record `number` into a vector, and replaces its contents.
+/// Reads the `captured` octets of record `number` into the vector `octets`, which loses its old contents.
 #[inline(always)]
 fn read_octets<R: ByteSource, A: Allocator>(
     number: u32,
@@ -200,7 +201,7 @@ pub fn read_next_record<R: ByteSource, A: Allocator>(
     }))
 }
 
-/// Reads a record that isn't completely in memory, or that has a fault.
+/// Reads record `number` if it isn't completely in memory, or if it has a fault. `read_next_record` calls it, with its own parameters.
 #[cold]
 #[inline(never)]
 fn read_unbuffered_record<R: ByteSource, A: Allocator>(
@@ -219,7 +220,7 @@ fn read_unbuffered_record<R: ByteSource, A: Allocator>(
     ensures told { AgreesWithSource R.has_failed R.never_fails source.old source.new result }
 {
     if number > MAX_RECORDS {
-        // One octet already is too much, so it reads no more.
+        // One further octet already is too much, so the function reads at most one.
         let mut octet = [0u8; 1];
         return match fill_buffer(source, &mut octet) {
             Ok(count) if count > 0 => Err(CaptureFault::TooManyRecords),

@@ -68,7 +68,7 @@ impl<'a> SliceSource<'a> {
         SliceSource::with_limits(octets, None, 1)
     }
 
-    /// Makes a source with this allowance, which gives at most `step` octets per call. All other makers call it.
+    /// Makes a source with this allowance, which gives at most `step` octets per call. The other constructors call it.
     fn with_limits(octets: &'a [u8], allowance: Option<usize>, step: usize) -> SliceSource<'a>
         requires { 0 < step }
         ensures { result ≡ record {
@@ -106,7 +106,7 @@ impl<'a> ByteSource for SliceSource<'a> {
         ensures lasts { is_unfailing_source self.old ≡ true → is_unfailing_source self.new ≡ true }
         ensures stays { self.old.is_broken ≡ true → IsErr result }
 
-        // It fails only after its allowance, and subtracts the octets that it gives.
+        // The source fails only after its allowance, and subtracts the octets that it gives.
         ensures spent { OnErr result ((self.old.is_broken ≡ true) ⊎ (self.old.allowance ≡ Some 0)) }
         ensures dry { self.old.allowance ≡ Some 0 → 0 < length buf.old → IsErr result }
         ensures counted { IfOk result (λ n. self.new.allowance ≡ option_map (λ left. left - n) self.old.allowance) }

@@ -7,7 +7,8 @@ ghost use Rattle.bridge_capture.specs.TakenOctets.{TakesFewer};
 use crate::byte_sink::ByteSink;
 use crate::byte_source::{Broken, ByteSource};
 
-/// Fills the buffer, and returns the number of octets. It is less than the buffer's length only at the end of the source.
+/// Fills `buf` with octets of the source, and returns their number. The number is less than the buffer's length only at the end of the
+/// source.
 #[inline(always)]
 pub fn fill_buffer<R: ByteSource>(source: &mut R, buf: &mut [u8]) -> Result<usize, Broken>
     ensures count { IfOk result (λ n. n ≤ length buf.new) }
@@ -34,7 +35,7 @@ pub fn fill_buffer<R: ByteSource>(source: &mut R, buf: &mut [u8]) -> Result<usiz
     }
 }
 
-/// Fills the rest of a buffer by as many reads as needed, and returns the number of octets. Needed if the first read gave too few.
+/// Fills `buf` by as many reads as needed, and returns the number of octets. `fill_buffer` calls it if the first read gave too few octets.
 #[cold]
 #[inline(never)]
 fn fill_by_many_reads<R: ByteSource>(source: &mut R, buf: &mut [u8]) -> Result<usize, Broken>
@@ -60,7 +61,7 @@ fn fill_by_many_reads<R: ByteSource>(source: &mut R, buf: &mut [u8]) -> Result<u
     Ok(at)
 }
 
-/// Writes all octets. If the sink fails, it has a prefix of them.
+/// Writes all octets by as many writes as needed. If the sink fails, it has accepted a prefix of `octets`.
 #[inline(always)]
 pub fn write_all<W: ByteSink>(sink: &mut W, octets: &[u8]) -> Result<(), Broken>
     ensures all { OnOk result (Appends (W.contents sink.old) (W.contents sink.new) octets.now) }
@@ -86,7 +87,8 @@ pub fn write_all<W: ByteSink>(sink: &mut W, octets: &[u8]) -> Result<(), Broken>
     }
 }
 
-/// Writes all octets by as many writes as needed. If the sink fails, returns how many octets it accepted.
+/// Writes all octets, by one write after the other until the sink has accepted all. If a write fails, returns how many octets the sink
+/// accepted before it. `write_all` calls it only if the first write left octets over.
 #[cold]
 #[inline(never)]
 pub fn write_by_many_writes<W: ByteSink>(sink: &mut W, octets: &[u8]) -> Result<(), usize>

@@ -75,7 +75,7 @@ impl<A: Allocator> VecSink<A> {
         VecSink::with_limits(alloc, None, 1)
     }
 
-    /// Makes an empty sink with this allowance, which accepts at most `step` octets per call. All other makers call it.
+    /// Makes an empty sink with this allowance, which accepts at most `step` octets per call. The other constructors call it.
     fn with_limits(alloc: A, allowance: Option<usize>, step: usize) -> VecSink<A>
         requires { 0 < step }
         ensures { result ≡ record {
@@ -129,7 +129,7 @@ impl<A: Allocator> ByteSink for VecSink<A> {
         ensures lasts { is_unfailing_sink self.old ≡ true → is_unfailing_sink self.new ≡ true }
         ensures stays { self.old.is_broken ≡ true → IsErr result }
 
-        // It fails only after its allowance, after an earlier failure, or if memory runs out. It subtracts the octets that it
+        // The sink fails only after its allowance, after an earlier failure, or if memory runs out. It subtracts the octets that it
         // accepts.
         ensures fault { OnErr result ((self.old.is_broken ≡ true) ⊎ (self.old.allowance ≡ Some 0)
             ⊎ (self.new.ran_out ≡ true)) }

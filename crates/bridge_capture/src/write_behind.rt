@@ -70,7 +70,7 @@ impl<W: Write + Drop, A: Allocator> WriteBehind<W, A> {
         }
     }
 
-    /// Writes the first `count` octets held back. Octets that the writer doesn't accept stay.
+    /// Writes the first `count` octets held back. Octets that the writer doesn't accept stay. A failure is permanent.
     fn flush_octets(&mut self, count: usize) -> Result<(), Broken>
         requires { count ≤ self.old.held.count }
         ensures kept { Keeps (write_behind_contents W.contents self.old) (write_behind_contents W.contents self.new) }
@@ -94,7 +94,8 @@ impl<W: Write + Drop, A: Allocator> WriteBehind<W, A> {
         }
     }
 
-    /// Writes octets that exceed the buffer, or returns an error after a failure.
+    /// Writes octets held back to the writer, then holds back a prefix of `octets`, and returns its length. `write` calls it if the buffer
+    /// lacks capacity, or after a failure.
     #[cold]
     #[inline(never)]
     fn write_with_flush(&mut self, octets: &[u8]) -> Result<usize, Broken>

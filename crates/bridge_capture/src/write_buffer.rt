@@ -74,7 +74,8 @@ impl<A: Allocator> WriteBuffer<A> {
         self.octets.len() - self.count
     }
 
-    /// Whether `more` octets fit before a block must be written: the buffer has no whole block yet.
+    /// Whether the sink may add `more` octets before it writes a block: the buffer contains less than a block, and `more` is at most a
+    /// record's length.
     #[inline(always)]
     pub fn has_room(&self, more: usize) -> bool
         ensures { result ≡ true → more ≤ vec_len self.now.octets - self.now.count }
@@ -103,7 +104,7 @@ impl<A: Allocator> WriteBuffer<A> {
         self.count = to;
     }
 
-    /// Adds the octets of two numbers, little-endian, then `octets`. They must fit.
+    /// Adds `first` and `second`, each as eight little-endian octets, then `octets`. The buffer must have capacity for all.
     #[inline(always)]
     pub fn put_record(&mut self, first: u64, second: u64, octets: &[u8])
         requires { 16 + length octets.now ≤ vec_len self.old.octets - self.old.count }
@@ -136,7 +137,8 @@ impl<A: Allocator> WriteBuffer<A> {
     }
 }
 
-/// Fills the place of a record with the octets of two numbers, little-endian, then `octets`.
+/// Fills `place` with `first` and `second`, each as eight little-endian octets, then `octets`. `place` has exactly this length.
+/// `put_record` calls it.
 #[inline(always)]
 fn fill_record(place: &mut [u8], first: u64, second: u64, octets: &[u8])
     requires { length place.old ≡ 16 + length octets.now }

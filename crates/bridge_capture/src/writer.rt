@@ -10,11 +10,11 @@ use crate::capture_fault::CaptureFault;
 use crate::record::SNAP_LENGTH;
 use crate::transfer::write_all;
 
-/// Capture that is being written, little-endian with nanoseconds. It stores no sink: each call needs the sink of `begin`, unchanged
-/// in between.
+/// Capture that is being written, little-endian with nanoseconds. It stores no sink: each call needs the sink to which `begin` wrote, and
+/// nothing else may write to it.
 #[derive(Drop)]
 pub struct Writer {
-    /// Hidden, so that only `begin` makes a writer: the header is written first.
+    /// Private field, so that only `begin` makes a writer: the header is written first.
     begun: (),
 }
 
@@ -71,7 +71,7 @@ impl Writer {
     }
 }
 
-/// Writes a record's header, then its octets, for a sink that can't accept both at once.
+/// Writes a record's header, then its octets, for a sink that can't accept both at once. `Writer::put` calls it.
 #[cold]
 #[inline(never)]
 fn write_parts<W: ByteSink>(
@@ -97,8 +97,8 @@ fn write_parts<W: ByteSink>(
     }
 }
 
-/// Returns the four words of a record, two in each number: seconds and nanoseconds, captured length and original length.
-/// `ByteSink::write_words` takes them at once.
+/// Returns the four words of a record's header, two in each number: seconds and nanoseconds, captured length and original length.
+/// `Writer::put` passes them to `ByteSink::write_words`.
 #[inline(always)]
 fn record_word_pairs(done: u64, len: u32, captured: u32) -> (u64, u64)
     requires { done < 2 ^ 32 * 10 ^ 9 }
@@ -112,7 +112,7 @@ fn record_word_pairs(done: u64, len: u32, captured: u32) -> (u64, u64)
     )
 }
 
-/// Returns the four words of a record as octets, for a sink that doesn't take them as numbers.
+/// Returns the four words of a record's header as octets. `Writer::put` writes them if `ByteSink::write_words` wrote nothing.
 #[tactic(auto, unfolding(crate::specs::WrittenCapture::written_words))]
 fn record_words(done: u64, len: u32, captured: u32) -> [u8; 16]
     requires { done < 2 ^ 32 * 10 ^ 9 }

@@ -11,7 +11,7 @@ use Rattle.bridge_check.specs.declared.check_fault.CheckFault.TheVariants as fau
 use Rattle.bridge_check.specs.Reach.{reaches_queue}
 use Rattle.bridge_check.specs.Windows.{port_shared_phase, can_ever_fit}
 
--- Returns the fault `e` if the test result is false, and `None` if the test result is true.
+-- The fault `e` if the test result is false; `None` if it is true.
 abbrev pub fault_unless : Bool → CheckFault → Option CheckFault
 fault_unless true e = None
 fault_unless false e = Some e

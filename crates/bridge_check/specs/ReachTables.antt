@@ -15,7 +15,7 @@ use Rattle.bridge_check.specs.declared.reaches.FilterReach.{FilterReach}
 use Rattle.bridge_check.specs.Reach.{reaches_port, reaches_priority, reaches_queue, some_number_passes}
 use Rattle.bridge_check.specs.Faults.{has_catch_all, other_in_queue, outsider_in_queue, is_in_group, queue_group, shared_phase_if_port, can_never_fit, fault_unless, first_fault_in_reach, wildcard_fault, max_sdu_fault, gate_fault, meter_fault, catch_all_fault, window_fault, size_fault}
 
--- The results of `test` for the numbers 0 to `n` - 1, in rising order.
+-- The results of `test` for the numbers 0 to `n` - 1, in rising order: a table of flags by port or by priority.
 abbrev pub test_results : ℕ → (ℕ → Bool) → List Bool
 test_results zero test = []
 test_results (suc n) test = test_results n test ++ test n ∷ []
@@ -36,18 +36,20 @@ has_queue r q classes c = slice_index_or r.ports (q - 1) false && has_class r.pr
 abbrev pub all_reaches : {A : Type 0} → Plan A → List (ℕ × FilterPlan) → List FilterReach
 all_reaches p filters = map (λ f. record { number = f.0; group = f.1.group; reach = filter_reach p f.1 }) filters
 
--- True if filter `r` may not share a queue with filter `n`: it has another number, or it is outside the given group.
+-- True if filter `r` may not share a queue with filter `n`: with a group, if `r` is outside the group; without a group,
+-- if `r` is another filter than `n`.
 abbrev pub is_outsider : Option ℕ → ℕ → FilterReach → Bool
 is_outsider None n r = not (nat_eq r.number n)
 is_outsider (Some k) n r = not (is_in_group k r.group)
 
--- The lowest number of an outsider whose reach has class `c` at port `q`, or `None`.
+-- The lowest number of a listed filter that can reach class `c` at port `q` and may not share this queue with filter
+-- `n`; `None` if there is none.
 abbrev pub least_outsider : List FilterReach → Option ℕ → ℕ → ℕ → List ℕ → ℕ → Option ℕ
 least_outsider [] group n q classes c = None
 least_outsider (r ∷ rs) group n q classes c = if is_outsider group n r && has_queue r.reach q classes c then lesser_number (Some r.number) (least_outsider rs group n q classes c) else least_outsider rs group n q classes c
 
--- The lowest number of a filter that can reach class `c` at port `q` but may not: of another filter, or of a filter
--- outside the given group.
+-- The lowest number of a filter that can reach class `c` at port `q`, or `None`: of a filter outside the group, or
+-- without a group, of any filter other than `n`.
 abbrev pub other_or_outsider : {A : Type 0} → Plan A → Option ℕ → ℕ → ℕ → ℕ → Option ℕ
 other_or_outsider p None n q c = other_in_queue p p.filters n q c
 other_or_outsider p (Some k) n q c = outsider_in_queue p p.filters k q c

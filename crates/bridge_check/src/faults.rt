@@ -29,8 +29,8 @@ fn push_failing<A: Allocator>(
     Ok(())
 }
 
-/// Appends the faults of filter `number` to `faults`, if the filter is protected or grouped. `reaches` and `catches` were computed once
-/// for the plan.
+/// Appends the faults of filter `number` to `faults`, if the filter is protected or grouped. `reaches` has every filter's reach; `catches`
+/// is true if the plan has a catch-all filter.
 fn push_filter_faults<A: Allocator + Copy>(
     faults: &mut Vec<CheckFault, A>,
     plan: &Plan<A>,

@@ -288,7 +288,7 @@ impl<'a, A: Allocator + Copy> FilterCase<'a, A> {
     }
 }
 
-/// Returns `fault` if a test fails, otherwise `None`.
+/// Returns `None` if a filter passes a test, otherwise `fault`. `run_tests` calls it.
 fn fault_unless(passes: bool, fault: CheckFault) -> Option<CheckFault>
     ensures { result ≡ spec.fault_unless passes fault }
 {
@@ -337,8 +337,8 @@ impl<'a, A: Allocator + Copy> FilterCase<'a, A> {
     }
 }
 
-/// Returns the results of the eight tests of filter `number`, in order; `None` for a passed test. `reaches` and `catches` were computed
-/// once for the plan.
+/// Returns the results of the eight tests of filter `number`, in order; `None` for a passed test. `reaches` has every filter's reach;
+/// `catches` is true if the plan has a catch-all filter.
 pub(crate) fn test_filter<A: Allocator + Copy>(
     plan: &Plan<A>,
     reaches: &[FilterReach],

@@ -57,7 +57,8 @@ fn destination_ports<A: Allocator + Copy>(plan: &Plan<A>, handle: u32) -> [bool;
     ports
 }
 
-/// Whether `entry` is open and can give a frame priority `k`. `priority` is the filter's priority.
+/// Whether `entry` is open and can give a frame priority `k`: by its internal priority value, or without one by the filter's `priority`. If
+/// both are missing, it can give each.
 fn gives_priority(entry: &GateEntry, priority: Option<u8>, k: u8) -> bool
     ensures { result ≡ spec.gives_priority entry.now priority k }
 {

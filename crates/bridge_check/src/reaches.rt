@@ -8,7 +8,7 @@ use crate::reach::{Reach, filter_reach};
 use bridge_config::Plan;
 use std::alloc::{AllocError, Allocator};
 
-/// Ports and priorities of a filter's frames, with what tells whether the filter may share a queue.
+/// Reach of a filter with its number and group. By these, `is_outsider` decides whether the filter may share a queue.
 #[derive(Clone, Copy)]
 pub(crate) struct FilterReach {
     /// Number of the filter.
@@ -42,7 +42,7 @@ pub(crate) fn all_reaches<A: Allocator + Copy>(
     Ok(reaches)
 }
 
-/// Returns the lower one of `number` and `least`; `number` if `least` is `None`.
+/// Returns the lower one of `number` and `least`; `number` if `least` is `None`. `least_outsider` searches with it.
 fn lesser_number(least: Option<u32>, number: u32) -> u32
     ensures { Some result ≡ lesser_number least (Some number) }
 {
@@ -72,8 +72,8 @@ fn is_outsider(group: Option<u32>, number: u32, other: &FilterReach) -> bool
     }
 }
 
-/// Returns the lowest number of an outsider that can reach class `class` at port `port`. Filter `number` shares queues with `group`;
-/// `classes` gives the class of each priority.
+/// Returns the lowest number of an outsider that can reach class `class` at port `port`; `None` if none can. Filter `number` shares queues
+/// with `group`; `classes` gives the class of each priority.
 pub(crate) fn least_outsider(
     reaches: &[FilterReach],
     group: Option<u32>,

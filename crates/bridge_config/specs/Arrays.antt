@@ -5,7 +5,7 @@ use Rattle.bridge_schema.specs.Readers.{are_tables}
 use Rattle.bridge_config.specs.declared.section_arrays.SectionArrays.{SectionArrays}
 use Rattle.bridge_config.specs.Document as doc
 
--- Sections that the code has read, in the form of the definitions.
+-- The sections of a plan that the code has read, in the type that definitions use.
 abbrev pub array_items : SectionArrays → doc.SectionItems
 array_items a = record {
   changes = items_view a.changes.now;

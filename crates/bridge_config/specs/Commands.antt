@@ -40,7 +40,8 @@ last_time t (c ∷ cs) = last_time c.at cs
 abbrev pub has_command_keys : Members → Bool
 has_command_keys members = has_known_keys (field.At ∷ field.Clear ∷ field.Number ∷ []) members
 
--- Reads a command. It must name an existing instance of the plan, and isn't earlier than the previous command.
+-- Reads a command. The command must name an existing instance of the plan, and may not be earlier than the previous
+-- command.
 unfoldable pub read_command : {A : Type 0} → Plan A → List Command → ℕ → Members → Result Command PlanFault
 read_command plan earlier index members =
     let at : Field → KeyLocation = λ key. record { section = section.Command; index = index; field = key } in do

@@ -37,7 +37,7 @@ pub record SectionItems : Type 0 where
   pub meters : Items
   pub filters : Items
 
--- First pass: reads the sections as arrays of tables.
+-- Reads the sections as arrays of tables, or returns the first fault. Instances are read later.
 unfoldable pub read_arrays : Members → Result SectionItems PlanFault
 read_arrays members = do
   keys ← provided (has_only_sections plan_sections members) (fault.UnknownKey section.Top 0)
@@ -62,11 +62,12 @@ abbrev pub item_change : Option Data → Result (Option ℕ) PlanFault
 item_change (Some (table ms)) = read_change_time 1 ms >>= λ moment. Ok (Some moment)
 item_change _ = Ok None
 
--- Time of the plan's schedule change, if it has one. The limit of the section is one.
+-- Time of the plan's schedule change; `None` if the plan has no change. The section has at most one item.
 unfoldable pub read_change : Items → Result (Option ℕ) PlanFault
 read_change items = item_change (first_item items)
 
--- Gates, meters and filters. Lists depend on the schedule change, and filters on the gates and meters.
+-- Reads the stream gates, meters and filters. Lists of gates depend on the schedule change, and filters on the gates
+-- and meters.
 unfoldable pub read_policing : {A : Type 0} → Option ℕ → SectionItems → Result (Policing A) PlanFault
 read_policing change arrays = do
   gates ← instances (read_gate change) arrays.gates
@@ -74,7 +75,7 @@ read_policing change arrays = do
   filters ← instances (read_filter gates meters) arrays.filters
   Ok (record { gates = gates; meters = meters; filters = filters })
 
--- Second pass: reads the instances section by section. Each section depends on earlier sections.
+-- Reads the instances section by section, after `read_arrays`. Each section depends on earlier sections.
 unfoldable pub read_plan : {A : Type 0} → SectionItems → Result (Plan A) PlanFault
 read_plan arrays = do
   change ← read_change arrays.changes

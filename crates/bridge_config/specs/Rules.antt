@@ -154,7 +154,8 @@ pub record IsPolicing {A : Type 0} (p : Policing A) : Type 0 where
   pub meters : AreMeters p.meters
   pub filters : AreFilters p.gates p.meters p.filters
 
--- Statement: The plan has 1 to 16 ports, no table has too many entries, and each section follows the rules below.
+-- Statement: The plan has 1 to 16 ports, no section has more instances than its limit, and each section follows its
+-- rules.
 pub record IsPlan {A : Type 0} (p : Plan A) : Type 0 where
   pub some_port : 0 < length p.ports
   pub few_ports : length p.ports ≤ 16

@@ -32,7 +32,8 @@ use Rattle.bridge_config.specs.Texts.{parse_ident_kind, parse_tag_kind, parse_aw
 use Rattle.bridge_config.specs.Rules.{has_port, has_vlan, has_static}
 use Rattle.bridge_config.specs.declared.ports.PortPlan.{PortPlan}
 
--- Ok if no earlier instance is equal, otherwise the fault Duplicate.
+-- Ok if the boolean is false, otherwise the fault Duplicate. True means that an earlier instance has equal identifying
+-- keys.
 abbrev pub no_duplicate : Section → ℕ → Bool → Result Bool PlanFault
 no_duplicate section index stands = provided (not stands) (fault.Duplicate section index)
 
@@ -55,7 +56,7 @@ read_list_parts section index base_key cycle_key entries_key entry members =
 abbrev pub checked_list : {S : Type 0} → Section → ℕ → ℕ → ℕ → List (S × ℕ) → Result (Cyclic S) PlanFault
 checked_list section index base cycle entries = elim (first_fault cycle entries) [ None ↦ Ok (record { base = base; cycle = cycle; entries = entries }) | Some e ↦ Err (fault.BadList section index e) ]
 
--- List made from its parts, if there are entries.
+-- List made from its parts, or its fault; `None` if there are no entries.
 abbrev pub optional_list : {S : Type 0} → Section → ℕ → ListParts (S × ℕ) → Result (Option (Cyclic S)) PlanFault
 optional_list section index parts = elim parts.entries [ None ↦ Ok None | Some entries ↦ checked_list section index parts.base parts.cycle entries >>= λ l. Ok (Some l) ]
 
@@ -93,7 +94,7 @@ read_port_parts index base_key cycle_key gates_key members =
 abbrev pub port_entry_keys : List Field
 port_entry_keys = field.Open ∷ field.Ns ∷ []
 
--- Keys of the list after the schedule change, if the plan has a schedule change.
+-- Keys of the list after the schedule change that the table may have; no keys if the plan has no schedule change.
 abbrev pub next_port_keys : Option ℕ → Members → List Field
 next_port_keys None _ = []
 next_port_keys (Some _) ms = field.NextGates ∷ keys_if_present field.NextGates (field.NextBase ∷ field.NextCycle ∷ []) ms
@@ -126,7 +127,7 @@ read_port_lists change index members = do
   new ← optional_list section.Port index next
   Ok (port_lists old change new)
 
--- Reads a port. `is_port` says whether an earlier port has a number.
+-- Reads a port. `is_port` is true for the numbers of the earlier ports: such a number is the fault Duplicate.
 unfoldable pub read_port_by_lookup : {A : Type 0} → Option ℕ → (ℕ → Bool) → ℕ → Members → Result (PortPlan A) PlanFault
 read_port_by_lookup change is_port index members =
     let at : Field → KeyLocation = λ key. record { section = section.Port; index = index; field = key } in do
@@ -184,7 +185,7 @@ read_static all vlans statics index members =
 abbrev pub has_stream_keys : Members → Bool
 has_stream_keys members = has_known_keys (field.Handle ∷ field.Port ∷ field.Kind ∷ field.Address ∷ field.Vid ∷ field.Tag ∷ []) members
 
--- Reads a stream identification. `is_port` says whether a port has a number.
+-- Reads a stream identification. `is_port` is true for the numbers of the plan's ports: any other port is Unresolved.
 unfoldable pub read_stream_by_lookup : (ℕ → Bool) → ℕ → Members → Result StreamEntry PlanFault
 read_stream_by_lookup is_port index members =
     let at : Field → KeyLocation = λ key. record { section = section.Stream; index = index; field = key } in do
@@ -217,7 +218,7 @@ abbrev pub read_gate_parts : ℕ → Field → Field → Field → Members → R
 read_gate_parts index base_key cycle_key entries_key members =
     read_list_parts section.Gate index base_key cycle_key entries_key (read_gate_entry (record { section = section.Gate; index = index; field = entries_key })) members
 
--- Keys of the list after the schedule change, if the plan has a schedule change.
+-- Keys of the list after the schedule change that the table may have; no keys if the plan has no schedule change.
 abbrev pub next_gate_keys : Option ℕ → Members → List Field
 next_gate_keys None _ = []
 next_gate_keys (Some _) ms = field.NextEntries ∷ keys_if_present field.NextEntries (field.NextBase ∷ field.NextCycle ∷ []) ms
@@ -254,7 +255,7 @@ read_gate_lists change index members = do
   new ← optional_list section.Gate index next
   Ok (gate_schedule old change new)
 
--- Lists of a gate, or a fixed state without a list.
+-- The lists of a stream gate; without a list, a fixed state with its internal priority value.
 abbrev pub schedule_or_fixed : {A : Type 0} → Bool → Option ℕ → Option (Schedule A) → Schedule A
 schedule_or_fixed lets ipv None = schedule.Fixed lets ipv
 schedule_or_fixed lets ipv (Some lists) = lists
@@ -304,7 +305,8 @@ has_filter_keys members =
     has_known_keys (field.Number ∷ field.Handle ∷ field.Priority ∷ field.Gate ∷ field.MaxSdu ∷ field.Meter ∷ field.BlockOversize ∷ field.Protected
     ∷ keys_if_absent field.Protected (field.Group ∷ []) members) members
 
--- Reads a filter with its number. The three tests say whether a gate, a meter or an earlier filter has a number.
+-- Reads a filter with its number. `is_gate`, `is_meter` and `is_filter` are true for the numbers of the plan's gates,
+-- its meters and the earlier filters.
 unfoldable pub read_filter_by_lookup : (ℕ → Bool) → (ℕ → Bool) → (ℕ → Bool) → ℕ → Members → Result (ℕ × FilterPlan) PlanFault
 read_filter_by_lookup is_gate is_meter is_filter index members =
     let at : Field → KeyLocation = λ key. record { section = section.Filter; index = index; field = key } in do

@@ -20,7 +20,7 @@ fn has_change_keys(table: &Table) -> bool
     has_allowed_keys(table, &CHANGE_KEYS, false)
 }
 
-/// Reads the time of the schedule change from a table.
+/// Reads the time of the schedule change from a table. A table with a key other than `at` is refused.
 #[tactic(auto, unfolding(crate::specs::Sections::read_change_time))]
 fn read_change_time(index: u32, table: &Table) -> Result<u64, PlanFault>
     ensures reads { MatchesReading result (sections.read_change_time index (table_view table.now)) }
@@ -38,7 +38,7 @@ fn read_change_time(index: u32, table: &Table) -> Result<u64, PlanFault>
     row.read_required(Field::At, &TIME)
 }
 
-/// Returns the first item; `None` without items. The section of the schedule change has at most one item.
+/// Returns the first item; `None` without items. The section of the schedule change has at most one item. `read_change` reads it.
 fn first_item(items: &[Value]) -> Option<&Value>
     ensures { option_map (λ v. view v.now) result ≡ doc.first_item (items_view items.now) }
 {

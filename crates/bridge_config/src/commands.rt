@@ -69,7 +69,7 @@ impl<'a, B: Allocator + Copy> NumberLookup for CommandTargets<'a, B> {
     }
 }
 
-/// Returns the time of the last command in ns, or 0 without commands. The next command may not be earlier.
+/// Returns the time of the last command in ns, or 0 without commands. The next command may not be earlier. `read_command` requires this.
 #[tactic(auto, using(crate::proofs::Commanded::last_some, crate::proofs::Commanded::last_none))]
 fn last_time(commands: &[Command]) -> u64
     ensures { result ≡ spec.last_time 0 commands.now }
@@ -87,7 +87,7 @@ fn has_command_keys(table: &Table) -> bool
     has_allowed_keys(table, &COMMAND_KEYS, false)
 }
 
-/// Reads the command in a table. It may not be earlier than the last of `commands`, and must name an instance of the plan.
+/// Reads the command in a table. The command may not be earlier than the last of `commands`, and must name an instance of the plan.
 fn read_command<B: Allocator + Copy>(
     plan: &Plan<B>,
     commands: &[Command],
@@ -153,7 +153,7 @@ impl<'a, A: Allocator + Copy, B: Allocator + Copy> SectionReader<A> for CommandS
     }
 }
 
-/// Returns the tables of a document of commands, which has no other section. Allocates no memory.
+/// Returns the `[[command]]` tables of a document, or the fault of a document with any other section. Allocates no memory.
 #[tactic(auto, unfolding(crate::specs::Document::command_items))]
 fn command_items<'a>(table: &'a Table) -> Result<&'a [Value], PlanFault>
     ensures reads { MatchesReadingView (λ x. items_view x.now) result (doc.command_items (table_view table.now)) }

@@ -26,8 +26,8 @@ fn has_filter_keys(table: &Table) -> bool
     has_allowed_keys(table, &FILTER_KEYS, false)
 }
 
-/// Reads a filter and its number. It must name a number in `gates`, may name one in `meters`, and has none of `filters`. `read_filter`
-/// passes the plan's instances.
+/// Reads a filter and its number, which must not be in `filters`. Its gate must be in `gates`, its optional meter in `meters`.
+/// `read_filter` passes the plan's instances.
 fn read_filter_by_lookup<G: NumberLookup + Copy, M: NumberLookup + Copy, F: NumberLookup + Copy>(
     gates: G,
     meters: M,
@@ -84,7 +84,8 @@ fn read_filter_by_lookup<G: NumberLookup + Copy, M: NumberLookup + Copy, F: Numb
     first.finish((number as u32, plan))
 }
 
-/// Reads a filter and its number, after the plan's gates and meters. `filters` are the filters before it; none may have its number.
+/// Reads a filter and its number. `gates` and `meters` are all stream gates and meters of the plan. `filters` are the earlier filters; none
+/// may have this number.
 fn read_filter<A: Allocator + Copy>(
     gates: &[(u32, GatePlan<A>)],
     meters: &[(u32, MeterPlan)],
@@ -104,7 +105,7 @@ fn read_filter<A: Allocator + Copy>(
     read_filter_by_lookup(gates, meters, filters, index, table)
 }
 
-/// Reads the section of filters, which name these stream gates and meters.
+/// Reads the section of filters. A filter may name only these stream gates and meters.
 #[derive(Clone, Copy)]
 struct FilterSection<'a, A: Allocator + Copy> {
     /// Stream gates that were read before.

@@ -9,10 +9,10 @@ ghost use Rattle.bridge_config.specs.FirstFaults.{EndsReading, Expects, TakesRea
 use bridge_schema::{Field, InstanceTable, PlanFault, ValueKind};
 use std::marker::Model;
 
-/// First fault so far, if any. Values read after a fault have no meaning.
+/// First fault so far of the table that is being read, if any. Values read after a fault have no meaning.
 #[derive(Drop)]
 pub(crate) struct FirstFault {
-    /// The fault; `None` while no read and no test failed.
+    /// The fault; `None` while each read and each rule succeeded.
     fault: Option<PlanFault>,
 }
 
@@ -26,7 +26,7 @@ impl Model for FirstFault {
 }
 
 impl FirstFault {
-    /// Starts with `fault` if the test fails, otherwise without a fault.
+    /// Starts with `fault` if `holds` is false, otherwise without a fault.
     pub fn begin(holds: bool, fault: PlanFault) -> FirstFault
         ensures { Expects None holds fault result }
     {
@@ -34,7 +34,7 @@ impl FirstFault {
         FirstFault { fault }
     }
 
-    /// Stores `fault` if the test fails and there is no earlier fault.
+    /// Stores `fault` if `holds` is false and there is no earlier fault.
     pub fn expect(&mut self, holds: bool, fault: PlanFault)
         ensures { Expects self.old holds fault self.new }
     {
@@ -43,7 +43,7 @@ impl FirstFault {
         }
     }
 
-    /// Returns the read value. If the read failed, stores its fault and returns `other`.
+    /// Returns the value of `read`. If `read` is a fault, stores it and returns `other`.
     pub fn value_or<T: Copy>(&mut self, read: Result<T, PlanFault>, other: T) -> T
         ensures { TakesRead self.old other read self.new result }
     {
@@ -110,7 +110,7 @@ impl FirstFault {
         self.value_or(row.read_or_default(default, key, kind), default)
     }
 
-    /// Returns the first fault so far; `None` without a fault. Lists of ports and gates are read only without a fault.
+    /// Returns the first fault so far; `None` without a fault. `take_port_lists` and `take_gate_lists` read lists only without a fault.
     pub fn fault(&self) -> Option<PlanFault>
         ensures { result ≡ self.now }
     {

@@ -28,7 +28,7 @@ use bridge_schema::{
 use std::alloc::Allocator;
 use toml::Table;
 
-/// Reads an entry of a stream gate's list, with its interval in ns.
+/// Reads an entry of a stream gate's list: state, internal priority value and octet limit, and the interval in ns.
 #[derive(Clone, Copy)]
 struct GateEntryReader {
     /// Location of the list, which faults of the entry name.
@@ -56,14 +56,15 @@ impl ListEntry for GateEntryReader {
     }
 }
 
-/// Whether a `[[gate]]` table has only allowed keys. Some keys need the schedule change at `change`.
+/// Whether a `[[gate]]` table has only allowed keys. Some keys need a schedule change: `change` is its time, or `None`.
 fn has_only_gate_keys(change: Option<u64>, table: &Table) -> bool
     ensures { result ≡ has_known_keys (sections.gate_keys change (table_view table.now)) (table_view table.now) }
 {
     has_allowed_keys(table, &GATE_KEYS, change.is_some())
 }
 
-/// Whether the entries of the list at `key` have only keys of a stream gate's entry. True if there is no array at `key`.
+/// Whether the entries of the list at `key` have only keys of a stream gate's entry. True if there is no array at `key`. `has_gate_keys`
+/// calls it for both lists.
 fn has_only_gate_entry_keys(key: Field, table: &Table) -> bool
     ensures { result ≡ has_known_entry_keys sections.gate_entry_keys (get_member (key_name key)
         (table_view table.now)) }
@@ -80,7 +81,8 @@ fn has_gate_keys(change: Option<u64>, table: &Table) -> bool
         && has_only_gate_entry_keys(Field::NextEntries, table)
 }
 
-/// Reads the parts of a stream gate's list from three keys: its first list, or its list after the schedule change.
+/// Reads the parts of one of a stream gate's two lists. `keys` are the keys of the first list, or of the list after the schedule change.
+/// `read_gate_lists` calls it for each list.
 fn read_gate_parts<A: Allocator + Copy>(
     alloc: A,
     index: u32,
@@ -109,7 +111,8 @@ fn read_gate_parts<A: Allocator + Copy>(
     )
 }
 
-/// Returns the schedule of a stream gate with lists; `None` if it has no first list. `change` is the time of the schedule change in ns.
+/// Returns the schedule of a stream gate: its first list, and the new list from time `change` in ns if both exist. `None` without a first
+/// list.
 fn gate_schedule<A: Allocator + Copy>(
     old: Option<CyclicList<GateEntry, A>>,
     change: Option<u64>,
@@ -134,7 +137,8 @@ fn gate_schedule<A: Allocator + Copy>(
     }
 }
 
-/// Reads the lists of a stream gate; `None` if it has no list. `change` is the time of the schedule change in ns.
+/// Reads the lists of a stream gate; `None` if it has no list. `change` is the time of the schedule change in ns. `take_gate_lists` calls
+/// it.
 fn read_gate_lists<A: Allocator + Copy>(
     alloc: A,
     change: Option<u64>,
@@ -153,7 +157,8 @@ fn read_gate_lists<A: Allocator + Copy>(
     Ok(gate_schedule(old, change, new))
 }
 
-/// Reads the lists of a stream gate. Returns `None` without a list, after an earlier fault, or if reading fails; then it stores the fault.
+/// Reads the lists of a stream gate. Returns `None` without a list, and after an earlier fault. If reading fails, stores the fault and
+/// returns `None`.
 fn take_gate_lists<A: Allocator + Copy>(
     first: &mut FirstFault,
     alloc: A,
@@ -179,7 +184,8 @@ fn take_gate_lists<A: Allocator + Copy>(
     }
 }
 
-/// Reads the state of a stream gate without a list. Returns false for a gate with a list, or if reading fails; then stores the fault.
+/// Reads the state of a stream gate without a list: true if it is open. Returns false for a gate with a list. If reading fails, stores the
+/// fault and returns false. `read_gate` calls it.
 fn take_fixed_state(first: &mut FirstFault, row: InstanceTable<'_>) -> bool
     ensures { TakesRead first.old false (read_if_absent the_field.Entries false
         (read_required (key_location row.entry the_field.State)
@@ -195,7 +201,7 @@ fn take_fixed_state(first: &mut FirstFault, row: InstanceTable<'_>) -> bool
     first.value_or(state, false)
 }
 
-/// Returns the lists, or without a list a fixed state: `lets` if frames pass, with the internal priority value `ipv`.
+/// Returns `lists`. For `None`, returns a fixed state: frames pass if `lets` is true, with the internal priority value `ipv`.
 fn schedule_or_fixed<A: Allocator + Copy>(
     lets: bool,
     ipv: Option<u8>,
@@ -256,7 +262,7 @@ fn read_gate<A: Allocator + Copy>(
 /// Reads the section of stream gates. `change` is the time of the schedule change in ns; `None` without a change.
 #[derive(Clone, Copy)]
 pub(crate) struct GateSection {
-    /// Time of the plan's schedule change in ns.
+    /// Time of the plan's schedule change in ns; `None` without a change.
     pub change: Option<u64>,
 }
 

@@ -1,4 +1,4 @@
-//! Lists of ports and gates.
+//! Gate control lists of ports and stream gates, as read from the tables of a plan.
 ghost use Rattle.std.specs.Prelude.{◌≡◌, ◌<◌, All, IfOk, option_map};
 ghost use Rattle.std.specs.Option.{ForSome};
 ghost use Rattle.toml.specs.View.{table_view};
@@ -26,7 +26,7 @@ pub(crate) struct ListParts<X, A: Allocator + Copy> {
     pub entries: Option<Vec<X, A>>,
 }
 
-/// Reads the parts of a list from three keys of a table. `entry` reads each entry, for a port or for a stream gate.
+/// Reads the parts of a list from three keys of a table. `entry` reads each entry, of a port's list or of a stream gate's list.
 #[tactic(auto, unfolding(crate::specs::Sections::read_list_parts))]
 pub(crate) fn read_list_parts<A: Allocator + Copy, E: ListEntry>(
     alloc: A,
@@ -64,7 +64,7 @@ where
     })
 }
 
-/// Makes a list from its parts; `None` without entries. If the parts break a rule of lists, the fault is `BadList`.
+/// Makes a gate control list from its parts; `None` without entries. If the parts break a rule of lists, the fault is `BadList`.
 pub(crate) fn optional_list<S: Copy, A: Allocator + Copy>(
     alloc: A,
     section: Section,

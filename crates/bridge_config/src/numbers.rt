@@ -18,7 +18,7 @@ pub(crate) fn has_number<X>(instances: &[(u32, X)], number: u64) -> bool
     false
 }
 
-/// Numbers of a section's instances. Readers look up numbers in it that other sections name, or that must be new.
+/// Numbers of a section's instances. Readers look up a number that must exist because a key names it, or that must be new.
 pub(crate) struct InstanceNumbers<'a, X> {
     /// Instances with their numbers.
     pub instances: &'a [(u32, X)],
@@ -44,7 +44,8 @@ impl<'a, X> NumberLookup for InstanceNumbers<'a, X> {
     }
 }
 
-/// Converts an optional number to 32 bits. The number's range was tested when its key was read.
+/// Converts an optional number to 32 bits, which plans store; readers of keys return 64 bits. The number's range was tested when its key
+/// was read.
 pub(crate) fn optional_u32(number: Option<u64>) -> Option<u32>
     requires { ForSome number (λ n. n ≤ u32.MAX) }
     ensures { result ≡ number }

@@ -32,7 +32,7 @@ use std::alloc::{Allocator, Global};
 use std::marker::Model;
 use toml::Table;
 
-/// Plan of a bridge. Only `plan_of` makes plans, and each plan follows the rules of plans.
+/// Plan of a bridge. Only `plan_of` makes plans, and each plan follows the rules of `IsPlan`.
 #[derive(Drop)]
 pub struct Plan<A: Allocator + Copy> {
     /// Ports, in file order.
@@ -158,7 +158,7 @@ impl<A: Allocator + Copy> Plan<A> {
 
     /// Returns the egress ports of a frame to `da` in VLAN `vid` that arrived on `port` (IEEE 802.1Q-2018, 8.6.2 to 8.6.4).
     ///
-    /// The call takes two look-ups and no memory.
+    /// The call makes two look-ups in tables, and allocates no memory.
     #[inline(always)]
     pub fn forward(&self, port: u8, vid: u16, da: &[u8; 6]) -> PortSet
         requires from { 1 ≤ port }
@@ -240,7 +240,7 @@ impl<A: Allocator + Copy> Model for Policing<A> {
     }) };
 }
 
-/// Reads the gates and meters, then the filters, which name them. `change` is the time of the schedule change in ns.
+/// Reads the stream gates and meters, then the filters, which name them. `change` is the time of the schedule change in ns, or `None`.
 #[tactic(auto, unfolding(crate::specs::Document::read_policing))]
 fn read_policing<A: Allocator + Copy>(
     alloc: A,
@@ -261,7 +261,8 @@ fn read_policing<A: Allocator + Copy>(
     })
 }
 
-/// Reads a plan from the arrays of its sections, or returns the first fault. Later sections name instances of earlier sections.
+/// Reads a plan from the arrays of its sections, or returns the first fault. Earlier sections come first, because later sections name their
+/// instances.
 #[tactic(auto, unfolding(crate::specs::Document::read_plan))]
 fn read_plan<A: Allocator + Copy>(alloc: A, arrays: SectionArrays<'_>) -> Result<Plan<A>, PlanFault>
     requires { AreWithinLimits arrays }

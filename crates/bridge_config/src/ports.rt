@@ -70,14 +70,15 @@ impl ListEntry for PortEntryReader {
     }
 }
 
-/// Whether a `[[port]]` table has only allowed keys. Some keys need the schedule change at `change`.
+/// Whether a `[[port]]` table has only allowed keys. Some keys need a schedule change: `change` is its time, or `None`.
 fn has_only_port_keys(change: Option<u64>, table: &Table) -> bool
     ensures { result ≡ has_known_keys (sections.port_keys change (table_view table.now)) (table_view table.now) }
 {
     has_allowed_keys(table, &PORT_KEYS, change.is_some())
 }
 
-/// Whether the entries of the list at `key` have only keys of a port's entry. True if there is no array at `key`.
+/// Whether the entries of the list at `key` have only keys of a port's entry. True if there is no array at `key`. `has_port_keys` calls it
+/// for both lists.
 fn has_only_port_entry_keys(key: Field, table: &Table) -> bool
     ensures { result ≡ has_known_entry_keys sections.port_entry_keys (get_member (key_name key)
         (table_view table.now)) }
@@ -101,7 +102,7 @@ pub(crate) fn has_port<A: Allocator + Copy>(ports: &[PortPlan<A>], number: u64) 
     ports.iter().any(|p| p.number as u64 == number)
 }
 
-/// Numbers of a plan's ports. Readers look up numbers in it that streams name, or that must be new.
+/// Numbers of a plan's ports. Readers look up a number that must exist because a stream names it, or that must be new.
 #[derive(Clone, Copy)]
 pub(crate) struct PortNumbers<'a, A: Allocator + Copy> {
     /// The ports.
@@ -116,7 +117,8 @@ impl<'a, A: Allocator + Copy> NumberLookup for PortNumbers<'a, A> {
     }
 }
 
-/// Reads the parts of a port's list from three keys: its first list, or its list after the schedule change.
+/// Reads the parts of one of a port's two lists. `keys` are the keys of the first list, or of the list after the schedule change.
+/// `read_port_lists` calls it for each list.
 fn read_port_parts<A: Allocator + Copy>(
     alloc: A,
     index: u32,
@@ -144,7 +146,8 @@ fn read_port_parts<A: Allocator + Copy>(
     )
 }
 
-/// Returns the gate control lists of a port; `None` if it has no first list. `change` is the time of the schedule change in ns.
+/// Returns the gate control lists of a port: its first list, and the new list from time `change` in ns if both exist. `None` without a
+/// first list.
 fn port_lists<A: Allocator + Copy>(
     old: Option<CyclicList<u8, A>>,
     change: Option<u64>,
@@ -168,7 +171,8 @@ fn port_lists<A: Allocator + Copy>(
     }
 }
 
-/// Reads the gate control lists of a port; `None` if it has no list. `change` is the time of the schedule change in ns.
+/// Reads the gate control lists of a port; `None` if it has no list. `change` is the time of the schedule change in ns. `take_port_lists`
+/// calls it.
 fn read_port_lists<A: Allocator + Copy>(
     alloc: A,
     change: Option<u64>,
@@ -186,8 +190,8 @@ fn read_port_lists<A: Allocator + Copy>(
     Ok(port_lists(old, change, new))
 }
 
-/// Reads the gate control lists of a port. Returns `None` without a list, after an earlier fault, or if reading fails; then it stores the
-/// fault.
+/// Reads the gate control lists of a port. Returns `None` without a list, and after an earlier fault. If reading fails, stores the fault
+/// and returns `None`.
 fn take_port_lists<A: Allocator + Copy>(
     first: &mut FirstFault,
     alloc: A,
@@ -212,7 +216,8 @@ fn take_port_lists<A: Allocator + Copy>(
     }
 }
 
-/// Reads a port whose number isn't in `ports`; `read_port` passes the ports before it. `change` is the time of the schedule change in ns.
+/// Reads a port, whose number must not be in `ports`. `read_port` passes the earlier ports. `change` is the time of the schedule change in
+/// ns.
 fn read_port_by_lookup<A: Allocator + Copy, P: NumberLookup + Copy>(
     alloc: A,
     change: Option<u64>,
@@ -275,7 +280,7 @@ fn read_port<A: Allocator + Copy>(
 /// Reads the section of ports. `change` is the time of the schedule change in ns; `None` without a change.
 #[derive(Clone, Copy)]
 pub(crate) struct PortSection {
-    /// Time of the plan's schedule change in ns.
+    /// Time of the plan's schedule change in ns; `None` without a change.
     pub change: Option<u64>,
 }
 

@@ -34,7 +34,7 @@ pub(crate) struct SectionArrays<'a> {
     pub filters: &'a [Value],
 }
 
-/// Reads the items of a section. If that fails, stores the fault and returns no items.
+/// Reads the items of a section. If that fails, stores the fault and returns no items. `read_arrays` calls it for each section.
 fn take_section_items<'a>(first: &mut FirstFault, section: Section, table: &'a Table) -> &'a [Value]
     ensures takes { TakesRead first.old no_items (doc.section_items section (table_view table.now)) first.new
         (items_view result.now) }
@@ -44,7 +44,8 @@ fn take_section_items<'a>(first: &mut FirstFault, section: Section, table: &'a T
     first.value_or(section_items(section, table), &[])
 }
 
-/// Reads the tables of all sections of a plan, or returns the first fault of a section. Allocates no memory.
+/// Reads the tables of all sections of a plan, or returns the first fault of a section. Allocates no memory. `plan_of` then reads the
+/// instances from them.
 pub(crate) fn read_arrays<'a>(table: &'a Table) -> Result<SectionArrays<'a>, PlanFault>
     ensures reads { MatchesReadingView array_items result (doc.read_arrays (table_view table.now)) }
     ensures few { IfOk result AreWithinLimits }

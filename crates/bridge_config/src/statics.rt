@@ -1,5 +1,5 @@
 //! Static filtering entries of a plan.
-ghost use Rattle.std.specs.Prelude.{◌≡◌, ◌&&◌, nat_eq, IfOk, false};
+ghost use Rattle.std.specs.Prelude.{◌≡◌, ◌≤◌, ◌+◌, ◌&&◌, ◌||◌, nat_eq, IfOk, drop, false, length};
 ghost use Rattle.std.specs.Str.{bytes_eq};
 ghost use Rattle.toml.specs.View.{table_view};
 ghost use Rattle.bridge_schema.specs.Readers.{MatchesReading};
@@ -16,24 +16,53 @@ use bridge_schema::{
 use std::alloc::Allocator;
 use toml::Table;
 
-/// Whether an entry has this VLAN and this address. The last two octets are compared first because they differ most often.
+/// Whether an entry has this VLAN and this address. The last octet is compared first because it differs most often.
 #[inline(always)]
 fn has_vlan_and_address(entry: &StaticEntry, vid: u64, address: &[u8; 6]) -> bool
     ensures { result ≡ (nat_eq entry.now.vid vid && bytes_eq entry.now.address address.now) }
 {
-    if entry.address[4] != address[4] || entry.address[5] != address[5] {
+    if entry.address[5] != address[5] || entry.address[4] != address[4] {
         return false;
     }
     entry.vid as u64 == vid && entry.address == *address
 }
 
-/// Whether one of the entries has this VLAN and this address.
-fn has_static(statics: &[StaticEntry], vid: u64, address: &[u8; 6]) -> bool
+/// Whether one of the entries has this VLAN and this address. `has_static` calls it for the entries after its last turn.
+fn has_static_among(statics: &[StaticEntry], vid: u64, address: &[u8; 6]) -> bool
     ensures { result ≡ rules.has_static statics.now vid address.now }
 {
     statics
         .iter()
         .any(|s| has_vlan_and_address(s, vid, address))
+}
+
+/// Whether one of the four entries from index `place` on has this VLAN and this address.
+#[inline(always)]
+fn has_static_in_four(statics: &[StaticEntry], place: usize, vid: u64, address: &[u8; 6]) -> bool
+    requires { place + 4 ≤ length statics.now }
+    ensures { rules.has_static (drop place statics.now) vid address.now
+        ≡ result || rules.has_static (drop (place + 4) statics.now) vid address.now }
+{
+    let one = has_vlan_and_address(&statics[place], vid, address);
+    let two = has_vlan_and_address(&statics[place + 1], vid, address);
+    let three = has_vlan_and_address(&statics[place + 2], vid, address);
+    let four = has_vlan_and_address(&statics[place + 3], vid, address);
+    one | two | three | four
+}
+
+/// Whether one of the entries has this VLAN and this address. The plan's reader compares each entry with all before it, so a turn of the
+/// loop compares four.
+fn has_static(statics: &[StaticEntry], vid: u64, address: &[u8; 6]) -> bool
+    ensures { result ≡ rules.has_static statics.now vid address.now }
+{
+    let mut place = 0;
+    while statics.len() - place >= 4 {
+        if has_static_in_four(statics, place, vid, address) {
+            return true;
+        }
+        place += 4;
+    }
+    has_static_among(&statics[place..], vid, address)
 }
 
 /// Whether a `[[static]]` table has only keys of a static entry; otherwise its fault is `UnknownKey`.

@@ -109,7 +109,7 @@ fn read_stream_by_lookup<P: NumberLookup + Copy>(
     })
 }
 
-/// Reads a stream identification, whose port must be one of `ports`. It doesn't depend on the entries before it.
+/// Reads a stream identification, whose port must be one of `ports`. The earlier identifications have no influence on it.
 fn read_stream<A: Allocator + Copy>(
     ports: &[PortPlan<A>],
     earlier: &[StreamEntry],
@@ -122,7 +122,7 @@ fn read_stream<A: Allocator + Copy>(
     read_stream_by_lookup(PortNumbers { ports }, index, table)
 }
 
-/// Reads the section of stream identifications, which name these ports.
+/// Reads the section of stream identifications. An identification may name only these ports.
 #[derive(Clone, Copy)]
 pub(crate) struct StreamSection<'a, A: Allocator + Copy> {
     /// Ports that were read before.

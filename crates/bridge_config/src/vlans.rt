@@ -43,7 +43,8 @@ fn has_vlan_keys(table: &Table) -> bool
     has_allowed_keys(table, &VLAN_KEYS, false)
 }
 
-/// Reads a VLAN, whose identifier none of the VLANs before it may have. `all` is the set of the plan's ports.
+/// Reads a VLAN. None of `vlans`, the earlier VLANs, may have its identifier. `all` is the set of the plan's ports, which members must
+/// belong to.
 fn read_vlan(all: u16, vlans: &[Vlan], index: u32, table: &Table) -> Result<Vlan, PlanFault>
     ensures reads { MatchesReading result (sections.read_vlan all vlans.now index (table_view table.now)) }
     ensures own { IfOk result (λ v. rules.has_vlan vlans.now v.vid ≡ false) }

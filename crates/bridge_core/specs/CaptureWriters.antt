@@ -48,7 +48,8 @@ pub record AreWrittenExceptOne {W : Type 0} (contents : W → Option (List ℕ))
   pub others : (i q : ℕ) (old new : W) → slice_get ports i ≡ Some q → q ≢ port → slice_get olds i ≡ Some old → slice_get news i ≡ Some new → Appends (contents old) (contents new) (written_text (left q))
   pub broken : (i : ℕ) (old new : W) → slice_get ports i ≡ Some port → slice_get olds i ≡ Some old → slice_get news i ≡ Some new → AppendsPrefix (contents old) (contents new) (written_text (left port))
 
--- Holds if the sinks before the sink of port `port` have headers. Its sink failed with a prefix of a header, and later sinks are unchanged.
+-- Holds if the sink of port `port` failed with a prefix of a header. The sinks before it have whole headers, and later
+-- sinks are unchanged.
 pub record StopsAtHeader {W : Type 0} (contents : W → Option (List ℕ)) (has_failed : W → Bool) (ports : List ℕ) (port : ℕ) (olds news : List W) : Type 0 where
   pub place : ℕ
   pub there : slice_get ports place ≡ Some port
@@ -57,7 +58,7 @@ pub record StopsAtHeader {W : Type 0} (contents : W → Option (List ℕ)) (has_
   pub failed : (w : W) → slice_get news place ≡ Some w → has_failed w ≡ true
   pub behind : (i : ℕ) → place < i → slice_get news i ≡ slice_get olds i
 
--- Holds if `fault` is a write fault of a port at whose header the sinks stopped.
+-- Holds if the fault is a write fault of a port, and writing headers stopped at this port's sink.
 abbrev pub StopsAtHeaders : {W : Type 0} → (W → Option (List ℕ)) → (W → Bool) → List ℕ → List W → List W → RunFault → Type 0
 StopsAtHeaders contents has_failed ports olds news (run.Write port) = StopsAtHeader contents has_failed ports port olds news
 StopsAtHeaders contents has_failed ports olds news fault = ⊥

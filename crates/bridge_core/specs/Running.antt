@@ -78,7 +78,8 @@ pub record StopsWriting {A W : Type 0} (p : Plan A) (texts : ℕ → List ℕ) (
   pub makes : MakesStart p (input_events inputs) moment port left
   pub written : AreWrittenExceptOne contents port ports olds news left
 
--- Holds if the capture of port `q` ends, or its next frame isn't before `moment`. Otherwise the newest input is its last frame, and memory ran out after it.
+-- Holds if port `q`'s capture ends, or its next frame arrives at `moment` or later. If the newest input is of this
+-- port, memory may instead have run out in its next record.
 abbrev pub EndsFollowsOrLacksMemory : ℕ → List ℕ → Option (List ℕ) → ℕ → List CapturedFrame → List Input → Type 0
 EndsFollowsOrLacksMemory moment text rest q taken inputs = EndsOrFollowsLater (Some moment) text q taken inputs ⊎ (IsNewestPort q inputs × IsRefusal faults.NoMemory rest text taken)
 
@@ -114,12 +115,12 @@ pub record CanTakeFrames {G A : Type 0} (b : RelayState G A) (lanes : List (Capt
 abbrev pub head_time : {A : Type 0} → CaptureReader A → Option ℕ
 head_time lane = option_map (λ p. p.time) lane.ahead
 
--- The time in ns of the next frame of the reader at position `i`, counted from 1; `None` without such a frame.
+-- The time in ns of the next frame of reader `i`, counted from 1; `None` without such a frame.
 abbrev pub nth_head_time : {A : Type 0} → List (CaptureReader A) → ℕ → Option ℕ
 nth_head_time lanes zero = None
 nth_head_time lanes (suc i) = option_and_then head_time (slice_get lanes i)
 
--- Holds if the agenda has exactly the time of each reader's next frame, by the reader's position from 1.
+-- Holds if the agenda has exactly the time of each reader's next frame, by the reader's number in the list, from 1.
 pub record AreHeads {A : Type 0} (held : ℕ → Option ℕ) (lanes : List (CaptureReader A)) : Type 0 where
   pub few : length lanes ≤ 16
   pub each : (q : ℕ) → held q ≡ nth_head_time lanes q
@@ -137,11 +138,12 @@ pub record IsUnderWay {R W G A : Type 0} (remaining : R → Option (List ℕ)) (
   pub late : newest_time inputs ≤ b.earliest
   pub written : AreWritten contents (port_numbers lanes) olds sinks left
 
--- Holds if the earliest frame precedes the next command.
+-- Holds if the next frame of the reader at index `place` is before the next command; always if there is no further
+-- command.
 abbrev pub PrecedesCommand : {A : Type 0} → List (CaptureReader A) → ℕ → Option Input → Type 0
 PrecedesCommand {A} lanes place next = (l : CaptureReader A) (c : Packet A) → slice_get lanes place ≡ Some l → l.ahead ≡ Some c → IfSome next (λ y. c.time < y.at)
 
--- Holds if the next frame of the reader at index `place` is before `until`; always true if `until` is `None`.
+-- Holds if the reader at index `place` has its next frame before time `until`. Without `until`, it always holds.
 abbrev pub IsHeadEarlier : {A : Type 0} → Option ℕ → List (CaptureReader A) → ℕ → Type 0
 IsHeadEarlier {A} until lanes place = (l : CaptureReader A) (c : Packet A) → slice_get lanes place ≡ Some l → l.ahead ≡ Some c → IfSome until (λ t. c.time < t)
 
@@ -175,8 +177,8 @@ RunsOrStops remaining contents p texts commanded next olds b lanes sources sinks
 RunsOrStops remaining contents p texts commanded next olds b lanes sources sinks (Err fault) =
     (rests : ℕ → Option (List ℕ)) → HaveRests remaining (port_numbers lanes) rests sources → StopsUnderWay p texts rests commanded next contents (port_numbers lanes) olds sinks fault
 
--- Holds if a fault of a run agrees with its sources and sinks: the named port's device failed. Sources that never fail have no read fault; sinks that fail only
--- for memory ran out of it.
+-- Holds if a fault of a run agrees with its devices: the named port's source or sink failed. Sources that never fail
+-- give no read fault. If sinks fail only for memory, memory ran out.
 pub record AgreesWithDevices {R W X : Type 0} (failed_read never_read : R → Bool) (failed_write never_write ran_out : W → Bool) (ports : List ℕ) (before after : List R) (olds news : List W) (result : Result X RunFault) : Type 0 where
   pub read : (port : ℕ) → result ≡ Err (run.Capture port faults.Read) → HasFailed failed_read ports port after
   pub sure : AreUnfailing never_read before → (port : ℕ) → result ≢ Err (run.Capture port faults.Read)

@@ -100,7 +100,7 @@ pub record HasProtectedView {A : Type 0} (p : Plan A) (n : ℕ) (f : FilterPlan)
   pub told : lookup (nat_eq n) o.filters.items ≡ Some v
 
 -- Holds if each protected filter's record in `o` results from its own frames and commands only, as if each queue had
--- its port to itself. The statement covers each run (Runs) with the result `o`.
+-- its port to itself. The statement covers each run (`IsWholeRun`) with the result `o`.
 abbrev pub IsolatesFilters : {A W : Type 0} → Plan A → List ℕ → List Command → (ℕ → List ℕ) → (W → Option (List ℕ)) → List W → List W → Outcome A → Type 0
 IsolatesFilters {A} p ports commands texts contents olds news o =
     (ran : IsWholeRun p ports commands texts contents olds news o) (n : ℕ) (f : FilterPlan) (v : View A)
@@ -158,8 +158,8 @@ OutsidersChangeNothing {A} {W} p ports commands texts contents olds news o =
     → HaveSameGroupInputs p group (input_streams (commands_of commands) ran.frames) (input_streams (commands_of other_commands) also.frames)
     → AreSameViews u v
 
--- Holds if a grouped filter has equal verdicts, counters, flags and buckets in any two runs of the plan that have equal
--- own frames and commands of this filter. Also frames of its group may differ.
+-- Holds if a grouped filter's own frames and commands decide its verdicts, counters, flags and buckets: other runs of
+-- the plan agree on them if they agree on the own frames and commands.
 abbrev pub MembersChangeNoVerdict : {A W : Type 0} → Plan A → List ℕ → List Command → (ℕ → List ℕ) → (W → Option (List ℕ)) → List W → List W → Outcome A → Type 0
 MembersChangeNoVerdict {A} {W} p ports commands texts contents olds news o =
     (ran : IsWholeRun p ports commands texts contents olds news o)

@@ -47,7 +47,7 @@ pub struct Bridge<'a, G: Agenda + Drop, A: Allocator + Copy> {
     views: Vec<(u32, View<A>), A>,
     /// Empty list with capacity for the counts of all ports.
     counts: Vec<(u8, PortCount), A>,
-    /// Earliest time in ns of the next command.
+    /// Earliest time in ns at which the next command may be carried out.
     command: u64,
 }
 
@@ -92,7 +92,7 @@ impl<'a, G: Agenda + Drop, A: Allocator + Copy> Bridge<'a, G, A> {
         })
     }
 
-    /// Handles a frame that arrives on port `port`: not earlier than previous events, after the last start and not after the next. If
+    /// Handles a frame that arrives on port `port`: after the last start, not before the last event, and not after the next start. If
     /// memory runs out, returns the frame and leaves the bridge unchanged.
     pub fn arrive(&mut self, port: u8, packet: Packet<A>) -> Result<(), (Packet<A>, NoMemory)>
         requires known { (out : PortPlan A) × (find_port (bridge_plan self.old).ports port ≡ Some out) }
@@ -121,7 +121,7 @@ impl<'a, G: Agenda + Drop, A: Allocator + Copy> Bridge<'a, G, A> {
         }
     }
 
-    /// Carries out a command: not earlier than the last command, after the last frame and after the last start. Allocates no memory.
+    /// Carries out a command, which must be after the last frame and the last start, and not before the last command. Allocates no memory.
     pub fn command(&mut self, command: &Command)
         requires time { self.old.command ≤ command.now.at }
         requires instance { IsTrue (has_instance (bridge_plan self.old) command.now.clear command.now.number) }

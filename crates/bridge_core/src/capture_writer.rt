@@ -24,8 +24,8 @@ pub struct CaptureWriter {
     pub writer: Writer,
 }
 
-/// Makes a writer for each port, and writes the capture's header to the sink with the same index. A failed write is the fault of its port.
-/// `lines` is empty and has capacity for all ports, so the call allocates no memory.
+/// Makes a writer for each port, and writes the capture's header to the sink with the same index. A failed write is `RunFault::Write` of
+/// this port. `lines` is empty, with capacity for all ports.
 pub fn begin_writers<W: ByteSink, A: Allocator + Copy>(
     ports: &[u8],
     lines: Vec<CaptureWriter, A>,
@@ -52,8 +52,8 @@ pub fn begin_writers<W: ByteSink, A: Allocator + Copy>(
     Ok(lines)
 }
 
-/// Returns the index of the writer of port `port`, if it has one. Tries the port's number first, because ports are often numbered 1, 2, 3
-/// and so on.
+/// Returns the index of the writer of port `port`; `None` if it has none. Tries index `port` - 1 first, because ports are often numbered 1,
+/// 2, 3 and so on.
 #[inline(always)]
 fn writer_index(lines: &[CaptureWriter], port: u8) -> Option<usize>
     ensures within { IfSome result (λ place. place < length lines.now) }

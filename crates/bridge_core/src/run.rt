@@ -37,6 +37,7 @@ fn set_reader_head<H: Agenda, A: Allocator + Copy>(
 }
 
 /// Updates the agenda's entry of the reader with index `place`, whose next frame has changed. All other entries must be right.
+/// `process_frame` calls it after each read.
 #[inline(always)]
 fn update_head<H: Agenda, A: Allocator + Copy>(
     heads: &mut H,
@@ -63,7 +64,7 @@ pub fn make_heads<H: Agenda, A: Allocator + Copy>(lanes: &[CaptureReader<A>]) ->
     heads
 }
 
-/// Takes the next frame of the reader with index `place`, and returns it with its port. The reader must have a frame.
+/// Removes the next frame from the reader with index `place`, and returns the frame with its port. The reader must have a frame.
 fn take_frame<A: Allocator + Copy>(lanes: &mut [CaptureReader<A>], place: usize) -> (u8, Packet<A>)
     requires place { place < length lanes.old }
     requires first { IsEarliestReader lanes.old place }
@@ -76,7 +77,8 @@ fn take_frame<A: Allocator + Copy>(lanes: &mut [CaptureReader<A>], place: usize)
     }
 }
 
-/// Reads the record after the frame that was taken from the reader with index `place`. The record's octets use the buffer `spare`.
+/// Reads the record after the frame that `take_frame` removed from the reader with index `place`. The record's octets use the buffer
+/// `spare`.
 fn read_next_ahead<R: ByteSource, A: Allocator + Copy>(
     spare: Vec<u8, A>,
     place: usize,
@@ -96,8 +98,8 @@ fn read_next_ahead<R: ByteSource, A: Allocator + Copy>(
     lanes[place].read_ahead(spare, &mut sources[place])
 }
 
-/// Handles the earliest frame, of the reader at `place`. Makes and writes all earlier starts, passes the frame to the relay, and reads the
-/// capture's next record.
+/// Handles the earliest frame, which the reader at index `place` has read ahead. Makes and writes all earlier starts, gives the frame to
+/// the relay, and reads the capture's next record.
 fn process_frame<R: ByteSource, W: ByteSink, G: Agenda + Drop, A: Allocator + Copy>(
     place: usize,
     relay: &mut Relay<'_, G, A>,
@@ -137,7 +139,7 @@ fn process_frame<R: ByteSource, W: ByteSink, G: Agenda + Drop, A: Allocator + Co
     if let Err(fault) = send_due_frames(Some(packet.time), relay, lines, sinks, spares) {
         return Err(fault);
     }
-    match relay.arrive(number, packet, spares) {
+    match relay.handle_arrival(number, packet, spares) {
         Ok(()) => {}
         Err(_) => {
             relay.assert_reached();
@@ -156,7 +158,7 @@ fn process_frame<R: ByteSource, W: ByteSink, G: Agenda + Drop, A: Allocator + Co
     }
 }
 
-/// Whether `time` is before `until`. Always true if `until` is `None`.
+/// Whether `time` is before `until`. Always true if `until` is `None`. `next_reader` calls it for the earliest frame.
 #[inline(always)]
 fn is_earlier(time: u64, until: Option<u64>) -> bool
     ensures before { result ≡ true → IfSome until (λ t. time < t) }
@@ -168,7 +170,8 @@ fn is_earlier(time: u64, until: Option<u64>) -> bool
     }
 }
 
-/// Returns the index of the reader with the earliest frame, if this frame is before `until`; otherwise `None`. Uses only the agenda.
+/// Returns the index of the reader with the earliest frame, if this frame is before `until`; otherwise `None`. Reads only the agenda, not
+/// the frames.
 #[inline(always)]
 fn next_reader<H: Agenda, A: Allocator + Copy>(
     heads: &H,
@@ -187,7 +190,8 @@ fn next_reader<H: Agenda, A: Allocator + Copy>(
     }
 }
 
-/// Handles all frames before `until`, or all frames if `until` is `None`. Stops at the first fault.
+/// Handles all frames before time `until` in ns, or all frames if `until` is `None`. Stops at the first fault. `process_command` and `run`
+/// call it.
 fn process_earlier_frames<R: ByteSource, W: ByteSink, G: Agenda + Drop, A: Allocator + Copy>(
     until: Option<u64>,
     relay: &mut Relay<'_, G, A>,

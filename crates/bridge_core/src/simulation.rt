@@ -27,15 +27,15 @@ struct RunLists<A: Allocator + Copy> {
     ports: Vec<u8, A>,
     /// Filters by rising number.
     order: Vec<(u32, FilterPlan), A>,
-    /// Space for the output captures.
+    /// Empty list with capacity for the writers of all ports.
     lines: Vec<CaptureWriter, A>,
-    /// Space for the records of the filters.
+    /// Empty list with capacity for the records of all filters.
     views: Vec<(u32, View<A>), A>,
-    /// Space for the counts of the ports.
+    /// Empty list with capacity for the counts of all ports.
     counts: Vec<(u8, PortCount), A>,
 }
 
-/// Makes the lists that a run of `plan` needs. Fails only if memory runs out.
+/// Makes the lists that a run of `plan` needs. Fails only if memory runs out. `simulate_with_agenda` calls it first.
 fn make_run_lists<A: Allocator + Copy>(alloc: A, plan: &Plan<A>) -> Result<RunLists<A>, NoMemory>
     ensures { IfOk result (AreRunLists plan.now) }
 {
@@ -72,6 +72,7 @@ fn make_buffer_pool<A: Allocator + Copy>(alloc: A) -> Result<BufferPool<A>, NoMe
 }
 
 /// Completes a prepared run: writes the captures' headers, handles all frames and commands in order, and writes all departures.
+/// `simulate_with_agenda` calls it last.
 fn run_prepared<R: ByteSource, W: ByteSink, G: Agenda + Drop, A: Allocator + Copy>(
     commands: &[Command],
     mut relay: Relay<'_, G, A>,
@@ -142,8 +143,8 @@ fn run_prepared<R: ByteSource, W: ByteSink, G: Agenda + Drop, A: Allocator + Cop
     }
 }
 
-/// Runs captures and commands through the bridge of an accepted plan, with agenda type `G`. Captures stand by rising port. Writes one
-/// capture for each port; a frame's time is its end of transmission.
+/// Runs captures and commands through the bridge of an accepted plan, with agenda type `G`. `sources` and `sinks` are in port order. Writes
+/// a capture for each port; times are ends of transmission.
 ///
 /// A protected filter's record depends on its own frames and commands only, a grouped filter's record on those of its group only.
 pub fn simulate_with_agenda<R: ByteSource, W: ByteSink, G: Agenda + Drop, A: Allocator + Copy>(

@@ -80,7 +80,7 @@ raised_turned {S} j t x lawful l h =
           turn_is_new j u past ∙ ap (clip_start j.at) (s.same u begun q);
     })
 
--- Each interval of a joined list obeys `IsTimelineTurn`.
+-- Each interval of a joined list has the properties of `IsTimelineTurn`.
 pub changing_turn_is_exact : {S : Type 0} (j : Joined S) (t : ℕ) (x : Turn S) → IsLawful j → turn_by_time j t ≡ Some x → IsTimelineTurn (turn_by_time j) (cycle_length j) t x
 changing_turn_is_exact j t x lawful h = elim (cases_lt t j.at) [
   | inl l ↦ cut_turned j t x lawful l h

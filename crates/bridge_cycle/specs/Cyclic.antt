@@ -52,7 +52,7 @@ interval_sum (e ∷ es) = e.1 + interval_sum es
 abbrev pub has_zero_interval : {S : Type 0} → List (S × ℕ) → Bool
 has_zero_interval es = list_any (λ e. nat_eq e.1 0) es
 
--- First fault of a list, in the order of the tests.
+-- First fault of a list, in the order of the tests; `None` for a valid list.
 abbrev pub first_fault : {S : Type 0} → ℕ → List (S × ℕ) → Option ListFault
 first_fault cycle es =
     if nat_eq (length es) 0 then Some Empty
@@ -71,9 +71,8 @@ fault_code CycleOutOfRange = 4
 fault_code TooManyEntries = 5
 fault_code NoMemory = 6
 
--- Statement: The list has 1 to 256 entries, positive intervals with a sum within the cycle time (up to 1 s), a base
--- time before END_OF_TIME.
--- The sum is at most the cycle time.
+-- Statement: The list has 1 to 256 entries, a cycle time up to 1 s, positive intervals whose sum is at most the cycle
+-- time, and a base time before END_OF_TIME.
 pub record IsLawful {S : Type 0} (l : Cyclic S) : Type 0 where
   pub some : 0 < length l.entries
   pub few : length l.entries ≤ MAX_ENTRIES

@@ -7,7 +7,7 @@ use Rattle.bridge_cycle.specs.CyclicLaws.{cyclic_turn_exists}
 use Rattle.bridge_cycle.specs.ChangingListLaws.{IsTimelineTurn, list_turn_is_exact, changing_turn_is_exact, changing_turn_exists}
 use Rattle.bridge_cycle.specs.GateControlLists.{turn_by_time, cycle_length, IsLawful}
 
--- Each interval of a port's lists obeys `IsTimelineTurn`.
+-- Each interval of a port's lists has the properties of `IsTimelineTurn`.
 pub lists_turn_is_exact : {A : Type 0} (e : Egress A) (t : ℕ) (x : Turn ℕ) → IsLawful e → turn_by_time e t ≡ Some x → IsTimelineTurn (turn_by_time e) (cycle_length e) t x
 lists_turn_is_exact (Cyclic l) t x lawful h = list_turn_is_exact l t x lawful h
 lists_turn_is_exact (Joined j) t x lawful h = changing_turn_is_exact j t x lawful h

@@ -21,12 +21,13 @@ Allows Always occ = Unit {0}
 abbrev pub FitsSoon : (ℕ → Bool) → Run → Type 0
 FitsSoon opens run = (occ from : ℕ) → Allows run occ → (u : ℕ) × (from ≤ u) × (u ≤ from + LONGEST_CYCLE) × Fits opens occ u
 
--- Statement: A run with an end is shorter than the cycle time.
+-- Statement: A run of limited length is shorter than the cycle time.
 abbrev pub IsShorterThanCycle : Run → ℕ → Type 0
 IsShorterThanCycle (For r) cycle = r < cycle
 IsShorterThanCycle run cycle = Unit {0}
 
--- Statement: `longest` is the length in ns of the longest transmission that fits below time `n`, and it fits somewhere.
+-- Statement: `longest` is the length in ns of the longest transmission that fits below time `n`. A transmission of this
+-- length fits at some time.
 pub record IsLongestFit (opens : ℕ → Bool) (n longest : ℕ) : Type 0 where
   pub fits : (t : ℕ) × Fits opens longest t
   pub most : (occ t : ℕ) → t + occ ≤ n → Fits opens occ t → occ ≤ longest

@@ -76,11 +76,11 @@ pub struct CyclicList<S, A: Allocator + Copy> {
     cycle: u64,
     /// Offset of time 0 in its cycle, in ns: 1 to the cycle time.
     shift: u64,
-    /// Entries per ns of the intervals, times 2^32. A search multiplies an offset by it to guess the entry in force.
+    /// Mean number of entries per ns, times 2^32. A search multiplies an offset by it to guess the entry in force.
     density: u64,
     /// States with their intervals in ns.
     entries: Vec<(S, u64), A>,
-    /// Offset in ns at which each interval ends.
+    /// Offset in ns, from the start of a cycle, at which each interval ends.
     ends: Vec<u64, A>,
 }
 
@@ -154,7 +154,7 @@ impl<S: Copy, A: Allocator + Copy> CyclicList<S, A> {
     }
 }
 
-/// Returns the first fault of a cycle time and entries; `None` if they make a valid list.
+/// Returns the first fault of a cycle time and entries; `None` if they make a valid list. `CyclicList::new` calls it.
 fn first_fault<S: Copy>(cycle: u64, entries: &[(S, u64)]) -> Option<ListFault>
     ensures { result ≡ cyclic.first_fault cycle entries.now }
 {
@@ -173,14 +173,14 @@ fn first_fault<S: Copy>(cycle: u64, entries: &[(S, u64)]) -> Option<ListFault>
     }
 }
 
-/// Whether an interval is 0 ns, which a list must not have.
+/// Whether an interval is 0 ns, which a list must not have. `first_fault` calls it.
 fn has_zero_interval<S: Copy>(entries: &[(S, u64)]) -> bool
     ensures { result ≡ cyclic.has_zero_interval entries.now }
 {
     entries.iter().any(|entry| entry.1 == 0)
 }
 
-/// Whether the sum of the intervals is at most the cycle time.
+/// Whether the sum of the intervals is at most the cycle time. `first_fault` calls it.
 fn is_within_cycle<S: Copy>(entries: &[(S, u64)], cycle: u64) -> bool
     ensures { (result ≡ true) ↔ (cyclic.interval_sum entries.now ≤ cycle) }
 {
@@ -221,7 +221,8 @@ fn entry_density(ends: &[u64]) -> u64 {
     ((ends.len() as u64) << 32) / total
 }
 
-/// Whether the entry at index `place` is in force at offset `phase`.
+/// Whether the entry at index `place` is in force at offset `phase`, in ns from the start of a cycle. `index_near_guess` tests up to three
+/// entries by it.
 #[inline(always)]
 fn is_in_entry(ends: &[u64], phase: u64, place: usize) -> bool
     ensures { result ≡ true → running.IsEntryIndex ends.now phase place }
@@ -251,7 +252,7 @@ fn index_near_guess(ends: &[u64], phase: u64, guess: usize) -> Option<usize>
     None
 }
 
-/// Returns the index of the entry in force at offset `phase`, by binary search.
+/// Returns the index of the entry in force at offset `phase`, by binary search. `find_index` calls it after a wrong guess.
 #[inline(never)]
 fn search_index(ends: &[u64], phase: u64) -> usize
     requires some { 0 < length ends.now }
@@ -283,7 +284,8 @@ fn find_index(ends: &[u64], density: u64, phase: u64) -> usize
     }
 }
 
-/// Returns the state in force at offset `phase`, and the offsets at which its interval starts and ends.
+/// Returns the state in force at offset `phase`, and the offsets at which its interval starts and ends. `CyclicList::turn` calls it for the
+/// offset of a time.
 #[inline(always)]
 fn find_interval<S: Copy>(
     entries: &[(S, u64)],

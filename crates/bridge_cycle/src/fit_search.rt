@@ -6,7 +6,7 @@ ghost use Rattle.bridge_cycle.specs.Opens.{turn_opens};
 use crate::cyclic_list::LONGEST_CYCLE;
 use crate::timeline::Timeline;
 
-/// Searches for a fit start before this time in ns, so they end before `END_OF_TURNS`.
+/// Each search for a fit begins at a time before this one, in ns, so it ends before `END_OF_TURNS`.
 pub const END_OF_SEARCHES: u64 = 9_000_000_000_000_000_000;
 
 /// Whether a gate state opens `class`: bit c of the state opens class c.

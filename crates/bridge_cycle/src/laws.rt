@@ -36,7 +36,7 @@ pub fn list_repeats()
     ensures { (l : Cyclic ℕ) (class : ℕ) → IsLawful l → IsPeriodic (λ v. turn_opens (turn_by_time l v) class) l.cycle }
 {}
 
-/// A length is allowed by the longest run exactly if it fits somewhere.
+/// The longest run allows a transmission of `occ` ns exactly if the transmission fits at some time.
 pub fn allowed_is_fitting()
     ensures { (opens : ℕ → Bool) (run : Run)
         → IsLongestRun opens run
@@ -44,7 +44,7 @@ pub fn allowed_is_fitting()
         → Allows run occ ↔ ((t : ℕ) × Fits opens occ t) }
 {}
 
-/// A length allowed by the longest run of a list fits at most 1 s after any time.
+/// A transmission that the longest run of a list allows fits at most 1 s after any time.
 pub fn allowed_fits_soon()
     ensures { (l : Cyclic ℕ) (class : ℕ) (run : Run)
         → IsLawful l
@@ -52,7 +52,7 @@ pub fn allowed_fits_soon()
         → FitsSoon (λ v. turn_opens (turn_by_time l v) class) run }
 {}
 
-/// The state of an interval is the state of an entry.
+/// Each interval of a list has the state of one of the list's entries.
 pub fn state_is_of_an_entry<S: Copy>()
     ensures { (l : Cyclic S) (t : ℕ) (x : Turn S)
         → turn_by_time l t ≡ Some x
@@ -69,7 +69,7 @@ pub fn changing_list_opens()
         → turn_opens (joined.turn_by_time j t) class ≡ turn_opens (turn_by_time j.new t) class }
 {}
 
-/// A length that the longest runs of both lists allow fits the joined list at most 2 s after any time, despite the change.
+/// A transmission that the longest runs of both lists allow fits the joined list at most 2 s after any time, despite the change.
 pub fn changing_list_fits_soon()
     ensures { (j : joined.Joined ℕ) (class : ℕ) (old new : Run)
         → joined.IsLawful j

@@ -3,7 +3,7 @@ ghost use Rattle.bridge_cycle.specs.declared.timeline.Turn.{Turn};
 
 use crate::cyclic_list::LONGEST_CYCLE;
 
-/// Callers ask a timeline for intervals before this time in ns.
+/// Callers ask a timeline only for intervals that contain a time before this one, in ns.
 pub const END_OF_TURNS: u64 = 9_100_000_000_000_000_000;
 
 /// Interval of a list, in which one state is in force.
@@ -28,7 +28,7 @@ pub trait Timeline {
     /// Interval that contains a time.
     ghost turn_at: { Self → ℕ → Option (Turn Self.State) };
 
-    /// Time in ns within which each interval ends.
+    /// Cycle time in ns: an interval ends at most this time after each time within it.
     ghost cycle_of: { Self → ℕ };
 
     /// Returns the interval that contains time `t` in ns.
@@ -37,7 +37,7 @@ pub trait Timeline {
         ensures lawful { is_lawful self.now }
         ensures turn { turn_at self.now t ≡ Some result };
 
-    /// Returns the cycle time in ns. Each interval ends within a cycle.
+    /// Returns the cycle time in ns, of two lists the greater one. Each interval ends within a cycle time.
     fn cycle(&self) -> u64
         ensures lawful { is_lawful self.now }
         ensures cycle { result ≡ cycle_of self.now }
@@ -58,7 +58,7 @@ pub trait Timeline {
         → turn_at a t ≡ Some x
         → t < x.end };
 
-    /// An interval is the interval of each time within it.
+    /// At each time within an interval, the timeline has this interval.
     ghost same: { (a : Self) (t u : ℕ) (x : Turn Self.State)
         → is_lawful a
         → turn_at a t ≡ Some x

@@ -5,7 +5,7 @@ use Rattle.std.proofs.lemmas.List.{get_or_past, get_or-set_other, get_or-set_sam
 use Rattle.std.proofs.lemmas.Bool.{cases_lt}
 use Rattle.std.proofs.lemmas.Bool.Decides.{nat_tests}
 use Rattle.bridge_events.specs.Least.{IsLeast}
-use Rattle.bridge_events.specs.Tree.{HaveLeastKeys, HaveOwnKeys, IsTree, TreeState, least_of_four, nth_key, nth_time, tree_time}
+use Rattle.bridge_events.specs.Tree.{HaveLeastKeys, HaveOwnKeys, IsTree, TreeState, least_of_four, least_rest, nth_key, nth_time, tree_time}
 use Rattle.bridge_events.specs.declared.tree_agenda.TheConstants.{LATE, LATE_KEY, NO_KEY}
 use Rattle.bridge_limits.proofs.Cases.{by_bool}
 use Rattle.bridge_limits.proofs.Options.{none_of}
@@ -156,6 +156,18 @@ settled keys firsts place key x l size groups is won = λ g m.
             )
       ]
     ]
+
+-- A new key of the first group leaves the least key of the other groups.
+pub rest_kept : (firsts : List ℕ) (x : ℕ) → least_rest (set firsts 0 x) ≡ least_rest firsts
+rest_kept firsts x =
+    let one : nth_key (set firsts 0 x) 1 ≡ nth_key firsts 1 = get_or-set_other firsts 0 1 x NO_KEY (λ e. omega (arith, e)) in
+    let two : nth_key (set firsts 0 x) 2 ≡ nth_key firsts 2 = get_or-set_other firsts 0 2 x NO_KEY (λ e. omega (arith, e)) in
+    let three : nth_key (set firsts 0 x) 3 ≡ nth_key firsts 3 = get_or-set_other firsts 0 3 x NO_KEY (λ e. omega (arith, e)) in
+    rw (one, two, three) refl
+
+-- The least key of all groups is the lesser of the first group's and the others'.
+pub root_is : (firsts : List ℕ) → min (nth_key firsts 0) (least_rest firsts) ≡ least_of_four firsts 0
+root_is firsts = omega arith
 
 -- The new key is the key of its time, or there is no time.
 pub own_keys : (keys times : List ℕ) (place key t : ℕ) → place < 16 → length keys ≡ 16 → length times ≡ 16 → (key < NO_KEY → key ≡ 16 * min t LATE + place) → HaveOwnKeys keys times → HaveOwnKeys (set keys place key) (set times place t)

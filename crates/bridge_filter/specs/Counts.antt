@@ -25,7 +25,7 @@ is_refused_by_gate verdict.ShutByOctets = true
 is_refused_by_gate verdict.OctetsExceeded = true
 is_refused_by_gate v = false
 
--- True if the meter refused the frame: it was red, or it was yellow and the meter refuses yellow frames.
+-- True if the meter refused the frame: the frame was red, or it was yellow and the meter drops yellow frames.
 abbrev pub is_dropped_by_meter : Verdict → Bool
 is_dropped_by_meter verdict.Red = true
 is_dropped_by_meter verdict.YellowDropped = true

@@ -24,7 +24,8 @@ own_filter_events p s f [] = []
 own_filter_events p s f (Arrived c ∷ es) = if is_filter_number s (frame_filter p.filters c) then Arrived c ∷ own_filter_events p s f es else own_filter_events p s f es
 own_filter_events p s f (Cleared c n ∷ es) = if is_own_command s f c n then Cleared c n ∷ own_filter_events p s f es else own_filter_events p s f es
 
--- True if a result belongs to the filter: its frame, or a command for the filter, its gate or its meter.
+-- True if a result belongs to filter `s` with settings `f`: the verdict on its frame, or a command for the filter, its
+-- gate or its meter.
 abbrev pub is_own_step : ℕ → FilterPlan → FilterStep → Bool
 is_own_step s f (Unfiltered c) = false
 is_own_step s f (Judged c n g v) = nat_eq n s
@@ -35,7 +36,7 @@ abbrev pub own_steps : ℕ → FilterPlan → List FilterStep → List FilterSte
 own_steps s f [] = []
 own_steps s f (x ∷ xs) = if is_own_step s f x then x ∷ own_steps s f xs else own_steps s f xs
 
--- Statement: The number `s` has only one filter, and no other filter uses its gate or its meter.
+-- Statement: Only the filter `f` has the number `s`, and no other filter uses its gate or its meter.
 pub record HasOwnInstances (p : PolicePlans) (s : ℕ) (f : FilterPlan) : Type 0 where
   pub one : (g : FilterPlan) → IsMember (s, g) p.filters → f ≡ g
   pub gate : (n : ℕ) (g : FilterPlan) → IsMember (n, g) p.filters → g.gate ≡ f.gate → n ≡ s

@@ -33,8 +33,7 @@ is_listed_if_any (Some n) xs = is_listed n xs
 abbrev pub has_instances : {A : Type 0} → List (ℕ × GatePlan A) → List (ℕ × MeterPlan) → FilterPlan → Bool
 has_instances gates meters f = is_listed f.gate gates && is_listed_if_any f.meter meters
 
--- True if every gate number and every meter number in the settings of a filter has an entry in the list of gates or
--- meters.
+-- True if each filter's gate number is in the list `gates`, and its meter number, if any, is in the list `meters`.
 abbrev pub have_instances : {A : Type 0} → List (ℕ × FilterPlan) → List (ℕ × GatePlan A) → List (ℕ × MeterPlan) → Bool
 have_instances filters gates meters = list_all (λ f. has_instances gates meters f.1) filters
 

@@ -7,13 +7,13 @@ use Rattle.bridge_filter.specs.declared.route.Route.{Route}
 use Rattle.bridge_filter.specs.Verdicts.{is_handle_match, is_priority_match, frame_filter, filter_input}
 use Rattle.bridge_filter.specs.StandsFor.{PoliceState}
 
--- Smaller of two filter numbers, or the only number if one argument is `None`; `None` if both are `None`.
+-- The smaller of two filter numbers; the only number if one argument is `None`; `None` if both are `None`.
 abbrev pub lesser_number : Option ℕ → Option ℕ → Option ℕ
 lesser_number None n = n
 lesser_number (Some m) None = Some m
 lesser_number (Some m) (Some n) = Some (min m n)
 
--- Least number of the filters that pass a test.
+-- Least number of the filters for which `test` is true; `None` if there is no such filter.
 abbrev pub least_passing : (FilterPlan → Bool) → List (ℕ × FilterPlan) → Option ℕ
 least_passing test [] = None
 least_passing test (f ∷ fs) = if test f.1 then lesser_number (Some f.0) (least_passing test fs) else least_passing test fs
@@ -48,7 +48,8 @@ abbrev pub lesser_route : Route → Option Route → Option Route
 lesser_route r None = Some r
 lesser_route r (Some q) = if nat_lt q.number r.number then Some q else Some r
 
--- Slot of a row, extended by a filter that asks for the priority `asked` or for any (`None`).
+-- Route of a row for `priority` after one more filter: the lesser route if the filter accepts the priority, otherwise
+-- `o`. `asked` is the filter's priority; `None` accepts all.
 abbrev pub add_to_slot : Option Route → Option ℕ → Route → ℕ → Option Route
 add_to_slot o asked r priority = if is_priority_match asked priority then lesser_route r o else o
 
@@ -87,11 +88,11 @@ pub record IsRoute (fs : List (ℕ × FilterPlan)) (gates meters : List ℕ) (r 
   pub filter : slice_get fs r.filter ≡ Some (r.number, plan)
   pub served : HasInstanceIndices plan gates meters r
 
--- Statement: Each route of the row, for one handle, obeys `IsRoute`.
+-- Statement: Each route of the row has the properties of `IsRoute`. A row has the routes of one handle by priority.
 abbrev pub HasRoutes : List (Option Route) → List (ℕ × FilterPlan) → List ℕ → List ℕ → Type 0
 HasRoutes row fs gates meters = (k : ℕ) → k < 8 → IfSome (slot row k) (IsRoute fs gates meters)
 
--- Statement: Each route of all rows obeys `IsRoute`.
+-- Statement: Each route of all rows has the properties of `IsRoute`.
 abbrev pub HaveRoutes : List (ℕ × List (Option Route)) → List (Option Route) → List (ℕ × FilterPlan) → List ℕ → List ℕ → Type 0
 HaveRoutes rows any fs gates meters = (handle : Option ℕ) → HasRoutes (find_row rows any handle) fs gates meters
 

@@ -58,7 +58,7 @@ red_flag (Some b) = b.all_red
 abbrev pub state_counters : {A : Type 0} → ℕ → PoliceState A → Option Counters
 state_counters n s = option_map (λ f. f.counters) (lookup (nat_eq n) s.kept)
 
--- Flags of a filter, its gate and its meter.
+-- Flags of the filter with state `f`, its gate and its meter.
 abbrev pub state_flags : {A : Type 0} → PoliceState A → FilterState → Flags
 state_flags s f = record {
   blocked = f.blocked;
@@ -67,19 +67,19 @@ state_flags s f = record {
   red = red_flag (optional_buckets f.plan.meter s.meters);
 }
 
--- Flags of the filter with number `n`, its gate and its meter.
+-- Flags of the filter with number `n`, its gate and its meter; `None` if the police lacks the filter.
 abbrev pub state_filter_flags : {A : Type 0} → ℕ → PoliceState A → Option Flags
 state_filter_flags n s = option_map (state_flags s) (lookup (nat_eq n) s.kept)
 
--- Buckets of the meter of the filter with number `n`.
+-- Buckets of the meter of the filter with number `n`; `None` if the police lacks the filter or its meter.
 abbrev pub state_buckets : {A : Type 0} → ℕ → PoliceState A → Option Buckets
 state_buckets n s = option_and_then (λ f. optional_buckets f.plan.meter s.meters) (lookup (nat_eq n) s.kept)
 
--- Statement: Each gate stands for its share of the events.
+-- Statement: Each stream gate stands for its share of the events: gate `n` for the list `share n`.
 abbrev pub GatesStand : {A : Type 0} → (ℕ → GateRules) → List (ℕ × gate.GateState A) → (ℕ → List GateEvent) → Type 0
 GatesStand {A} rules gates share = (n : ℕ) (g : gate.GateState A) → lookup (nat_eq n) gates ≡ Some g → gate.StandsFor (rules n) g (share n)
 
--- Statement: Each meter stands for its share of the events.
+-- Statement: Each meter stands for its share of the events: meter `n` for the list `share n`.
 abbrev pub MetersStand : (ℕ → MeterPlan) → List (ℕ × meter.MeterState) → (ℕ → List MeterEvent) → Type 0
 MetersStand plans meters share = (n : ℕ) (m : meter.MeterState) → lookup (nat_eq n) meters ≡ Some m → meter.StandsFor (plans n) m (share n)
 

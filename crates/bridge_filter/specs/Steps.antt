@@ -77,7 +77,7 @@ pub record HasInstances {A : Type 0} (f : FilterState) (gates : List (ℕ × gat
   pub meter : HasMeter f.plan.meter meters
   pub few : AreBounded f.counters calls
 
--- Statement: Each filter obeys `HasInstances`.
+-- Statement: For each filter, its gate and meter exist, and its counters are at most `calls`.
 abbrev pub HaveInstances : {A : Type 0} → List (ℕ × FilterState) → List (ℕ × gate.GateState A) → List (ℕ × meter.MeterState) → ℕ → Type 0
 HaveInstances filters gates meters calls = (n : ℕ) (f : FilterState) → lookup (nat_eq n) filters ≡ Some f → HasInstances f gates meters calls
 
@@ -89,7 +89,7 @@ HaveGates filters gates = (n : ℕ) (f : FilterState) → lookup (nat_eq n) filt
 abbrev pub HaveMeters : {X : Type 0} → List (ℕ × FilterState) → List (ℕ × X) → Type 0
 HaveMeters filters meters = (n : ℕ) (f : FilterState) → lookup (nat_eq n) filters ≡ Some f → HasMeter f.plan.meter meters
 
--- Statement: The filter had the same plan and counters before.
+-- Statement: Filter `n`, whose state is now `g`, had an equal plan and equal counters in the list `old`.
 pub record IsSameFilter (old : List (ℕ × FilterState)) (n : ℕ) (g : FilterState) : Type 0 where
   pub was : FilterState
   pub found : lookup (nat_eq n) old ≡ Some was

@@ -17,7 +17,7 @@ pub(crate) struct FilterState {
 }
 
 impl FilterState {
-    /// Makes the state of a filter before its first frame.
+    /// Makes the state of a filter before its first frame. All counters are 0, and the filter isn't blocked.
     pub(crate) fn new(plan: FilterPlan) -> FilterState
         ensures { result ≡ new_filter plan }
     {
@@ -35,7 +35,7 @@ impl FilterState {
         }
     }
 
-    /// Returns why the filter refuses a frame of `sdu` SDU octets, or `None` if the frame reaches the gate.
+    /// Returns why the filter refuses a frame of `sdu` SDU octets, or `None` if the frame reaches the gate. `frame_verdict` calls it first.
     pub(crate) fn refusal(&self, sdu: u32) -> Option<Verdict>
         ensures { result ≡ refusal self.now sdu }
     {
@@ -48,7 +48,7 @@ impl FilterState {
         }
     }
 
-    /// Counts a verdict, and sets the blocked flag after an oversize frame if the plan asks for it.
+    /// Counts a verdict. After an oversize frame, sets the blocked flag if the filter's plan has `block_oversize`.
     pub(crate) fn count_verdict(&mut self, verdict: Verdict)
         requires { AreBounded self.old.counters 9223372036854775807 }
         ensures { self.new ≡ state_with_verdict self.old verdict }

@@ -17,7 +17,8 @@ use bridge_limits::END_OF_TIME;
 use bridge_meter::Meter;
 use std::alloc::Allocator;
 
-/// Returns the verdict on a frame of `filter`: the filter's own tests come first, then its stream gate and meter, whose states change.
+/// Returns the verdict on a frame of `filter`: its blocked flag and largest SDU come first, then its stream gate and meter, whose states
+/// change. `judge_frame` then counts it.
 fn frame_verdict<A: Allocator + Copy>(
     filter: &FilterState,
     route: Route,

@@ -25,7 +25,8 @@ use std::hash::{BuildHasherDefault, FoldHasher};
 /// Map from numbers to filters, stream gates, meters or rows. Routes refer to its entries by index, so no entry is removed.
 pub(crate) type ByNumber<T, A> = IndexMap<u32, T, BuildHasherDefault<FoldHasher>, A>;
 
-/// Asks the stream gate at index `place` whether a frame of `sdu` octets passes at `at` ns. The frame may shut the gate.
+/// Asks the stream gate at index `place` whether a frame of `sdu` octets passes at `at` ns. The frame may shut the gate. `police_frame`
+/// calls it.
 fn ask_gate<A: Allocator + Copy>(
     gates: &mut ByNumber<StreamGate<A>, A>,
     place: usize,
@@ -49,7 +50,8 @@ fn ask_gate<A: Allocator + Copy>(
     gate.ask(at, sdu)
 }
 
-/// Returns the verdict of the meter at index `place` on a frame that passed its stream gate, and updates the meter.
+/// Returns the verdict of the meter at index `place` on a frame that passed its stream gate, and updates the meter. `answer_verdict` calls
+/// it.
 fn meter_verdict<A: Allocator + Copy>(
     meters: &mut ByNumber<Meter, A>,
     place: usize,
@@ -77,7 +79,8 @@ fn meter_verdict<A: Allocator + Copy>(
     colour_verdict(colour, drop_yellow, ipv)
 }
 
-/// Returns the verdict for a colour. A yellow frame passes as drop eligible, or is refused if `drop_yellow`.
+/// Returns the verdict for the meter's colour. A yellow frame passes as drop eligible, or is refused if `drop_yellow`. `ipv` is the gate's
+/// internal priority value.
 fn colour_verdict(colour: Colour, drop_yellow: bool, ipv: Option<u8>) -> Verdict
     ensures verdict { (plan : MeterPlan) → plan.drop_yellow ≡ drop_yellow → result ≡ colour_verdict plan ipv colour }
     ensures passed { has_passed_gate result ≡ true }
@@ -185,7 +188,7 @@ pub(crate) fn gate_flags<A: Allocator + Copy>(
     }
 }
 
-/// Returns the bucket levels and the red flag of the meter `number`, which must exist.
+/// Returns the bucket levels and the red flag of the meter `number`, which must exist. `Police::buckets` and `Police::flags` report them.
 pub(crate) fn meter_buckets<A: Allocator + Copy>(
     meters: &ByNumber<Meter, A>,
     number: u32,

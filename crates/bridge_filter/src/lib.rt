@@ -29,7 +29,7 @@ pub struct FilterPlan {
     pub max_sdu: Option<u32>,
     /// Number of the meter; `None` without a meter.
     pub meter: Option<u32>,
-    /// Whether an oversize frame blocks all later frames.
+    /// Whether an oversize frame blocks all later frames of the filter, until a command clears the blocked flag.
     pub block_oversize: bool,
     /// Whether the plan asks for isolation of this filter. It changes no verdict.
     pub protected: bool,
@@ -48,13 +48,13 @@ pub struct FilterInput {
     pub priority: u8,
     /// Drop eligible indication.
     pub dei: bool,
-    /// Octets of the SDU.
+    /// Length of the SDU in octets.
     pub sdu: u32,
-    /// Octets that a meter counts.
+    /// Octets that a meter counts: the frame's length, at least 60, and the check sequence (4).
     pub octets: u32,
 }
 
-/// Verdict of a stream filter on a frame: it passes, or the reason of a refusal.
+/// Verdict of a stream filter on a frame: the frame passes, or the reason why it is refused.
 #[derive(Clone, Copy, Debug, PartialEq, Eq)]
 pub enum Verdict {
     /// An earlier oversize frame blocked the filter.

@@ -31,9 +31,9 @@ use std::marker::Model;
 pub struct Police<A: Allocator + Copy> {
     /// Filters with their counters and blocked flags.
     filters: ByNumber<FilterState, A>,
-    /// Routes of frames with a handle that a filter names, by priority.
+    /// Routes of frames whose handle a filter names: for each such handle, a route for each priority.
     rows: HandleRows<A>,
-    /// Routes of all other frames, by priority.
+    /// Routes of all other frames: a route for each priority.
     any: PriorityRow,
     /// Stream gates.
     gates: ByNumber<StreamGate<A>, A>,
@@ -65,7 +65,7 @@ impl<A: Allocator + Copy> Model for Police<A> {
 }
 
 impl<A: Allocator + Copy> Police<A> {
-    /// Makes the police of numbered filters, gates and meters, in any order. If memory runs out, its arguments are dropped.
+    /// Makes the police of numbered filters, gates and meters, in any order. If memory runs out, the three lists are dropped.
     ///
     /// Finding the filter of a frame later takes one look-up of its handle.
     pub fn new(

@@ -81,7 +81,7 @@ fn row_by_guess<'a, A: Allocator + Copy>(
     }
 }
 
-/// Returns the row of `handle` by its hash, or the default row.
+/// Returns the row of `handle` by its hash; if the handle has no row, the default row `any`. `find_row` calls it after a wrong guess.
 #[inline(never)]
 fn row_by_hash<'a, A: Allocator + Copy>(
     rows: &'a HandleRows<A>,
@@ -96,7 +96,7 @@ fn row_by_hash<'a, A: Allocator + Copy>(
     }
 }
 
-/// Returns the row of `handle`, or the default row if it has none.
+/// Returns the row of `handle`. Without a handle, or if the handle has no row, returns the default row `any`.
 #[inline(always)]
 pub(crate) fn find_row<'a, A: Allocator + Copy>(
     rows: &'a HandleRows<A>,
@@ -114,7 +114,7 @@ pub(crate) fn find_row<'a, A: Allocator + Copy>(
     }
 }
 
-/// Returns the index of the stream gate or meter `number`, which must exist.
+/// Returns the index of the stream gate or meter `number`, which must exist. Routes store it, so that a frame needs no look-up.
 fn instance_index<T, A: Allocator + Copy>(instances: &ByNumber<T, A>, number: u32) -> usize
     requires { IsSome (lookup (nat_eq number) instances.now.entries) }
     ensures { slice_get (keys_of instances.now.entries) result ≡ Some number }
@@ -125,7 +125,7 @@ fn instance_index<T, A: Allocator + Copy>(instances: &ByNumber<T, A>, number: u3
     }
 }
 
-/// Returns the index of the meter `number`, which must exist; `None` without a number.
+/// Returns the index of the meter `number`, which must exist; `None` without a number. `plan_and_route` calls it.
 fn optional_index<T, A: Allocator + Copy>(
     instances: &ByNumber<T, A>,
     number: Option<u32>,
@@ -139,7 +139,8 @@ fn optional_index<T, A: Allocator + Copy>(
     }
 }
 
-/// Returns the plan of the filter at index `place`, and the route of its frames.
+/// Returns the plan of the filter at index `place`, and the route of its frames. `default_row`, `handle_rows` and `search_route` call it
+/// for each filter.
 pub(crate) fn plan_and_route<A: Allocator + Copy>(
     filters: &ByNumber<FilterState, A>,
     gates: &ByNumber<StreamGate<A>, A>,
@@ -166,8 +167,8 @@ pub(crate) fn plan_and_route<A: Allocator + Copy>(
     (plan, route)
 }
 
-/// Returns the lesser of `least` and `route` if the filter of `route` matches the frame; otherwise `least`. `search_route` keeps the
-/// result.
+/// Returns the lesser of `least` and `route` if a filter with the settings `plan` matches the frame; otherwise `least`. `search_route`
+/// calls it for each filter.
 fn lesser_match(
     least: Option<Route>,
     plan: &FilterPlan,
@@ -186,8 +187,8 @@ fn lesser_match(
     }
 }
 
-/// Returns the route for this handle and priority by a search through all filters; `None` if none matches. Only a priority above 7 needs
-/// it.
+/// Returns the route for this handle and priority by a search through all filters; `None` if none matches. `look_up_route` calls it for
+/// priorities above 7, for which rows have no route.
 #[cold]
 #[inline(never)]
 fn search_route<A: Allocator + Copy>(

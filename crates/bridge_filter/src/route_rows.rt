@@ -16,7 +16,8 @@ use bridge_meter::Meter;
 use indexmap::IndexMap;
 use std::alloc::{AllocError, Allocator};
 
-/// Returns a slot after a filter's route was entered, if the filter accepts `priority`. The slot keeps the filter with the lower number.
+/// Returns a row's route for `priority` after one more filter: the lesser of `slot` and `route` if the filter accepts the priority,
+/// otherwise `slot`. `asked` is the filter's priority; `None` accepts all.
 fn add_to_slot(slot: Option<Route>, asked: Option<u8>, route: Route, priority: u8) -> Option<Route>
     ensures { result ≡ finding.add_to_slot slot asked route priority }
 {
@@ -27,7 +28,8 @@ fn add_to_slot(slot: Option<Route>, asked: Option<u8>, route: Route, priority: u
     }
 }
 
-/// Enters a filter's route at each priority that the filter accepts. A slot keeps the filter with the lower number.
+/// Enters a filter's route at each priority that the filter accepts, unless a filter with a lower number is there. `asked` is the filter's
+/// priority; `None` accepts all.
 fn add_to_row(row: &mut PriorityRow, asked: Option<u8>, route: Route)
     ensures { (k : ℕ) → k < 8 → finding.slot row.new k ≡ finding.add_to_slot (finding.slot row.old k) asked route k }
 {
@@ -36,7 +38,7 @@ fn add_to_row(row: &mut PriorityRow, asked: Option<u8>, route: Route)
     }
 }
 
-/// Enters the route of a filter without handle in the default row. Ignores a filter with a handle.
+/// Enters the route of a filter without handle in the default row. Ignores a filter with a handle. `default_row` calls it for each filter.
 fn add_to_default_row(any: &mut PriorityRow, plan: &FilterPlan, route: Route)
     ensures { (k : ℕ) → k < 8
         → finding.slot any.new k ≡ (if is_none plan.now.handle
@@ -47,7 +49,7 @@ fn add_to_default_row(any: &mut PriorityRow, plan: &FilterPlan, route: Route)
     }
 }
 
-/// Makes the default row, for frames without a handle and for handles that no filter has.
+/// Makes the default row, for frames without a handle and for handles that no filter has. `Police::new` calls it before `handle_rows`.
 pub(crate) fn default_row<A: Allocator + Copy>(
     filters: &ByNumber<FilterState, A>,
     gates: &ByNumber<StreamGate<A>, A>,
@@ -67,7 +69,8 @@ pub(crate) fn default_row<A: Allocator + Copy>(
     any
 }
 
-/// Enters the route of a filter with a handle in the row of this handle. A new row starts as a copy of the default row.
+/// Enters the route of a filter with a handle in the row of this handle. A new row starts as a copy of the default row. `handle_rows` calls
+/// it for each filter.
 fn add_to_handle_row<A: Allocator + Copy>(
     rows: &mut HandleRows<A>,
     any: &PriorityRow,

@@ -15,7 +15,8 @@ use bridge_limits::NoMemory;
 use std::alloc::Allocator;
 use std::marker::Model;
 
-/// Whether an address is 01-80-C2-00-00-00 to 01-80-C2-00-00-0F. The first octet already excludes most addresses.
+/// Whether an address is 01-80-C2-00-00-00 to 01-80-C2-00-00-0F. The first octet already excludes most addresses. Frames to these addresses
+/// aren't forwarded.
 #[inline(always)]
 #[tactic(auto, using(crate::proofs::Reserved::is_not_reserved))]
 fn is_reserved(da: &[u8; 6]) -> bool
@@ -115,8 +116,8 @@ impl<A: Allocator + Copy> Forwarding<A> {
         self.statics.as_slice()
     }
 
-    /// Returns the egress ports of a frame to address `da` in VLAN `vid` that arrived on `port` (IEEE 802.1Q-2018, 8.6.2 to 8.6.4).
-    /// It takes constant time and no memory.
+    /// Returns the egress ports of a frame to address `da` in VLAN `vid` that arrived on `port` (IEEE 802.1Q-2018, 8.6.2 to 8.6.4). Takes
+    /// constant time, and allocates no memory.
     #[inline(always)]
     pub fn forward(&self, port: u8, vid: u16, da: &[u8; 6]) -> PortSet
         requires from { 1 ≤ port }
@@ -130,7 +131,7 @@ impl<A: Allocator + Copy> Forwarding<A> {
         output_ports(self.vlan_members(vid), self.static_ports(vid, da), port)
     }
 
-    /// Returns the members of a VLAN; `None` if the database lacks it.
+    /// Returns the members of a VLAN; `None` if the database lacks it. `forward` calls it.
     #[inline(always)]
     fn vlan_members(&self, vid: u16) -> Option<PortSet>
         ensures { result ≡ vlan_members self.now.vlans vid }
@@ -147,7 +148,8 @@ impl<A: Allocator + Copy> Forwarding<A> {
         }
     }
 
-    /// Returns the ports of the static entry for a VLAN and an address; `None` without such an entry.
+    /// Returns the ports of the static entry for a VLAN and an address; `None` without such an entry. Tries the hinted index before the
+    /// hash.
     #[inline(always)]
     fn static_ports(&self, vid: u16, da: &[u8; 6]) -> Option<PortSet>
         ensures { result ≡ static_ports self.now.statics vid da.now }

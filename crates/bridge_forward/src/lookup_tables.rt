@@ -17,7 +17,8 @@ use std::hash::{BuildHasherDefault, FoldHasher};
 /// Ports of static entries, by the key of VLAN identifier and address.
 pub(crate) type StaticTable<A> = IndexMap<u64, PortSet, BuildHasherDefault<FoldHasher>, A>;
 
-/// Returns the length of a table by VLAN identifier: the greatest identifier plus 1, or 0.
+/// Returns the length of a table indexed by VLAN identifier: the greatest identifier plus 1, or 0 without VLANs. `make_member_table` calls
+/// it.
 fn vlan_table_len(vlans: &[Vlan]) -> usize
     ensures { All (λ (v : Vlan). v.vid < result) vlans.now }
 {
@@ -74,7 +75,7 @@ fn insert_if_new<A: Allocator + Copy>(
     Ok(())
 }
 
-/// Adds a static entry unless its VLAN identifier and address have one.
+/// Adds a static entry unless its VLAN identifier and address have one. `make_static_table` calls it for each entry.
 #[tactic(auto, using(bridge_frame::proofs::Addresses::same_key))]
 fn insert_static<A: Allocator + Copy>(
     entries: &mut StaticTable<A>,
@@ -91,14 +92,14 @@ fn insert_static<A: Allocator + Copy>(
 /// Number of hints for each static entry.
 const HINTS_PER_ENTRY: usize = 4;
 
-/// Returns the slot of `key` among `hints` hints, by mixing the bits of the key.
+/// Returns the index of the hint for `key` among `hints` hints, by mixing the bits of the key.
 #[inline(always)]
 pub(crate) fn hint_slot(key: u64, hints: usize) -> usize {
     let mixed = key.wrapping_mul(0x9E37_79B9_7F4A_7C15) >> 32;
     (mixed.wrapping_mul(hints as u64) >> 32) as usize
 }
 
-/// Makes hints of the entries' indexes. If several keys share a slot, the last one fills it.
+/// Makes hints of the entries' indexes. If several keys have one hint, it is the index of the last of them.
 pub(crate) fn make_hints<A: Allocator + Copy>(
     alloc: A,
     entries: &StaticTable<A>,
@@ -117,7 +118,7 @@ pub(crate) fn make_hints<A: Allocator + Copy>(
     Ok(hints)
 }
 
-/// Returns the ports at index `place` if they have this key, otherwise `None`.
+/// Returns the ports at index `place` if they have this key, otherwise `None`. `static_ports` tests a hint by it.
 #[inline(always)]
 pub(crate) fn ports_by_index<A: Allocator + Copy>(
     entries: &StaticTable<A>,
@@ -133,7 +134,7 @@ pub(crate) fn ports_by_index<A: Allocator + Copy>(
     }
 }
 
-/// Returns the ports of `key` by its hash; `None` if no static entry has this key.
+/// Returns the ports of `key` by its hash; `None` if no static entry has this key. `static_ports` calls it after a wrong hint.
 #[inline(never)]
 pub(crate) fn ports_by_hash<A: Allocator + Copy>(
     entries: &StaticTable<A>,

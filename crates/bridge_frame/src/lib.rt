@@ -104,7 +104,7 @@ impl Speed {
     }
 }
 
-/// Reads the tag of a frame of at least 18 octets that has a C-VLAN tag.
+/// Reads the tag of a frame of at least 18 octets that has a C-VLAN tag. `parse` calls it.
 fn read_tag(octets: &[u8]) -> Tag
     requires { 18 ≤ length octets.now }
     ensures { result ≡ frame_tag octets.now }
@@ -117,7 +117,7 @@ fn read_tag(octets: &[u8]) -> Tag
     }
 }
 
-/// Whether octets 12 and 13 are 81 00, the EtherType of a C-VLAN tag.
+/// Whether octets 12 and 13 are 81 00, the EtherType of a C-VLAN tag. The frame must have at least 14 octets.
 fn is_tagged(octets: &[u8]) -> bool
     requires { 14 ≤ length octets.now }
     ensures { result ≡ is_tagged octets.now }
@@ -189,7 +189,7 @@ pub fn mark_drop_eligible(octets: &mut [u8]) -> bool
     true
 }
 
-/// A marked frame keeps its header, with the tag drop eligible, or its fault.
+/// A frame whose tag was marked drop eligible keeps its header, except this mark; a malformed frame keeps its fault.
 pub fn marked_head()
     ensures head { (octets : List ℕ) (len : ℕ) (h : Head) → parsed_head octets len ≡ Ok h
         → parsed_head (drop_eligible_frame octets) len ≡ Ok (drop_eligible_head h) }
@@ -208,8 +208,8 @@ pub fn address_key(vid: u16, address: [u8; 6]) -> u64
     u64::from_be_bytes([high, low, a, b, c, d, e, f])
 }
 
-/// Transmission time in ns, rounded up, of a frame of `len` octets. It includes padding to 60 octets, check sequence (4), preamble
-/// and delimiter (8) and gap (12).
+/// Returns the transmission time in ns, rounded up, of a frame of `len` octets. It includes padding to 60 octets, check sequence (4),
+/// preamble and delimiter (8) and gap (12).
 #[tactic(auto, unfolding(crate::specs::Link::transmission_time))]
 #[inline(always)]
 pub fn occupation(len: u32, speed: Speed) -> u64

@@ -40,7 +40,8 @@ state_answer g x sdu =
     else if is_over_limit x.state.octets (counted_octets g x.start + sdu) then OctetsExceeded
     else Through x.state.ipv
 
--- Gate after octets were counted. Only an interval with a limit changes the count.
+-- Gate after a frame that passed at time `t`. With an octet limit, `n` octets have passed in the interval from `z`;
+-- without a limit (`None`), the count stays.
 abbrev pub gate_after_counting : {A : Type 0} → GateState A → ℕ → ℤ → ℕ → Option ℕ → GateState A
 gate_after_counting g t z n None = record g { earliest = t }
 gate_after_counting g t z n (Some limit) = record g { start = z; count = n; earliest = t }

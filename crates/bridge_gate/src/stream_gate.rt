@@ -10,7 +10,7 @@ use bridge_limits::END_OF_TIME;
 use std::alloc::Allocator;
 use std::marker::Model;
 
-/// Answer of a stream gate to a frame: it passes, or the reason of a refusal.
+/// Answer of a stream gate to a frame: the frame passes, or the reason why it is refused.
 #[derive(Clone, Copy, Debug, PartialEq, Eq)]
 pub enum GateAnswer {
     /// The frame passes, with the internal priority value of the interval, if it has one.
@@ -36,7 +36,7 @@ pub struct StreamGate<A: Allocator + Copy> {
     octets: bool,
     /// Start in ns of the interval whose octets `count` counts.
     start: i64,
-    /// SDU octets that passed in this interval.
+    /// SDU octets that passed in the interval that started at `start`.
     count: u64,
     /// Arrival time in ns of the last frame, or 0.
     earliest: u64,
@@ -135,7 +135,7 @@ impl<A: Allocator + Copy> StreamGate<A> {
         self.rx = false;
     }
 
-    /// Clears the octets flag. The octets of the interval still count.
+    /// Clears the octets flag, for a command. Octets that passed in the interval still count.
     pub fn clear_octets(&mut self)
         ensures stands { (r : GateRules) (es : List GateEvent)
             → StandsFor r self.old es
@@ -171,7 +171,7 @@ impl<A: Allocator + Copy> StreamGate<A> {
         self.earliest
     }
 
-    /// Answers a frame in the interval `turn`, and updates flags and count.
+    /// Answers a frame in the interval `turn`, and updates flags and count. `ask` calls it with the interval of the arrival time.
     fn answer_frame(&mut self, t: u64, turn: Turn<GateEntry>, sdu: u32) -> GateAnswer
         ensures reply { result ≡ state_answer self.old turn sdu }
         ensures after { self.new ≡ gate_after_answer self.old t turn sdu result }
@@ -193,7 +193,7 @@ impl<A: Allocator + Copy> StreamGate<A> {
         answer
     }
 
-    /// Returns the octets that passed in the interval that starts at `start`.
+    /// Returns the number of SDU octets that passed in the interval that starts at `start`; 0 if none passed.
     fn turn_octets(&self, start: i64) -> u64
         ensures used { result ≡ counted_octets self.now start }
         ensures few { result < 2 ^ 32 }
@@ -201,7 +201,8 @@ impl<A: Allocator + Copy> StreamGate<A> {
         if self.start == start { self.count } else { 0 }
     }
 
-    /// Returns the answer in the interval `turn`. `total` octets pass in it, including this frame.
+    /// Returns the answer to a frame in the interval `turn`. `total` is the number of SDU octets that would pass in this interval,
+    /// including the frame.
     fn decide_answer(&self, turn: &Turn<GateEntry>, total: u64) -> GateAnswer
         ensures reply { (sdu : ℕ)
             → total ≡ counted_octets self.now turn.now.start + sdu

@@ -22,11 +22,11 @@ use Rattle.bridge_semantics.specs.Offers.{CarriedFrame, Offer, class_offers, cop
 use Rattle.bridge_semantics.specs.Runs.{AreFinished, IsRun}
 use Rattle.bridge_semantics.proofs.Headline.{in_class_in, in_only}
 use Rattle.bridge_bounds.proofs.Sizes.{within_size}
-use Rattle.bridge_work.specs.MeterAllowance.{meter_burst, meter_rate}
-use Rattle.bridge_work.specs.Work.{HaveSufficientCosts, HasCostCurve, IsDelayBound, IsSufficientCost, recent_cost}
-use Rattle.bridge_work.proofs.Chain.{in_time_at_cost, paid_plain}
-use Rattle.bridge_work.proofs.MeterAllowance.{lets_upto}
-use Rattle.bridge_work.proofs.Costs.{paid_long}
+use Rattle.bridge_groups.specs.MeterAllowance.{meter_burst, meter_rate}
+use Rattle.bridge_groups.specs.Work.{HaveSufficientCosts, HasCostCurve, IsDelayBound, IsSufficientCost, recent_cost}
+use Rattle.bridge_groups.proofs.Chain.{in_time_at_cost, paid_plain}
+use Rattle.bridge_groups.proofs.MeterAllowance.{lets_upto}
+use Rattle.bridge_groups.proofs.FitCosts.{paid_long}
 use Rattle.bridge_groups.specs.Costs.{HasFilterCostCurve, recent_sharer_cost, frame_cost, recent_filter_cost, recent_offer_cost}
 use Rattle.bridge_groups.specs.Curves.{AreArrivalsInOrder, AreSharers, curve_sum, has_filter_number, last_arrival_time, recent_filter_octets}
 use Rattle.bridge_check.specs.Acceptable.{HasAcceptableGroups}

@@ -28,7 +28,7 @@ use Rattle.bridge_semantics.specs.Offers.{CarriedFrame, Offer, arrival_offer, co
 use Rattle.bridge_semantics.specs.Runs.{AreFinished, IsRun}
 use Rattle.bridge_semantics.proofs.Headline.{as_offer, in_offered, in_only}
 use Rattle.bridge_bounds.proofs.Sizes.{occupied_rises, within_size}
-use Rattle.bridge_work.specs.Work.{IsSufficientRoom, IsDelayBound}
+use Rattle.bridge_groups.specs.Work.{IsSufficientRoom, IsDelayBound}
 use Rattle.bridge_groups.specs.Curves.{AreArrivalsInOrder, HaveMeters, AreSharers, sharers_curve, sharers_frame_limit}
 use Rattle.bridge_check.specs.Acceptable.{HasAcceptableGroups}
 use Rattle.bridge_semantics.specs.Groups.{IsGroupMember, IsGroupQueue}

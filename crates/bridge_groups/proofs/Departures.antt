@@ -18,9 +18,9 @@ use Rattle.bridge_semantics.specs.Events.{Arrival, Arrived, Cleared, Event, fram
 use Rattle.bridge_semantics.specs.Offers.{CarriedFrame, Offer, class_offers, copy_offers, egress_rules, port_offers}
 use Rattle.bridge_semantics.specs.Runs.{AreFinished, IsRun}
 use Rattle.bridge_semantics.proofs.Headline.{only_in}
-use Rattle.bridge_work.specs.Hops.{HaveHopDelays, Passage, recent_arrived_octets}
-use Rattle.bridge_work.specs.Work.{IsDelayBound}
-use Rattle.bridge_work.proofs.Hops.{next_burst}
+use Rattle.bridge_groups.specs.Hops.{HaveHopDelays, Passage, recent_arrived_octets}
+use Rattle.bridge_groups.specs.Work.{IsDelayBound}
+use Rattle.bridge_groups.proofs.Hops.{next_burst}
 use Rattle.bridge_groups.specs.Curves.{AreArrivalsInOrder, HaveMeters, AreSharers, optional_burst, sharers_curve, has_filter_number, recent_filter_octets, optional_rate}
 use Rattle.bridge_check.specs.Acceptable.{HasAcceptableGroups}
 use Rattle.bridge_semantics.specs.Groups.{IsGroupQueue}

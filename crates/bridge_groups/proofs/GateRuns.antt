@@ -43,12 +43,12 @@ use Rattle.bridge_semantics.proofs.GroupMembers as members
 use Rattle.bridge_semantics.proofs.Headline.{as_offer, in_class_in, in_offered, in_only, only_in}
 use Rattle.bridge_bounds.proofs.Reached.{found_in}
 use Rattle.bridge_bounds.proofs.Sizes.{occupied_rises, within_size}
-use Rattle.bridge_work.specs.GateIntervals.{gate_opens, last_opening, opening_work, is_open_turn, turn_limit}
-use Rattle.bridge_work.specs.IntervalWork.{AreIntervals, HasIntervalWork, IsIntervalBound}
-use Rattle.bridge_work.specs.Work.{HaveBoundedTimes}
-use Rattle.bridge_work.proofs.GateCycles.{opened_turn}
-use Rattle.bridge_work.proofs.GateOpenings.{opening_before, openings_are_intervals, turn_stays}
-use Rattle.bridge_work.proofs.Intervals.{in_time}
+use Rattle.bridge_groups.specs.GateIntervals.{gate_opens, last_opening, opening_work, is_open_turn, turn_limit}
+use Rattle.bridge_groups.specs.IntervalWork.{AreIntervals, HasIntervalWork, IsIntervalBound}
+use Rattle.bridge_groups.specs.Work.{HaveBoundedTimes}
+use Rattle.bridge_groups.proofs.GateCycles.{opened_turn}
+use Rattle.bridge_groups.proofs.GateOpenings.{opening_before, openings_are_intervals, turn_stays}
+use Rattle.bridge_groups.proofs.Intervals.{in_time}
 use Rattle.bridge_groups.specs.Curves.{AreArrivalsInOrder, has_filter_number, last_arrival_time, recent_filter_work, recent_offer_work}
 use Rattle.bridge_groups.specs.GateBounds.{HaveSdus, IsGateWorkBound, IsScheduleBound, are_limited}
 use Rattle.bridge_groups.specs.GateLimits.{HasOctetLimits, ended_turn_limits, is_same_turn, octet_budget}

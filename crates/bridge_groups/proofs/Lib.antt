@@ -15,3 +15,27 @@ pub mod Rows
 pub mod Leaving
 pub mod Admitting
 pub mod GateRuns
+pub mod NthFits
+pub mod Chain
+pub mod MeterAllowance
+pub mod GreenFrames
+pub mod Candidates
+pub mod Cycles
+pub mod Hops
+pub mod TalkerFrames
+pub mod FitCosts
+pub mod Change
+mod CurveExamples
+pub mod FirstFits
+pub mod FitTurns
+pub mod LinearCurves
+pub mod Ranks
+pub mod SpanSearches
+pub mod SpanCovers
+pub mod Rooms
+pub mod Intervals
+pub mod GateOpenings
+pub mod LeaveTimes
+pub mod GateSearch
+pub mod GateCycles
+pub mod ApartParts

@@ -38,7 +38,7 @@ use Rattle.bridge_semantics.specs.Events.{Arrival, Arrived, Cleared, Event, dest
 use Rattle.bridge_semantics.specs.Offers.{Offer, class_offers, destination_offer, make_offer, port_offers, step_offer, verdict_offer}
 use Rattle.bridge_semantics.proofs.Offering.{going}
 use Rattle.bridge_bounds.proofs.Sizes.{head_read}
-use Rattle.bridge_work.proofs.MeterAllowance.{lets_upto}
+use Rattle.bridge_groups.proofs.MeterAllowance.{lets_upto}
 use Rattle.bridge_bounds.specs.GateFrames.{AreWithinLengths}
 use Rattle.bridge_groups.specs.Curves.{AreArrivalsInOrder, HasNoRunts, HasFilterCurve, curve_sum, recent_sharer_work, recent_filter_work, gate_curve, has_filter_number, last_arrival_time, meter_curve, recent_filter_octets, count_recent_offers, recent_offer_work}
 use Rattle.bridge_groups.specs.GateBounds.{HaveSdus}

@@ -12,8 +12,8 @@ use Rattle.bridge_filter.specs.declared.FilterPlan.{FilterPlan}
 use Rattle.bridge_filter.specs.Plans.{all_within_limits, meter_or_empty}
 use Rattle.bridge_config.specs.Model.{Plan}
 use Rattle.bridge_config.specs.Rules.{IsPlan}
-use Rattle.bridge_work.specs.declared.linear_curve.LinearCurve.{LinearCurve}
-use Rattle.bridge_work.specs.LinearCurves.{count_at, curve_at}
+use Rattle.bridge_groups.specs.declared.linear_curve.LinearCurve.{LinearCurve}
+use Rattle.bridge_groups.specs.LinearCurves.{count_at, curve_at}
 use Rattle.bridge_groups.specs.Curves.{sharers_frame_limit}
 use Rattle.bridge_groups.specs.Sharers.{IsFilterCountCurve}
 

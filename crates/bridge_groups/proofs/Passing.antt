@@ -35,8 +35,8 @@ use Rattle.bridge_semantics.specs.declared.destination.Destination.TheVariants a
 use Rattle.bridge_semantics.specs.Events.{Arrival, Arrived, Cleared, Event, arrival_filter, arrival_input, destination_input, filter_inputs, frame_destination, metered_octets, plan_police, police_steps, with_input}
 use Rattle.bridge_semantics.proofs.Offering.{going}
 use Rattle.bridge_bounds.specs.Passing.{passes}
-use Rattle.bridge_work.specs.MeterAllowance.{AreConforming, AreFramesInOrder, last_metered_time, recent_octets}
-use Rattle.bridge_work.proofs.GreenFrames.{next_green}
+use Rattle.bridge_groups.specs.MeterAllowance.{AreConforming, AreFramesInOrder, last_metered_time, recent_octets}
+use Rattle.bridge_groups.proofs.GreenFrames.{next_green}
 use Rattle.bridge_groups.specs.Curves.{AreArrivalsInOrder, last_arrival_time}
 use Rattle.bridge_groups.specs.Talkers.{IsConformingFrame, IsAlwaysOpen, AdmitsTalker, IsConformingTalker, recent_own_octets}
 

@@ -27,11 +27,11 @@ use Rattle.bridge_check.proofs.Grouped.{isolated_member}
 use Rattle.bridge_semantics.specs.Groups.{IsGroupMember, IsGroupQueue}
 use Rattle.bridge_semantics.proofs.GroupMembers.{grouped_as}
 use Rattle.bridge_bounds.specs.Bounds.{IsRoomBound}
-use Rattle.bridge_work.specs.declared.linear_curve.LinearCurve.{LinearCurve}
-use Rattle.bridge_work.specs.LinearCurves.{count_at, curve_at}
-use Rattle.bridge_work.specs.Work.{IsDelayBound, IsNthFit, IsSufficientRoom}
-use Rattle.bridge_work.proofs.Candidates.{lesser_curve}
-use Rattle.bridge_work.proofs.NthFits.{nth_apart, nth_some}
+use Rattle.bridge_groups.specs.declared.linear_curve.LinearCurve.{LinearCurve}
+use Rattle.bridge_groups.specs.LinearCurves.{count_at, curve_at}
+use Rattle.bridge_groups.specs.Work.{IsDelayBound, IsNthFit, IsSufficientRoom}
+use Rattle.bridge_groups.proofs.Candidates.{lesser_curve}
+use Rattle.bridge_groups.proofs.NthFits.{nth_apart, nth_some}
 use Rattle.bridge_groups.specs.Curves.{AreSharers, sharers_curve, sharers_frame_limit}
 use Rattle.bridge_groups.specs.Sharers.{IsSharersCurve, are_metered, is_sharer, longest_sdu, queue_sharers, sdu_or_zero}
 use Rattle.bridge_groups.specs.SharedQueues.{IsListsBound, IsMeterBound, IsSharedBound, IsSharedRoom, IsSumOfBounds}

@@ -35,7 +35,7 @@ use Rattle.bridge_semantics.specs.declared.destination.Destination.TheVariants a
 use Rattle.bridge_semantics.specs.Events.{Arrival, Arrived, Cleared, Event, destination_input, filter_inputs, frame_destination, metered_octets, plan_police, police_steps, with_input}
 use Rattle.bridge_semantics.specs.Offers.{Offer, class_offers, destination_offer, make_offer, port_offers, step_offer, verdict_offer}
 use Rattle.bridge_semantics.proofs.Offering.{going}
-use Rattle.bridge_work.specs.MeterAllowance.{recent_passed_units, passed_units}
+use Rattle.bridge_groups.specs.MeterAllowance.{recent_passed_units, passed_units}
 use Rattle.bridge_groups.specs.Curves.{AreArrivalsInOrder, last_arrival_time, recent_filter_octets}
 
 -- ONE FRAME IN A METER

@@ -35,10 +35,10 @@ use Rattle.bridge_semantics.proofs.Headline.{as_offer, in_class_in, in_in_class,
 use Rattle.bridge_bounds.specs.Bounds.{IsLongestTime}
 use Rattle.bridge_bounds.proofs.Queued.{each_in_time as by_room}
 use Rattle.bridge_bounds.proofs.Sizes.{occupied_rises, within_size}
-use Rattle.bridge_work.specs.Work.{HaveBoundedTimes, IsSufficientRoom, IsDelayBound, HasCountCurve, HasWorkCurve}
-use Rattle.bridge_work.proofs.Chain.{in_time, not_full}
-use Rattle.bridge_work.proofs.Change.{exchanged}
-use Rattle.bridge_work.proofs.MeterAllowance.{lets_upto}
+use Rattle.bridge_groups.specs.Work.{HaveBoundedTimes, IsSufficientRoom, IsDelayBound, HasCountCurve, HasWorkCurve}
+use Rattle.bridge_groups.proofs.Chain.{in_time, not_full}
+use Rattle.bridge_groups.proofs.Change.{exchanged}
+use Rattle.bridge_groups.proofs.MeterAllowance.{lets_upto}
 use Rattle.bridge_groups.specs.Curves.{AreArrivalsInOrder, HaveMeters, AreSharers, burst_sum, rate_sum, optional_burst, sharers_curve, last_arrival_time, sharers_frame_limit, recent_filter_octets, count_recent_offers, recent_offer_work, optional_rate}
 use Rattle.bridge_check.specs.Acceptable.{HasAcceptableGroups}
 use Rattle.bridge_semantics.specs.Groups.{IsGroupQueue, group_events}

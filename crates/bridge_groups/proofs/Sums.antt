@@ -15,7 +15,7 @@ use Rattle.bridge_port.specs.Schedule.{Copy}
 use Rattle.bridge_config.specs.declared.ports.PortPlan.{PortPlan}
 use Rattle.bridge_semantics.specs.Events.{metered_octets}
 use Rattle.bridge_semantics.specs.Offers.{CarriedFrame, Offer, copy_offers, egress_rules}
-use Rattle.bridge_work.specs.Work.{HasCountCurve, HasWorkCurve, count_recent_copies, recent_work}
+use Rattle.bridge_groups.specs.Work.{HasCountCurve, HasWorkCurve, count_recent_copies, recent_work}
 use Rattle.bridge_groups.specs.Curves.{burst_sum, count_sharer_offers, recent_sharer_octets, rate_sum, optional_burst, count_filter_offers, has_filter_number, frame_limit, recent_filter_octets, count_recent_offers, recent_offer_work, optional_rate}
 
 -- Per metered octet, a frame of 60 octets takes most.

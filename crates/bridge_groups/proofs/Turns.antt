@@ -11,7 +11,7 @@ use Rattle.bridge_gate.specs.declared.stream_gate.GateAnswer.TheVariants.{Closed
 use Rattle.bridge_gate.specs.declared.schedule.GateEntry.{GateEntry}
 use Rattle.bridge_gate.specs.Gates.{Answered, Asked, ClearedOctets, ClearedRx, GateEvent, GateRules, GateStep, OctetsCleared, RxCleared, answer, gate_steps, is_over_limit, is_shut_by_octets, is_shut_by_rx, last_frame_time, octets_in_turn, turn_answer}
 use Rattle.bridge_groups.specs.GateLimits.{AreGateFramesInOrder, HasOctetLimits, octet_budget, ended_turn_limits, is_same_turn, recent_passed_octets}
-use Rattle.bridge_work.specs.GateIntervals.{turn_limit}
+use Rattle.bridge_groups.specs.GateIntervals.{turn_limit}
 
 -- ONE FRAME
 

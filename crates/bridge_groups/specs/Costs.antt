@@ -9,11 +9,13 @@ use Rattle.bridge_semantics.specs.Events.{Event}
 use Rattle.bridge_semantics.specs.Offers.{Offer, class_offers, port_offers}
 use Rattle.bridge_groups.specs.Curves.{AreArrivalsInOrder, has_filter_number, last_arrival_time}
 
--- The cost in ns of a frame of `len` octets: its transmission time, and by how much it exceeds `fit` ns.
+-- The cost in ns of a frame of `len` octets: its transmission time, plus the part of this time above `fit` ns. Bounds
+-- count fits of transmissions that take `fit` ns.
 abbrev pub frame_cost : ℕ → Speed → ℕ → ℕ
 frame_cost fit speed len = transmission_time len speed + (transmission_time len speed - fit)
 
--- The total cost of the copies that were offered at time `u` or later.
+-- The total cost in ns of the copies that were offered at time `u` or later. The function `cost` gives the cost of a
+-- frame by its octets.
 abbrev pub recent_offer_cost : (ℕ → ℕ) → ℕ → List Offer → ℕ
 recent_offer_cost cost u [] = 0
 recent_offer_cost cost u (o ∷ os) = (if nat_le u o.at then cost o.item.len else 0) + recent_offer_cost cost u os
@@ -23,7 +25,7 @@ abbrev pub recent_filter_cost : (ℕ → ℕ) → ℕ → ℕ → List Offer →
 recent_filter_cost cost n u [] = 0
 recent_filter_cost cost n u (o ∷ os) = (if has_filter_number o.item.flow n && nat_le u o.at then cost o.item.len else 0) + recent_filter_cost cost n u os
 
--- The total cost of the copies that the filters offered at time `u` or later.
+-- The total cost in ns of the copies that the filters of the list offered at time `u` or later.
 abbrev pub recent_sharer_cost : (ℕ → ℕ) → List (ℕ × FilterPlan) → ℕ → List Offer → ℕ
 recent_sharer_cost cost [] u os = 0
 recent_sharer_cost cost (g ∷ gs) u os = recent_filter_cost cost g.0 u os + recent_sharer_cost cost gs u os

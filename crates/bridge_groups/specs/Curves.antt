@@ -12,7 +12,7 @@ use Rattle.bridge_semantics.specs.Events.{Arrived, Cleared, Event, metered_octet
 use Rattle.bridge_config.specs.declared.ports.PortPlan.{PortPlan}
 use Rattle.bridge_semantics.specs.Groups.{IsGroupMember}
 use Rattle.bridge_semantics.specs.Offers.{Offer, class_offers, port_offers}
-use Rattle.bridge_work.specs.MeterAllowance.{meter_burst, meter_rate}
+use Rattle.bridge_groups.specs.MeterAllowance.{meter_burst, meter_rate}
 
 -- The burst in octets that an optional flow meter passes; 0 without a meter.
 abbrev pub optional_burst : (ℕ → MeterPlan) → Option ℕ → ℕ
@@ -65,13 +65,13 @@ last_arrival_time [] = 0
 last_arrival_time (Arrived a ∷ es) = a.at
 last_arrival_time (Cleared clear n ∷ es) = last_arrival_time es
 
--- Holds if no frame arrived earlier than an older one. Events are newest first.
+-- Holds if no frame arrived earlier than an older one. Events are newest first. The laws of delay bounds require this.
 abbrev pub AreArrivalsInOrder : List Event → Type 0
 AreArrivalsInOrder [] = Unit {0}
 AreArrivalsInOrder (Arrived a ∷ es) = (last_arrival_time es ≤ a.at) × AreArrivalsInOrder es
 AreArrivalsInOrder (Cleared clear n ∷ es) = AreArrivalsInOrder es
 
--- True if the optional filter number is present and equals `n`.
+-- True if the filter number of a copy is present and equals `n`. Unfiltered copies have no number.
 abbrev pub has_filter_number : Option ℕ → ℕ → Bool
 has_filter_number None n = false
 has_filter_number (Some k) n = nat_eq k n

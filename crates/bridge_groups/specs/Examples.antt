@@ -17,7 +17,7 @@ use Rattle.bridge_groups.specs.Costs.{frame_cost, recent_filter_cost, recent_off
 use Rattle.bridge_groups.specs.Curves.{burst_sum, count_filter_offers, count_recent_offers, count_sharer_offers, curve_sum, frame_limit, gate_curve, has_filter_number, last_arrival_time, meter_curve, optional_burst, rate_sum, recent_filter_octets, recent_filter_work, recent_offer_work, recent_sharer_octets, recent_sharer_work}
 use Rattle.bridge_groups.specs.Departures.{filter_passages}
 use Rattle.bridge_groups.specs.GateLimits.{is_same_turn, octet_budget, recent_passed_octets}
-use Rattle.bridge_work.specs.GateIntervals.{turn_limit}
+use Rattle.bridge_groups.specs.GateIntervals.{turn_limit}
 use Rattle.bridge_groups.specs.GroupRows.{group_from, least_group}
 use Rattle.bridge_groups.specs.Sharers.{are_metered, longest_sdu, sdu_or_zero}
 use Rattle.bridge_groups.specs.Talkers.{IsAlwaysOpen}

@@ -18,8 +18,8 @@ use Rattle.bridge_config.specs.Rules.{find_port}
 use Rattle.bridge_check.specs.Reach.{reaches_queue}
 use Rattle.bridge_check.specs.Windows.{longest_frame}
 use Rattle.bridge_semantics.specs.Events.{Arrived, Cleared, Event}
-use Rattle.bridge_work.specs.GateIntervals.{gate_opens, last_opening, opening_work}
-use Rattle.bridge_work.specs.IntervalWork.{IsIntervalBound}
+use Rattle.bridge_groups.specs.GateIntervals.{gate_opens, last_opening, opening_work}
+use Rattle.bridge_groups.specs.IntervalWork.{IsIntervalBound}
 
 -- Holds if each received frame has an SDU of at least `k` octets.
 abbrev pub HaveSdus : ℕ → List Event → Type 0
@@ -38,7 +38,8 @@ pub record IsScheduleBound {A : Type 0} (s : Schedule A) (out : PortPlan A) (c m
   pub limited : are_limited list.entries ≡ true
   pub is : IsIntervalBound (lists_open out.list c) (gate_opens list) (transmission_time (longest_frame m) out.speed) (transmission_time 60 out.speed) (last_opening list) (opening_work list (transmission_time 60 out.speed) k) b
 
--- Holds if `b` ns is the delay bound of protected filter `n` for class `c` at port `q`, by its stream gate. SDUs have at least `k` octets.
+-- Holds if `b` ns is the delay bound of protected filter `n` for class `c` at port `q`, by its stream gate. SDUs have
+-- at least `k` octets, where `k` is 1 to 44.
 pub record IsGateWorkBound {A : Type 0} (p : Plan A) (n q c k b : ℕ) : Type 0 where
   pub some : 1 ≤ k
   pub few : k ≤ 44

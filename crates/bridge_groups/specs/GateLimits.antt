@@ -4,7 +4,7 @@ use Rattle.std.specs.Ordering.{int_eq}
 use Rattle.bridge_cycle.specs.declared.timeline.Turn.{Turn}
 use Rattle.bridge_gate.specs.declared.stream_gate.GateAnswer.TheVariants.{Through}
 use Rattle.bridge_gate.specs.declared.schedule.GateEntry.{GateEntry}
-use Rattle.bridge_work.specs.GateIntervals.{turn_limit}
+use Rattle.bridge_groups.specs.GateIntervals.{turn_limit}
 use Rattle.bridge_gate.specs.Gates.{Answered, Asked, GateEvent, GateStep, last_frame_time}
 
 -- The octets of the service data units that the stream gate passed at time `u` or later.

@@ -10,3 +10,15 @@ pub mod GroupRows
 pub mod Admission
 pub mod Examples
 pub mod GateBounds
+pub mod Work
+pub mod MeterAllowance
+pub mod Hops
+pub mod TalkerFrames
+pub mod CurveExamples
+pub mod LinearCurves
+pub mod FitRuns
+pub mod SpanSearches
+pub mod Rooms
+pub mod IntervalWork
+pub mod ApartParts
+pub mod GateIntervals

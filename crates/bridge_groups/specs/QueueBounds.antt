@@ -5,7 +5,7 @@ use Rattle.bridge_port.specs.GateSchedule.{lists_open}
 use Rattle.bridge_config.specs.declared.ports.PortPlan.{PortPlan}
 use Rattle.bridge_check.specs.Windows.{longest_frame}
 use Rattle.bridge_semantics.specs.Offers.{egress_rules}
-use Rattle.bridge_work.specs.Work.{IsDelayBound, IsSufficientRoom}
+use Rattle.bridge_groups.specs.Work.{IsDelayBound, IsSufficientRoom}
 
 -- Holds if `b` ns is a delay bound of the class-`c` queue at port `out`. Frames have the arrival curve `curve` and
 -- SDUs of at most `sdu` octets.

@@ -12,13 +12,13 @@ use Rattle.bridge_check.specs.Windows.{longest_frame}
 use Rattle.bridge_semantics.specs.Groups.{IsGroupQueue}
 use Rattle.bridge_semantics.specs.Offers.{egress_rules}
 use Rattle.bridge_bounds.specs.Bounds.{IsRoomBound}
-use Rattle.bridge_work.specs.Work.{IsDelayBound, IsSufficientRoom}
+use Rattle.bridge_groups.specs.Work.{IsDelayBound, IsSufficientRoom}
 use Rattle.bridge_groups.specs.Curves.{sharers_curve, sharers_frame_limit}
 use Rattle.bridge_groups.specs.Sharers.{are_metered, longest_sdu, queue_sharers}
 use Rattle.bridge_groups.specs.declared.shared_queues.SharedQueue.{SharedQueue}
 
--- Holds if `b` ns adds the bounds of both lists of a schedule change, and `occ` ns. The new list's bound is that of a
--- curve shifted by the other two.
+-- Holds if `b` ns is the sum of the old list's bound, `occ` ns, and the new list's bound. The curve for the new list is
+-- shifted by the other two times.
 pub record IsSumOfBounds (lists : Joined ℕ) (c occ least : ℕ) (curve : ℕ → ℕ) (b : ℕ) : Type 0 where
   pub before : ℕ
   pub after : ℕ
@@ -32,7 +32,8 @@ pub record IsChangeBound {A : Type 0} (list : Option (Egress A)) (c occ least : 
   pub changes : gate_schedule list ≡ Changing lists
   pub sum : IsSumOfBounds lists c occ least curve b
 
--- Holds if `b` ns bounds the delays of a queue under these gate control lists, by the arrival curve of its frames.
+-- Holds if `b` ns bounds the delays of a queue with arrival curve `curve` under the port's lists `list`. At a schedule
+-- change, `b` may be the sum of two lists' bounds.
 abbrev pub IsListsBound : {A : Type 0} → Option (Egress A) → ℕ → ℕ → ℕ → (ℕ → ℕ) → ℕ → Type 0
 IsListsBound list c occ least curve b = IsDelayBound (lists_open list c) occ least curve b ⊎ IsChangeBound list c occ least curve b
 
@@ -50,8 +51,8 @@ pub record IsSharedRoom {A : Type 0} (p : Plan A) (out : PortPlan A) (sharers : 
   pub metered : are_metered sharers ≡ true
   pub sufficient : IsSufficientRoom (lists_open out.list c) (transmission_time (longest_frame (longest_sdu sharers)) out.speed) (transmission_time 60 out.speed) (sharers_curve p sharers out.speed) (sharers_frame_limit p sharers) room
 
--- Holds if `s` describes a queue that its group shares: a bound of its delays, a capacity that suffices, and its own
--- capacity. If `s` is metered, also the meters give a bound.
+-- Holds if row `s` describes a shared queue: its delay bound, a sufficient capacity if one is known, and the capacity
+-- that it has. If `s.is_metered` is true, the meters give a bound.
 pub record IsSharedQueue {A : Type 0} (p : Plan A) (s : SharedQueue) : Type 0 where
   pub out : PortPlan A
   pub at : find_port p.ports s.port ≡ Some out

@@ -10,8 +10,8 @@ use Rattle.bridge_check.specs.Reach.{reaches_queue}
 use Rattle.bridge_check.specs.ReachTables.{filter_reach}
 use Rattle.bridge_check.specs.declared.reach.Reach.{Reach}
 use Rattle.bridge_semantics.specs.Events.{plan_police}
-use Rattle.bridge_work.specs.LinearCurves.{IsCountCurve, IsLinearCurve, curve_at}
-use Rattle.bridge_work.specs.declared.linear_curve.LinearCurve.{LinearCurve}
+use Rattle.bridge_groups.specs.LinearCurves.{IsCountCurve, IsLinearCurve, curve_at}
+use Rattle.bridge_groups.specs.declared.linear_curve.LinearCurve.{LinearCurve}
 use Rattle.bridge_groups.specs.Curves.{optional_burst, optional_rate, sharers_curve}
 
 -- The reach of each filter, in list order.

@@ -45,7 +45,7 @@ pub fn is_open_gate<A: Allocator + Copy>(plan: &Plan<A>, gate: u32) -> bool
     }
 }
 
-/// Whether an optional limit of SDU octets is present and at least `most`.
+/// Whether a filter has a limit of SDU octets, and the limit is at least `most`. `admits_talker` refuses a filter without limit.
 fn allows_sdu(limit: Option<u32>, most: u32) -> bool
     ensures { result ≡ spec.allows_sdu limit most }
 {
@@ -72,7 +72,8 @@ pub fn committed_tokens<A: Allocator + Copy>(
     }
 }
 
-/// Whether a meter's committed burst size and rate are present, and at least `burst` octets and `rate` bit/s.
+/// Whether a meter's committed burst size and rate are present, and at least `burst` octets and `rate` bit/s. `admits_talker` refuses a
+/// filter without meter.
 fn has_tokens(tokens: Option<(u64, u64)>, burst: u64, rate: u64) -> bool
     ensures { result ≡ spec.has_tokens tokens burst rate }
 {
@@ -82,8 +83,8 @@ fn has_tokens(tokens: Option<(u64, u64)>, burst: u64, rate: u64) -> bool
     }
 }
 
-/// Whether a filter admits each talker with SDUs of at most `most` octets, a burst of `burst` metered octets and a rate of `rate` bit/s. The
-/// stream gate must be open at each time without octet limits.
+/// Whether a filter passes each frame of any talker with SDUs of at most `most` octets, `burst` metered octets at once and `rate` bit/s.
+/// The stream gate must be always open without octet limits.
 pub fn admits_talker<A: Allocator + Copy>(
     plan: &Plan<A>,
     filter: &FilterPlan,

@@ -3,8 +3,8 @@ ghost use Rattle.std.specs.Prelude.{◌≡◌, ◌≤◌, ◌<◌, IfSome, None,
 ghost use Rattle.std.specs.Map.{lookup};
 ghost use Rattle.bridge_frame.specs.Link.{transmission_time};
 ghost use Rattle.bridge_port.specs.GateSchedule.{lists_can_fit, lists_open};
-ghost use Rattle.bridge_work.specs.GateIntervals.{gate_opens, last_opening, opening_work};
-ghost use Rattle.bridge_work.specs.IntervalWork.{IsIntervalBound};
+ghost use Rattle.bridge_groups.specs.GateIntervals.{gate_opens, last_opening, opening_work};
+ghost use Rattle.bridge_groups.specs.IntervalWork.{IsIntervalBound};
 ghost use Rattle.bridge_config.specs.Rules.{IsPlan};
 ghost use Rattle.bridge_check.specs.Faults.{filter_fault};
 ghost use Rattle.bridge_check.specs.Reach.{reaches_queue};
@@ -12,6 +12,7 @@ ghost use Rattle.bridge_check.specs.Windows.{longest_frame};
 ghost use Rattle.bridge_groups.specs.GateBounds as spec;
 ghost use Rattle.bridge_groups.specs.GateBounds.{IsGateWorkBound, IsScheduleBound};
 
+use crate::gate_delay_bound;
 use bridge_bounds::find_filter;
 use bridge_check::{Accepted, can_wait, find_gate};
 use bridge_config::{Plan, PortPlan};
@@ -20,7 +21,6 @@ use bridge_filter::FilterPlan;
 use bridge_frame::occupation;
 use bridge_gate::{GateEntry, Schedule};
 use bridge_limits::LONGEST_FRAME;
-use bridge_work::gate_delay_bound;
 use std::alloc::Allocator;
 
 /// Fewest SDU octets of a frame whose captured octets are no more than its length: the two octets of an EtherType.
@@ -32,7 +32,7 @@ pub const PADDED_SDU: u64 = 44;
 /// Octets of the shortest frame on an Ethernet link, without frame check sequence.
 const SHORTEST_FRAME: u32 = 60;
 
-/// Whether each open entry of a stream gate's list has an octet limit.
+/// Whether each open entry of a stream gate's list has an octet limit. Otherwise `schedule_bound` returns no bound.
 fn are_limited(entries: &[(GateEntry, u64)]) -> bool
     ensures { result ≡ spec.are_limited entries.now }
 {
@@ -100,7 +100,8 @@ fn schedule_bound<A: Allocator + Copy>(
     lists_gate_bound(lists, class, longest, shortest, gate, fewest)
 }
 
-/// Returns the delay bound in ns of a queue that a protected filter reaches, by its stream gate.
+/// Returns the delay bound in ns of a queue that protected filter `number` can reach, by its stream gate; `None` if no bound is found.
+/// `gate_work_bound` calls it after its own tests.
 fn reached_gate_bound<A: Allocator + Copy>(
     plan: &Plan<A>,
     number: u32,

@@ -13,10 +13,11 @@ use bridge_filter::FilterPlan;
 use bridge_limits::NoMemory;
 use std::alloc::Allocator;
 
-/// Number of queues at 16 ports.
+/// Number of queues of a bridge with 16 ports: one for each class.
 const QUEUES: u8 = 128;
 
-/// Whether a filter of the group can reach the queue of class `class` at `port`.
+/// Whether a filter of the group can reach the queue of class `class` at `port`. `reaches` has the reachable queues of each filter, in the
+/// order of the plan.
 fn is_group_queue<A: Allocator + Copy>(
     plan: &Plan<A>,
     reaches: &[Reach],
@@ -39,7 +40,7 @@ fn is_group_queue<A: Allocator + Copy>(
     false
 }
 
-/// Returns the group if it is at least `from`, otherwise `None`.
+/// Returns a filter's group if it has one and its number is at least `from`, otherwise `None`. `least_group` ignores lower groups.
 fn group_from(from: u64, group: Option<u32>) -> Option<u32>
     ensures { result ≡ spec.group_from from group }
 {
@@ -53,7 +54,7 @@ fn group_from(from: u64, group: Option<u32>) -> Option<u32>
     }
 }
 
-/// Returns the lesser one of two groups; the other one if one is `None`.
+/// Returns the lesser of two optional group numbers. Returns the present one if the other is `None`.
 fn lesser_group(a: Option<u32>, b: Option<u32>) -> Option<u32>
     ensures { result ≡ lesser_number a b }
 {
@@ -64,7 +65,8 @@ fn lesser_group(a: Option<u32>, b: Option<u32>) -> Option<u32>
     }
 }
 
-/// Returns the least group of the filters from `from` on; `None` if no filter has such a group.
+/// Returns the least group number of the filters that is at least `from`; `None` if there is none. `put_all_rows` finds one group after
+/// another with it.
 fn least_group(filters: &[(u32, FilterPlan)], from: u64) -> Option<u32>
     ensures { result ≡ spec.least_group from filters.now }
 {
@@ -75,7 +77,7 @@ fn least_group(filters: &[(u32, FilterPlan)], from: u64) -> Option<u32>
     least
 }
 
-/// Appends to `rows` the row of the queue with index `place` (0 to 127), if the group shares this queue.
+/// Appends to `rows` the row of the queue with index `place` (0 to 127, by port and class), if the group shares this queue.
 fn put_row<A: Allocator + Copy>(
     alloc: A,
     accepted: &Accepted<A>,
@@ -124,7 +126,7 @@ fn put_group_rows<A: Allocator + Copy>(
     Ok(())
 }
 
-/// Returns the number after a group, from which the search for the next group goes on.
+/// Returns the number after a group's number. `put_all_rows` looks for the next group from it.
 fn number_after(group: u32) -> u64
     ensures next { result ≡ group + 1 }
     ensures few { result ≤ 4_294_967_296 }

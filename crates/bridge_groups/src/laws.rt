@@ -26,10 +26,10 @@ ghost use Rattle.bridge_semantics.specs.Groups.{IsGroupMember, IsGroupQueue};
 ghost use Rattle.bridge_semantics.specs.Runs.{AreFinished, IsRun};
 ghost use Rattle.bridge_bounds.specs.Bounds.{IsLongestTime};
 ghost use Rattle.bridge_bounds.specs.GateFrames.{AreWithinLengths};
-ghost use Rattle.bridge_work.specs.Work.{IsDelayBound, HasCountCurve, HasWorkCurve};
+ghost use Rattle.bridge_groups.specs.Work.{IsDelayBound, HasCountCurve, HasWorkCurve};
 ghost use Rattle.bridge_cycle.specs.Fits.{Fits, IsFirstFit};
 ghost use Rattle.bridge_meter.specs.Colours.{octet_units};
-ghost use Rattle.bridge_work.specs.MeterAllowance.{meter_allowance};
+ghost use Rattle.bridge_groups.specs.MeterAllowance.{meter_allowance};
 ghost use Rattle.bridge_groups.specs.QueueBounds.{HasCurveRoom, IsCurveBound};
 ghost use Rattle.bridge_groups.specs.Costs.{HasFilterCostCurve, frame_cost};
 ghost use Rattle.bridge_capture.specs.Grammar.{CapturedFrame};
@@ -299,7 +299,8 @@ pub fn group_leaves_in_time_by_cost<A: Allocator + Copy>()
         → s + transmission_time x.item.len out.speed ≤ x.at + b }
 {}
 
-/// At a schedule change, the bound adds the old lists' bound `b1`, a longest frame, and the new lists' bound `b2` for a shifted curve.
+/// If a port's lists change, copies leave a shared queue within the old list's bound `b1`, a longest frame, and the new list's bound `b2`
+/// for a shifted curve.
 pub fn group_leaves_in_time_over_change<A: Allocator + Copy>()
     ensures { (p : Plan A) (group : ℕ) (sharers : List (ℕ × FilterPlan)) (q c sdu b1 b2 s : ℕ) (out : PortPlan A)
         (j : Joined ℕ) (es : List Event) (moments : ℕ → ℕ) (lists : ℕ → List (Copy CarriedFrame))

@@ -1,15 +1,31 @@
 #![tactic(auto)]
 //! Groups of stream filters that share queues: other traffic doesn't change their records, and each frame leaves in time.
+//!
+//! The laws of one queue give delay bounds and capacities for frames with an arrival curve, as flow meters enforce it.
 
 mod admission;
+mod count_curves;
+mod delay_bound;
+mod fit_runs;
 mod gate_bounds;
 mod group_rows;
 pub mod laws;
+mod leave_times;
+mod linear_curve;
 mod meter_curves;
+mod opening_bound;
+mod openings;
+pub mod queue_laws;
+mod room;
 mod shared_queues;
 mod sharers;
+mod span_search;
 
 pub use admission::{admits_talker, committed_tokens, is_open_gate};
+pub use delay_bound::list_delay_bound;
 pub use gate_bounds::{CAPTURED_SDU, PADDED_SDU, gate_work_bound};
 pub use group_rows::plan_shared_queues;
+pub use linear_curve::{LARGEST_BURST, LinearCurve};
+pub use opening_bound::gate_delay_bound;
+pub use room::sufficient_room;
 pub use shared_queues::SharedQueue;

@@ -4,19 +4,19 @@ ghost use Rattle.std.specs.Map.{lookup};
 ghost use Rattle.bridge_meter.specs.Colours.{octet_units};
 ghost use Rattle.bridge_filter.specs.Plans.{meter_or_empty};
 ghost use Rattle.bridge_semantics.specs.Events.{plan_police};
-ghost use Rattle.bridge_work.specs.LinearCurves.{IsCountCurve, IsLinearCurve, count_at, curve_at};
+ghost use Rattle.bridge_groups.specs.LinearCurves.{IsCountCurve, IsLinearCurve, count_at, curve_at};
 ghost use Rattle.bridge_groups.specs.Curves as spec;
 ghost use Rattle.bridge_groups.specs.Sharers.{IsFilterCountCurve, IsSharersCurve};
 
+use crate::LinearCurve;
 use bridge_config::Plan;
 use bridge_filter::FilterPlan;
 use bridge_frame::{Speed, occupation};
 use bridge_limits::NoMemory;
 use bridge_meter::{MeterPlan, UNITS_PER_OCTET};
-use bridge_work::LinearCurve;
 use std::alloc::Allocator;
 
-/// Units of a frame with 64 metered octets, the least that a frame has.
+/// Meter units of a shortest frame, which has 64 metered octets. Counts of frames divide a meter's units by it.
 const FRAME_UNITS: u128 = 64 * UNITS_PER_OCTET;
 
 /// Returns the settings of meter `number`; settings with rates and bursts of 0 if the list lacks it.
@@ -79,8 +79,8 @@ fn sums<A: Allocator + Copy>(plan: &Plan<A>, sharers: &[(u32, FilterPlan)]) -> (
     (burst, rate)
 }
 
-/// Returns the arrival curve of the work that the meters of `sharers` let pass to a port of this speed. Returns `None` if work may arrive
-/// faster than 1 ns each ns.
+/// Returns the arrival curve of the work that the meters of `sharers` let pass to a port of this speed. Returns `None` if more than 1 ns of
+/// work may arrive in each ns.
 pub fn sharers_curve<A: Allocator + Copy>(
     plan: &Plan<A>,
     sharers: &[(u32, FilterPlan)],
@@ -113,7 +113,7 @@ fn filter_count_curve<A: Allocator + Copy>(plan: &Plan<A>, meter: Option<u32>) -
     }
 }
 
-/// Returns a curve of each filter for the number of frames that its meter lets pass.
+/// Returns for each filter of `sharers`, in list order, the curve of the number of frames that its meter lets pass.
 pub fn count_curves<A: Allocator + Copy>(
     alloc: A,
     plan: &Plan<A>,

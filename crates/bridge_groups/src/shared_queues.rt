@@ -6,14 +6,15 @@ ghost use Rattle.bridge_config.specs.Rules.{IsPlan, find_port};
 ghost use Rattle.bridge_check.specs.Acceptable.{HasAcceptableGroups};
 ghost use Rattle.bridge_check.specs.Windows.{longest_frame};
 ghost use Rattle.bridge_semantics.specs.Groups.{IsGroupQueue};
-ghost use Rattle.bridge_work.specs.LinearCurves.{IsCountCurve, IsLinearCurve, count_at, curve_at};
-ghost use Rattle.bridge_work.specs.Work.{IsSufficientRoom};
+ghost use Rattle.bridge_groups.specs.LinearCurves.{IsCountCurve, IsLinearCurve, count_at, curve_at};
+ghost use Rattle.bridge_groups.specs.Work.{IsSufficientRoom};
 ghost use Rattle.bridge_groups.specs.Curves.{sharers_frame_limit};
 ghost use Rattle.bridge_groups.specs.Sharers as sharing;
 ghost use Rattle.bridge_groups.specs.SharedQueues as spec;
 
 use crate::meter_curves::{count_curves, sharers_curve};
 use crate::sharers::{are_metered, longest_sdu, queue_sharers};
+use crate::{LinearCurve, list_delay_bound, sufficient_room};
 use bridge_bounds::class_bound;
 use bridge_check::{Accepted, Reach};
 use bridge_config::{Plan, PortPlan};
@@ -22,13 +23,12 @@ use bridge_filter::FilterPlan;
 use bridge_frame::occupation;
 use bridge_limits::{LONGEST_FRAME, NoMemory};
 use bridge_port::LARGEST_ROOM;
-use bridge_work::{LinearCurve, list_delay_bound, list_room};
 use std::alloc::Allocator;
 
-/// Greatest bound in ns with which the bound over a schedule change is computed.
+/// Greatest delay bound in ns of one list that `change_bound` adds. If a list has a greater bound, the queue has none over the change.
 const LARGEST_BOUND: u64 = 1_000_000_000_000_000_000;
 
-/// Greatest burst of a curve.
+/// Greatest burst of a shifted curve, in parts of a ns as `LinearCurve` counts them.
 const LARGEST_CURVE: u128 = 1 << 100;
 
 /// Queue that the filters of a group share.
@@ -50,7 +50,8 @@ pub struct SharedQueue {
     pub capacity: u16,
 }
 
-/// Returns the arrival curve of spans that are `shift` ns longer. Returns `None` if its burst is too large.
+/// Returns the curve that allows in `w` ns what `curve` allows in `w` + `shift` ns. Returns `None` if its burst is above `LARGEST_CURVE`.
+/// `change_bound` needs it for the new list.
 fn shifted_curve(curve: &LinearCurve, shift: u64) -> Option<LinearCurve>
     requires curve { IsLinearCurve curve.now }
     ensures line { IfSome result IsLinearCurve }
@@ -146,7 +147,7 @@ fn lists_room<A: Allocator + Copy>(
     match lists {
         Egress::Cyclic(list) => {
             let _ = list.cycle();
-            list_room(list, class, occ, least, curve, counts, LARGEST_ROOM)
+            sufficient_room(list, class, occ, least, curve, counts, LARGEST_ROOM)
         }
         Egress::Joined(_) => None,
     }
@@ -196,8 +197,8 @@ fn curve_figures<A: Allocator + Copy>(
     }
 }
 
-/// Returns bound and capacity of a queue by the meters of `sharers`: none if one of them has no meter, or if work may arrive faster than it
-/// leaves.
+/// Returns bound and capacity of a queue by the meters of `sharers`. Both are `None` if a sharer has no meter, or if work may arrive faster
+/// than it leaves.
 fn meter_figures<A: Allocator + Copy>(
     alloc: A,
     plan: &Plan<A>,
@@ -230,7 +231,7 @@ fn meter_figures<A: Allocator + Copy>(
     Ok(curve_figures(plan, sharers, port, class, sdu, &curve, &counts))
 }
 
-/// Returns the lesser of two bounds in ns; the bound by the capacity if the other one is unknown.
+/// Returns the lesser of a queue's bounds by meters and by capacity, in ns. Returns the bound by capacity if `by_meters` is `None`.
 fn lesser_bound(by_meters: Option<u64>, by_room: u64) -> u64
     ensures { (by_meters ≡ Some result) ⊎ (result ≡ by_room) }
 {
@@ -240,7 +241,8 @@ fn lesser_bound(by_meters: Option<u64>, by_room: u64) -> u64
     }
 }
 
-/// Returns the delay bound and the capacities of a queue that a group shares. `reaches` are those of all filters of the plan.
+/// Returns the delay bound and the capacities of a queue that a group shares. `reaches` has the reachable queues of each filter of the plan,
+/// by index.
 pub fn shared_queue<A: Allocator + Copy>(
     alloc: A,
     accepted: &Accepted<A>,

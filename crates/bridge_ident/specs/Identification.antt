@@ -21,15 +21,15 @@ abbrev pub has_vlan_tag : Option Tag → Bool
 has_vlan_tag None = false
 has_vlan_tag (Some tag) = not (nat_eq tag.vid 0)
 
--- True if the frame's tag suits the entry: Tagged accepts VLAN identifiers above 0, Priority accepts untagged and
--- priority-tagged frames, All accepts every frame.
+-- True if a stream entry of this tag kind accepts a frame with this tag; `None` is an untagged frame. Tagged accepts
+-- VLAN identifiers above 0, Priority all other frames, All every frame.
 abbrev pub accepts_tag : TagKind → Option Tag → Bool
 accepts_tag Tagged tag = has_vlan_tag tag
 accepts_tag Priority tag = not (has_vlan_tag tag)
 accepts_tag All tag = true
 
--- True if the frame matches the stream entry `e`: equal ingress port and VLAN, equal compared address, and a suitable
--- tag.
+-- True if the frame matches the stream entry `e`: equal ingress port and VLAN, equal compared address, and a tag that
+-- the entry accepts.
 abbrev pub is_match : StreamEntry → ℕ → Head → ℕ → Bool
 is_match e port head vid = nat_eq e.port port && nat_eq e.vid vid && bytes_eq e.address (compared_address e.kind head) && accepts_tag e.tag head.tag
 

@@ -17,13 +17,15 @@ is_same_kind Null Source = false
 is_same_kind Source Null = false
 is_same_kind Source Source = true
 
--- True if an entry of this tag kind accepts frames with a VLAN tag (`tagged`) or other frames.
+-- True if an entry of this tag kind accepts frames with a VLAN tag (`tagged` is true) or other frames (`tagged` is
+-- false).
 abbrev pub accepts_tagged : TagKind → Bool → Bool
 accepts_tagged Tagged tagged = tagged
 accepts_tagged Priority tagged = not tagged
 accepts_tagged All tagged = true
 
--- True if an entry compares addresses of this kind and accepts frames with a VLAN tag (`tagged`) or other frames.
+-- True if an entry compares addresses of this kind, and accepts frames with a VLAN tag (`tagged` is true) or other
+-- frames (`tagged` is false).
 abbrev pub is_of_kind : Kind → Bool → StreamEntry → Bool
 is_of_kind kind tagged e = is_same_kind e.kind kind && accepts_tagged e.tag tagged
 

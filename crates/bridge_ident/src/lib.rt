@@ -47,12 +47,13 @@ pub struct StreamEntry {
     pub address: [u8; 6],
     /// VLAN identifier of matching frames.
     pub vid: u16,
-    /// Tags of matching frames.
+    /// Which frames match by their tag: frames with a VLAN tag, other frames, or all.
     pub tag: TagKind,
 }
 
 impl StreamEntry {
-    /// Whether the entry matches a frame that arrived on `port` in the VLAN `vid`.
+    /// Whether the entry matches a frame with the header `head` that arrived on `port` in the VLAN `vid`. `first_handle` calls it for each
+    /// entry.
     fn matches(&self, port: u8, head: &Head, vid: u16) -> bool
         ensures { result ≡ is_match self.now port head.now vid }
     {
@@ -82,7 +83,7 @@ pub fn has_vlan_tag(tag: Option<Tag>) -> bool
     }
 }
 
-/// Returns the handle of the first matching entry; `None` if no entry matches.
+/// Returns the handle of the first matching entry; `None` if no entry matches. Tables without index use it.
 #[inline(never)]
 fn first_handle(entries: &[StreamEntry], port: u8, head: &Head, vid: u16) -> Option<u32>
     ensures { result ≡ first_handle entries.now port head.now vid }

@@ -35,11 +35,11 @@ type OctetMarks = [bool; 256];
 struct AddressIndex<A: Allocator + Copy> {
     /// First entries that compare destination addresses.
     destinations: FirstEntries<A>,
-    /// Last octets of their addresses.
+    /// Marks of the last octets of the addresses that these entries compare.
     destination_marks: OctetMarks,
     /// First entries that compare source addresses.
     sources: FirstEntries<A>,
-    /// Last octets of their addresses.
+    /// Marks of the last octets of the addresses that these entries compare.
     source_marks: OctetMarks,
     /// Hints: the index among `destinations` at which a key may stand. Look-ups test each hint.
     index_hints: Vec<u16, A>,
@@ -55,7 +55,8 @@ pub(crate) struct StreamIndex<A: Allocator + Copy> {
 }
 
 impl StreamEntry {
-    /// Whether the entry compares addresses of this kind and accepts frames with a VLAN tag (`tagged`) or other frames.
+    /// Whether the entry compares addresses of this kind, and accepts frames with a VLAN tag (`tagged` is true) or other frames (`tagged`
+    /// is false).
     fn is_of_kind(&self, kind: Kind, tagged: bool) -> bool
         ensures { result ≡ is_of_kind kind tagged self.now }
     {
@@ -75,7 +76,7 @@ impl StreamEntry {
 /// 2^64: a key has the port above 64 bits for VLAN identifier and address.
 const TWO_POW_64: u128 = 1 << 64;
 
-/// Key of the entries of a port, a VLAN identifier and an address.
+/// Key of the entries of a port, a VLAN identifier and an address. Look-ups compute the keys of a frame's addresses by it.
 #[tactic(auto, unfolding(crate::specs::StreamIndex::entry_key))]
 fn entry_key(port: u8, vid: u16, address: [u8; 6]) -> u128
     ensures number { result ≡ entry_key port vid address }
@@ -113,7 +114,7 @@ fn insert_if_new<A: Allocator + Copy>(
     Ok(())
 }
 
-/// Adds the entry if it is of this kind and accepts these frames, unless its key has an entry.
+/// Adds the entry, which has index `place` in the table, if `is_of_kind` is true for it and no earlier entry has its key.
 fn index_entry<A: Allocator + Copy>(
     firsts: &mut FirstEntries<A>,
     marks: &mut OctetMarks,
@@ -137,7 +138,7 @@ fn index_entry<A: Allocator + Copy>(
     Ok(())
 }
 
-/// Counts the entries of this kind that accept these frames, to reserve memory for their table.
+/// Returns the number of entries for which `is_of_kind` is true: the capacity to reserve for the first entries.
 fn count_entries(entries: &[StreamEntry], kind: Kind, tagged: bool) -> usize {
     let mut count: usize = 0;
     for entry in entries {
@@ -148,7 +149,7 @@ fn count_entries(entries: &[StreamEntry], kind: Kind, tagged: bool) -> usize {
     count
 }
 
-/// Returns the first entries of one kind for frames with a VLAN tag or for other frames, and their marks.
+/// Returns the first entry for each key among the entries for which `is_of_kind` is true, and the marks of their last octets.
 fn first_entries<A: Allocator + Copy>(
     alloc: A,
     entries: &[StreamEntry],
@@ -173,8 +174,8 @@ fn first_entries<A: Allocator + Copy>(
 /// Number of hints for each destination.
 const HINTS_PER_ENTRY: usize = 4;
 
-/// Returns the slot of `key` among `hints` hints, by mixing the bits of the key. The port goes to the four bits above the VLAN identifier,
-/// where no other bit changes.
+/// Returns the index of the hint for `key` among `hints` hints, by mixing the bits of the key. The port enters the four bits above the VLAN
+/// identifier, which are 0.
 #[inline(always)]
 fn hint_slot(key: u128, hints: usize) -> usize {
     let folded = ((key >> 64 << 60) ^ key) % TWO_POW_64;
@@ -191,7 +192,7 @@ fn hinted_index(hints: &[u16], key: u128) -> usize {
     }
 }
 
-/// Makes hints of the entries' indexes. If several keys share a slot, the last one fills it.
+/// Makes hints of the entries' indexes. If several keys have one hint, it is the index of the last of them.
 fn make_hints<A: Allocator + Copy>(
     alloc: A,
     firsts: &FirstEntries<A>,
@@ -213,7 +214,7 @@ fn make_hints<A: Allocator + Copy>(
 /// First entries of one kind, with their marks.
 type MarkedEntries<A> = (FirstEntries<A>, OctetMarks);
 
-/// Joins the first entries of both kinds, and adds hints for the destinations.
+/// Joins the first entries of both kinds, and adds hints for the destinations. `with_sources` calls it.
 fn with_hints<A: Allocator + Copy>(
     alloc: A,
     destinations: MarkedEntries<A>,
@@ -237,7 +238,8 @@ fn with_hints<A: Allocator + Copy>(
     }
 }
 
-/// Adds the first entries that compare source addresses to `destinations`.
+/// Makes an address index: finds the first entries that compare source addresses, and joins them with `destinations`. `make_address_index`
+/// calls it.
 fn with_sources<A: Allocator + Copy>(
     alloc: A,
     entries: &[StreamEntry],
@@ -255,7 +257,8 @@ fn with_sources<A: Allocator + Copy>(
     }
 }
 
-/// Returns the first entries that compare destination or source addresses, for frames with a VLAN tag (`tagged`) or for other frames.
+/// Makes the index of the first entries, by destination or source address, for frames with a VLAN tag (`tagged` is true) or for other
+/// frames.
 fn make_address_index<A: Allocator + Copy>(
     alloc: A,
     entries: &[StreamEntry],
@@ -270,7 +273,7 @@ fn make_address_index<A: Allocator + Copy>(
     }
 }
 
-/// Returns the first entry at index `place` if it has this key, otherwise `None`.
+/// Returns the first entry at index `place` if it has this key, otherwise `None`. `handle_by_keys` tests a hint by it.
 #[inline(always)]
 fn entry_by_index<A: Allocator + Copy>(
     firsts: &FirstEntries<A>,
@@ -286,7 +289,7 @@ fn entry_by_index<A: Allocator + Copy>(
     }
 }
 
-/// Whether no entry has `key`: no address ends in the key's last octet. If not, an entry may have the key.
+/// Whether surely no entry has `key`, because no entry's address ends in the key's last octet. If false, an entry may have the key.
 #[inline(always)]
 fn is_absent<A: Allocator + Copy>(firsts: &FirstEntries<A>, marks: &OctetMarks, key: u128) -> bool
     ensures { result ≡ true → HasMarks firsts.now marks.now → get nat_eq firsts.now key ≡ None }
@@ -323,7 +326,7 @@ fn earlier_entry(destination: Option<FirstEntry>, source: Option<FirstEntry>) ->
     }
 }
 
-/// Returns the handle of an entry, if there is one.
+/// Returns the handle of an entry, if there is one. `handle_by_hash` calls it for the earlier entry.
 fn entry_handle(first: Option<FirstEntry>) -> Option<u32>
     ensures { result ≡ option_map (λ f. f.handle) first }
 {
@@ -332,6 +335,7 @@ fn entry_handle(first: Option<FirstEntry>) -> Option<u32>
 
 impl<A: Allocator + Copy> AddressIndex<A> {
     /// Returns the handle of the first entry for the keys `da` or `sa`, by their hashes; `None` if no entry has either key.
+    /// `handle_by_keys` calls it if a mark and a hint don't suffice.
     #[inline(never)]
     fn handle_by_hash(&self, da: u128, sa: u128) -> Option<u32>
         ensures { HasMarks self.now.destinations self.now.destination_marks

@@ -13,7 +13,8 @@ IsYellowCovered l now held green yellow [] = Unit {0}
 IsYellowCovered l now held green yellow (f ∷ fs) =
     (green + f.green + held ≤ committed l f.at fs + l.cir * (now - f.at)) × (yellow + f.yellow ≤ l.ebs + l.eir * (now - f.at) + coupled_overflow l (overflow l f.at (committed l f.at fs) (green + f.green) now held)) × IsYellowCovered l now held (green + f.green) (yellow + f.yellow) fs
 
--- Statement: At the newest judged frame, no subtraction of the definitions stops at 0, including the units that the frame took.
+-- Statement: At the newest judged frame, no subtraction of the definitions stops at 0, even after the frame took its
+-- units.
 abbrev pub IsCovered : Limits → List JudgedFrame → Type 0
 IsCovered l [] = Unit {0}
 IsCovered l (f ∷ fs) = IsGreenCovered l f.at 0 fs × IsYellowCovered l f.at (committed l f.at fs) 0 0 fs × (f.green ≤ committed l f.at fs) × (f.yellow ≤ excess l f.at fs)

@@ -22,11 +22,12 @@ refill_buckets l b t =
     let c = min l.cbs (b.committed + l.cir * (t - b.at)) in
     record { committed = c; excess = min l.ebs (b.excess + l.eir * (t - b.at) + coupled_overflow l (b.committed + l.cir * (t - b.at) - c)); at = t; all_red = b.all_red }
 
--- Colour of a frame from the levels of the buckets.
+-- Colour of a frame from the levels of the refilled buckets.
 abbrev pub colour_by_buckets : MeterPlan → Buckets → ℕ → Bool → Colour
 colour_by_buckets p b octets dei = colour_by_contents p b.committed b.excess octets dei
 
--- Buckets after a frame of the given colour took its units.
+-- Buckets after a frame took its units: a green frame from the committed bucket, a yellow one from the excess bucket, a
+-- red one none. The red flag becomes `all_red`.
 abbrev pub spend_tokens : Buckets → ℕ → Colour → Bool → Buckets
 spend_tokens b octets Green all_red = record { committed = b.committed - octets * octet_units; excess = b.excess; at = b.at; all_red = all_red }
 spend_tokens b octets Yellow all_red = record { committed = b.committed; excess = b.excess - octets * octet_units; at = b.at; all_red = all_red }

@@ -161,7 +161,8 @@ impl Meter {
         self.buckets.all_red = false;
     }
 
-    /// Judges a frame with the current buckets: refills them, takes the frame's units, and may set the red flag.
+    /// Judges a frame with the current buckets: refills them, takes the frame's units, and may set the red flag. `colour` calls it for each
+    /// frame.
     fn judge_frame(&mut self, t: u64, octets: u32, dei: bool) -> Colour
         requires { self.old.buckets.at ≤ t }
         ensures step { self.new ≡ meter_step self.old t octets dei }
@@ -177,7 +178,8 @@ impl Meter {
     }
 }
 
-/// Returns the buckets after the refill up to time `t`.
+/// Returns the buckets after the refill from their last frame up to time `t` in ns. Neither level exceeds its bucket's size. `judge_frame`
+/// calls it.
 #[tactic(auto, unfolding(crate::specs::Steps::refill_buckets))]
 fn refill_buckets(plan: &MeterPlan, buckets: Buckets, t: u64) -> Buckets
     requires plan { IsWithinLimits plan.now }
@@ -201,7 +203,8 @@ fn refill_buckets(plan: &MeterPlan, buckets: Buckets, t: u64) -> Buckets
     }
 }
 
-/// Returns the colour of a frame, and the buckets after it.
+/// Returns the colour of a frame of `octets` octets by the refilled buckets, and the buckets after the frame took its units. `dei` is the
+/// drop eligible indication.
 fn spend_tokens(plan: &MeterPlan, buckets: Buckets, octets: u32, dei: bool) -> (Colour, Buckets)
     ensures colour { result.0 ≡ colour_by_buckets plan.now buckets octets dei }
     ensures left { result.1 ≡ spend_tokens buckets octets result.0 (plan.now.mark_all_red && is_red result.0) }
@@ -252,7 +255,7 @@ pub fn buckets_step()
         (bounds.committed l f.at fs - f.green + l.cir * d - bounds.committed l (f.at + d) (f ∷ fs))) }
 {}
 
-/// The definitions are exact: if arrival times never fall, none of their subtractions stops at 0.
+/// The definitions of bucket levels are exact: if arrival times never fall, none of their subtractions stops at 0.
 pub fn bounds_are_covered()
     ensures { (plan : MeterPlan) (events : List MeterEvent) → AreInOrder (meter_history plan events).judged
         → IsCovered (meter_limits plan) (meter_history plan events).judged }

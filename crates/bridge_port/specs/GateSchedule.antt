@@ -66,7 +66,7 @@ HasLawfulLists (Changing j) = joined.IsLawful j
 abbrev pub are_valid_rooms : List ℕ → Bool
 are_valid_rooms rooms = list_all (λ n. nat_le 1 n && nat_le n LARGEST_ROOM) rooms
 
--- Statement: For each of the eight classes, the run allows exactly the lengths that the test accepts.
+-- Statement: For each of the eight classes, the run allows exactly the lengths in ns for which `test` is true.
 abbrev pub RunsMatchTest : (ℕ → ℕ → Bool) → List Run → Type 0
 RunsMatchTest test runs = (c : ℕ) → c < 8 → (n : ℕ) → Allows (slice_index_or runs c Never) n ↔ (test c n ≡ true)
 
@@ -75,7 +75,7 @@ pub record HasRuns (list : GateSchedule) (runs : List Run) : Type 0 where
   pub made : HasLawfulLists list
   pub allow : RunsMatchTest (can_fit list) runs
 
--- Statement: Interval `x` is the interval of each time within it.
+-- Statement: At each time within interval `x`, the port's lists have exactly this interval.
 abbrev pub IsListsTurn : {A : Type 0} → Egress A → Turn ℕ → Type 0
 IsListsTurn list x = (u : ℕ) → x.start ≤ℤ pos u → u < x.end → egress.turn_by_time list u ≡ Some x
 

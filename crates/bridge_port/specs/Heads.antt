@@ -1,4 +1,5 @@
--- Earliest starts of a port's heads, and the best head: the earliest one, or the one of the highest class.
+-- Earliest starts of a port's heads, and the best head: it can start earliest, or, at equal times, has the highest
+-- class.
 use Rattle.std.specs.Prelude.{◌≡◌, ℕ, Bool, false, true, ◌<◌, ◌≤◌, ◌+◌, ◌*◌, ◌^◌, ◌&&◌, ◌||◌, max, length, nat_lt, nat_eq, Option, Some, None, List, [], ◌∷◌, slice_index_or, slice_set, if◌then◌else◌}
 use Rattle.bridge_frame.specs.declared.Speed.{Speed}
 use Rattle.bridge_frame.specs.Link.{transmission_time}
@@ -41,7 +42,8 @@ abbrev pub sooner_optional_head : Option (ℕ × ℕ) → Option ℕ → ℕ →
 sooner_optional_head best None c = best
 sooner_optional_head best (Some k) c = sooner_head best k c
 
--- Statement: An item with a transmission time of `occ` ns becomes the head of class `c`. Its fit is stored, and the best head is updated.
+-- Statement: An item with a transmission time of `occ` ns becomes the head of class `c`. Its earliest start is stored,
+-- and the best head is updated.
 pub record GainsHead (list : GateSchedule) (from c occ : ℕ) (old new : List (Option ℕ)) (before after : Option (ℕ × ℕ)) : Type 0 where
   pub at : ℕ
   pub first : IsFirstFit (opens list c) occ from at
@@ -56,11 +58,12 @@ pub record StartsNext {T : Type 0} (p : EgressState T) (k c : ℕ) : Type 0 wher
   pub soon : k ≤ max p.free p.earliest + 2 * 10 ^ 9
   pub below : c < length p.queues
 
--- Statement: The list has the fit of each class's head.
+-- Statement: The list `fits` has the earliest start of each class's head, and `None` for an empty queue.
 abbrev pub AreHeadFits : {T : Type 0} → EgressState T → List (Option ℕ) → Type 0
 AreHeadFits p fits = (c : ℕ) → IsHeadFit p.list p.speed (max p.free p.earliest) c (class_queue p c) (slice_index_or fits c None)
 
--- Statement: The port's stored values are right: the number of queued items, the fits of its heads, and the best head.
+-- Statement: The port's stored values are right: the number of queued items, the earliest starts of its heads, and the
+-- best head.
 pub record KeepsHeads {T : Type 0} (p : EgressState T) (queued : ℕ) (fits : List (Option ℕ)) (best : Option (ℕ × ℕ)) : Type 0 where
   pub kept : IsStateSound p
   pub all : queued ≡ count_queued (λ x. true) p

@@ -24,7 +24,7 @@ pub record EgressState (T : Type 0) : Type 0 where
   pub offered : ℕ
   pub started : ℕ
 
--- State of a port from its fields.
+-- State of a port as contracts see it, from the fields of `Port`.
 abbrev pub egress_state : {T : Type 0} → Speed → GateSchedule → List (Buffer (Item T)) → ℕ → ℕ → ℕ → ℕ → EgressState T
 egress_state speed list rings free earliest offered started = record { speed = speed; list = list; rooms = ring_rooms rings; queues = ring_queues rings; free = free; earliest = earliest; offered = offered; started = started }
 
@@ -40,7 +40,8 @@ state_rules p = record { opens = opens p.list; ever = can_fit p.list; room = λ 
 abbrev pub class_queue : {T : Type 0} → EgressState T → ℕ → List (Item T)
 class_queue p c = slice_index_or p.queues c []
 
--- Statement: The port was offered these copies, newest first. Their schedule is lawful and gives its queues, link and counts.
+-- Statement: The port was offered these copies, newest first. Their schedule is lawful, and the port's queues, link and
+-- counts follow from it.
 pub record StandsFor {T : Type 0} (p : EgressState T) (xs : List (Copy (Item T))) : Type 0 where
   pub lawful : IsLawful (state_rules p) p.earliest xs
   pub queues : (c : ℕ) → queued_items c xs ≡ class_queue p c
@@ -119,7 +120,7 @@ pub record HasStartedOldest {T : Type 0} (p : EgressState T) (c k : ℕ) (x : It
   pub begun : StartsOldest c k place x xs after
   pub stands : StandsFor p after
 
--- Number of queued items that pass a test.
+-- Number of queued items of all classes for which `f` is true.
 abbrev pub count_queued : {T : Type 0} → (Item T → Bool) → EgressState T → ℕ
 count_queued f p = sum_by (count_by f) p.queues
 

@@ -1,4 +1,4 @@
-//! Earliest starts of a port's heads, and the next start.
+//! Earliest starts of a port's heads. The best head makes the next start: it can start earliest, or, at equal times, has the highest class.
 ghost use Rattle.std.specs.Prelude.{◌≡◌, ◌+◌, ◌<◌, ◌≤◌, ℕ, false, true, None, IsSome, [], vec_len, slice_index_or, slice_set};
 ghost use Rattle.bridge_port.specs.GateSchedule.{can_fit};
 ghost use Rattle.bridge_port.specs.Rings.{ring_queues};
@@ -12,7 +12,8 @@ use bridge_frame::{Speed, occupation};
 use circular_buffer::HeapCircularBuffer;
 use std::alloc::Allocator;
 
-/// Returns the better head: the earlier one, or at equal times the one of the higher class.
+/// Returns the better of the head `best` and the head of `class` with the earliest start `fit`: the earlier one, or at equal times the one
+/// of the higher class.
 #[inline(always)]
 fn sooner_head(best: Option<(u64, usize)>, fit: u64, class: usize) -> Option<(u64, usize)>
     ensures { result ≡ heads.sooner_head best fit class }
@@ -23,7 +24,7 @@ fn sooner_head(best: Option<(u64, usize)>, fit: u64, class: usize) -> Option<(u6
     }
 }
 
-/// Returns the better head, if the class has a head; otherwise returns `best`.
+/// Returns the better of the head `best` and the head of `class`, as `sooner_head` does; `best` if the class has no head (`fit` is `None`).
 fn sooner_optional_head(
     best: Option<(u64, usize)>,
     fit: Option<u64>,
@@ -37,7 +38,8 @@ fn sooner_optional_head(
     }
 }
 
-/// Returns the earliest start in ns, `from` or later, of the head of `class`; `None` if the queue is empty.
+/// Returns the earliest start in ns, `from` or later, of the head of `class`; `None` if the queue is empty. `refresh_fit` calls it if the
+/// stored start is too early.
 // Not inlined, so that the loop of `refresh_fits` stays small.
 #[inline(never)]
 fn head_fit<T: Drop, A: Allocator + Copy>(
@@ -64,8 +66,8 @@ fn head_fit<T: Drop, A: Allocator + Copy>(
     }
 }
 
-/// Recomputes the earliest start of the head of `class` if it is before `from`, and returns it; `None` without a head. Most classes have no
-/// head, so the first test returns early.
+/// Returns the earliest start, `from` or later, of the head of `class`; `None` if the queue is empty. Recomputes the stored start only if
+/// it is before `from`.
 #[inline(always)]
 fn refresh_fit<T: Drop, A: Allocator + Copy>(
     fits: &mut [Option<u64>; 8],
@@ -98,7 +100,8 @@ fn refresh_fit<T: Drop, A: Allocator + Copy>(
     }
 }
 
-/// Recomputes all earliest starts before `from`, and returns time and class of the best head; `None` if all queues are empty.
+/// Recomputes each start in `fits` that is earlier than `from`. Returns the earliest start and its class, on a tie the higher class; `None`
+/// if all queues are empty.
 pub fn refresh_fits<T: Drop, A: Allocator + Copy>(
     fits: &mut [Option<u64>; 8],
     gates: &mut TransmissionGates<A>,
@@ -126,8 +129,8 @@ pub fn refresh_fits<T: Drop, A: Allocator + Copy>(
     best
 }
 
-/// Stores the earliest start of an item with a transmission time of `occ` ns if the queue of `class` is empty. Returns time and class of
-/// the best head.
+/// Stores the earliest start, `from` or later, of a new item with transmission time `occ` ns if the queue of `class` is empty. Returns time
+/// and class of the best head; before, it was `best`.
 #[inline(always)]
 pub fn add_item_fit<A: Allocator + Copy>(
     fits: &mut [Option<u64>; 8],
@@ -156,8 +159,8 @@ pub fn add_item_fit<A: Allocator + Copy>(
     }
 }
 
-/// Recomputes the earliest starts after a start in `class` with `left` queued items, and returns the best head; `None` if no items are
-/// queued.
+/// Recomputes the earliest starts after a start in `class`; the link is free from time `from`, and `left` items remain. Returns time and
+/// class of the best head; `None` if no item remains.
 #[inline(always)]
 pub fn refresh_after_start<T: Drop, A: Allocator + Copy>(
     fits: &mut [Option<u64>; 8],

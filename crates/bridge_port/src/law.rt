@@ -21,7 +21,7 @@ pub fn lawful_up_to_a_lower_moment<X: Drop>()
         → IsLawful r k xs }
 {}
 
-/// A schedule is lawful up to a later time, if no head fits at a free time in between.
+/// A schedule that is lawful up to time `h` is lawful up to a later time `k`, if from `h` to `k` no head fits while the link is free.
 pub fn lawful_up_to_a_later_moment<X: Drop>()
     ensures { (r : PortRules X) (h k : ℕ) (xs : List (Copy X))
         → h ≤ k
@@ -41,7 +41,7 @@ pub fn lawful_with_an_offer<X: Drop>()
         → IsLawful r h (x ∷ xs) }
 {}
 
-/// The start that strict priority demands at time `h` makes the schedule lawful up to the next ns.
+/// A schedule that is lawful up to time `h`, with the start that strict priority demands at `h`, is lawful up to 1 ns later.
 pub fn lawful_with_a_start<X: Drop>()
     ensures { (r : PortRules X) (c h i : ℕ) (item : X) (xs ys : List (Copy X))
         → IsLawful r h xs
@@ -83,7 +83,7 @@ pub fn can_fit_soon()
         → (u : ℕ) × (from ≤ u) × (u ≤ from + 2 * LONGEST_CYCLE) × Fits (opens list c) n u }
 {}
 
-/// The fates of a queue that has the link alone follow from its offers.
+/// The fates of copies in a queue that has the link alone follow from the offers to this queue.
 pub fn solo_copies_follow<X: Drop>()
     ensures { (r : PortRules X) (xs ys : List (Copy X)) → HaveSameOffers xs ys → IsSolo r xs → IsSolo r ys → xs ≡ ys }
 {}

@@ -17,8 +17,8 @@ use std::marker::Model;
 ///
 /// A transmission may span a schedule change if the old list opens its class before the change and the new list after it.
 ///
-/// A port stands for the list of copies offered to it. It stores the fits of its heads and the best head, so that offers and starts
-/// recompute only changed fits.
+/// A port stands for the list of copies offered to it. It stores the earliest start of each head, and the best head. Offers and starts
+/// recompute only changed ones.
 #[derive(Drop)]
 pub struct Port<T: Drop, A: Allocator + Copy> {
     /// Speed of the link.
@@ -31,7 +31,7 @@ pub struct Port<T: Drop, A: Allocator + Copy> {
     free: u64,
     /// Number of queued items.
     queued: u64,
-    /// Earliest time in ns of the next offer.
+    /// Earliest time in ns at which the next offer may be made.
     earliest: u64,
     /// Number of offers so far.
     offered: u64,
@@ -90,7 +90,7 @@ impl<T: Drop, A: Allocator + Copy> Port<T, A> {
         Ok(Port::idle(speed, gates, rings))
     }
 
-    /// Makes an idle port with these gates and empty rings.
+    /// Makes an idle port with these gates and empty rings. `Port::new` calls it.
     fn idle(
         speed: Speed,
         gates: TransmissionGates<A>,
@@ -116,7 +116,8 @@ impl<T: Drop, A: Allocator + Copy> Port<T, A> {
         }
     }
 
-    /// Returns why the port would now drop an item with a transmission time of `occ` ns; `None` if the port would queue it.
+    /// Returns why the port would now drop an item with a transmission time of `occ` ns; `None` if the port would queue it. `Port::offer`
+    /// calls it before it queues an item.
     #[inline(always)]
     fn refusal(&self, class: usize, occ: u64) -> Option<Refusal>
         requires { class < 8 }
@@ -173,7 +174,8 @@ impl<T: Drop, A: Allocator + Copy> Port<T, A> {
         }
     }
 
-    /// Returns time in ns and class of the next start without further offers; `None` if all queues are empty.
+    /// Returns time in ns and class of the next start without further offers; `None` if all queues are empty. `next_start` and `start` call
+    /// it.
     fn next_head(&self) -> Option<(u64, usize)>
         ensures next { MatchOption result (IsIdle self.now) (λ b. StartsNext self.now b.0 b.1) }
         ensures kept { IsStateSound self.now }
@@ -265,7 +267,7 @@ impl<T: Drop, A: Allocator + Copy> Port<T, A> {
         self.started
     }
 
-    /// Returns the earliest time in ns of the next offer.
+    /// Returns the earliest time in ns at which the next offer may be made.
     pub fn earliest(&self) -> u64
         ensures earliest { result ≡ self.now.earliest }
         ensures bounded { result ≤ time_limit self.now.started }

@@ -1,4 +1,4 @@
-//! Spans: times for which a list opens a class without a break. They speed up the search for first fits.
+//! Spans: times for which a list opens a class without a break. Spans speed up the search for the earliest start.
 ghost use Rattle.std.specs.Prelude.{◌≡◌, ◌<◌, ◌≤◌, ◌+◌, ◌-◌, ◌*◌, ◌^◌, ◌%◌, true, length, IfOk, IfSome};
 ghost use Rattle.bridge_cycle.specs.Cyclic.{IsLawful};
 ghost use Rattle.bridge_cycle.specs.Fits.{IsFirstFit};
@@ -9,7 +9,8 @@ ghost use Rattle.bridge_port.specs.Spans as the_spans;
 use bridge_cycle::{CyclicList, Joined, Run, Timeline, is_open, longest_run};
 use std::alloc::{AllocError, Allocator};
 
-/// Time in ns for which a class is open. At its end, the class is closed.
+/// Span from `start` to `end`, in which a class is open without a break. At `end`, the class is closed. Both times count from the start of
+/// a cycle.
 #[derive(Clone, Copy)]
 pub struct OpenSpan {
     /// Start in ns, in the first three cycles of a list.
@@ -18,7 +19,7 @@ pub struct OpenSpan {
     end: u32,
 }
 
-/// What a search for first fits needs of a list.
+/// Runs and spans of all classes under one list, which a search for the earliest start reads.
 #[derive(Drop)]
 pub struct ClassSpans<A: Allocator + Copy> {
     /// Longest run of each class.
@@ -27,14 +28,14 @@ pub struct ClassSpans<A: Allocator + Copy> {
     pub each: Vec<Vec<OpenSpan, A>, A>,
 }
 
-/// Largest number of spans that a linear search passes; beyond that, binary search is faster.
+/// Largest number of spans that a linear search reads; beyond that, binary search is faster.
 const MAX_WALK: usize = 8;
 
 /// Start of the next search in a list: the number of earlier cycles, and the index of the last span of each class. A hint changes
 /// no result.
 #[derive(Clone, Copy)]
 pub struct SearchHint {
-    /// Number of cycles before the last search.
+    /// Number of whole cycles before the time of the last search.
     laps: u64,
     /// Index of the last span that was found, for each class.
     places: [usize; 8],
@@ -64,7 +65,7 @@ impl SearchHints {
 }
 
 impl<A: Allocator + Copy> ClassSpans<A> {
-    /// Makes the spans of a list that a port doesn't have. Allocates no memory.
+    /// Makes empty spans, in place of a list that a port doesn't have. Allocates no memory.
     pub fn empty(alloc: A) -> ClassSpans<A> {
         ClassSpans {
             runs: [Run::Never; 8],
@@ -73,7 +74,7 @@ impl<A: Allocator + Copy> ClassSpans<A> {
     }
 }
 
-/// Returns the longest run of each class of a list.
+/// Returns the longest run of each class of a list. `class_spans` calls it.
 fn longest_runs<A: Allocator + Copy>(list: &CyclicList<u8, A>) -> [Run; 8]
     ensures lawful { IsLawful list.now }
     ensures runs { RunsMatchTest (list_can_fit list.now) result }
@@ -86,7 +87,8 @@ fn longest_runs<A: Allocator + Copy>(list: &CyclicList<u8, A>) -> [Run; 8]
     runs
 }
 
-/// Returns the spans of `class` in the first three cycles of a list, except a span that outlasts them.
+/// Returns the spans of `class` in the first three cycles of a list, except a span that outlasts them. `class_spans` calls it for each
+/// class.
 fn open_spans<A: Allocator + Copy>(
     alloc: A,
     list: &CyclicList<u8, A>,
@@ -120,7 +122,8 @@ fn open_spans<A: Allocator + Copy>(
     Ok(spans)
 }
 
-/// Returns the first time, `from` or later, from which a span lasts for `occ` ns or up to time `stop`; `None` if no span does.
+/// Returns the first time, `from` or later, from which a span lasts for `occ` ns or up to `stop`, when the list ends; `None` if none does.
+/// All times count from a cycle's start.
 fn fit_in_spans(spans: &[OpenSpan], from: u64, occ: u64, stop: u64) -> Option<u64>
     requires from { from < 9_000_000_000_000_000_000 }
     requires occ { occ ≤ 1_000_000_000 }
@@ -136,7 +139,7 @@ fn fit_in_spans(spans: &[OpenSpan], from: u64, occ: u64, stop: u64) -> Option<u6
     None
 }
 
-/// Returns the number of first spans that end at `t` or earlier, by binary search.
+/// Returns the number of first spans that end at `t` or earlier, by binary search. This is the index of the first span that ends later.
 #[inline(never)]
 fn search_index(spans: &[OpenSpan], t: u64) -> usize
     ensures within { result ≤ length spans.now }
@@ -155,7 +158,7 @@ fn search_index(spans: &[OpenSpan], t: u64) -> usize
     low
 }
 
-/// Whether all spans before index `place` end at `t` or earlier.
+/// Whether all spans before index `place` end at `t` or earlier. `find_index` may then start at this index.
 #[inline(always)]
 fn have_ended(spans: &[OpenSpan], place: usize, t: u64) -> bool
     requires { place ≤ length spans.now }
@@ -178,7 +181,8 @@ fn is_within_walk(spans: &[OpenSpan], place: usize, t: u64) -> bool
     t < u64::from(spans[place + MAX_WALK].end)
 }
 
-/// Returns the index of the first span that ends after `t`. The search starts at index `from`; all earlier spans have ended.
+/// Returns the index of the first span that ends after `t`. The search starts at index `from`; all earlier spans have ended. `find_index`
+/// calls it near the last span found.
 #[inline(always)]
 fn walk_spans(spans: &[OpenSpan], from: usize, t: u64) -> usize
     requires within { from ≤ length spans.now }
@@ -206,7 +210,8 @@ fn find_index(spans: &[OpenSpan], last: usize, t: u64) -> usize
     search_index(spans, t)
 }
 
-/// Returns the offset of `t` in its cycle. A cycle equal to the last call's needs no division.
+/// Returns the offset of time `t` in its cycle of `cycle` ns. `laps` is the number of whole cycles before the last call's time: if it still
+/// is right, no division is needed.
 #[inline(always)]
 fn phase_in_cycle(laps: &mut u64, cycle: u64, t: u64) -> u64
     requires cycle { 0 < cycle }

@@ -26,7 +26,7 @@ struct GateCache<A: Allocator + Copy> {
     new: ClassSpans<A>,
 }
 
-/// Transmission gates of a port, with what speeds up a search for an earliest fit.
+/// Transmission gates of a port, with data that speeds up the search for an earliest start.
 #[derive(Drop)]
 pub struct TransmissionGates<A: Allocator + Copy> {
     /// Gate control lists; `None` if all classes are always open.
@@ -37,7 +37,7 @@ pub struct TransmissionGates<A: Allocator + Copy> {
     is_short: bool,
     /// Interval that the last search of short lists read.
     turn: Turn<u8>,
-    /// Where the last search by spans ended.
+    /// Hints from the last search by spans, at which the next search starts.
     last: SearchHints,
 }
 
@@ -56,7 +56,7 @@ impl<A: Allocator + Copy> Model for TransmissionGates<A> {
     } };
 }
 
-/// Returns the shorter of two runs: `Never` is the shortest run, `Always` the longest.
+/// Returns the shorter of two runs: `Never` is the shortest run, `Always` the longest. `shorter_runs` calls it for each class.
 fn shorter_run(one: Run, other: Run) -> Run
     ensures { (n : ℕ) → Allows result n ↔ (Allows one n × Allows other n) }
 {
@@ -82,7 +82,8 @@ fn shorter_runs(one: &[Run; 8], other: &[Run; 8]) -> [Run; 8]
     runs
 }
 
-/// Makes the cache for the lists. With a schedule change, each class gets the shorter of its two longest runs.
+/// Makes the cache for a port's gate control lists: each class's longest run of open time, and the open spans of each class. With a
+/// schedule change, a class's run is the shorter one of the two lists.
 fn make_cache<A: Allocator + Copy>(
     alloc: A,
     list: &Option<Egress<A>>,
@@ -148,7 +149,7 @@ fn find_turn<A: Allocator + Copy>(kept: &mut Turn<u8>, list: &Egress<A>, t: u64)
     *kept = list.turn(t);
 }
 
-/// Whether the lists have at most 16 entries each, or are absent.
+/// Whether the lists have at most 16 entries each, or are absent. For such lists, a search reads the current interval first.
 fn has_few_entries<A: Allocator + Copy>(list: &Option<Egress<A>>) -> bool {
     match list {
         None => true,
@@ -160,7 +161,8 @@ fn has_few_entries<A: Allocator + Copy>(list: &Option<Egress<A>>) -> bool {
     }
 }
 
-/// Whether `class` stays open for `occ` ns from `from` on within the kept interval. Tested for short lists only.
+/// Whether `class` stays open for `occ` ns from `from` on within the kept interval. Tested for short lists only. `earliest_fit` calls it
+/// first.
 #[inline(always)]
 fn fits_in_kept_turn<A: Allocator + Copy>(
     is_short: bool,
@@ -186,7 +188,8 @@ fn fits_in_kept_turn<A: Allocator + Copy>(
     false
 }
 
-/// Whether `class` stays open for `occ` ns from `from` on within one interval, which is kept. Tested for short lists only.
+/// Whether `class` stays open for `occ` ns from `from` on within one interval, which is kept. Tested for short lists only. `search_fit`
+/// calls it first.
 fn fits_in_turn<A: Allocator + Copy>(
     is_short: bool,
     kept: &mut Turn<u8>,
@@ -210,7 +213,8 @@ fn fits_in_turn<A: Allocator + Copy>(
     fits_in_kept_turn(is_short, kept, list, class, occ, from)
 }
 
-/// Returns the earliest time, `from` or later, from which `class` stays open for `occ` ns. `None` if the spans show none.
+/// Returns the earliest time, `from` or later, from which `class` stays open for `occ` ns. If the stored spans show none, returns `None`;
+/// `fit_in_lists` then searches interval by interval.
 fn fit_by_spans<A: Allocator + Copy>(
     list: &Egress<A>,
     kept: &GateCache<A>,
@@ -234,7 +238,8 @@ fn fit_by_spans<A: Allocator + Copy>(
     }
 }
 
-/// Returns the earliest time, `from` or later, from which `class` stays open for `occ` ns: by spans, or interval by interval.
+/// Returns the earliest time, `from` or later, from which `class` stays open for `occ` ns: by spans, or interval by interval. `search_fit`
+/// calls it.
 fn fit_in_lists<A: Allocator + Copy>(
     list: &Egress<A>,
     kept: &GateCache<A>,
@@ -259,8 +264,8 @@ fn fit_in_lists<A: Allocator + Copy>(
     }
 }
 
-/// Returns the earliest time, `from` or later, from which `class` stays open for `occ` ns, and keeps its interval. Isn't inlined, so that
-/// a search that ends in the kept interval needs few registers.
+/// Returns the earliest time, `from` or later, from which `class` stays open for `occ` ns. For short lists, keeps the interval at `from`.
+/// Isn't inlined: a search in the kept interval then needs few registers.
 #[inline(never)]
 fn search_fit<A: Allocator + Copy>(
     is_short: bool,

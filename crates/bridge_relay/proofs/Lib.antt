@@ -4,6 +4,7 @@ pub mod Changing
 pub mod Making
 pub mod Fresh
 pub mod Outs
+pub mod Present
 pub mod Rooms
 pub mod OfferedSlots
 pub mod Newly

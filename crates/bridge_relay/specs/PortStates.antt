@@ -9,7 +9,7 @@ use Rattle.bridge_relay.specs.declared.port_state.PortState.{PortState}
 use Rattle.bridge_relay.specs.declared.port_state.Ingress.{Ingress}
 use Rattle.bridge_relay.specs.declared.port_state.Ingress.TheVariants as came
 
--- The counts after one more copy: queued without a refusal, otherwise dropped.
+-- The counts after one more copy: queued if there is no refusal (`None`), otherwise dropped.
 abbrev pub count_copy : PortCount → Option Refusal → PortCount
 count_copy c None = record c { sent = c.sent + 1 }
 count_copy c (Some r) = record c { dropped = c.dropped + 1 }

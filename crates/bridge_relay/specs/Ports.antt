@@ -83,6 +83,10 @@ abbrev pub is_present : {X : Type 0} → Option X → Bool
 is_present None = false
 is_present (Some x) = true
 
+-- Holds if `set` is the set of the ports that exist.
+abbrev pub IsPresentSet : {A : Type 0} → List (Option (PortState A)) → ℕ → Type 0
+IsPresentSet slots set = (q : ℕ) → 1 ≤ q → q ≤ 16 → has_port set q ≡ is_present (nth_port slots q)
+
 -- True if a frame with the egress ports `set` leaves by port `q`: the set has the port, and the port exists.
 abbrev pub is_output : {A : Type 0} → List (Option (PortState A)) → ℕ → ℕ → Bool
 is_output slots set q = has_port set q && is_present (nth_port slots q)

@@ -43,7 +43,7 @@ with_room t copies = record t { owed = t.owed + copies; is_open = true }
 abbrev pub with_drop : RecorderState → Dropped → RecorderState
 with_drop t d = record t { drops = t.drops ++ d ∷ []; owed = t.owed - 1 }
 
--- The recorder after a verdict of a frame with origin `o`.
+-- The recorder after verdict `v` on a frame with origin `o`.
 abbrev pub with_verdict : RecorderState → Verdict → Origin → RecorderState
 with_verdict t v o = record t { verdicts = t.verdicts ++ v ∷ []; origins = t.origins ++ o ∷ []; is_open = false }
 
@@ -51,7 +51,7 @@ with_verdict t v o = record t { verdicts = t.verdicts ++ v ∷ []; origins = t.o
 abbrev pub without_room : RecorderState → ℕ → RecorderState
 without_room t copies = record t { owed = t.owed - copies }
 
--- The list with function `f` applied to the value of number `n`.
+-- The list of numbered values in which `f` is applied to the first value with number `n`.
 abbrev pub update_number : {X : Type 0} → ℕ → (X → X) → List (ℕ × X) → List (ℕ × X)
 update_number n f [] = []
 update_number n f (x ∷ xs) = if nat_eq n x.0 then (x.0, f x.1) ∷ xs else x ∷ update_number n f xs

@@ -44,12 +44,12 @@ pub record RelayState (G A : Type 0) : Type 0 where
   pub arrived : ℕ
   pub earliest : ℕ
 
--- The number of queued items of an optional port that pass test `f`.
+-- The number of queued items of a port for which `f` is true; 0 if the port is missing (`None`).
 abbrev pub count_port_items : {A : Type 0} → (Item (QueuedFrame A) → Bool) → Option (PortState A) → ℕ
 count_port_items f None = 0
 count_port_items f (Some s) = count_queued f s.port
 
--- The number of queued items of all ports that pass test `f`.
+-- The number of queued items of all ports for which `f` is true.
 abbrev pub count_all_items : {G A : Type 0} → (Item (QueuedFrame A) → Bool) → PortsState G A → ℕ
 count_all_items f p = sum_by (count_port_items f) p.slots
 
@@ -118,7 +118,8 @@ pub record AwaitsCopy {G A : Type 0} (b : RelayState G A) (n own port : ℕ) : T
 abbrev pub carried_copies : {A : Type 0} → (ℕ → List (Copy (Item (QueuedFrame A)))) → ℕ → List (Copy CarriedFrame)
 carried_copies lists q = map_copies carried_frame (lists q)
 
--- Holds if exactly the frames `left` have left port `s`, one for each start, all at most when its link is free.
+-- Holds if exactly the frames `left` have left port `s`, one for each start. Each transmission ends before the link is
+-- free, or at that time.
 pub record HasLeft {A : Type 0} (s : PortState A) (copies : List (Copy CarriedFrame)) (left : List CapturedFrame) : Type 0 where
   pub output : IsOutput s.speed copies left
   pub before : (d : CapturedFrame) → IsMember d left → d.time ≤ s.port.free

@@ -48,7 +48,7 @@ abbrev pub IsForwarded : Destination → Type 0
 IsForwarded (Forwarded set c) = Unit {0}
 IsForwarded w = ⊥
 
--- Holds if one port was offered item `x`, and the recorder of its filter has the drop, if the port dropped it.
+-- Holds if port `q` was offered item `x`, and, if it dropped the item, the recorder of the item's filter has the drop.
 pub record HasOfferedCopy {G A : Type 0} (old new : RelayState G A) (q : ℕ) (s : PortState A) (c : ℕ) (x : Item (QueuedFrame A)) : Type 0 where
   pub slots : new.ports.slots ≡ slice_set old.ports.slots (q - 1) (Some (offered_port s x.load.at c x))
   pub tables : new.tables ≡ recorders_with_answer old.tables x.load.flow x.load.own q (offer_result s c x)
@@ -135,7 +135,8 @@ pub record HasCopies {A : Type 0} (slots : List (Option (PortState A))) (set k :
 abbrev pub relay_before_frame : {G A : Type 0} → RelayState G A → RelayState G A
 relay_before_frame b = record b { arrived = b.arrived - 1 }
 
--- The VLAN, the priority and the drop eligible indicator of a frame, by its tag or by its port's defaults.
+-- The VLAN, the priority and the drop eligible indication of a frame, by its tag or by its port's defaults `vid` and
+-- `priority`.
 abbrev pub classify : Option Tag → ℕ → ℕ → (ℕ × ℕ × Bool)
 classify None vid priority = (vid, priority, false)
 classify (Some tag) vid priority = ((if nat_eq tag.vid 0 then vid else tag.vid), tag.pcp, tag.dei)
@@ -164,7 +165,8 @@ HasSequence tables None None = Unit {0}
 HasSequence tables (Some r) (Some j) = (j.0 ≡ r) × ((t : RecorderState) → lookup (nat_eq r.filter) tables ≡ Some t → j.1 ≡ length t.verdicts + 1)
 HasSequence tables r j = ⊥
 
--- Holds if one arrived frame isn't yet counted at its port, policed and offered.
+-- Holds if the relay has counted more frames than its police has judged, and more than any port has counted or was
+-- offered.
 pub record HasUncountedFrame {G A : Type 0} (b : RelayState G A) : Type 0 where
   pub calls : b.police.calls < b.arrived
   pub frames : (q : ℕ) (s : PortState A) → 1 ≤ q → port_state b.ports q ≡ Some s → s.count.frames < b.arrived

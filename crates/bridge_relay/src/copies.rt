@@ -8,7 +8,7 @@ use bridge_frame::mark_drop_eligible;
 use std::alloc::{AllocError, Allocator};
 use std::mem;
 
-/// Copies `octets` into a spare buffer of the pool, or into a new one if the pool is empty.
+/// Copies `octets` into a spare buffer of the pool, or into a new one if the pool is empty. `fill_copies` calls it for each copy.
 fn copy_octets<A: Allocator + Copy>(
     octets: &[u8],
     spares: &mut BufferPool<A>,
@@ -20,7 +20,7 @@ fn copy_octets<A: Allocator + Copy>(
     Ok(copy)
 }
 
-/// Adds `count` copies of `octets` to an empty list, in spare buffers as far as the pool has any.
+/// Adds `count` copies of `octets` to an empty list, in spare buffers as far as the pool has any. `make_copies` calls it.
 fn fill_copies<A: Allocator + Copy>(
     list: Vec<Vec<u8, A>, A>,
     octets: &[u8],
@@ -44,8 +44,8 @@ fn fill_copies<A: Allocator + Copy>(
     Ok(copies)
 }
 
-/// Makes `count` copies of `octets`, in spare buffers as far as the pool has any. Moves out `list`, whose memory the copies' list uses, if
-/// there are copies.
+/// Makes `count` copies of `octets`, in spare buffers as far as the pool has any. If `count` isn't 0, the result uses the memory of `list`,
+/// which is moved out.
 #[inline(always)]
 pub fn make_copies<A: Allocator + Copy>(
     alloc: A,
@@ -65,7 +65,7 @@ pub fn make_copies<A: Allocator + Copy>(
     fill_copies(list, octets, count, spares)
 }
 
-/// Returns copies to the pool that no port will get, because a filter refused their frame. Returns their empty list.
+/// Puts the copies of a frame that its filter refused back into the pool. Returns their list, now empty, for the next frame.
 pub fn return_copies<A: Allocator + Copy>(
     copies: Vec<Vec<u8, A>, A>,
     spares: &mut BufferPool<A>,
@@ -79,7 +79,7 @@ pub fn return_copies<A: Allocator + Copy>(
     list
 }
 
-/// Marks the frame's tag drop eligible, if `eligible` is true.
+/// Returns the frame's octets. If `eligible` is true and the frame has a tag, the tag is marked drop eligible.
 #[inline(always)]
 pub fn mark_if_eligible<A: Allocator + Copy>(octets: Vec<u8, A>, eligible: bool) -> Vec<u8, A>
     ensures marked { result.items ≡ leaving_octets eligible octets.items }

@@ -31,7 +31,7 @@ fn reserve_items<T, A: Allocator>(list: &mut Vec<T, A>, more: usize) -> Result<(
     Ok(())
 }
 
-/// Grows a list that has no capacity for `more` further items.
+/// Grows a list that has no capacity for `more` further items. `reserve_items` calls it; a separate function keeps the common case short.
 #[cold]
 #[inline(never)]
 fn grow_list<T, A: Allocator>(list: &mut Vec<T, A>, more: usize) -> Result<(), NoMemory>
@@ -155,7 +155,7 @@ impl<A: Allocator + Copy> FilterRecorder<A> {
         Ok(())
     }
 
-    /// Appends a verdict and its frame's origin. Returns the frame's number, from 1.
+    /// Appends a verdict and its frame's origin. Returns the frame's number among the filter's frames, from 1.
     #[inline(always)]
     pub fn record_verdict(&mut self, verdict: Verdict, origin: Origin) -> u32
         requires open { self.old.is_open ≡ true }

@@ -61,7 +61,7 @@ fn whole_steps(apart: u32, step: u32) -> u32
     }
 }
 
-/// Returns `place` if the recorder at this index has number `number`, otherwise `None`.
+/// Returns `place` if the recorder at this index has number `number`, otherwise `None`. Look-ups test hints and guesses by it.
 #[inline(always)]
 fn index_if_number<A: Allocator + Copy>(
     tables: &FilterRecorders<A>,
@@ -77,7 +77,7 @@ fn index_if_number<A: Allocator + Copy>(
 }
 
 /// Guesses a recorder's index without a hash; `None` if the guess is wrong. Numbers that rise in equal steps have consecutive indices, and
-/// the catch-all filter is often the last.
+/// the catch-all filter is often the last. `recorder_index` calls it.
 #[inline(always)]
 fn index_by_guess<A: Allocator + Copy>(tables: &FilterRecorders<A>, number: u32) -> Option<usize>
     ensures { IfSome result (λ place. slice_get (keys_of tables.now.entries) place ≡ Some number) }
@@ -91,7 +91,7 @@ fn index_by_guess<A: Allocator + Copy>(tables: &FilterRecorders<A>, number: u32)
     }
 }
 
-/// Returns the index of the recorder with number `number`, which must exist, by its hash.
+/// Returns the index of the recorder with number `number`, which must exist, by its hash. `recorder_index` calls it after a wrong guess.
 #[inline(never)]
 fn index_by_hash<A: Allocator + Copy>(tables: &FilterRecorders<A>, number: u32) -> usize
     requires { IsSome (lookup (nat_eq number) tables.now.entries) }
@@ -104,6 +104,7 @@ fn index_by_hash<A: Allocator + Copy>(tables: &FilterRecorders<A>, number: u32) 
 }
 
 /// Returns the index of the recorder with number `number`, which must exist. Guesses the index before it uses the hash.
+/// `recorder_index_by_hint` calls it after a wrong hint.
 #[inline(always)]
 fn recorder_index<A: Allocator + Copy>(tables: &FilterRecorders<A>, number: u32) -> usize
     requires { IsSome (lookup (nat_eq number) tables.now.entries) }
@@ -151,7 +152,8 @@ pub fn record_departure<A: Allocator + Copy>(
     }
 }
 
-/// Records a dropped copy of a filter's frame, if `answer` is a refusal. Tries the index `hint` first. Does nothing for an unfiltered frame.
+/// If `answer` is a refusal, records a dropped copy of frame `own` of filter `flow`. Tries the index `hint` first. Does nothing for an
+/// unfiltered frame (`None`).
 #[inline(always)]
 pub fn record_answer<A: Allocator + Copy>(
     tables: &mut FilterRecorders<A>,
@@ -196,7 +198,8 @@ pub fn reserve_room<A: Allocator + Copy>(
     }
 }
 
-/// Records a verdict of a filter and its frame's origin, and returns the frame's number. Tries the index `hint` first.
+/// Records a verdict of filter `number` and its frame's origin, and returns the frame's number among the filter's frames. Tries the index
+/// `hint` first.
 #[inline(always)]
 pub fn record_verdict<A: Allocator + Copy>(
     tables: &mut FilterRecorders<A>,

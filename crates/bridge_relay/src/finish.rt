@@ -28,6 +28,7 @@ use bridge_semantics::{Outcome, PortCount, View};
 use std::alloc::Allocator;
 
 /// Returns the record of a filter: lists from its recorder; counters, flags and buckets from `police`. Leaves the recorder empty.
+/// `make_views` calls it for each filter.
 fn make_view<A: Allocator + Copy>(
     alloc: A,
     police: &Police<A>,
@@ -88,8 +89,8 @@ fn make_views<A: Allocator + Copy>(
 }
 
 impl<'a, G: Agenda + Drop, A: Allocator + Copy> Relay<'a, G, A> {
-    /// Does nothing; its contract states the run so far. All starts before the next due start are made, and the agenda has each port's next
-    /// start.
+    /// Does nothing; its contract states the run so far: all starts before the next due start were made, and the agenda has each port's
+    /// next start.
     pub fn assert_reached(&self)
         ensures reaches { (p : config.Plan A) (es : List Event) (left : ℕ → List CapturedFrame) (h : ℕ)
             → RelayStandsFor p self.now es left → self.now.earliest ≤ h
@@ -109,8 +110,8 @@ impl<'a, G: Agenda + Drop, A: Allocator + Copy> Relay<'a, G, A> {
         self.ports.assert_agenda();
     }
 
-    /// Ends a run in which no start is due, and returns its result: records of the filters in `order`, and counts of the ports. Allocates
-    /// no memory.
+    /// Ends a run without due starts. Returns its result: records of the filters in `order` and counts of the ports, in the empty lists
+    /// `filters` and `ports`.
     ///
     /// A protected filter's record depends on its own events only.
     pub fn finish(

@@ -36,7 +36,7 @@ fn copy_gates<A: Allocator + Copy>(
     Ok(copies)
 }
 
-/// Makes the table that finds a frame's stream handle, from the plan's stream entries.
+/// Makes the table that finds a frame's stream handle, from the plan's stream entries. `Relay::new` calls it.
 fn make_ident<A: Allocator + Copy>(alloc: A, streams: &[StreamEntry]) -> Result<Ident<A>, NoMemory>
     ensures { IfOk result (λ table. table ≡ streams.now) }
 {
@@ -49,7 +49,7 @@ fn make_ident<A: Allocator + Copy>(alloc: A, streams: &[StreamEntry]) -> Result<
     }
 }
 
-/// Makes the filters, stream gates and meters of a plan, before any event.
+/// Makes the filters, stream gates and meters of a plan, before any event. `Relay::new` calls it.
 fn make_police<A: Allocator + Copy>(alloc: A, plan: &Plan<A>) -> Result<Police<A>, NoMemory>
     ensures stands { IfOk result (λ p. standing.StandsFor (events.plan_police plan.now) p []) }
     ensures gates { IfOk result (λ p. KeepsNumbers plan.now.gates p.gates) }

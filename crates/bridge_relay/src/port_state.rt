@@ -148,7 +148,7 @@ impl<A: Allocator + Copy> PortState<A> {
         }
     }
 
-    /// Makes the port's next start, which is at time `start` in ns.
+    /// Makes the port's next start, which is at time `start` in ns, and returns the copy that started.
     #[inline(always)]
     pub fn start(&mut self, start: u64) -> StartedFrame<A>
         requires due { IsNextStartTime self.old.port (Some start) }

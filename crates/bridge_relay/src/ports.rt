@@ -1,12 +1,11 @@
 //! The ports of a bridge, and their next starts.
 ghost use Rattle.std.specs.Prelude.{◌≡◌, ℕ, false, ◌<◌, ◌≤◌, ◌+◌, ◌-◌, [], Some, None, Option, length, nat_eq, if◌then◌else◌, slice_set, slice_index, IfOk, vec_capacity};
 ghost use Rattle.bridge_events.specs.Least.{IsLeast};
-ghost use Rattle.bridge_forward.specs.Ports.{has_port};
 ghost use Rattle.bridge_config.specs.Rules.{find_port};
 ghost use Rattle.bridge_relay.specs.declared.port_state.PortState.{PortState};
 ghost use Rattle.bridge_relay.specs.PortStates.{count_ingress};
 ghost use Rattle.bridge_relay.specs.Counting.{port_counts};
-ghost use Rattle.bridge_relay.specs.Ports.{port_state, ingress_defaults, is_present, count_outputs, ArePortsSound, IsInitialPort, IsLastOutput, HasOffered, HasStarted, CanOffer, StartsNoEarlier, HasLaterStarts};
+ghost use Rattle.bridge_relay.specs.Ports.{port_state, ingress_defaults, is_present, count_outputs, ArePortsSound, IsInitialPort, IsLastOutput, IsPresentSet, HasOffered, HasStarted, CanOffer, StartsNoEarlier, HasLaterStarts};
 
 use crate::port_state::{Ingress, PortState, StartedFrame};
 use bridge_config::Plan;
@@ -22,24 +21,30 @@ use std::marker::Model;
 /// Ports of a bridge, and the time of each port's next start.
 #[derive(Drop)]
 pub struct Ports<G: Agenda + Drop, A: Allocator + Copy> {
-    /// Sixteen slots: port n is at index n - 1; `None` if the plan lacks it.
+    /// Ports by number: port n is at index n - 1 of 16; `None` if the plan lacks this port.
     slots: Vec<Option<PortState<A>>, A>,
+    /// Set of the ports that exist: bit n - 1 stands for port n.
+    present: u16,
     /// Time in ns of the next start of each port with queued copies.
     agenda: G,
 }
 
 impl<G: Agenda + Drop, A: Allocator + Copy> Model for Ports<G, A> {
     ghost use Rattle.bridge_relay.specs.PortStates.{count_ingress};
-    ghost use Rattle.bridge_relay.specs.Ports.{PortsState, ArePortsSound};
+    ghost use Rattle.bridge_relay.specs.Ports.{PortsState, ArePortsSound, IsPresentSet};
 
     ghost Value = { PortsState G A };
 
     ghost view = { λ p. record { slots = p.slots.items; agenda = p.agenda } };
 
-    ghost invariant = { λ p. ArePortsSound G.held p.slots.items p.agenda };
+    ghost invariant = { λ p. record {
+      sound : ArePortsSound G.held p.slots.items p.agenda;
+      present : IsPresentSet p.slots.items p.present;
+    } };
 }
 
-/// Sets the next start of port `port` to `due` ns; clears it if `due` is `None`.
+/// Sets the next start of port `port` to `due` ns; clears it if `due` is `None`. `Ports::start` calls it after each start, and
+/// `update_next_start` after offers.
 #[inline(always)]
 fn set_next_start<G: Agenda>(agenda: &mut G, port: u8, due: Option<u64>)
     requires from { 1 ≤ port }
@@ -52,7 +57,8 @@ fn set_next_start<G: Agenda>(agenda: &mut G, port: u8, due: Option<u64>)
     }
 }
 
-/// Changes the next start of port `port` from `before` to `due`. Does nothing if both are equal.
+/// Changes the next start of port `port` from `before` to `due`. Does nothing if both are equal. `Ports::offer` calls it, because most
+/// offers change no next start.
 #[inline(always)]
 fn update_next_start<G: Agenda>(agenda: &mut G, port: u8, before: Option<u64>, due: Option<u64>)
     requires from { 1 ≤ port }
@@ -66,20 +72,20 @@ fn update_next_start<G: Agenda>(agenda: &mut G, port: u8, before: Option<u64>, d
     set_next_start(agenda, port, due);
 }
 
-/// Returns the number of ports below the first port of `set`, or 0 for an empty set. `count_outputs` skips these ports.
-#[inline(always)]
-fn ports_before_first(set: PortSet) -> u8
-    ensures within { result ≤ 16 }
-    ensures none { (q : ℕ) → 1 ≤ q → q ≤ result → has_port set q ≡ false }
+/// Returns the set of the ports that exist: bit n - 1 stands for port n. `Ports` stores it, so that `count_outputs` reads no port.
+fn present_ports<A: Allocator + Copy>(slots: &[Option<PortState<A>>]) -> u16
+    requires { length slots.now ≡ 16 }
+    ensures { IsPresentSet slots.now result }
 {
-    let bits = set.bits();
-    if bits == 0 {
-        return 0;
+    let mut present = 0u16;
+    for place in 0usize..16 {
+        let own = if slots[15 - place].is_some() { 1 } else { 0 };
+        present = present << 1 | own;
     }
-    bits.trailing_zeros() as u8
+    present
 }
 
-/// Makes the port with number `number`; `None` if the plan lacks it.
+/// Makes the port with number `number`; `None` if the plan lacks it. `Ports::new` calls it for each number from 1 to 16.
 fn make_port_state<A: Allocator + Copy>(
     alloc: A,
     plan: &Plan<A>,
@@ -114,8 +120,10 @@ impl<G: Agenda + Drop, A: Allocator + Copy> Ports<G, A> {
             };
             slots.push_reserved(slot);
         }
+        let present = present_ports(&slots);
         Ok(Ports {
             slots,
+            present,
             agenda: G::empty(),
         })
     }
@@ -161,7 +169,7 @@ impl<G: Agenda + Drop, A: Allocator + Copy> Ports<G, A> {
         }
     }
 
-    /// Makes the next start. Returns the port, the time in ns and the copy.
+    /// Makes the next start of all ports. Returns its port, its time in ns and the copy. A copy must be queued.
     #[inline(always)]
     pub fn start(&mut self) -> (u8, u64, StartedFrame<A>)
         requires { (q k : ℕ) × (G.held self.old.agenda q ≡ Some k) }
@@ -211,7 +219,7 @@ impl<G: Agenda + Drop, A: Allocator + Copy> Ports<G, A> {
         }
     }
 
-    /// Whether the bridge has a port `number`. A set of egress ports may name other ports.
+    /// Whether the bridge has port `number`. A set of egress ports may name ports that the bridge lacks.
     pub fn has(&self, number: u8) -> bool
         requires from { 1 ≤ number }
         requires to { number ≤ 16 }
@@ -223,44 +231,18 @@ impl<G: Agenda + Drop, A: Allocator + Copy> Ports<G, A> {
         }
     }
 
-    /// Returns the number of existing ports in `set`, and the last of them; 0 and 0 if there are none. Most sets have one port.
+    /// Returns the number of ports in `set` that exist, and the highest of them; 0 and 0 if there are none.
     #[inline(always)]
     pub fn count_outputs(&self, set: PortSet) -> (usize, u8)
         ensures count { result.0 ≡ count_outputs self.now.slots set 16 }
         ensures few { result.0 ≤ 16 }
         ensures last { IsLastOutput self.now.slots set result.1 }
     {
-        let bits = set.bits();
-        let before = ports_before_first(set);
-        if before >= 16 || bits >> before != 1 {
-            return self.count_several_outputs(set);
-        }
-        if self.has(before + 1) {
-            (1, before + 1)
-        } else {
-            (0, 0)
-        }
-    }
-
-    /// Returns the number of existing ports in `set`, and the last of them; 0 and 0 if there are none. Walks through the ports.
-    #[inline(never)]
-    fn count_several_outputs(&self, set: PortSet) -> (usize, u8)
-        ensures count { result.0 ≡ count_outputs self.now.slots set 16 }
-        ensures few { result.0 ≤ 16 }
-        ensures last { IsLastOutput self.now.slots set result.1 }
-    {
-        let bits = set.bits();
-        let mut count = 0;
-        let mut last = 0;
-        let mut place = ports_before_first(set);
-        while place < 16 && bits >> place != 0 {
-            place += 1;
-            if set.has(place) && self.has(place) {
-                count += 1;
-                last = place;
-            }
-        }
-        (count, last)
+        let outputs = set.bits() & self.present;
+        (
+            outputs.count_ones() as usize,
+            16 - outputs.leading_zeros() as u8,
+        )
     }
 
     /// Counts a frame that arrived at port `number`, which must exist, by what the bridge does with it.

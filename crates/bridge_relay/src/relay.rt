@@ -49,7 +49,8 @@ use std::mem;
 /// Largest index of a recorder that a queued frame stores.
 const MAX_RECORDERS: usize = 4_294_967_295;
 
-/// Returns the stream handle of a frame, if a stream entry matches.
+/// Returns the stream handle of a frame with the header `head` in VLAN `vid`, which arrived on port `port`; `None` if no stream entry
+/// matches.
 #[inline(always)]
 fn stream_handle<A: Allocator + Copy>(
     ident: &Ident<A>,
@@ -69,7 +70,7 @@ pub struct Relay<'a, G: Agenda + Drop, A: Allocator + Copy> {
     pub(crate) alloc: A,
     /// Plan of the bridge, accepted by `check`.
     pub(crate) plan: &'a Plan<A>,
-    /// Finds stream handles.
+    /// Stream entries, for the look-up of a frame's stream handle.
     pub(crate) ident: Ident<A>,
     /// Stream filters with their gates and meters.
     pub(crate) police: Police<A>,
@@ -77,9 +78,9 @@ pub struct Relay<'a, G: Agenda + Drop, A: Allocator + Copy> {
     pub(crate) ports: Ports<G, A>,
     /// Recorders of the filters.
     pub(crate) tables: FilterRecorders<A>,
-    /// Number of frames so far.
+    /// Number of frames that have arrived.
     pub(crate) arrived: u64,
-    /// Earliest time of the next event in ns.
+    /// Earliest time in ns at which the next event may happen.
     pub(crate) earliest: u64,
     /// Empty list with the memory for a frame's copies, so that a frame with several egress ports allocates no list.
     pub(crate) copies: Vec<Vec<u8, A>, A>,
@@ -226,7 +227,8 @@ impl<'a, G: Agenda + Drop, A: Allocator + Copy> Relay<'a, G, A> {
         self.earliest = t;
     }
 
-    /// Finds the egress ports of a frame that arrived on port `port`, and its data for the stream filters.
+    /// Returns the egress ports of a frame that arrived on port `port`, and the values by which filters judge it; or why it isn't
+    /// forwarded.
     #[inline(always)]
     fn find_destination(&self, at: u64, port: u8, octets: &[u8], len: u32) -> Destination
         requires from { 1 ≤ port }
@@ -258,8 +260,8 @@ impl<'a, G: Agenda + Drop, A: Allocator + Copy> Relay<'a, G, A> {
         Destination::Forwarded { set, call }
     }
 
-    /// Copies `octets` for every port of `set` except the last. Reserves capacity in the filter's recorder, trying index `hint` first. If
-    /// memory runs out, the relay is unchanged.
+    /// Copies `octets` for every port of `set` except the last, which gets the frame's own octets. Reserves capacity in the filter's
+    /// recorder; `hint` is its likely index. If memory runs out, the relay is unchanged.
     #[inline(always)]
     fn prepare_copies(
         &mut self,
@@ -299,9 +301,10 @@ impl<'a, G: Agenda + Drop, A: Allocator + Copy> Relay<'a, G, A> {
         Ok(copies)
     }
 
-    /// Offers a copy of a frame to port `number`. If the port drops the copy, its buffer returns to the pool.
+    /// Offers a copy of a frame to port `number`. If the port drops the copy, the filter's recorder records the drop, and the copy's buffer
+    /// returns to the pool.
     #[inline(always)]
-    fn offer_queued_frame(
+    fn offer_to_port(
         &mut self,
         number: u8,
         priority: u8,
@@ -339,7 +342,8 @@ impl<'a, G: Agenda + Drop, A: Allocator + Copy> Relay<'a, G, A> {
         self.earliest = t;
     }
 
-    /// Offers a frame to port `number` of `set`, after the lower ports. If `eligible` is true, its tag is marked drop eligible.
+    /// Offers a copy of a frame to port `number` of `set`, after the lower ports of `set`. If `eligible` is true, first marks the copy's
+    /// tag drop eligible.
     #[inline(always)]
     fn offer_copy(
         &mut self,
@@ -369,7 +373,7 @@ impl<'a, G: Agenda + Drop, A: Allocator + Copy> Relay<'a, G, A> {
             octets,
         } = load;
         let octets = mark_if_eligible(octets, eligible);
-        self.offer_queued_frame(
+        self.offer_to_port(
             number,
             priority,
             len,
@@ -384,8 +388,8 @@ impl<'a, G: Agenda + Drop, A: Allocator + Copy> Relay<'a, G, A> {
         );
     }
 
-    /// Offers a frame to port `number` of `set`, as `offer_copy` does. Isn't inlined, so that a loop over the ports stays small.
-    #[inline(never)]
+    /// Offers a copy as `offer_copy` does. `offer_next_copy` and `offer_several_copies` call it, for a frame with several egress ports.
+    #[inline(always)]
     fn offer_listed_copy(
         &mut self,
         set: PortSet,
@@ -409,7 +413,8 @@ impl<'a, G: Agenda + Drop, A: Allocator + Copy> Relay<'a, G, A> {
         self.offer_copy(set, number, priority, len, eligible, load, spares);
     }
 
-    /// Offers a copy of a frame to port `number`, if `set` has this port.
+    /// Offers the next of `copies` to port `number` if `set` and the bridge have this port; otherwise does nothing. `offer_several_copies`
+    /// calls it for each port before the last.
     #[inline(always)]
     fn offer_next_copy(
         &mut self,
@@ -482,7 +487,8 @@ impl<'a, G: Agenda + Drop, A: Allocator + Copy> Relay<'a, G, A> {
         }
     }
 
-    /// Offers a frame to the only port of `set`, if the bridge has a port of `set`. If `eligible` is true, its tag is marked drop eligible.
+    /// Offers a frame to the only port of `set` that the bridge has; does nothing if it has none of them. If `eligible` is true, first
+    /// marks the frame's tag drop eligible.
     #[inline(always)]
     fn offer_only_copy(
         &mut self,
@@ -507,7 +513,8 @@ impl<'a, G: Agenda + Drop, A: Allocator + Copy> Relay<'a, G, A> {
 
     /// Offers copies of a frame to the ports of `set`, by rising number. If `eligible` is true, their tags are marked drop eligible.
     ///
-    /// Forgets an empty list instead of dropping it: such a list has no memory, and most frames have one.
+    /// Most frames have one egress port, and an empty list of copies. This list has no memory: it is forgotten instead of dropped, which is
+    /// faster.
     #[inline(always)]
     fn offer_copies(
         &mut self,
@@ -535,7 +542,8 @@ impl<'a, G: Agenda + Drop, A: Allocator + Copy> Relay<'a, G, A> {
         }
     }
 
-    /// Counts a frame that is malformed or has no egress port at its ingress port, and advances the relay to its arrival time.
+    /// Counts a malformed frame, or a frame without egress ports, at the ingress port `port`. The relay's next event may then happen at the
+    /// arrival time `t` or later.
     fn count_unforwarded(&mut self, port: u8, t: u64, came: Ingress)
         requires known { (s : PortState A) × (port_state self.old.ports port ≡ Some s) }
         requires from { 1 ≤ port }
@@ -553,8 +561,8 @@ impl<'a, G: Agenda + Drop, A: Allocator + Copy> Relay<'a, G, A> {
         self.earliest = t;
     }
 
-    /// Judges a frame by its filter `found`, counts it at its port, and records verdict and origin. Returns the ruling and the frame's
-    /// number within the filter; `None` for an unfiltered frame.
+    /// Judges a frame by its filter `found`, counts it at its ingress port, and records verdict and origin. Returns the ruling and the
+    /// frame's number within the filter; `None` for an unfiltered frame.
     #[inline(always)]
     fn police_frame(
         &mut self,
@@ -619,8 +627,8 @@ impl<'a, G: Agenda + Drop, A: Allocator + Copy> Relay<'a, G, A> {
         }
     }
 
-    /// Judges a frame with the egress ports `set`, and offers it if it passes. Capacity must be reserved. Octets that no queue takes return
-    /// to the pool.
+    /// Judges a frame with the egress ports `set`, and offers it to them if it passes. `prepare_copies` has made `copies` and reserved
+    /// capacity. Octets that no queue accepts return to the pool.
     #[inline(always)]
     fn relay_frame(
         &mut self,
@@ -683,7 +691,7 @@ impl<'a, G: Agenda + Drop, A: Allocator + Copy> Relay<'a, G, A> {
     }
 
     /// Handles a frame that arrived on port `port`. If memory runs out, returns the frame and leaves the relay unchanged. Octets that no
-    /// queue takes return to the pool.
+    /// queue accepts return to the pool.
     #[inline(always)]
     pub fn arrive(
         &mut self,
@@ -728,9 +736,39 @@ impl<'a, G: Agenda + Drop, A: Allocator + Copy> Relay<'a, G, A> {
         }
         Ok(())
     }
+
+    /// Handles a frame that arrived on port `port`, as `arrive` does. If memory runs out, drops the frame and leaves the relay unchanged.
+    ///
+    /// Isn't inlined, and returns no frame, so that a run copies few values for each frame.
+    #[inline(never)]
+    pub fn handle_arrival(
+        &mut self,
+        port: u8,
+        packet: Packet<A>,
+        spares: &mut BufferPool<A>,
+    ) -> Result<(), NoMemory>
+        requires known { (out : PortPlan A) × (find_port self.old.plan.ports port ≡ Some out) }
+        requires time { (self.old.earliest ≤ packet.time) × (packet.time < END_OF_TIME) }
+        requires due { StartsNoEarlier (G.held self.old.ports.agenda) packet.time }
+        requires octets { (length packet.octets.items ≤ MAX_CAPTURED_OCTETS) × (length packet.octets.items
+            ≤ packet.len) }
+        requires few { self.old.arrived < MAX_ARRIVALS }
+        ensures stands { OnOk result ((p : config.Plan A) (es : List Event) (left : ℕ → List CapturedFrame)
+            → RelayStandsFor p self.old es left
+            → RelayStandsFor p self.new (Arrived (arrival packet.time port packet.octets.items packet.len) ∷ es) left) }
+        ensures moved { OnOk result ((self.new.arrived ≡ self.old.arrived + 1) × (self.new.earliest ≡ packet.time)
+            × (self.new.plan ≡ self.old.plan)) }
+        ensures waits { OnOk result (StartsNoEarlier (G.held self.new.ports.agenda) packet.time) }
+        ensures err { OnErr result (self.new ≡ self.old) }
+    {
+        match self.arrive(port, packet, spares) {
+            Ok(()) => Ok(()),
+            Err(_) => Err(NoMemory),
+        }
+    }
 }
 
-/// Returns the number of the filter that was found; `None` for an unfiltered frame.
+/// Returns the number of the filter that was found; `None` for an unfiltered frame. `arrive` reserves capacity for this filter.
 #[inline(always)]
 fn route_number(found: Option<Route>) -> Option<u32>
     ensures { result ≡ option_map (λ r. r.number) found }
@@ -750,7 +788,7 @@ fn route_index(found: Option<Route>) -> usize {
     }
 }
 
-/// Returns the octets of a copy to the pool, if a port dropped it.
+/// Returns the octets of a copy to the pool, if a port dropped it. `offer_to_port` calls it after each offer.
 #[inline(always)]
 fn return_octets<A: Allocator + Copy>(back: Option<Vec<u8, A>>, spares: &mut BufferPool<A>) {
     if let Some(octets) = back {
@@ -758,7 +796,8 @@ fn return_octets<A: Allocator + Copy>(back: Option<Vec<u8, A>>, spares: &mut Buf
     }
 }
 
-/// Returns the first port to try. Without a copy, only port `last` remains, because it gets the frame's own octets.
+/// Returns the first port that `offer_several_copies` tries. Without copies, only port `last` remains, because it gets the frame's own
+/// octets.
 fn first_port_with_copy(copies: usize, last: u8) -> u8
     ensures from { 1 ≤ result }
     ensures to { result ≤ max 1 last }
@@ -767,7 +806,7 @@ fn first_port_with_copy(copies: usize, last: u8) -> u8
     if copies == 0 { last.max(1) } else { 1 }
 }
 
-/// Returns VLAN, priority and drop eligible indicator of a received frame: from its tag, or from its port's defaults `vid` and `priority`.
+/// Returns VLAN, priority and drop eligible indication of a received frame: from its tag, or from the port's defaults `vid` and `priority`.
 /// A priority-tagged frame gets the default VLAN.
 #[inline(always)]
 fn classify(tag: Option<Tag>, vid: u16, priority: u8) -> (u16, u8, bool)

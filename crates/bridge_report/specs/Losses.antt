@@ -44,15 +44,16 @@ losses_of verdicts drops = record {
 abbrev pub total : Losses → ℕ
 total l = l.blocked + l.oversize + l.gate_closed + (l.shut_rx + l.shut_octets) + (l.octets_exceeded + l.red) + (l.yellow_dropped + l.full + l.never)
 
--- A comma, the place of the loss, the reason and its number, as text.
+-- A comma, the text `place`, the reason and its number, as text. `place` says where frames were lost; it is empty for
+-- one bridge.
 abbrev pub counted_words : List ℕ → List ℕ → ℕ → List ℕ
 counted_words place word count = codes ", " ++ (place ++ (word ++ (codes " " ++ decimal count)))
 
--- A reason with its number, as text. The text is empty if the number is 0.
+-- A comma, `place`, a reason and its number, as text. The text is empty if the number is 0.
 abbrev pub reason_words : List ℕ → List ℕ → ℕ → List ℕ
 reason_words place word count = if nat_eq count 0 then [] else counted_words place word count
 
--- The reasons of all losses at a place, in the order of the tables.
+-- The reasons of all losses and their numbers, in the order of the columns of `run --delays`.
 unfoldable pub loss_words : List ℕ → Losses → List ℕ
 loss_words place l = reason_words place (codes "blocked") l.blocked ++ (reason_words place (codes "oversize") l.oversize
     ++ (reason_words place (codes "gate-closed") l.gate_closed ++ (reason_words place (codes "shut-rx") l.shut_rx

@@ -8,7 +8,7 @@ use std::marker::Model;
 /// Most octets of a block.
 const BLOCK_WIDTH: usize = 1920;
 
-/// End of a block of lines, at most 1,920 octets; each call writes its text in front. Numbers need no digit count beforehand, and lines need
+/// Block of lines, at most 1,920 octets, which grows from its end: each call writes its text in front. Numbers need no digit count, lines
 /// no allocation. A sink gets many lines at once.
 #[derive(Drop)]
 pub struct LineBlock {

@@ -8,7 +8,7 @@ use bridge_filter::Verdict;
 use bridge_port::Refusal;
 use bridge_semantics::{Departure, Dropped, StoredDeparture, StoredDrop};
 
-/// Copy that has a line in a list.
+/// Copy that has a line in a list of a section: a departure or a drop.
 pub trait ListedCopy {
     /// Line of the copy.
     ghost line: { Self → List ℕ };

@@ -11,7 +11,7 @@ use bridge_semantics::{StoredDeparture, StoredDrop, StoredVerdict};
 /// Lines of a full block. A line has at most 128 octets.
 const BLOCK_LINES: usize = 15;
 
-/// Writes the lines of frames, numbered from `number`, from the last to the first.
+/// Writes the lines of frames, numbered from `number`, into `block`. Writes the last frame first, because a block grows from its end.
 #[inline(always)]
 fn fill_frames(block: &mut LineBlock, number: usize, verdicts: &[StoredVerdict])
     requires empty { length block.old ≡ 0 }
@@ -26,7 +26,7 @@ fn fill_frames(block: &mut LineBlock, number: usize, verdicts: &[StoredVerdict])
     }
 }
 
-/// Writes the lines of a filter's frames, numbered from 1, with their verdicts.
+/// Writes the lines of a filter's frames, numbered from 1, with their verdicts, by blocks of at most 15 lines.
 pub fn put_frames<T: ReportSink>(text: &mut T, verdicts: &[StoredVerdict])
     ensures { HasGrown T.contents text.old (frame_lines 1 verdicts.now) text.new }
 {
@@ -41,7 +41,7 @@ pub fn put_frames<T: ReportSink>(text: &mut T, verdicts: &[StoredVerdict])
     }
 }
 
-/// Writes the lines of copies, from the last to the first.
+/// Writes the lines of copies into `block`. Writes the last copy first, because a block grows from its end.
 #[inline(always)]
 fn fill_copies<C: ListedCopy>(block: &mut LineBlock, copies: &[C])
     requires empty { length block.old ≡ 0 }
@@ -55,7 +55,7 @@ fn fill_copies<C: ListedCopy>(block: &mut LineBlock, copies: &[C])
     }
 }
 
-/// Writes one line for each of `copies`.
+/// Writes one line for each copy in `copies`, in list order, by blocks of at most 15 lines.
 fn put_copies<T: ReportSink, C: ListedCopy>(text: &mut T, copies: &[C])
     ensures { HasGrown T.contents text.old (flat_map C.line copies.now) text.new }
 {

@@ -128,7 +128,8 @@ fn total(losses: &Losses) -> u128
     refused + shut + metered + dropped
 }
 
-/// Writes a comma, the place of the loss, the reason and its number.
+/// Writes a comma, the reason `word` and its number `count`. The text `place` before the reason says where frames were lost; it is empty
+/// for one bridge.
 fn put_counted<A: Allocator>(text: &mut TextBuilder<A>, place: &str, word: &str, count: u128)
     ensures { HasGrown text.old (spec.counted_words place.now word.now count) text.new }
 {
@@ -139,7 +140,7 @@ fn put_counted<A: Allocator>(text: &mut TextBuilder<A>, place: &str, word: &str,
     text.put_integer(count);
 }
 
-/// Writes a comma, the place of the loss, the reason and its number. Writes nothing if the number is 0.
+/// Writes a comma, `place`, the reason `word` and its number `count`. Writes nothing if the number is 0.
 pub fn put_reason<A: Allocator>(text: &mut TextBuilder<A>, place: &str, word: &str, count: u128)
     ensures { HasGrown text.old (spec.reason_words place.now word.now count) text.new }
 {
@@ -148,7 +149,8 @@ pub fn put_reason<A: Allocator>(text: &mut TextBuilder<A>, place: &str, word: &s
     }
 }
 
-/// Writes the reasons of all losses at a place, in the order of the tables.
+/// Writes the reasons of all losses and their numbers, in the order of the columns of `run --delays`. The text `place` before each reason
+/// says where frames were lost.
 pub fn put_losses<A: Allocator>(text: &mut TextBuilder<A>, place: &str, losses: &Losses)
     ensures { HasGrown text.old (spec.loss_words place.now losses.now) text.new }
 {

@@ -48,7 +48,7 @@ fn total_dropped(ports: &[(u8, PortCount)]) -> u128
     ports.iter().map(|p| u128::from(p.1.dropped)).sum()
 }
 
-/// Appends the numbers of frames: arrived, malformed, not forwarded and policed.
+/// Appends the numbers of frames that arrived, were malformed, weren't forwarded, and were policed. A filter judges each policed frame.
 fn push_arrivals<A: Allocator>(
     text: &mut String<A>,
     frames: u128,

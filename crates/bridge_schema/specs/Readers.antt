@@ -19,15 +19,16 @@ abbrev pub is_no_memory : PlanFault → Bool
 is_no_memory fault.NoMemory = true
 is_no_memory _ = false
 
--- Statement: The fault is the fault of the definition, unless memory ran out.
+-- Statement: The fault of a reader of plans is the fault of its definition, unless memory ran out.
 abbrev pub IsReadFault : {Y : Type 0} → PlanFault → Result Y PlanFault → Type 0
 IsReadFault = reading.Fails is_no_memory
 
--- Statement: The result, mapped by a function, is the result of the definition, unless memory ran out.
+-- Statement: The result of a reader of plans, its value mapped by a function, is the result of its definition, unless
+-- memory ran out.
 abbrev pub MatchesReadingView : {X Y : Type 0} → (X → Y) → Result X PlanFault → Result Y PlanFault → Type 0
 MatchesReadingView = reading.GivesAs is_no_memory
 
--- Statement: The result is the result of the definition, unless memory ran out.
+-- Statement: The result of a reader of plans is the result of its definition, unless memory ran out.
 abbrev pub MatchesReading : {X : Type 0} → Result X PlanFault → Result X PlanFault → Type 0
 MatchesReading = reading.Gives is_no_memory
 
@@ -92,7 +93,8 @@ abbrev pub value_number : Data → ℕ
 value_number (integer (pos n)) = n
 value_number _ = 0
 
--- Integers in the items, one for each item. Readers test the items first.
+-- Integers in the items, in order; an item that isn't an integer gives 0. Readers first test that all items are
+-- integers.
 abbrev pub item_numbers : Items → List ℕ
 item_numbers no_items = []
 item_numbers (item d ds) = value_number d ∷ item_numbers ds
@@ -120,12 +122,12 @@ number_set low high d = number_array low high d >>= λ ns. Ok (add_to_set low 0 
 abbrev pub is_subset : ℕ → ℕ → Bool
 is_subset set all = nat_eq (bit_and set all) set
 
--- Array of ports that the plan has, as a set from port 1 on; each other integer is Unresolved.
+-- Reads an array of port numbers as a set: bit n - 1 stands for port n. A port outside the set `all` is Unresolved.
 unfoldable pub known_ports : ℕ → Data → Result ℕ Flaw
 known_ports all (array items) = if not (are_integers items) then Err flaw.WrongKind else if are_in_range 1 16 items && is_subset (add_to_set 1 0 (item_numbers items)) all then Ok (add_to_set 1 0 (item_numbers items)) else Err flaw.Unresolved
 known_ports all _ = Err flaw.WrongKind
 
--- Array of exactly eight integers from `low` to `high`.
+-- Reads an array of exactly eight integers from `low` to `high`.
 unfoldable pub eight_in_range : ℕ → ℕ → Data → Result (List ℕ) Flaw
 eight_in_range low high d = number_array low high d >>= λ ns. if nat_eq (length ns) 8 then Ok ns else Err flaw.OutOfRange
 
@@ -173,11 +175,11 @@ read_or_default default place key kind members = value_or_default default place 
 abbrev pub has_key : Field → Members → Bool
 has_key key members = is_some (get_member (key_name key) members)
 
--- Result of a reader that runs only if the table has another key.
+-- The result `read` if the table has the key; otherwise the value `absent`.
 abbrev pub read_if_present : {A : Type 0} → Field → A → Result A PlanFault → Members → Result A PlanFault
 read_if_present key absent read members = if has_key key members then read else Ok absent
 
--- Result of a reader that runs only if the table lacks another key.
+-- The result `read` if the table lacks the key; otherwise the value `absent`.
 abbrev pub read_if_absent : {A : Type 0} → Field → A → Result A PlanFault → Members → Result A PlanFault
 read_if_absent key absent read members = if has_key key members then Ok absent else read
 
@@ -202,11 +204,11 @@ abbrev pub has_known_entry_keys : List Field → Option Data → Bool
 has_known_entry_keys keys (Some (array items)) = have_known_keys keys items
 has_known_entry_keys keys _ = true
 
--- Keys that are allowed only if the table has another key.
+-- The list `keys` if the table has the key `key`, otherwise no keys: the keys that are allowed only next to `key`.
 abbrev pub keys_if_present : Field → List Field → Members → List Field
 keys_if_present key keys members = if has_key key members then keys else []
 
--- Keys that are allowed only if the table lacks another key.
+-- The list `keys` if the table lacks the key `key`, otherwise no keys.
 abbrev pub keys_if_absent : Field → List Field → Members → List Field
 keys_if_absent key keys members = if has_key key members then [] else keys
 
@@ -228,6 +230,6 @@ abbrev pub read_optional_list : {A : Type 0} → KeyLocation → (Members → Re
 read_optional_list place entry None = Ok None
 read_optional_list place entry (Some d) = read_list place entry d >>= λ xs. Ok (Some xs)
 
--- Earlier values followed by the values of a reader, or its fault. Proofs about lists use it.
+-- The list `front` followed by the values of the result `read`, or the fault of `read`. Proofs about lists use it.
 abbrev pub with_prefix : {A : Type 0} → List A → Result (List A) PlanFault → Result (List A) PlanFault
 with_prefix front read = read >>= λ xs. Ok (front ++ xs)

@@ -14,32 +14,33 @@ abbrev pub ◌>>=◌ : {A B E : Type 0} → Result A E → (A → Result B E) �
 (Ok x) >>= f = f x
 (Err e) >>= f = Err e
 
--- Statement: The property holds if the flag is false. The flag means that memory ran out.
+-- Statement: The property holds, or the flag is true. A true flag means that memory ran out.
 abbrev pub Unless : Bool → Type 0 → Type 0
 Unless true Holds = Unit {0}
 Unless false Holds = Holds
 
--- Statement: The fault is the fault of the definition, unless memory ran out.
+-- Statement: The fault `e` of a reader is the fault of its definition `read`, unless `e` says that memory ran out.
 abbrev pub Fails : {Y E : Type 0} → (E → Bool) → E → Result Y E → Type 0
 Fails is_memory e read = Unless (is_memory e) (read ≡ Err e)
 
--- Statement: The result, mapped by `view`, is the result of the definition, unless memory ran out.
+-- Statement: The result of a reader, its value mapped by `view`, is the result `read` of its definition, unless memory
+-- ran out.
 abbrev pub GivesAs : {X Y E : Type 0} → (E → Bool) → (X → Y) → Result X E → Result Y E → Type 0
 GivesAs is_memory view (Ok x) read = read ≡ Ok (view x)
 GivesAs is_memory view (Err e) read = Fails is_memory e read
 
--- Statement: The result is the result of the definition, unless memory ran out.
+-- Statement: The result of a reader is the result of its definition, unless memory ran out.
 abbrev pub Gives : {X E : Type 0} → (E → Bool) → Result X E → Result X E → Type 0
 Gives is_memory = GivesAs is_memory (λ x. x)
 
--- Ok if the test holds, otherwise the fault. Readers use it for rules such as known keys and different numbers.
+-- Ok if the boolean is true, otherwise the fault. Readers use it for rules such as known keys and different numbers.
 abbrev pub provided : {E : Type 0} → Bool → E → Result Bool E
 provided true e = Ok true
 provided false e = Err e
 
 -- Document.
 
--- Document that the TOML parser returned, or a syntax fault.
+-- Document that the TOML parser returned; the fault `syntax` if the parser returned `None`.
 abbrev pub document_in : {E : Type 0} → E → Option Members → Result Members E
 document_in syntax None = Err syntax
 document_in syntax (Some members) = Ok members
@@ -79,7 +80,7 @@ default_in flawed default place kind (Some d) = at_place flawed place (kind d)
 abbrev pub is_among : {W : Type 0} → (W → List ℕ) → List W → List ℕ → Bool
 is_among spelling words k = list_any (λ w. pointwise nat_eq (spelling w) k) words
 
--- True if the table has only these keys.
+-- True if each key of the table is the spelling of one of the words.
 abbrev pub are_known : {W : Type 0} → (W → List ℕ) → List W → Members → Bool
 are_known spelling words no_members = true
 are_known spelling words (member k d ms) = is_among spelling words k && are_known spelling words ms
@@ -109,7 +110,8 @@ items_in not_a_list too_many limit section (Some _) = Err (not_a_list section)
 abbrev pub items_of : {S E : Type 0} → (S → E) → (S → E) → (S → ℕ) → (S → List ℕ) → S → Members → Result Items E
 items_of not_a_list too_many limit spelling section members = items_in not_a_list too_many limit section (get_member (spelling section) members)
 
--- Instances of a section. A reader makes each instance from the earlier instances, the index and the table.
+-- The instances `earlier`, followed by the instances of the items. The first item has index `index`. If the reader
+-- refuses a table, its fault.
 abbrev pub further_instances : {A E : Type 0} → (List A → ℕ → Members → Result A E) → List A → ℕ → Items → Result (List A) E
 further_instances read earlier index no_items = Ok earlier
 further_instances read earlier index (item (table ms) ds) = read earlier index ms >>= λ x. further_instances read (earlier ++ x ∷ []) (index + 1) ds

@@ -7,7 +7,7 @@ use crate::plan_fault::Flaw;
 use crate::value_kinds::ValueKind;
 use toml::Value;
 
-/// Whether each item is an integer, of any size and sign.
+/// Whether each item is an integer, of any size and sign. If not, an array is `WrongKind`.
 fn are_integers(items: &[Value]) -> bool
     ensures { result ≡ spec.are_integers (items_view items.now) }
 {
@@ -19,7 +19,7 @@ fn are_integers(items: &[Value]) -> bool
     true
 }
 
-/// Whether each item is an integer from `low` to `high`.
+/// Whether each item is an integer from `low` to `high`. If not, an array is refused.
 fn are_in_range(items: &[Value], low: u64, high: u64) -> bool
     ensures { result ≡ spec.are_in_range low high (items_view items.now) }
 {
@@ -48,8 +48,8 @@ pub fn are_tables(items: &[Value]) -> bool
     true
 }
 
-/// Returns why an array of numbers is refused; `None` if all items are integers from `low` to `high`. A wrong kind comes before a wrong
-/// number.
+/// Returns why an array is refused; `None` if all items are integers from `low` to `high`. An item of a wrong kind is reported before an
+/// integer out of range.
 fn numbers_flaw(items: &[Value], low: u64, high: u64) -> Option<Flaw>
     ensures { result ≡ spec.numbers_flaw low high (items_view items.now) }
 {
@@ -72,7 +72,7 @@ fn value_number(value: &Value) -> u64
     }
 }
 
-/// Returns the set `bits` with the number of bit `k` added.
+/// Returns the set `bits` with bit `k` set to 1.
 #[tactic(auto, using(crate::proofs::Sets::shifted))]
 pub fn with_bit(bits: u16, k: u64) -> u16
     requires few { k < 16 }
@@ -81,7 +81,7 @@ pub fn with_bit(bits: u16, k: u64) -> u16
     bits | 1 << k
 }
 
-/// Returns the numbers of tested items as a set: bit `n - low` stands for `n`.
+/// Returns the numbers in `items` as a set: bit `n - low` stands for number n. The caller has tested that each is from `low` to `high`.
 fn value_set(items: &[Value], low: u64, high: u64) -> u16
     requires order { low ≤ high }
     requires few { high < low + 16 }
@@ -163,7 +163,7 @@ impl ValueKind for KnownPorts {
     }
 }
 
-/// Whether an array has eight items: one for each priority or class.
+/// Whether an array has eight items: one for each priority or class. `Classes` and `Rooms` refuse other arrays.
 #[tactic(auto, using(crate::proofs::Sets::count_of_view))]
 fn has_eight(items: &[Value]) -> bool
     ensures numbers { result ≡ nat_eq (length (spec.item_numbers (items_view items.now))) 8 }
@@ -172,7 +172,7 @@ fn has_eight(items: &[Value]) -> bool
     items.len() == 8
 }
 
-/// Returns the class of each priority from eight tested items.
+/// Returns the class of each priority, from priority 0. The caller has tested that `items` are eight integers from 0 to 7.
 fn read_classes(items: &[Value]) -> [u8; 8]
     requires eight { length items.now ≡ 8 }
     requires between { spec.are_in_range 0 7 (items_view items.now) ≡ true }
@@ -186,7 +186,7 @@ fn read_classes(items: &[Value]) -> [u8; 8]
     out
 }
 
-/// Returns the capacity of each class's queue, in frames, from eight tested items.
+/// Returns the queue capacity of each class in frames, from class 0. The caller has tested that `items` are eight integers from 1 to 4,096.
 fn read_rooms(items: &[Value]) -> [u16; 8]
     requires eight { length items.now ≡ 8 }
     requires between { spec.are_in_range 1 4096 (items_view items.now) ≡ true }

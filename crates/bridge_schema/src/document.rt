@@ -29,14 +29,14 @@ pub fn read_document<F: ReaderFault>(heap: Global, text: &[u8]) -> Result<Table,
     }
 }
 
-/// Whether a text is the spelling of one of `words`: keys or sections.
+/// Whether a text is the spelling of one of `words`: keys or sections. `has_only` calls it for each key of a table.
 fn is_spelled<W: Spell>(words: &[W], text: &str) -> bool
     ensures { result ≡ spec.is_among W.spelling words.now text.now }
 {
     words.iter().any(|word| word.spell() == text)
 }
 
-/// Whether a table has only these keys: keys of an instance, or sections of a document.
+/// Whether each key of a table is one of `words`: keys of an instance, or sections of a document.
 pub fn has_only<W: Spell>(table: &Table, words: &[W]) -> bool
     ensures known { result ≡ spec.are_known W.spelling words.now (table_view table.now) }
 {
@@ -48,7 +48,7 @@ pub fn has_only<W: Spell>(table: &Table, words: &[W]) -> bool
     true
 }
 
-/// Whether a section has no tables. A plan without ports is refused.
+/// Whether a section has no tables. The reader of plans refuses a plan without ports.
 #[tactic(auto, using(crate::proofs::Counts::is_empty_view))]
 pub fn is_empty(items: &[Value]) -> bool
     ensures empty { result ≡ is_empty (items_view items.now) }
@@ -57,7 +57,7 @@ pub fn is_empty(items: &[Value]) -> bool
     items.len() == 0
 }
 
-/// Whether an array has at most as many items as the limit of its section.
+/// Whether the number of items is at most the limit of `section`. `array_items` refuses longer arrays.
 #[tactic(auto, using(crate::proofs::Counts::count_of_view))]
 fn are_few<S: TextSection>(items: &[Value], section: &S) -> bool
     ensures count { result ≡ nat_le (spec.count_items (items_view items.now)) (S.limit section.now) }
@@ -66,7 +66,8 @@ fn are_few<S: TextSection>(items: &[Value], section: &S) -> bool
     items.len() <= section.limit()
 }
 
-/// Returns the items of a section if it is an array of tables within the limit; no items if it is absent. Allocates no memory.
+/// Returns the tables of `value`, the array of a section; none if `value` is `None`. Refuses any other value and too many tables.
+/// `section_items` calls it. Allocates no memory.
 fn array_items<'a, F: ReaderFault>(
     section: F::Section,
     value: Option<&'a Value>,
@@ -92,8 +93,8 @@ fn array_items<'a, F: ReaderFault>(
     }
 }
 
-/// Returns the items of a section of a document if it is an array of tables within the limit; no items if it is absent. Allocates no
-/// memory.
+/// Returns the tables of a section in the document `table`; none if the section is absent. Refuses a section that isn't an array of tables
+/// or exceeds its limit. Allocates no memory.
 pub fn section_items<'a, F: ReaderFault>(
     section: F::Section,
     table: &'a Table,

@@ -1,4 +1,4 @@
-//! Table of an instance, whose keys are read one after another.
+//! Table that describes an instance of a section; its keys are read one after another.
 ghost use Rattle.std.specs.Prelude.{◌≡◌, IfOk, IfErr};
 ghost use Rattle.bridge_schema.specs.declared.plan_fault.PlanFault.TheVariants.{NoMemory};
 ghost use Rattle.std.specs.Option.{ForSome};
@@ -88,7 +88,7 @@ impl<'t> InstanceTable<'t> {
         read_or_default(default, self.table, self.locate_key(key), key, kind)
     }
 
-    /// Reads a key that is required if the table has the key `other`; otherwise returns `absent`. Allocates no memory.
+    /// If the table has the key `other`, reads `key`, which is then required. Otherwise returns `absent`. Allocates no memory.
     pub fn read_required_if_present<K: ValueKind>(
         &self,
         other: Field,
@@ -110,7 +110,7 @@ impl<'t> InstanceTable<'t> {
         read_required_if_present(other, absent, self.table, self.locate_key(key), key, kind)
     }
 
-    /// Reads a key that is required if the table lacks the key `other`; otherwise returns `absent`. Allocates no memory.
+    /// If the table lacks the key `other`, reads `key`, which is then required. Otherwise returns `absent`. Allocates no memory.
     pub fn read_required_if_absent<K: ValueKind>(
         &self,
         other: Field,

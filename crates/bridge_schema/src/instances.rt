@@ -16,13 +16,13 @@ pub trait SectionReader<A: Allocator + Copy> {
     /// Instance that a table describes, such as a port.
     type Instance;
 
-    /// Instance in a table, from the earlier instances and its index; or its first fault.
+    /// Instance that a table describes, from the earlier instances, its index and its table; or its first fault.
     ghost reading: { Self → List Self.Instance → ℕ → Members → Result Self.Instance Self.Fault };
 
-    /// Property of all instances read so far, which each further instance keeps.
+    /// Property of the list of instances read so far, such as different numbers. Each further instance keeps it.
     ghost Keeps: { Self → List Self.Instance → Type 0 };
 
-    /// Reads the instance in a table. `earlier` are the instances before it, and `index` counts from 1.
+    /// Reads the instance that `table` describes. `earlier` are the instances before it; `index` is its index in the section, from 1.
     fn read(
         &self,
         alloc: A,
@@ -36,7 +36,7 @@ pub trait SectionReader<A: Allocator + Copy> {
         ensures keeps { IfOk result (λ x. Keeps self.now (earlier.now ++ x ∷ [])) };
 }
 
-/// Reads the instances of a section in order, or returns the first fault. The joint property must hold for no instances.
+/// Reads the instances of a section in order, one from each table, or returns the first fault. `Keeps` must hold for the empty list.
 pub fn read_instances<A: Allocator + Copy, S: SectionReader<A>>(
     alloc: A,
     section: &S,

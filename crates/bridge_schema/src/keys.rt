@@ -27,7 +27,7 @@ pub enum AllowedValue {
     Between(NumberRange),
     /// Array of integers in a range.
     Set(NumberRange),
-    /// Eight integers in a range.
+    /// Array of eight integers in a range.
     Eight(NumberRange),
     /// Length of a cycle or an entry in ns.
     Length,
@@ -37,15 +37,15 @@ pub enum AllowedValue {
     Switch,
     /// MAC address.
     Address,
-    /// Kind of stream identification.
+    /// Kind of stream identification: the text `null` or `source`.
     Kind,
-    /// Tags of identified frames.
+    /// Which frames a stream identification matches by their tag: the text `tagged`, `priority` or `all`.
     Tag,
     /// State of a stream gate: the text `open` or `closed`.
     State,
-    /// Colour mode of a meter.
+    /// Colour mode of a meter: the text `aware` or `blind`.
     Colour,
-    /// Flag that a command clears.
+    /// Flag that a command clears: the text `blocked`, `rx`, `octets` or `red`.
     Clear,
     /// Number of an existing instance of a section.
     InstanceNumber(Section),
@@ -296,7 +296,7 @@ pub const COMMAND_KEYS: [KeyRule; 3] = [
     KeyRule(Field::Number, NUMBER_VALUE, Presence::Required),
 ];
 
-/// Returns the keys of a section's table, in listing order.
+/// Returns the keys of a section's tables with their rules, in the order in which explanations list them.
 pub fn section_keys(section: Section) -> &'static [KeyRule] {
     match section {
         Section::Top => &[],
@@ -320,7 +320,8 @@ pub fn entry_keys(section: Section) -> &'static [KeyRule] {
     }
 }
 
-/// Returns the lists of a section's instance: the first list, and the list after the schedule change.
+/// Returns the keys of the lists that an instance can have: the first list, then the list after the schedule change. Only ports and stream
+/// gates have lists.
 pub fn section_lists(section: Section) -> &'static [ListKeys] {
     match section {
         Section::Port => &[PORT_LIST, NEXT_PORT_LIST],

@@ -15,13 +15,13 @@ use toml::{Table, Value};
 
 /// Reads one entry of a list inside an instance, such as an entry of a gate control list. `read_list` calls it.
 pub trait ListEntry {
-    /// Value of an entry's table.
+    /// Value that an entry's table describes.
     type Out;
 
-    /// Value of a table, or its first fault.
+    /// Value that a table describes, or the table's first fault.
     ghost reading: { Self → Members → Result Self.Out Fault };
 
-    /// Property of each entry.
+    /// Property that each value has.
     ghost Fits: { Self → Self.Out → Type 0 };
 
     /// Reads the table of one entry, or returns its first fault. Allocates no memory.
@@ -53,7 +53,8 @@ where
     Ok(list)
 }
 
-/// Reads the entries of an array of tables in order, or returns the first fault. Returns `None` if the key is absent.
+/// Reads the entries of the array of tables `value` in order, or returns the first fault. If the key is absent, `value` and the result are
+/// `None`.
 #[tactic(auto, unfolding(crate::specs::Readers::read_list))]
 pub fn read_list<A: Allocator + Copy, E: ListEntry>(
     alloc: A,

@@ -94,9 +94,9 @@ pub enum Field {
     Handle,
     /// Ingress port at which a stream is identified.
     Port,
-    /// Kind of stream identification.
+    /// Kind of stream identification: by destination or by source address.
     Kind,
-    /// Tags of identified frames.
+    /// Whether identified frames are tagged, priority-tagged or untagged, or any of these.
     Tag,
     /// Whether a frame at a closed stream gate shuts the gate until a command.
     ShutOnRx,
@@ -120,9 +120,9 @@ pub enum Field {
     Eir,
     /// Excess burst size in octets.
     Ebs,
-    /// Coupling flag of a meter.
+    /// Whether overflow of a meter's committed bucket enters its excess bucket.
     Coupling,
-    /// Colour mode of a meter.
+    /// Colour mode of a meter: colour-aware or colour-blind.
     Colour,
     /// Whether a meter drops yellow frames.
     DropYellow,
@@ -138,7 +138,7 @@ pub enum Field {
     BlockOversize,
     /// Whether a filter is protected.
     Protected,
-    /// Group of a filter.
+    /// Number of the group with which a filter shares queues.
     Group,
     /// Time in ns of a command or of the schedule change.
     At,

@@ -27,7 +27,8 @@ pub fn has_key(table: &Table, key: Field) -> bool
     get_value(table, key.key()).is_some()
 }
 
-/// Reads the value of a required key. Returns `missing_key` for `None`, or the fault of a refused value at `place`. Allocates no memory.
+/// Reads the value of a required key at `place`. If the table lacks the key, `value` is `None`, and the fault is `missing_key`. Allocates
+/// no memory.
 pub fn required_value<F: ReaderFault, K: ValueKind>(
     place: F::Place,
     kind: &K,
@@ -62,7 +63,7 @@ pub fn read_required<K: ValueKind>(
     required_value(place, kind, get_value(table, key.key()))
 }
 
-/// Reads the value of an optional key. Returns `None` for `None`, or the fault of a refused value at `place`. Allocates no memory.
+/// Reads the value of an optional key at `place`. If the table lacks the key, `value` is `None`, and so is the result. Allocates no memory.
 pub fn optional_value<F: ReaderFault, K: ValueKind>(
     place: F::Place,
     kind: &K,
@@ -97,7 +98,8 @@ pub fn read_optional<K: ValueKind>(
     optional_value(place, kind, get_value(table, key.key()))
 }
 
-/// Reads the value of an optional key, or returns `default` for `None`. A refused value is a fault at `place`. Allocates no memory.
+/// Reads the value of an optional key at `place`. If the table lacks the key, `value` is `None`, and the result is `default`. Allocates no
+/// memory.
 pub fn value_or_default<F: ReaderFault, K: ValueKind>(
     default: K::Out,
     place: F::Place,
@@ -141,7 +143,7 @@ where
     value_or_default(default, place, kind, get_value(table, key.key()))
 }
 
-/// Reads a key that is required if the table has the key `other`; otherwise returns `absent`. Allocates no memory.
+/// If the table has the key `other`, reads `key`, which is then required. Otherwise returns `absent`. Allocates no memory.
 pub fn read_required_if_present<K: ValueKind>(
     other: Field,
     absent: K::Out,
@@ -165,7 +167,7 @@ where
     }
 }
 
-/// Reads a key that is required if the table lacks the key `other`; otherwise returns `absent`. Allocates no memory.
+/// If the table lacks the key `other`, reads `key`, which is then required. Otherwise returns `absent`. Allocates no memory.
 pub fn read_required_if_absent<K: ValueKind>(
     other: Field,
     absent: K::Out,

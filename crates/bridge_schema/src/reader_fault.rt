@@ -1,5 +1,5 @@
-//! Faults that shared readers make. Plans and networks share the readers; each of them defines its faults, sections and locations
-//! by these traits.
+//! Faults of the readers that plans and network files share. By these traits, plans and network files each define their own faults,
+//! sections and locations.
 ghost use Rattle.std.specs.Prelude.{◌≡◌, ℕ, Bool, List, true, false};
 ghost use Rattle.bridge_schema.specs.declared.plan_fault.Flaw.{Flaw};
 ghost use Rattle.bridge_schema.specs.declared.plan_fault.PlanFault.TheVariants as the_fault;
@@ -8,7 +8,8 @@ ghost use Rattle.bridge_schema.specs.Readers as spec;
 
 use crate::plan_fault::{Flaw, KeyLocation, PlanFault, Section};
 
-/// Sections or keys, by their spelling in a text. Shared readers compare them with the names in the document.
+/// Name of a section or key, with its spelling in a text. The readers that plans and network files share compare it with the names in the
+/// document.
 pub trait Spell {
     /// Spelling of the name.
     ghost spelling: { Self → List ℕ };
@@ -36,10 +37,10 @@ pub trait ReaderFault {
     /// Location of a key, which faults name.
     type Place: Drop;
 
-    /// Whether the fault is `no_memory`.
+    /// Whether the fault says that memory ran out.
     ghost is_memory: { Self → Bool };
 
-    /// Fault if memory ran out.
+    /// Fault that says that memory ran out.
     ghost memory: { Self };
 
     /// Fault of a text that is too long.
@@ -57,10 +58,10 @@ pub trait ReaderFault {
     /// Fault of a required key that is absent at this location.
     ghost missing: { Self.Place → Self };
 
-    /// Fault of a value at this location, by the reason of its refusal.
+    /// Fault of a refused value, by its location and the reason of the refusal.
     ghost flawed: { Self.Place → Flaw → Self };
 
-    /// Returns the fault if memory ran out.
+    /// Returns the fault that says that memory ran out.
     fn no_memory() -> Self
         ensures fault { is_memory result ≡ true };
 
@@ -74,7 +75,7 @@ pub trait ReaderFault {
         ensures fault { result ≡ syntax }
         ensures told { is_memory result ≡ false };
 
-    /// Returns the fault of a section that isn't an array of tables.
+    /// Returns the fault of a section that isn't an array of tables. `array_items` calls it.
     fn not_a_list(section: Self::Section) -> Self
         ensures fault { result ≡ not_a_list section }
         ensures told { is_memory result ≡ false }
@@ -86,7 +87,7 @@ pub trait ReaderFault {
         ensures told { is_memory result ≡ false }
         ensures takes_no_memory { ¬ (result ≡ memory) };
 
-    /// Returns the fault of an absent required key.
+    /// Returns the fault of an absent required key. `required_value` calls it.
     fn missing_key(place: Self::Place) -> Self
         ensures fault { result ≡ missing place }
         ensures told { is_memory result ≡ false }

@@ -20,7 +20,7 @@ pub trait TextMeaning {
         ensures means { result ≡ meaning self.now text.now };
 }
 
-/// Kind of value of keys whose texts have a meaning. Any other text is `OutOfRange`.
+/// Kind of value: a text with a meaning, such as `open`. Any other text is `OutOfRange`.
 #[derive(Clone, Copy)]
 pub struct TextValue<M> {
     /// Meanings of the texts.
@@ -66,7 +66,7 @@ impl TextMeaning for Openness {
     }
 }
 
-/// Returns the value of a hexadecimal digit by its ASCII code; `None` for any other octet.
+/// Returns the value of a hexadecimal digit by its ASCII code; `None` for any other octet. `hex_pair` calls it for each digit.
 fn hex_value(c: u8) -> Option<u8>
     ensures { result ≡ texts.hex_value c }
 {
@@ -78,7 +78,8 @@ fn hex_value(c: u8) -> Option<u8>
     }
 }
 
-/// Returns the octet that the two hexadecimal digits at index `i` spell; `None` if one isn't a digit.
+/// Returns the octet that the two hexadecimal digits at index `i` spell; `None` if one isn't a digit. `parse_address` calls it for each
+/// pair.
 fn hex_pair(text: &[u8], i: usize) -> Option<u8>
     requires { i + 1 < length text.now }
     ensures { result ≡ texts.hex_pair text.now i }
@@ -88,7 +89,7 @@ fn hex_pair(text: &[u8], i: usize) -> Option<u8>
     Some(16 * high + low)
 }
 
-/// Whether hyphens separate the six pairs of an address text of 17 octets.
+/// Whether hyphens separate the six pairs of an address text of 17 octets. `parse_address` refuses any other text.
 fn has_hyphens(text: &[u8]) -> bool
     requires { length text.now ≡ 17 }
     ensures { result ≡ texts.has_hyphens text.now }

@@ -1,4 +1,4 @@
-//! Kinds of values.
+//! Kinds of values that keys allow: numbers, booleans, speeds, and numbers of instances.
 ghost use Rattle.std.specs.Prelude.{◌≡◌, ◌≤◌, ℕ, Bool, true, Result, Ok, IfOk, ⊤};
 ghost use Rattle.toml.specs.Data.{Data};
 ghost use Rattle.toml.specs.View.{view};
@@ -17,7 +17,7 @@ pub trait ValueKind {
     /// Parsed value, or why the data is refused.
     ghost reading: { Self → Data → Result Self.Out Flaw };
 
-    /// Property of each parsed value.
+    /// Property that each parsed value has.
     ghost Fits: { Self → Self.Out → Type 0 };
 
     /// Parses a value, or returns why it is refused. Allocates no memory.
@@ -107,7 +107,7 @@ impl ValueKind for Mbps {
 
 /// Numbers of instances that keys may name, such as ports of the plan. `KnownNumber` looks numbers up in it.
 pub trait NumberLookup {
-    /// Whether a number exists.
+    /// Whether an instance has this number, so that a key may name it.
     ghost among: { Self → ℕ → Bool };
 
     /// Whether an instance has the number `number`.
@@ -115,12 +115,12 @@ pub trait NumberLookup {
         ensures among { result ≡ among self.now number };
 }
 
-/// Number of an existing instance. Each other integer is `Unresolved`, even outside the range.
+/// Number of an existing instance, such as a port. Any other integer is `Unresolved`, even an integer outside `range`.
 #[derive(Clone, Copy)]
 pub struct KnownNumber<F> {
-    /// Existing numbers.
+    /// Instance numbers that a value of this kind may name.
     pub among: F,
-    /// Range of the numbers.
+    /// Range of instance numbers in this section.
     pub range: NumberRange,
 }
 

@@ -72,7 +72,7 @@ destination_input w = None
 abbrev pub arrival_input : {A : Type 0} → Plan A → Arrival → Option FilterInput
 arrival_input p a = destination_input (frame_destination p a)
 
--- Puts a frame's filter data, if present, in front of the list `es` of filter events, as the newest event.
+-- The list `es` of filter events, with a frame's filter data, if present, in front as the newest event.
 abbrev pub with_input : Option FilterInput → List verdicts.FilterEvent → List verdicts.FilterEvent
 with_input None es = es
 with_input (Some c) es = verdicts.Arrived c ∷ es

@@ -24,17 +24,18 @@ pub record StartsNext {A : Type 0} (out : PortPlan A) (copies : List (Copy Carri
   pub fits : Fits (lists_open out.list class) (transmission_time item.len out.speed) moment
   pub highest : (d : ℕ) (p : ℕ × CarriedFrame) → queue_head d moment copies ≡ Some p → Fits (lists_open out.list d) (transmission_time p.1.len out.speed) moment → d ≤ class
 
--- Holds if a port's next start is at this optional time in ns; `None` means that no copy is queued.
+-- Holds if a port's next start is at this optional time in ns. `None` means that the port has no queued copy.
 abbrev pub IsNextPortStart : {A : Type 0} → PortPlan A → List (Copy CarriedFrame) → Option ℕ → Type 0
 IsNextPortStart out copies None = IsFinished copies
 IsNextPortStart out copies (Some k) = (class : ℕ) × (item : CarriedFrame) × StartsNext out copies k class item
 
--- The time in ns up to which port `q` has run, if the starts before the given port's start at `moment` are complete. Starts at equal times follow the port
--- numbers.
+-- The time in ns up to which port `q` has run, if all starts before the start of the given port at `moment` are
+-- complete. Starts at equal times follow the port numbers.
 abbrev pub time_reached : ℕ → ℕ → ℕ → ℕ
 time_reached moment port q = if nat_lt q port then moment + 1 else moment
 
--- Holds if a run of the events `es` has made every start up to and including the start of port `port` at `moment`. The ports have sent exactly `left`.
+-- Holds if a run of the events `es` has made every start up to and including the start of port `port` at `moment`. Each
+-- port `q` has sent exactly `left q`.
 pub record ReachesStart {A : Type 0} (p : Plan A) (es : List Event) (moment port : ℕ) (left : ℕ → List CapturedFrame) : Type 0 where
   pub lists : ℕ → List (Copy CarriedFrame)
   pub run : IsRun p es (time_reached moment (port + 1)) lists
@@ -50,7 +51,7 @@ pub record HasNextStart {A : Type 0} (p : Plan A) (es : List Event) (left : ℕ 
   pub planned : find_port p.ports port ≡ Some out
   pub starts : StartsNext out (lists port) moment class item
 
--- Holds if the events `es` have a complete run without queued copies, in which the ports send exactly `left`.
+-- Holds if the events `es` have a complete run without queued copies, in which each port `q` sends exactly `left q`.
 pub record HasNoneQueued {A : Type 0} (p : Plan A) (es : List Event) (left : ℕ → List CapturedFrame) : Type 0 where
   pub moments : ℕ → ℕ
   pub lists : ℕ → List (Copy CarriedFrame)
@@ -69,7 +70,8 @@ pub record SendsHead {A : Type 0} (p : Plan A) (es : List Event) (left : ℕ →
   pub next : HasNextStart p es left port start class item
   pub is : frame ≡ departed_frame next.out.speed start item
 
--- Holds if `next q` is the optional time of each port's next start, in a run of the events `es` that has sent exactly `left`.
+-- Holds if `next q` is the optional time of the next start of each port `q`, in a run of the events `es` in which the
+-- ports have sent exactly `left`.
 pub record AreNextStarts {A : Type 0} (p : Plan A) (es : List Event) (left : ℕ → List CapturedFrame) (next : ℕ → Option ℕ) : Type 0 where
   pub moments : ℕ → ℕ
   pub lists : ℕ → List (Copy CarriedFrame)

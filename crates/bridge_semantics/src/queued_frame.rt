@@ -10,7 +10,7 @@ pub struct QueuedFrame<A: Allocator> {
     pub flow: Option<u32>,
     /// Number of the frame among its filter's frames, from 1; 0 without a filter.
     pub own: u32,
-    /// Index at which the search for the filter's recorder begins.
+    /// Index in the list of the filters' recorders, at which the search for the filter's recorder begins.
     pub recorder: u32,
     /// Octets to send.
     pub octets: Vec<u8, A>,

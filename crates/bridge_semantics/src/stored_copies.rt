@@ -26,7 +26,7 @@ impl Model for StoredOrigin {
 }
 
 impl StoredOrigin {
-    /// Stores an origin.
+    /// Packs an origin into its octets.
     #[inline(always)]
     pub fn new(origin: Origin) -> StoredOrigin
         ensures { result ≡ origin }
@@ -37,7 +37,7 @@ impl StoredOrigin {
         }
     }
 
-    /// Returns the origin.
+    /// Unpacks the origin.
     #[inline(always)]
     pub fn origin(&self) -> Origin
         ensures { result ≡ self.now }
@@ -54,7 +54,7 @@ impl StoredOrigin {
 pub struct StoredDeparture {
     /// Start of transmission in ns.
     start: [u8; 8],
-    /// Number of the frame in its filter, from 1.
+    /// Number of the frame among its filter's frames, from 1.
     own: [u8; 4],
     /// Low half of the transmission time in ns, gap included.
     time_low: [u8; 2],
@@ -83,7 +83,7 @@ impl Model for StoredDeparture {
 }
 
 impl StoredDeparture {
-    /// Stores a departure whose transmission, from `start` to `done` in ns, takes less than 2^24 ns.
+    /// Packs a departure into its octets. Its transmission, from `start` to `done` in ns, takes less than 2^24 ns.
     #[inline(always)]
     pub fn new(own: u32, port: u8, start: u64, done: u64) -> StoredDeparture
         requires ordered { start ≤ done }
@@ -101,7 +101,7 @@ impl StoredDeparture {
         }
     }
 
-    /// Returns the departure.
+    /// Unpacks the departure.
     #[inline(always)]
     pub fn departure(&self) -> Departure
         ensures { result ≡ self.now }
@@ -121,7 +121,7 @@ impl StoredDeparture {
 /// Drop in six octets. A run stores one for each copy that a port drops.
 #[derive(Debug, Drop)]
 pub struct StoredDrop {
-    /// Number of the frame in its filter, from 1.
+    /// Number of the frame among its filter's frames, from 1.
     own: [u8; 4],
     /// Egress port.
     port: u8,
@@ -139,7 +139,7 @@ impl Model for StoredDrop {
 }
 
 impl StoredDrop {
-    /// Stores a drop.
+    /// Packs a drop into its octets.
     pub fn new(own: u32, port: u8, refusal: Refusal) -> StoredDrop
         ensures { result ≡ record { own = own; port = port; refusal = refusal } }
     {
@@ -150,7 +150,7 @@ impl StoredDrop {
         }
     }
 
-    /// Returns the drop.
+    /// Unpacks the drop.
     #[inline(always)]
     pub fn dropped_copy(&self) -> Dropped
         ensures { result ≡ self.now }
@@ -163,7 +163,7 @@ impl StoredDrop {
     }
 }
 
-/// Copies stored departures into a list of departures.
+/// Unpacks the stored departures of a filter, in list order. Tables of runs need them.
 pub fn unpack_departures<A: Allocator>(
     alloc: A,
     stored: &[StoredDeparture],
@@ -177,7 +177,7 @@ pub fn unpack_departures<A: Allocator>(
     Ok(departures)
 }
 
-/// Copies stored drops into a list of drops.
+/// Unpacks the stored drops of a filter, in list order. Tables of runs need them.
 pub fn unpack_drops<A: Allocator>(
     alloc: A,
     stored: &[StoredDrop],

@@ -136,7 +136,7 @@ impl StoredVerdict {
     }
 }
 
-/// Returns the verdict `Pass`.
+/// Returns the verdict `Pass` with an optional internal priority value. If `eligible` is true, the frame is marked drop eligible.
 #[inline(always)]
 fn pass(ipv: Option<u8>, eligible: bool) -> Verdict
     ensures { result ≡ Pass ipv eligible }

@@ -35,14 +35,14 @@ const TRAFFIC: [&str; 1] = ["[[traffic]]"];
 /// Header of the section of commands.
 const COMMANDS: [&str; 1] = ["[[command]]"];
 
-/// Whether a line begins with one of `headers`. `has_header` tests each line of a file.
+/// Whether a line begins with one of `headers`. `has_header` calls it for each line of a file.
 fn is_header(line: &[u8], headers: &[&str]) -> bool {
     headers
         .iter()
         .any(|header| line.starts_with(header.as_bytes()))
 }
 
-/// Whether a line of `text` begins with one of `headers`.
+/// Whether a line of `text` begins with one of `headers`. `file_kind` recognises kinds of files by it.
 fn has_header(text: &[u8], headers: &[&str]) -> bool {
     text.split(|octet| *octet == b'\n')
         .any(|line| is_header(line, headers))
@@ -86,8 +86,8 @@ fn kind_sentence(kind: FileKind) -> &'static str {
     }
 }
 
-/// Writes the kind of a file and the command that reads it, if the kind isn't `wanted`. The written text follows a path, and ends
-/// with the path again.
+/// Writes the kind of a file and the command that reads it, if the kind isn't `wanted`. The text follows a path and ends with the path, so
+/// that an explanation can follow.
 pub fn put_other_kind(said: &mut Said, path: &str, text: &[u8], wanted: FileKind) {
     if let Some(kind) = file_kind(text) {
         if kind != wanted {

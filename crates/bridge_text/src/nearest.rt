@@ -6,7 +6,7 @@ use crate::value::{Said, fill_with_word};
 use std::alloc::Global;
 use strsim::osa_distance;
 
-/// Largest number of octets of an unknown word and its `front` together. A longer word has no nearest name.
+/// Largest number of octets of an unknown word and the text `front` before it, such as `--`. A longer word has no nearest name.
 const LONGEST_WORD: usize = 40;
 
 /// Largest number of edits between a word and a near name.
@@ -92,7 +92,7 @@ pub fn put_nearest(alloc: Global, said: &mut Said, word: &str, names: &[&str], l
     }
 }
 
-/// Writes all names, at most the first 16, if no name is near. A single name gets a sentence of its own.
+/// Writes all names, at most the first 16. A single name gets a sentence of its own. `put_nearest` calls it if no name is near.
 fn put_all(said: &mut Said, names: &[&str], listing: Listing) {
     if let [name] = names {
         return fill_with_word(said, listing.only, 0, *name);

@@ -30,7 +30,7 @@ pub fn position_at_offset(octets: &[u8], count: usize) -> Position {
     Position { line, column }
 }
 
-/// Returns the position of the first non-blank character of line `number`.
+/// Returns the position of the first non-blank character of line `number`. Positions of tables and keys are at this character.
 fn first_char_position(number: usize, line: &str) -> Position {
     let blanks = line.len().saturating_sub(line.trim_start().len());
     Position {
@@ -39,7 +39,8 @@ fn first_char_position(number: usize, line: &str) -> Position {
     }
 }
 
-/// Returns the rest of a line after `word`, without leading blanks. `None` if the line's first non-blank text isn't `word`.
+/// Returns the rest of a line after `word`, without leading blanks. `None` if the line's first non-blank text isn't `word`. All searches
+/// for headers and keys use it.
 fn strip_word<'a>(line: &'a str, word: &str) -> Option<&'a str> {
     match line.trim_start().strip_prefix(word) {
         Some(rest) => Some(rest.trim_start()),
@@ -52,7 +53,8 @@ fn strip_header_name<'a>(line: &'a str, name: &str) -> Option<&'a str> {
     strip_word(strip_word(line, "[")?.trim_start_matches('['), name)
 }
 
-/// Whether a line is a table header of `name`, followed by `word`, such as `]]` or `.`.
+/// Whether a line is a table header of `name`, followed by `word`, such as `]]` or `.`. `table_position` and `key_position` find headers by
+/// it.
 fn is_table_header(line: &str, name: &str, word: &str) -> bool {
     match strip_header_name(line, name) {
         Some(rest) => rest.starts_with(word),
@@ -60,7 +62,8 @@ fn is_table_header(line: &str, name: &str, word: &str) -> bool {
     }
 }
 
-/// Whether a line sets `key`, or is the header of `key` as a table inside `name`.
+/// Whether a line sets `key`, or is the header of `key` as a table inside `name`. `key_position` and `top_level_position` test each line by
+/// it.
 fn is_key_line(line: &str, name: &str, key: &str) -> bool {
     if let Some(rest) = strip_word(line, key) {
         if rest.starts_with('=') {

@@ -6,7 +6,7 @@ use crate::position::{put_position, top_level_position};
 use crate::value::{Said, put_key};
 use std::alloc::Global;
 
-/// Whether `name` is in `names`, the sections that a file may have.
+/// Whether `name` is in `names`, the sections that a file may have. `put_stray_section` tests each top-level key by it.
 fn is_listed(names: &[&str], name: &str) -> bool {
     for other in names {
         if *other == name {

@@ -65,7 +65,7 @@ impl<A: Allocator> TextBuilder<A> {
         self.put(digits.format(number));
     }
 
-    /// Adds an integer of any width in decimal digits, after its sign.
+    /// Adds an integer of any width in decimal digits, with a minus sign if it is negative.
     pub fn put_integer<I: Integer>(&mut self, number: I)
         ensures { HasGrown self.old (I.text number) self.new }
     {
@@ -104,7 +104,7 @@ impl<A: Allocator> TextBuilder<A> {
         }
     }
 
-    /// Adds a lower-case hexadecimal digit for a number below 16.
+    /// Adds a lower-case hexadecimal digit for a number below 16. `put_hexadecimal` calls it for each digit.
     fn put_digit(&mut self, digit: u8)
         requires { digit < 16 }
         ensures { HasGrown self.old (digit_char digit ∷ []) self.new }
@@ -123,7 +123,7 @@ impl<A: Allocator> TextBuilder<A> {
         self.put_digit(code % 16);
     }
 
-    /// Adds the escape of a control character, as Rust writes it: for example `\t` or `\u{1b}`.
+    /// Adds the escape of a control character, as Rust writes it: for example `\t` or `\u{1b}`. `put_letter` calls it.
     fn put_control(&mut self, code: u8)
         ensures { HasGrown self.old (control_escape code) self.new }
     {
@@ -139,7 +139,7 @@ impl<A: Allocator> TextBuilder<A> {
         }
     }
 
-    /// Adds a character; a control character is escaped.
+    /// Adds a character; a control character is escaped. `put_escaped` calls it for each character.
     fn put_letter(&mut self, letter: char)
         ensures { HasGrown self.old (escaped_letter letter) self.new }
     {
@@ -174,7 +174,8 @@ impl<A: Allocator> TextBuilder<A> {
         }
     }
 
-    /// Adds the value of the placeholder that starts a piece, and the rest of the piece.
+    /// Adds a piece of a template, which `put_template` splits at each `{`: the value of the placeholder up to `}`, then the rest of the
+    /// piece.
     #[tactic(auto, using(crate::proofs::Longer::longer))]
     fn put_template_piece(&mut self, piece: &str, numbers: &[u64], words: &[&str])
         ensures { IsLonger self.old self.new }

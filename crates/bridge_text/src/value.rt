@@ -18,7 +18,7 @@ pub fn fill_with_word(said: &mut Said, template: &str, number: u64, word: &str) 
     said.put_template(template, &[number], &[word]);
 }
 
-/// Returns at most the first 60 characters of a text.
+/// Returns at most the first 60 characters of a text. `put_text` writes only these.
 fn shown_prefix(text: &str) -> &str {
     match text.char_indices().nth(MAX_CHARACTERS) {
         Some((end, _)) => text.get(..end).unwrap_or(text),
@@ -48,7 +48,8 @@ pub fn put_key(said: &mut Said, key: &str) {
     }
 }
 
-/// Writes an item of an array. An inner array or table shows only its brackets.
+/// Writes an item of an array. An inner array or table shows only its brackets. `put_items` calls it for each shown item, and `put_value`
+/// for a single value.
 fn put_item(said: &mut Said, item: &Value) {
     match item {
         Value::String(text) => put_text(said, text.as_str()),
@@ -71,7 +72,7 @@ pub fn first_items(items: &[Value], most: usize) -> &[Value] {
     }
 }
 
-/// Writes the items of an array, at most the first 16.
+/// Writes the items of an array, at most the first 16. `put_value` calls it between the brackets.
 fn put_items(said: &mut Said, items: &[Value]) {
     let mut is_first = true;
     for item in first_items(items, MAX_ITEMS) {

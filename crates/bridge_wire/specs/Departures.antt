@@ -84,7 +84,7 @@ pub record StopsAtSink (speed : Speed) (room : ℕ) (frames : List CapturedFrame
   pub within : goes.until ≤ moment
   pub writes : AppendsPrefix began now (written_text left)
 
--- Statement: One more frame was taken, or the sink failed before its offer.
+-- Statement: The frame `next` was offered or only counted, or the sink failed before that.
 abbrev pub RunsOneMore : {A : Type 0} → Speed → ℕ → List CapturedFrame → CapturedFrame → EgressState (Vec ℕ A) → WireCount → Option (List ℕ) → Option (List ℕ) → Result (Unit {0}) RunFault → Type 0
 RunsOneMore speed room frames next p count began now (Ok u) = IsRunning speed room (frames ++ next ∷ []) p count began now
 RunsOneMore speed room frames next p count began now (Err e) = StopsAtSink speed room frames next.time began now
@@ -93,7 +93,8 @@ RunsOneMore speed room frames next p count began now (Err e) = StopsAtSink speed
 abbrev pub no_count : WireCount
 no_count = record { frames = 0; malformed = 0; sent = 0; full = 0 }
 
--- Statement: A run in progress: these frames of the capture were taken, the next record is ahead, and the frames that left are written.
+-- Statement: A run is in progress: frames of the capture were taken, the next record is ahead, and the frames that left
+-- are written.
 pub record IsUnderWay {A : Type 0} (speed : Speed) (room : ℕ) (text : List ℕ) (remaining : Option (List ℕ)) (lane : CaptureReader A) (p : EgressState (Vec ℕ A)) (count : WireCount) (began now : Option (List ℕ)) : Type 0 where
   pub frames : List CapturedFrame
   pub ahead : IsOneAhead lane remaining text frames

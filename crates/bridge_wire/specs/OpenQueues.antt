@@ -29,7 +29,8 @@ abbrev pub packet_ahead : {A : Type 0} → Option ℕ → Option (Item (Vec ℕ 
 packet_ahead None place = None
 packet_ahead (Some time) place = option_map (λ x. record { time = time; len = x.len; octets = x.load }) place
 
--- Reader of port 1 with the frame ahead in its place of the queue.
+-- Reader of the queue's capture, as a reader of port 1. The frame that it has read ahead lies in the place that the
+-- queue gives to its next frame.
 abbrev pub queue_reader : {A : Type 0} → CaptureState → Option ℕ → OpenQueue A → CaptureReader A
 queue_reader capture time q = record { number = 1; capture = capture; ahead = packet_ahead time (place_ahead q) }
 

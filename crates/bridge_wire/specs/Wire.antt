@@ -146,7 +146,7 @@ pub record LacksMemory (text : List ℕ) (rest old new : Option (List ℕ)) : Ty
   pub looks : (rest ≡ Some text) ⊎ FailsAtFirst faults.NoMemory rest text ⊎ HasSoundStart text
   pub untouched : Keeps old new
 
--- Statement: Reason why a run stopped; the source still has `rest`.
+-- Statement: The run stopped for the reason that this fault states; the source still has the octets `rest`.
 abbrev pub StopsRun : Speed → ℕ → List ℕ → Option (List ℕ) → Option (List ℕ) → Option (List ℕ) → RunFault → Type 0
 StopsRun speed room text rest old new (run.Capture port fault) = IsCaptureFault fault × (FailsAtStart text rest old new fault ⊎ StopsInText speed room text rest old new fault)
 StopsRun speed room text rest old new (run.Write port) = StopsWriting speed room text old new

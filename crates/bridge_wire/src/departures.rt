@@ -50,7 +50,8 @@ pub fn send_next<W: ByteSink, A: Allocator + Copy>(
     Err(RunFault::Write { port: 1 })
 }
 
-/// Writes the record of a frame that left, at the end of its transmission. Returns whether the sink accepted all of it.
+/// Writes the record of a frame that left, at the end of its transmission. Returns whether the sink accepted all of it. `send_next` calls
+/// it.
 #[inline(always)]
 fn write_record<W: ByteSink>(
     writer: &mut Writer,

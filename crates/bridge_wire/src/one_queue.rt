@@ -20,7 +20,8 @@ use bridge_limits::{END_OF_TIME, MAX_CAPTURED_OCTETS};
 use bridge_port::{Item, LARGEST_ROOM};
 use std::alloc::Allocator;
 
-/// Offers the frame ahead to the queue, after all starts before its arrival at `time` ns. A frame without a header is only counted.
+/// Makes and writes all starts before `time` ns, when the frame ahead arrived, then offers this frame to the queue. A frame without a
+/// header is only counted.
 #[inline(always)]
 fn offer_frame<W: ByteSink, A: Allocator + Copy>(
     speed: Speed,
@@ -68,7 +69,8 @@ fn offer_frame<W: ByteSink, A: Allocator + Copy>(
     Ok(())
 }
 
-/// Offers the frame ahead, which arrived at `time` ns, and reads the next record. Stops at the first fault of source or sink.
+/// Offers the frame ahead, which arrived at `time` ns, and reads the next record. Returns the next frame's arrival time in ns; `None` at
+/// the capture's end. Stops at the first fault.
 #[inline(always)]
 fn process_frame<R: ByteSource, W: ByteSink, A: Allocator + Copy>(
     speed: Speed,
@@ -178,7 +180,7 @@ fn send_all<R: ByteSource, W: ByteSink, A: Allocator + Copy>(
     Ok(count)
 }
 
-/// Returns the frame ahead as its arrival time in ns and an item; without a frame, an empty item.
+/// Returns the frame ahead as its arrival time in ns and an item; without a frame, an empty item. `wire` gives the item to the queue.
 fn split_packet<A: Allocator + Copy>(
     alloc: A,
     ahead: Option<Packet<A>>,
@@ -203,7 +205,7 @@ fn split_packet<A: Allocator + Copy>(
 /// The reader is one record ahead: earlier starts are written before a frame is offered. Nothing is written before the first read.
 /// Frames without a header are only counted.
 ///
-/// Faults of the source are `Capture` of port 1. Faults of the sink are `Write` of port 1; it then has a prefix of the capture.
+/// Faults of the source are `Capture` of port 1. Faults of the sink are `Write` of port 1; the sink then has a prefix of the capture.
 pub fn wire<R: ByteSource, W: ByteSink, A: Allocator + Copy>(
     alloc: A,
     speed: Speed,

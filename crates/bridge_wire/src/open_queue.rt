@@ -14,11 +14,11 @@ use bridge_limits::{END_OF_SENDING, END_OF_TIME, LONGEST_FRAME, MAX_ARRIVALS, No
 use bridge_port::{Item, LARGEST_ROOM};
 use std::alloc::Allocator;
 
-/// Queue of frames for a link, first in, first out, with one more place for the frame ahead. The reader stores that frame in its place,
-/// so offering and starting it moves no octets.
+/// Queue of frames for a link, first in, first out. One more place has the frame ahead, the capture's next frame: offering and starting it
+/// later moves no octets.
 ///
-/// It obeys the rules of a `Port` whose gates are always open. The oldest frame starts as soon as the link is free, so no call computes
-/// when a frame fits.
+/// The queue obeys the rules of a `Port` whose gates are always open. The oldest frame starts as soon as the link is free, so no call
+/// computes when a frame fits.
 #[derive(Drop)]
 pub struct OpenQueue<A: Allocator + Copy> {
     /// Speed of the link.
@@ -33,7 +33,7 @@ pub struct OpenQueue<A: Allocator + Copy> {
     queued: usize,
     /// Time in ns from which the link is free.
     free: u64,
-    /// Earliest time in ns of the next offer.
+    /// Earliest time in ns at which the next offer may be made.
     earliest: u64,
     /// Number of offers so far.
     offered: u64,
@@ -51,7 +51,8 @@ impl<A: Allocator + Copy> OpenQueue<A> {
     ghost use Rattle.bridge_port.specs.declared.item.Item.{Item};
     ghost use Rattle.bridge_wire.specs.OpenQueues.{ReadsPlace, place_ahead, queue_reader, queue_state};
 
-    /// Makes an empty queue for `room` frames, with a frame ahead. Allocates memory once; readers allocate memory for octets.
+    /// Makes an empty queue for `room` frames, with a frame ahead. Allocates memory once; reading later frames allocates memory for their
+    /// octets.
     pub fn new(
         alloc: A,
         speed: Speed,
@@ -206,7 +207,7 @@ impl<A: Allocator + Copy> OpenQueue<A> {
     }
 }
 
-/// Adds `room` places without a frame.
+/// Adds `room` places without a frame to the ring.
 fn add_places<A: Allocator + Copy>(
     alloc: A,
     places: &mut Vec<Item<Vec<u8, A>>, A>,
@@ -227,7 +228,7 @@ fn add_places<A: Allocator + Copy>(
     Ok(())
 }
 
-/// Returns the index after `index` in a ring of `count` places.
+/// Returns the index after `index` in a ring of `count` places. The index after the last one is 0.
 #[inline(always)]
 fn next_index(index: usize, count: usize) -> usize
     requires { index < count }

@@ -1,5 +1,5 @@
 #![tactic(auto)]
-//! Runs whole runs of a bridge: scripts whose lines set the plan and the inputs, and print results.
+//! Runs whole runs of a bridge: the run that docs/LIBRARY.md shows, then scripts whose lines set the plan and the inputs, and print results.
 //!
 //! The arguments are the paths of names and scripts; the README of `data` defines both. Each line is printed before its output. A failed
 //! line ends the run with status 1.
@@ -8,6 +8,7 @@ mod captures;
 mod case;
 mod failures;
 mod growths;
+mod library;
 mod line_output;
 mod random_capture;
 mod reading;
@@ -19,6 +20,7 @@ mod verbs;
 
 use app_cli::read_arguments;
 use case::Case;
+use library::print_report_of_run;
 use line_output::LineOutput;
 use std::fs;
 use std::rt::{Env, Files};
@@ -26,6 +28,9 @@ use std::test::Fail;
 use verbs::step;
 
 fn main(rt: HostRuntime) -> Result<(), Fail> {
+    let Ok(()) = print_report_of_run(&rt) else {
+        return Err(Fail::from("no report"));
+    };
     run(&rt)
 }
 

@@ -23,6 +23,7 @@ use Rattle.net_model.specs.NetworkParts.{NetworkParts}
 use Rattle.net_model.specs.Faults.{first_fault}
 use Rattle.net_latency.specs.declared.bounds.QueueBound.{QueueBound}
 use Rattle.net_check.specs.Naming.{bridge_name}
+use Rattle.net_latency.specs.DeliveredStreams.{DeliversStreams}
 use Rattle.net_latency.specs.Streams.{AreQueueBoundsOfPlans, stream_hop_value}
 use Rattle.net_latency.specs.Talkers.{AreStreamLines, first_misfit}
 use Rattle.net_check.specs.Warnings.{AreWarnings}
@@ -82,13 +83,15 @@ network_fault_line bridges (network.NotClosed stream hop bridge port filter from
     hop_fault_text (codes "NotClosed") stream hop ++ (codes " " ++ (port_text bridges bridge port ++ sender_text filter from))
 network_fault_line bridges (network.NotFed stream hop) = hop_fault_text (codes "NotFed") stream hop
 
--- Holds if the fault has the line of the first talker whose period doesn't suit the plans, or memory ran out.
+-- Holds if the program's fault has the fault line of the first stream whose talker's period doesn't suit the plans, or
+-- memory ran out.
 abbrev pub RefusesPeriods : {A : Type 0} → file.Network → List (Plan A) → Failure → Type 0
 RefusesPeriods f plans (fault.Network line) = (e : NetFault) × (first_misfit plans 1 f.streams ≡ Some e) × (string_bytes line ≡ text_line e)
 RefusesPeriods f plans fault.NoMemory = Unit {0}
 RefusesPeriods f plans e = ⊥
 
--- Holds if the fault has the line of the network's first fault, or without one of its talkers' periods, or memory ran out.
+-- Holds if memory ran out, or the failure's line names the network's first fault. Without such a fault, the line names
+-- the first talker's period that doesn't suit the plans.
 abbrev pub RefusesNetwork : {A : Type 0} → file.Network → List (Plan A) → Failure → Type 0
 RefusesNetwork {A} f plans (fault.Network line) = (n : NetworkParts A) × IsNetworkOfFile f plans n
     × (((e : NetworkFault) × (first_fault n ≡ Some e) × (string_bytes line ≡ network_fault_line f.bridges e))
@@ -96,7 +99,8 @@ RefusesNetwork {A} f plans (fault.Network line) = (n : NetworkParts A) × IsNetw
 RefusesNetwork f plans fault.NoMemory = Unit {0}
 RefusesNetwork f plans e = ⊥
 
--- Holds if `lines` has the numbers of an accepted network's parts and the delays of its streams. `kept` is true if all streams pass and meet their deadlines.
+-- Holds if `lines` are the lines of an accepted network: the numbers of its parts, then a line for each stream. `kept`
+-- is true if all streams pass and meet their deadlines.
 pub record AreLinesOfNetwork {A : Type 0} (f : file.Network) (n : NetworkParts A) (lines : List ℕ) (kept : Bool) : Type 0 where
   pub bounds : List (Vec QueueBound A)
   pub are_bounds : AreQueueBoundsOfPlans n.plans bounds
@@ -104,7 +108,8 @@ pub record AreLinesOfNetwork {A : Type 0} (f : file.Network) (n : NetworkParts A
   pub are_lines : AreStreamLines n.plans n.links bounds f.links f.streams streams kept
   pub lines_are : lines ≡ accepted_line f ++ streams
 
--- Holds if `lines`, the warnings `told` and `kept` are the output of an accepted network. Its streams are closed, and its talkers' periods suit its plans.
+-- Holds if `lines`, the warnings `told` and `kept` are the output of an accepted network. Its streams are closed, its
+-- talkers' periods suit its plans, and each stream with `arrives` is delivered.
 pub record PrintsNetwork (A : Type 0) (lines told : List ℕ) (kept : Bool) : Type 0 where
   pub file : file.Network
   pub plans : List (Plan A)
@@ -113,11 +118,12 @@ pub record PrintsNetwork (A : Type 0) (lines told : List ℕ) (kept : Bool) : Ty
   pub accepted : first_fault network ≡ None
   pub suit : first_misfit network.plans 1 file.streams ≡ None
   pub are_lines : AreLinesOfNetwork file network lines kept
+  pub delivered : DeliversStreams network are_lines.bounds file.streams
   pub are_told : AreWarnings file network told
 
 -- THE FILES OF A NETWORK
 
--- The path of a file in an optional folder; without a folder, the file's own path.
+-- The path of `file` in an optional folder; `file` itself without a folder.
 abbrev pub in_folder : Option (List ℕ) → List ℕ → List ℕ
 in_folder None file = file
 in_folder (Some folder) file = folder ++ (codes "/" ++ file)
@@ -134,11 +140,11 @@ beside path file = if is_absolute file then file else in_folder (folder_of path)
 abbrev pub IsNetworkAt : (List ℕ → Option (List ℕ)) → List ℕ → file.Network → Type 0
 IsNetworkAt octets_at path f = (text : List ℕ) → octets_at path ≡ Some text → network_of_text (take 1048577 text) ≡ Ok f
 
--- Holds if `plan` is the accepted plan of the file at `path`, or the octets of this file are unknown. The plan isolates each of its protected filters.
+-- Holds if `plan` is read from the file at `path` and accepted, or the octets of this file are unknown.
 abbrev pub IsPlanAt : {A : Type 0} → (List ℕ → Option (List ℕ)) → List ℕ → Plan A → Type 0
 IsPlanAt octets_at path plan = (text : List ℕ) → octets_at path ≡ Some text → Accepts (take 1048577 text) plan
 
--- Holds if the new plans are the old plans and the accepted plan of the file at `path`.
+-- Holds if `new` has the plans `old`, followed by the accepted plan of the file at `path`.
 abbrev pub AddsPlanAt : {A : Type 0} → (List ℕ → Option (List ℕ)) → List ℕ → List (Plan A) → List (Plan A) → Type 0
 AddsPlanAt {A} octets_at path old new = (p : Plan A) × (new ≡ old ++ p ∷ []) × IsPlanAt octets_at path p
 
@@ -163,7 +169,8 @@ SaysText e f = ⊥
 abbrev pub RefusesText : List ℕ → Type 0
 RefusesText line = (text : List ℕ) × (e : NetFault) × (network_of_text text ≡ Err e) × (line ≡ text_line e)
 
--- Holds if the program's fault has the line of the reading's fault, or memory ran out.
+-- Holds if the program's fault has the line of the fault with which reading the network's text ended, or memory ran
+-- out.
 abbrev pub RefusesTextBy : Result file.Network NetFault → Failure → Type 0
 RefusesTextBy reading (fault.Network line) = (e : NetFault) × (reading ≡ Err e) × (string_bytes line ≡ text_line e)
 RefusesTextBy reading fault.NoMemory = Unit {0}
@@ -190,7 +197,7 @@ SaysPlan name e f = ⊥
 abbrev pub RefusesPlanOf : (A : Type 0) → Bridge → List ℕ → Type 0
 RefusesPlanOf A b lines = (text : List ℕ) × (e : Failure) × RefusesPlan A text e × (fault_status e ≡ 1) × (lines ≡ plan_lines b.name (fault_line e))
 
--- Holds if a plan's text is refused with the lines that a fault of the program has, or memory ran out.
+-- Holds if the program's fault has the lines of the plan of bridge `name`, whose text is refused, or memory ran out.
 abbrev pub RefusesPlanBy : (A : Type 0) → List ℕ → List ℕ → Failure → Type 0
 RefusesPlanBy A name text (fault.Network line) = (e : Failure) × RefusesPlan A text e × (fault_status e ≡ 1) × (string_bytes line ≡ plan_lines name (fault_line e))
 RefusesPlanBy A name text fault.NoMemory = Unit {0}

@@ -10,9 +10,9 @@ use Rattle.net_file.specs.declared.link_row.LinkRow.{LinkRow}
 use Rattle.net_file.specs.Model.{Bridge, Stream}
 use Rattle.net_file.specs.Model as file
 use Rattle.net_model.specs.NetworkParts.{NetworkParts}
-use Rattle.net_loops.specs.declared.forwarding_loop.ForwardingLoop.{ForwardingLoop}
-use Rattle.net_loops.specs.ForwardingLoops.{AreForwardingLoops}
-use Rattle.net_loops.specs.Steps.{collect_below}
+use Rattle.net_model.specs.declared.forwarding_loop.ForwardingLoop.{ForwardingLoop}
+use Rattle.net_model.specs.ForwardingLoops.{AreForwardingLoops}
+use Rattle.net_model.specs.LoopSteps.{collect_below}
 use Rattle.net_check.specs.Naming.{bridge_name}
 
 -- FRAMES THAT MAY LOOP
@@ -60,11 +60,11 @@ has_hop streams b n = list_any (λ (s : Stream). is_hop s.hops b n) streams
 abbrev pub has_link : List LinkRow → ℕ → ℕ → Bool
 has_link links b q = list_any (λ (l : LinkRow). (nat_eq l.one.0 b && nat_eq l.one.1 q) || (nat_eq l.other.0 b && nat_eq l.other.1 q)) links
 
--- True if one of these entries has handle `h` and stands on a linked port.
+-- True if one of these entries has handle `h` and is on a linked port.
 abbrev pub has_linked_entry : List LinkRow → ℕ → List StreamEntry → ℕ → Bool
 has_linked_entry links b entries h = list_any (λ (e : StreamEntry). nat_eq e.handle h && has_link links b e.port) entries
 
--- True if an entry of the plan has the optional handle and stands on a linked port.
+-- True if an entry of the plan has the optional handle and is on a linked port. False without a handle.
 abbrev pub is_entered_by_link : {A : Type 0} → List LinkRow → ℕ → Plan A → Option ℕ → Bool
 is_entered_by_link links b p None = false
 is_entered_by_link links b p (Some h) = has_linked_entry links b p.streams h
@@ -73,7 +73,7 @@ is_entered_by_link links b p (Some h) = has_linked_entry links b p.streams h
 abbrev pub is_unlisted : {A : Type 0} → List LinkRow → List Stream → ℕ → Plan A → ℕ × FilterPlan → Bool
 is_unlisted links streams b p f = f.1.protected && (is_entered_by_link links b p f.1.handle && not (has_hop streams b f.0))
 
--- The warning of a filter in no stream, with its bridge's name.
+-- The warning about a filter that is a hop of no stream, with its bridge's name.
 unfoldable pub unlisted_words : List ℕ → ℕ → List ℕ
 unlisted_words name n = codes "in no stream: " ++ (name ++ (codes "." ++ (decimal n ++ codes "\n")))
 
@@ -81,32 +81,32 @@ unlisted_words name n = codes "in no stream: " ++ (name ++ (codes "." ++ (decima
 abbrev pub unlisted_text : {A : Type 0} → file.Network → ℕ → Plan A → ℕ × FilterPlan → List ℕ
 unlisted_text f b p x = if is_unlisted f.links f.streams b p x then unlisted_words (bridge_name f.bridges b) x.0 else []
 
--- The lines of a plan's filters in no stream.
+-- The warnings about a plan's filters that are hops of no stream.
 abbrev pub unlisted_of_plan : {A : Type 0} → file.Network → ℕ → Plan A → List ℕ
 unlisted_of_plan f b p = flat_map (unlisted_text f b p) p.filters
 
--- The lines of the filters in no stream of these plans. The first plan has bridge index `b`.
+-- The warnings about the filters of these plans that are hops of no stream. The first plan has bridge index `b`.
 abbrev pub unlisted_filters : {A : Type 0} → file.Network → ℕ → List (Plan A) → List ℕ
 unlisted_filters f b [] = []
 unlisted_filters f b (p ∷ ps) = unlisted_of_plan f b p ++ unlisted_filters f (suc b) ps
 
 -- LIMITS THAT FALL ALONG A STREAM
 
--- The largest service data unit of an optional filter; `None` without a filter or a limit.
+-- The limit in octets (`max_sdu`) of an optional filter; `None` without a filter or a limit.
 abbrev pub sdu_if_any : Option FilterPlan → Option ℕ
 sdu_if_any None = None
 sdu_if_any (Some f) = f.max_sdu
 
--- The largest service data unit of filter `n` of an optional plan.
+-- The limit in octets (`max_sdu`) of filter `n` of an optional plan; `None` without a plan, a filter or a limit.
 abbrev pub filter_sdu : {A : Type 0} → Option (Plan A) → ℕ → Option ℕ
 filter_sdu None n = None
 filter_sdu (Some p) n = sdu_if_any (lookup (nat_eq n) p.filters)
 
--- The largest service data unit of a hop's filter; `None` without a hop or a limit.
+-- The limit in octets (`max_sdu`) of a hop's filter; `None` without its plan, its filter or a limit.
 abbrev pub hop_sdu : {A : Type 0} → List (Plan A) → ℕ × ℕ → Option ℕ
 hop_sdu plans h = filter_sdu (slice_get plans h.0) h.1
 
--- True if the second of two limits is less than the first.
+-- True if the second of two limits is less than the first; false without one of them.
 abbrev pub is_smaller_limit : Option ℕ → Option ℕ → Bool
 is_smaller_limit (Some a) (Some b) = nat_lt b a
 is_smaller_limit a b = false

@@ -7,7 +7,7 @@ use Rattle.net_file.specs.Model.{Stream}
 use Rattle.net_file.specs.Model as file
 use Rattle.net_model.specs.declared.links.StreamHop.{StreamHop}
 use Rattle.net_model.specs.NetworkParts.{NetworkParts}
-use Rattle.net_loops.specs.Steps.{collect_below}
+use Rattle.net_model.specs.LoopSteps.{collect_below}
 use Rattle.net_latency.specs.Entering.{may_come_in}
 use Rattle.net_latency.specs.declared.bounds.QueueBound.{QueueBound}
 use Rattle.net_check.specs.Naming.{bridge_name}
@@ -32,7 +32,8 @@ abbrev pub entering_at : {A : Type 0} → file.Network → NetworkParts A → �
 entering_at f n i k h None = []
 entering_at f n i k h (Some p) = flat_map (entering_text f n i k h p) p.ports
 
--- The warnings for a hop, if the talker is periodic. Without a period, the delays of the stream are unknown anyway.
+-- The warnings for a hop, if the talker is periodic (`true`). Without a periodic talker, the stream has no delays that
+-- depend on other devices.
 abbrev pub entering_if : {A : Type 0} → file.Network → NetworkParts A → ℕ → Bool → ℕ → StreamHop → List ℕ
 entering_if f n i false k h = []
 entering_if f n i true k h = entering_at f n i k h (slice_get n.plans h.bridge)

@@ -1,9 +1,9 @@
-//! Changes of gate control lists and talkers that an explanation proposes.
+//! Changes of gate control lists and talkers that an explanation proposes, so that late streams meet their deadlines.
 use crate::hop_times::{HopTimes, ListShift};
 use bridge_bounds::Phases;
 use net_file::Talker;
 
-/// New phases of a talker.
+/// New phases of a stream's talker, which an explanation proposes.
 #[derive(Clone, Copy)]
 pub(crate) struct SendShift {
     /// Index of the stream, from 0.
@@ -12,7 +12,7 @@ pub(crate) struct SendShift {
     pub phases: Phases,
 }
 
-/// Changes of lists and talkers: at most one for each port and for each stream.
+/// Proposed changes: at most one list shift for each port, and at most one talker's phases for each stream.
 #[derive(Drop)]
 pub(crate) struct Changes {
     /// Shifts of ports' lists.
@@ -21,7 +21,7 @@ pub(crate) struct Changes {
     pub sends: Vec<SendShift>,
 }
 
-/// Returns the talker's phases after the changes: new ones of the stream, or the talker's own.
+/// Returns the phases of a stream's talker after the changes: the new ones in `sends` or, without any, the talker's own.
 pub(crate) fn changed_phases(sends: &[SendShift], stream: usize, talker: &Talker) -> Phases {
     let mut phases = Phases {
         from: talker.from,
@@ -35,7 +35,7 @@ pub(crate) fn changed_phases(sends: &[SendShift], stream: usize, talker: &Talker
     phases
 }
 
-/// Returns the index of the stream's new phases, or the number of all new phases.
+/// Returns the index in `sends` of the stream's new phases, or the length of `sends` if there are none.
 fn index_of_stream(sends: &[SendShift], stream: usize) -> usize {
     let mut index = 0usize;
     for send in sends {
@@ -47,7 +47,7 @@ fn index_of_stream(sends: &[SendShift], stream: usize) -> usize {
     index
 }
 
-/// Returns the index of the port's shift, or the number of shifts.
+/// Returns the index in `shifts` of the port's shift, or the length of `shifts` if there is none.
 fn index_of_port(shifts: &[ListShift], bridge: u16, port: u8) -> usize {
     let mut index = 0usize;
     for shift in shifts {
@@ -59,7 +59,7 @@ fn index_of_port(shifts: &[ListShift], bridge: u16, port: u8) -> usize {
     index
 }
 
-/// Notes new phases of a talker, in place of earlier ones. Returns `None` if memory runs out.
+/// Adds new phases of the talker of stream `stream` to `changes`, in place of earlier ones. Returns `None` if memory runs out.
 pub(crate) fn put_phases(changes: &mut Changes, stream: usize, phases: Phases) -> Option<()> {
     let index = index_of_stream(&changes.sends, stream);
     let send = SendShift { stream, phases };
@@ -72,7 +72,8 @@ pub(crate) fn put_phases(changes: &mut Changes, stream: usize, phases: Phases) -
     }
 }
 
-/// Notes a shift of the list at the hop's port, in place of an earlier one. Returns `None` if memory runs out.
+/// Adds a shift of the list at the hop's port to `changes`, in place of an earlier one: the list begins `earlier` ns earlier. Returns
+/// `None` if memory runs out.
 pub(crate) fn put_shift(
     changes: &mut Changes,
     hop: &HopTimes,

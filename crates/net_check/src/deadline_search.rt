@@ -1,5 +1,5 @@
-//! Search for changes by which periodic streams meet their deadlines: later talkers, and gate control lists that begin earlier. Such changes
-//! keep each list's windows apart.
+//! Search for changes by which streams of periodic talkers meet their deadlines: talkers that send later, and gate control lists that begin
+//! earlier. Lists are shifted as a whole.
 ghost use Rattle.std.specs.Prelude.{◌≤◌, All};
 ghost use Rattle.std.specs.Option.{ForSome};
 ghost use Rattle.net_file.specs.Rules.{IsTalker};
@@ -17,13 +17,14 @@ use net_latency::{QueueBound, latency_through_hops, stream_hops};
 use net_model::Network;
 use std::alloc::Global;
 
-/// Largest number of times that the search goes over all streams. Rings of five bridges needed up to four.
+/// Largest number of times that the search relieves all late streams. Rings of five bridges needed up to four.
 const PASSES: u32 = 8;
 
 /// Largest number of changes for a stream in one pass.
 const CHANGES: u32 = 16;
 
-/// Returns changes by which each searched stream meets its deadline. Returns `None` if the search finds none, or memory runs out.
+/// Returns changes by which each stream that the search may change (`is_searched`) meets its deadline. Returns `None` if it finds none, or
+/// memory runs out.
 pub(crate) fn find_changes(
     alloc: Global,
     network: &Network<Global>,
@@ -54,7 +55,7 @@ pub(crate) fn find_changes(
     None
 }
 
-/// Returns for each stream whether the search may change it. Computed once, because each pass of the search asks for it. Returns `None` if
+/// Returns for each stream whether the search may change it. Computed once, because each pass of the search needs it. Returns `None` if
 /// memory runs out.
 fn searched_streams(
     alloc: Global,
@@ -120,8 +121,8 @@ fn can_meet(alloc: Global, route: &StreamRoute<'_>, deadline: Option<u64>) -> bo
     }
 }
 
-/// Changes lists and talkers for each late stream that is `searched`. Returns whether no such stream was late. Returns `None` if memory runs
-/// out.
+/// Changes lists and talkers for each late stream that is `searched`: pass `pass` of the search. Returns whether no such stream was late.
+/// Returns `None` if memory runs out.
 fn relieve_streams(
     alloc: Global,
     network: &Network<Global>,
@@ -149,7 +150,7 @@ fn relieve_streams(
     Some(is_met)
 }
 
-/// Changes lists and the talker of a stream if it is late. Returns whether it met its deadline before.
+/// Changes lists and the talker of a stream if it is late. Returns whether the stream met its deadline before, so that nothing changed.
 fn relieve_listed_stream(
     alloc: Global,
     network: &Network<Global>,
@@ -176,8 +177,8 @@ fn relieve_listed_stream(
     relieve_stream(alloc, &route, deadline, index, pass, changes)
 }
 
-/// Changes lists and the talker until the stream meets its deadline, or no change helps. Other streams of the same pass then leave its ports
-/// alone. Returns whether the stream met its deadline before.
+/// Changes lists and the talker until the stream meets its deadline, or no change helps. Later streams of the same pass don't change its
+/// ports. Returns whether the stream needed no change.
 fn relieve_stream(
     alloc: Global,
     route: &StreamRoute<'_>,
@@ -224,7 +225,7 @@ fn changed_times(
     hop_times(alloc, route, sent, &changes.shifts)
 }
 
-/// Whether all frames pass each hop, and the worst delay is at most the deadline in ns.
+/// Whether each hop's filter passes all frames of the stream, and its worst delay is at most `deadline` ns.
 fn is_in_time(times: &[HopTimes], deadline: u128) -> bool {
     for hop in times {
         if !hop.passes {
@@ -234,8 +235,8 @@ fn is_in_time(times: &[HopTimes], deadline: u128) -> bool {
     worst_delay(times) <= deadline
 }
 
-/// Returns the hop at which the latest frame waits longest: the first hop, or a hop whose port no late stream has used in this pass. Returns
-/// `None` if it waits at none of them.
+/// Returns the hop at which the latest frame waits longest, among the first hop and hops whose port no late stream has used in pass `pass`.
+/// Returns `None` if it waits at none of these.
 pub(crate) fn costliest_hop(
     times: &[HopTimes],
     shifts: &[ListShift],
@@ -252,7 +253,7 @@ pub(crate) fn costliest_hop(
     found
 }
 
-/// Whether a late stream has used the hop's port in this pass.
+/// Whether a late stream has used the hop's port in pass `pass`. Then other streams don't shift this port's list in this pass.
 fn is_kept(shifts: &[ListShift], hop: &HopTimes, pass: u32) -> bool {
     for shift in shifts {
         if shift.bridge == hop.hop.bridge && shift.port == hop.port && shift.pass == pass {
@@ -262,7 +263,7 @@ fn is_kept(shifts: &[ListShift], hop: &HopTimes, pass: u32) -> bool {
     false
 }
 
-/// Removes the wait of the latest frame at the costliest hop. Returns whether it changed something.
+/// Removes the wait of the latest frame at the costliest hop, by a later talker or an earlier list. Returns whether a change stays.
 fn relieve_hop(
     alloc: Global,
     route: &StreamRoute<'_>,
@@ -305,7 +306,7 @@ fn relieve_talker(
     Some(false)
 }
 
-/// Shifts the list at the hop's port to be earlier by the wait there. Undoes this if a frame may then be refused. Returns whether the change
+/// Lets the list at the hop's port begin earlier by the wait there. Undoes this if a frame may then be refused. Returns whether the change
 /// stays.
 fn relieve_list(
     alloc: Global,
@@ -330,7 +331,7 @@ fn relieve_list(
     Some(false)
 }
 
-/// Whether after the changes the phases are known and all frames pass each hop.
+/// Whether, after the changes, the stream's phases are known and all its frames pass each hop.
 fn is_passing(alloc: Global, route: &StreamRoute<'_>, index: usize, changes: &Changes) -> bool
     requires placed { All (λ v. All HasValidPort v.items) route.now.bounds.now }
     requires talker { IsTalker route.now.talker }
@@ -352,7 +353,7 @@ fn later_phases(phases: Phases, wait: u64, period: u64) -> Phases {
     Phases { from, to }
 }
 
-/// Notes that the pass has used the ports of these hops. Their lists keep their shifts.
+/// Marks the ports of these hops as used in pass `pass`, without changing the shifts of their lists.
 fn keep_ports(times: &[HopTimes], pass: u32, changes: &mut Changes) -> Option<()> {
     for hop in times {
         let earlier = shift_of_port(&changes.shifts, hop.hop.bridge, hop.port);
@@ -361,14 +362,14 @@ fn keep_ports(times: &[HopTimes], pass: u32, changes: &mut Changes) -> Option<()
     Some(())
 }
 
-/// Returns the cycle time in ns of the list at the hop's port. Returns `None` without a list and if the schedule changes.
+/// Returns the cycle time in ns of the list at the hop's port. Returns `None` if the port has no list or a schedule change.
 fn cycle_of_port(network: &Network<Global>, hop: &HopTimes) -> Option<u64> {
     let accepted = network.plans().get(hop.hop.bridge as usize)?;
     let list = port_list(accepted.plan().port(hop.port)?)?;
     Some(list.cycle())
 }
 
-/// Returns the gate control list of a port. Returns `None` without a list and if the schedule changes.
+/// Returns the gate control list of a port. Returns `None` if the port has no list or a schedule change.
 pub(crate) fn port_list(port: &PortPlan<Global>) -> Option<&CyclicList<u8, Global>> {
     match &port.list {
         Some(Egress::Cyclic(list)) => Some(list),

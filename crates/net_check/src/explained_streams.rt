@@ -1,5 +1,5 @@
-//! Explanations of the streams of an accepted network: reasons of refusal, times at each hop, and changes that meet missed deadlines. No call
-//! fails: files that can't be read again are left out.
+//! Explanations of the streams of an accepted network: why frames may be refused, times at each hop, and changes by which late streams meet
+//! their deadlines.
 ghost use Rattle.std.specs.Prelude.{◌≤◌, All, length};
 ghost use Rattle.std.specs.Option.{ForSome};
 ghost use Rattle.net_file.specs.Rules.{IsTalker};
@@ -18,8 +18,8 @@ use net_model::Network;
 use std::alloc::Global;
 use std::rt::Files;
 
-/// Explains the streams with periodic talkers: why frames may be refused, when frames arrive at each hop and leave it, and how to meet missed
-/// deadlines. Reads all files again. Returns `None` if this fails.
+/// Explains streams with periodic talkers: why frames may be refused, when frames arrive and leave at each hop, and how to meet deadlines.
+/// Reads all files again. Returns `None` if this fails.
 pub fn explain_streams<H: AllocGlobal + Files>(rt: &H, path: &str) -> Option<String> {
     let alloc = rt.alloc();
     let mut files = CommandFiles::new(rt);
@@ -37,7 +37,8 @@ pub fn explain_streams<H: AllocGlobal + Files>(rt: &H, path: &str) -> Option<Str
     said
 }
 
-/// Explains the streams of this network. Returns `None` if memory runs out.
+/// Explains the streams of an accepted network: refusable streams, times at each hop, then changes for late streams. Returns `None` if
+/// memory runs out.
 fn explain_network_streams(
     alloc: Global,
     file: &NetworkFile<Global>,

@@ -1,4 +1,5 @@
-//! Explanations of a refused network: the fault and a remedy. No call fails: files that can't be read again are left out.
+//! Explanations of a refused network, each with a remedy, and of frames that may loop. If files can't be read again, there is no
+//! explanation (`None`).
 ghost use Rattle.std.specs.Prelude.{◌≤◌, length};
 
 use crate::link_faults::explain_link_fault;
@@ -13,13 +14,12 @@ use bridge_check::Accepted;
 use bridge_text::{Document, TextBuilder, put_text};
 use net_file::{NetFault, NetField, NetSection, NetworkFile, parse_network, read_document};
 use net_latency::{NetworkText, explain_hop_fault, explain_period, first_misfit, reread_text};
-use net_loops::find_forwarding_loops;
-use net_model::{Network, NetworkFault, RefusedNetwork, check_network};
+use net_model::{Network, NetworkFault, RefusedNetwork, check_network, find_forwarding_loops};
 use std::alloc::Global;
 use std::rt::Files;
 use toml::Table;
 
-/// Explains why a network is refused whose text is accepted: a plan can't be read, or the network has a fault. Reads all files again.
+/// Explains why a network with an accepted text is refused: a plan can't be read, or the network has a fault. Reads all files again.
 /// Returns `None` if this fails or memory runs out.
 pub fn explain_network<H: AllocGlobal + Files>(rt: &H, path: &str) -> Option<String> {
     let alloc = rt.alloc();
@@ -40,8 +40,8 @@ pub fn explain_network<H: AllocGlobal + Files>(rt: &H, path: &str) -> Option<Str
     }
 }
 
-/// Returns a sentence with the bridge whose plan has the path `plan`, and the position in the network file. Returns `None` if no bridge
-/// names this file.
+/// Returns the beginning of a sentence about the plan file `plan`, which can't be read: its bridge, and its position in the network file.
+/// Returns `None` if no bridge names this file.
 fn explain_plan_path(alloc: Global, asked: NetworkText<'_>, plan: &str) -> Option<String> {
     let mut index = 0usize;
     for bridge in asked.file.bridges() {
@@ -75,8 +75,8 @@ fn network_text<'a>(
     }
 }
 
-/// Returns a line for each group of frames that may loop, after a network run without end. Reads the network file and its plans again.
-/// Returns `None` if this fails.
+/// Returns a line for each group of frames that may loop, to explain why a network run didn't end. Reads the network file and its plans
+/// again. Returns `None` if this fails.
 pub fn explain_loops<H: AllocGlobal + Files>(rt: &H, path: &str) -> Option<String> {
     let alloc = rt.alloc();
     let mut files = CommandFiles::new(rt);

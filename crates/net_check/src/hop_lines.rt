@@ -17,22 +17,23 @@ use net_latency::{QueueBound, latency_through_hops, stream_hops};
 use net_model::Network;
 use std::alloc::Global;
 
-/// Largest number of a list's intervals that overlap one cycle from any time on: one more than its entries.
+/// Largest number of a list's intervals that overlap one cycle: its largest number of entries, plus one because the cycle can begin within
+/// an interval.
 const MOST_TURNS: u32 = 257;
 
-/// Window in which a frame is sent: the time while its class is open without a break, in ns from the start of a period.
+/// Window in which a frame is sent: its class is open without a break. Times are in ns from the start of a period.
 #[derive(Clone, Copy)]
 struct Window {
     /// Start of the window one cycle later, so that it isn't negative.
     later: u64,
     /// Cycle time of the list in ns.
     cycle: u64,
-    /// End.
+    /// End of the window in ns.
     to: u64,
 }
 
-/// Appends the times at each hop of those streams that have a periodic talker and known delays. Returns whether the frames of one pass, and
-/// miss a deadline that they can meet.
+/// Appends the times at each hop for each stream with a periodic talker and known delays. Returns whether some stream, whose frames all
+/// pass, misses a deadline that it can meet.
 pub(crate) fn put_stream_times(
     alloc: Global,
     said: &mut TextBuilder<Global>,
@@ -53,8 +54,8 @@ pub(crate) fn put_stream_times(
     is_late
 }
 
-/// Appends the times of a stream at each hop. Returns whether all its frames pass and the stream misses a deadline that it can meet. Appends
-/// nothing without a periodic talker or if delays are unknown.
+/// Appends the times of a stream at each hop. Returns whether all its frames pass and the stream misses a deadline that it can meet.
+/// Appends nothing without a periodic talker or if delays are unknown.
 fn put_times_of_stream(
     alloc: Global,
     said: &mut TextBuilder<Global>,
@@ -142,7 +143,7 @@ fn put_hop(
     said.put("\n");
 }
 
-/// Appends the window, and the time from the latest end of transmission to the window's end.
+/// Appends the window, and its slack: the time from the latest end of transmission, `leaves`, to the window's end, both in ns.
 fn put_window(said: &mut TextBuilder<Global>, window: Window, leaves: u64) {
     said.put(", window ");
     match window.later.checked_sub(window.cycle) {
@@ -156,7 +157,8 @@ fn put_window(said: &mut TextBuilder<Global>, window: Window, leaves: u64) {
     );
 }
 
-/// Returns the window in which the last frame is sent. Returns `None` if the port has no list or a schedule change, or the class never closes.
+/// Returns the window in which the last frame is sent. Returns `None` if the port has no list or a schedule change, or the class never
+/// closes.
 fn window_of_hop(plan: &Plan<Global>, hop: &HopTimes) -> Option<Window> {
     let port = plan.port(hop.port)?;
     let time = hop.leaves.to.checked_sub(1)?;
@@ -184,8 +186,8 @@ fn window_around_time(list: &CyclicList<u8, Global>, class: u8, time: u64) -> Op
     })
 }
 
-/// Returns the time in ns at which the window begins that contains the time one cycle after `time`. The start is later than it is for `time`
-/// by the cycle time. Then it isn't negative.
+/// Returns the start in ns of the window around the time one cycle after `time`. The window around `time` begins one cycle earlier, so its
+/// start may be negative.
 fn window_start(list: &CyclicList<u8, Global>, class: u8, time: u64) -> u64
     requires class { class < 8 }
     requires time { time < END_OF_SEARCHES }
@@ -206,7 +208,7 @@ fn window_start(list: &CyclicList<u8, Global>, class: u8, time: u64) -> u64
     start
 }
 
-/// Returns the first time in ns, from `time` on, at which the class is closed, at most one cycle later.
+/// Returns the first time in ns, from `time` on, at which the class is closed, but at most one cycle after `time`.
 fn window_end(list: &CyclicList<u8, Global>, class: u8, time: u64) -> u64
     requires class { class < 8 }
     requires time { time < END_OF_SEARCHES }
@@ -226,7 +228,8 @@ fn window_end(list: &CyclicList<u8, Global>, class: u8, time: u64) -> u64
     end
 }
 
-/// Appends a sentence if the stream misses its deadline: by how much, and why. Returns whether the stream misses a deadline that it can meet.
+/// Appends a sentence if the stream misses its deadline: by how many ns, and why. Returns whether the stream misses a deadline that it can
+/// meet.
 fn put_deadline(
     said: &mut TextBuilder<Global>,
     file: &NetworkFile<Global>,
@@ -253,7 +256,7 @@ fn put_deadline(
     true
 }
 
-/// Appends the hop at which the latest frame of a late stream waits longest.
+/// Appends the hop at which the latest frame of a late stream waits longest, or a remedy if this frame waits nowhere.
 fn put_costliest_hop(
     said: &mut TextBuilder<Global>,
     file: &NetworkFile<Global>,

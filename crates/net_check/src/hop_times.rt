@@ -1,5 +1,5 @@
-//! Times of a periodic talker's frames at each hop of a stream: arrival, waiting time and end of transmission. Explanations print them,
-//! and search for changes that meet the deadlines.
+//! Times of a periodic talker's frames at each hop of a stream: arrival, waiting time and end of transmission. Explanations print them, and
+//! use them to search for changes.
 ghost use Rattle.std.specs.Prelude.{◌≡◌, ◌<◌, ◌≤◌, All, IfSome};
 ghost use Rattle.bridge_limits.specs.declared.TheConstants.{END_OF_TIME};
 ghost use Rattle.net_file.specs.Rules.{IsTalker};
@@ -26,7 +26,7 @@ pub(crate) struct ListShift {
     pub port: u8,
     /// Time in ns by which the list begins earlier than in the plan. It is less than the cycle time.
     pub earlier: u64,
-    /// Number of the search pass in which a late stream last used the port.
+    /// Number of the search pass, from 0, in which a late stream last used the port, or `PASSES` if none did.
     pub pass: u32,
 }
 
@@ -39,7 +39,7 @@ pub(crate) struct StreamRoute<'a> {
     pub bounds: &'a [Vec<QueueBound>],
     /// Hops of the stream, talker first.
     pub hops: &'a [StreamHop],
-    /// The talker. Its phases can be other ones than those at the first hop.
+    /// The talker. Functions take the phases at the first hop as a parameter, because changes can replace the talker's own.
     pub talker: Talker,
 }
 
@@ -50,11 +50,11 @@ struct HopArrival {
     hop: StreamHop,
     /// Earliest and latest arrival in ns from the start of a period.
     phases: Phases,
-    /// Time in ns from the start of the talker's period to the start of this period.
+    /// Time in ns from the start of the talker's period to the start of the period in which `phases` count.
     later: u128,
     /// Sum of worst delays up to this arrival, in ns.
     worst: u128,
-    /// Sum of transmission times and link delays up to this arrival, in ns.
+    /// Sum of the longest frame's transmission times and of link delays up to this arrival, in ns.
     shortest: u128,
 }
 
@@ -87,7 +87,7 @@ pub(crate) struct HopTimes {
     pub passes: bool,
 }
 
-/// Times in one queue, without the hops before it.
+/// Times of the frames in one queue, without the delays at the hops before it.
 #[derive(Clone, Copy)]
 struct QueueTimes {
     /// Earliest and latest end of transmission, in ns from the start of the period.
@@ -96,7 +96,7 @@ struct QueueTimes {
     worst: u64,
 }
 
-/// Returns the time in ns by which a port's list begins earlier: of the last shift for the port, or 0.
+/// Returns the time in ns by which a port's list begins earlier, from the last item of `shifts` for the port, or 0 without one.
 pub(crate) fn shift_of_port(shifts: &[ListShift], bridge: u16, port: u8) -> u64 {
     let mut earlier = 0;
     for shift in shifts {
@@ -107,8 +107,8 @@ pub(crate) fn shift_of_port(shifts: &[ListShift], bridge: u16, port: u8) -> u64 
     earlier
 }
 
-/// Returns the times of a stream's frames in each queue of the tree of hops. `sent` has the phases at the first hop. Returns `None` if phases
-/// are unknown or memory runs out.
+/// Returns the times of a stream's frames in each queue of each hop, first hop first. `sent` has the phases at the first hop. Returns
+/// `None` if phases are unknown or memory runs out.
 pub(crate) fn hop_times(
     alloc: Global,
     route: &StreamRoute<'_>,
@@ -136,8 +136,8 @@ pub(crate) fn hop_times(
     Some(times)
 }
 
-/// Appends the times of a hop's queues to `times`, and the arrivals at the next hops to `arrivals`. Returns `None` if phases are unknown or
-/// memory runs out.
+/// Appends the times of the queues of the arrival's hop to `times`, and the arrivals at the next hops to `arrivals`. Returns `None` if
+/// phases are unknown or memory runs out.
 fn put_hop_times(
     route: &StreamRoute<'_>,
     arrival: HopArrival,
@@ -156,7 +156,7 @@ fn put_hop_times(
     )
 }
 
-/// Appends the times of those queues in `rows` that belong to the hop's filter, and the arrivals at the next hops.
+/// Appends the times of those queues in `rows` that belong to the hop's filter to `times`, and the arrivals at the next hops to `arrivals`.
 fn put_rows(
     route: &StreamRoute<'_>,
     rows: &[QueueBound],
@@ -180,7 +180,8 @@ fn put_rows(
     Some(())
 }
 
-/// Returns the times in the queue of `row`. Returns `None` if the phases are unknown.
+/// Returns the times of the frames of `arrival` in the queue of `row`. `sent` is the talker's first phase in ns. Returns `None` if the
+/// phases are unknown.
 fn times_in_queue(
     route: &StreamRoute<'_>,
     row: &QueueBound,
@@ -238,8 +239,8 @@ fn longest_transmission(plan: &Plan<Global>, row: &QueueBound, traffic: &Traffic
     Some(occupation(traffic.longest.min(longest), speed))
 }
 
-/// Returns the times in a queue if the port's list begins `earlier` ns earlier: as if the frames arrived later by this time. Returns `None` if
-/// the phases are unknown.
+/// Returns the times in a queue if the port's list begins `earlier` ns earlier. It computes them as if the frames arrived later by this
+/// time. Returns `None` if the phases are unknown.
 fn shifted_times(
     accepted: &Accepted<Global>,
     row: &QueueBound,
@@ -264,8 +265,8 @@ fn shifted_times(
     })
 }
 
-/// Returns the traffic with phases that are `earlier` ns later. The period doubles, so that the phases lie within it. Returns `None` if the
-/// period is too long.
+/// Returns the traffic with phases that are `earlier` ns later. The period doubles, so that the phases lie in one period. Returns `None` if
+/// the period would be too long.
 fn shifted_traffic(traffic: &Traffic, earlier: u64) -> Option<Traffic>
     requires { IsTraffic traffic.now }
     ensures { IfSome result IsTraffic }
@@ -285,7 +286,8 @@ fn shifted_traffic(traffic: &Traffic, earlier: u64) -> Option<Traffic>
     })
 }
 
-/// Appends the arrival at the next hop. Appends nothing if the queue's port leads to no hop of the stream.
+/// Appends to `arrivals` the arrival at the hop after the queue of `found`. Appends nothing if the queue's port leads to no hop. Returns
+/// `None` if memory runs out.
 fn put_next_arrival(
     route: &StreamRoute<'_>,
     found: &HopTimes,
@@ -333,7 +335,7 @@ fn delay_at_port(links: &[Link], bridge: u16, port: u8) -> u64 {
     0
 }
 
-/// Returns the worst delay of a stream in ns: the greatest of all its queues.
+/// Returns the worst delay of a stream in ns: the greatest worst delay up to any of its queues.
 pub(crate) fn worst_delay(times: &[HopTimes]) -> u128 {
     let mut worst = 0;
     for hop in times {
@@ -342,7 +344,7 @@ pub(crate) fn worst_delay(times: &[HopTimes]) -> u128 {
     worst
 }
 
-/// Returns the worst delay of a stream in ns if no frame waits: the greatest of all its queues.
+/// Returns the worst delay in ns that a stream would have if no frame waited: transmission times and link delays only.
 pub(crate) fn delay_without_waits(times: &[HopTimes]) -> u128 {
     let mut shortest = 0;
     for hop in times {

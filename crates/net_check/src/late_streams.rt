@@ -10,7 +10,7 @@ use net_file::{BridgeRow, NetworkFile, StreamRow};
 use net_model::Network;
 use std::alloc::Global;
 
-/// Appends the changes that meet all deadlines, or that the search has found none.
+/// Appends the changes by which late streams meet their deadlines, or that the search has found none (`None`).
 pub(crate) fn put_changes(
     said: &mut TextBuilder<Global>,
     file: &NetworkFile<Global>,
@@ -63,7 +63,7 @@ fn put_lists_of_bridge(
     }
 }
 
-/// Appends the line of a list that begins `earlier` ns earlier: its new base time within a cycle.
+/// Appends the line of a list that is to begin `earlier` ns earlier: its new base time in ns, less than its cycle time.
 fn put_list(
     said: &mut TextBuilder<Global>,
     row: &BridgeRow<Global>,

@@ -1,4 +1,4 @@
-//! Explanations of a refused link.
+//! Explanations of a refused link: a missing port, a port with two links, or two speeds.
 
 use bridge_check::Accepted;
 use bridge_text::TextBuilder;
@@ -7,7 +7,7 @@ use net_latency::{NetworkText, put_numbers};
 use net_model::{BridgePort, Link, NetworkFault, RefusedNetwork};
 use std::alloc::Global;
 
-/// Explains why link `place`, counted from 1, is refused. Returns `None` if the link is missing or memory runs out.
+/// Explains the fault of link `place`, counted from 1, in a refused network. Returns `None` if the link is missing or memory runs out.
 pub(crate) fn explain_link_fault(
     alloc: Global,
     asked: NetworkText<'_>,
@@ -41,7 +41,7 @@ fn bridge_name<'a>(asked: NetworkText<'a>, end: BridgePort) -> &'a str {
     }
 }
 
-/// Returns the path of the plan of an end's bridge, as the network file writes it.
+/// Returns the path of the plan of an end's bridge as the network file writes it, or an empty text if the bridge is missing.
 fn bridge_plan<'a>(asked: NetworkText<'a>, end: BridgePort) -> &'a str {
     match asked.bridge(end.bridge) {
         Some(bridge) => bridge.plan(),
@@ -61,8 +61,8 @@ fn first_link_index(links: &[Link], end: BridgePort) -> u64 {
     0
 }
 
-/// Appends the position of an end of link `place`, and the end as the file writes it. All explanations of links except unequal speeds begin
-/// like this.
+/// Appends the position of the end `field` of link `place`, and this end as the file writes it. All explanations of links begin like this,
+/// except for unequal speeds.
 fn put_end(
     said: &mut TextBuilder<Global>,
     asked: NetworkText<'_>,

@@ -1,10 +1,13 @@
-//! Network files: reading, checking and their lines.
+//! The command `net check`: reads a network file and its plans, checks the network, and prints its lines.
 ghost use Rattle.std.specs.Prelude.{◌≡◌, ◌≤◌, ℕ, All, List, None, Ok, Vec, length, map, IfOk, IfErr, OnOk, string_bytes};
+ghost use Rattle.bridge_config.specs.Model.{Plan};
 ghost use Rattle.net_file.specs.Document.{network_of_text};
 ghost use Rattle.net_file.specs.Model.{Stream};
 ghost use Rattle.net_model.specs.declared.links.StreamHop.{StreamHop as Hop};
 ghost use Rattle.net_model.specs.Faults.{first_fault};
+ghost use Rattle.net_latency.specs.declared.bounds.QueueBound.{QueueBound as Bound};
 ghost use Rattle.net_latency.specs.Bounds.{HasValidPort};
+ghost use Rattle.net_latency.specs.DeliveredStreams.{DeliversStreams};
 ghost use Rattle.net_check.specs.Warnings.{AreWarnings};
 ghost use Rattle.app_failure.specs.Jobs.{Accepts};
 ghost use Rattle.net_check.specs.Networks.{AddsPlanAt, AreLinesOfNetwork, ArePlansAt, EndsNetwork, EndsPlanOf, EndsPlans, EndsText, IsNetworkOfFile, IsNetworkAt, IsPlanAt, PrintsNetwork, RefusesNetwork, RefusesPeriods, RefusesPlanBy, RefusesTextBy, SaysPlan, SaysText, accepted_line, beside, count_hops, is_absolute, link_row_value, paths_of};
@@ -24,7 +27,7 @@ use net_latency::{
 use net_model::{BridgePort, Link, Network, StreamHop, check_network};
 use std::alloc::{Allocator, Global};
 
-/// Exit status of a plan that is refused. `plan_failure` tells a refused plan from memory that ran out by it.
+/// Exit status of a refused plan. By it, `plan_failure` distinguishes a refused plan from memory that ran out.
 const REFUSED: u8 = 1;
 
 /// Converts the links of a network file to the links of `net_model`.
@@ -72,7 +75,8 @@ pub(crate) fn network_streams<A: Allocator + Copy>(
     Ok(streams)
 }
 
-/// Returns the network if the period of each talker suits the plans, otherwise the fault of the first stream whose period doesn't.
+/// Returns the network if each talker's period is a multiple of the cycles on its route. Otherwise returns the fault of the first stream
+/// whose period isn't.
 fn check_periods<A: Allocator + Copy>(
     heap: Global,
     file: &NetworkFile<A>,
@@ -92,7 +96,7 @@ fn check_periods<A: Allocator + Copy>(
     }
 }
 
-/// Checks a network file with its plans: streams must be closed, and periods must suit the plans.
+/// Checks a network file with its plans: tests of links and streams, then the periods of talkers. Returns the accepted network.
 ///
 /// Returns `Network` with the line of the first fault, or `NoMemory`.
 pub fn check_network_file<A: Allocator + Copy>(
@@ -158,8 +162,8 @@ fn accepted_line<A: Allocator + Copy>(
     )?)
 }
 
-/// Returns the lines of an accepted network: its numbers of parts, and the delays of each stream. A stream without periodic talker has its
-/// bound.
+/// Returns the lines of an accepted network: the numbers of its bridges, links, streams and hops, then a line for each stream with its
+/// delays and bound.
 fn network_lines<A: Allocator + Copy>(
     alloc: A,
     heap: Global,
@@ -233,7 +237,8 @@ fn is_absolute(path: &str) -> bool
     path.starts_with('/')
 }
 
-/// Returns the path of `file`. A relative path counts from the folder of the file at `path`, so that a network with its plans can be moved.
+/// Returns the path of the plan file `file` of the network file at `path`. A relative path counts from the network file's folder, so that
+/// both can be moved together.
 pub fn sibling_path(alloc: Global, path: &str, file: &str) -> Result<String, NoMemory>
     ensures { IfOk result (λ place. string_bytes place ≡ beside path.now file.now) }
 {
@@ -246,8 +251,8 @@ pub fn sibling_path(alloc: Global, path: &str, file: &str) -> Result<String, NoM
     }
 }
 
-/// Returns the program's fault for a refused plan: a line with the bridge's name, then the plan's own line. If the plan's fault is lack of
-/// memory, this stays the fault.
+/// Returns the program's fault for a refused plan: a line with the bridge's name, then the plan's own fault line. Returns `NoMemory` if
+/// memory ran out for the plan.
 #[tactic(auto, unfolding(crate::specs::Networks::plan_lines))]
 fn plan_failure(alloc: Global, name: &str, fault: &Failure) -> Failure
     ensures { SaysPlan name.now fault.now result }
@@ -264,7 +269,7 @@ fn plan_failure(alloc: Global, name: &str, fault: &Failure) -> Failure
     }
 }
 
-/// Returns the accepted plan of a text, or the network's fault with the bridge's name.
+/// Returns the accepted plan of a text, or the program's fault with the bridge's name.
 fn check_bridge_plan(alloc: Global, name: &str, text: &[u8]) -> Result<Accepted<Global>, Failure>
     ensures accepts { IfOk result (Accepts text.now) }
     ensures refused { IfErr result (RefusesPlanBy Global name.now text.now) }
@@ -382,7 +387,14 @@ fn describe_network<A: Allocator + Copy>(
     requires few { length network.now.plans ≤ 64 }
     ensures lines { IfOk result (λ said. AreLinesOfNetwork file.now network.now (string_bytes said.lines) said.kept) }
     ensures told { IfOk result (λ said. AreWarnings file.now network.now (string_bytes said.told)) }
+    ensures delivered { (plans : List (Plan A)) (bounds : List (Vec Bound A))
+        → IsNetworkOfFile file.now plans network.now
+        → first_fault network.now ≡ None
+        → AreQueueBoundsOfPlans network.now.plans bounds
+        → DeliversStreams network.now bounds file.now.streams }
 {
+    let _rows = file.streams();
+    let _hops = network.streams();
     let Ok(bounds) = all_queue_bounds(alloc, network.plans()) else {
         return Err(NoMemory);
     };

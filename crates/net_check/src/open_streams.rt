@@ -25,9 +25,9 @@ struct OpenStream {
     hop: usize,
     /// Port of the hop.
     port: u8,
-    /// Filter of the stray frames at the sender, or `None` if no filter matches.
+    /// Filter of the stray frames at the sending bridge, the bridge at the other end of the link, or `None` if no filter matches.
     filter: Option<u32>,
-    /// Port of the sender on which the stray frames arrive.
+    /// Port of the sending bridge on which the stray frames arrive.
     from: u8,
 }
 
@@ -94,8 +94,8 @@ fn is_hop<A: Allocator + Copy>(streams: &[Vec<StreamHop, A>], bridge: u16, filte
     false
 }
 
-/// Whether frames of a hop of the stream may arrive on this port. The port must have a link, and a hop's frames must be able to leave by
-/// the link's other end.
+/// Whether frames of a hop of the stream may arrive on this port. The port has a link, and at the link's other end a hop's frames can leave
+/// by the linked port.
 fn is_fed<A: Allocator + Copy>(
     plans: &[Accepted<A>],
     links: &[Link],
@@ -121,8 +121,8 @@ fn is_fed<A: Allocator + Copy>(
     false
 }
 
-/// Whether the filter of one of these hops has this handle.
-fn is_of_stream<A: Allocator + Copy>(
+/// Whether the filter of one of these hops has the handle `handle`.
+fn is_handle_of_hop<A: Allocator + Copy>(
     plans: &[Accepted<A>],
     hops: &[StreamHop],
     handle: Option<u32>,
@@ -148,8 +148,8 @@ fn can_leave_by_port<A: Allocator + Copy>(plan: &Plan<A>, filter: &FilterPlan, p
     }
 }
 
-/// Whether the stray frames' filter is likely a missing hop. It is protected and in no stream, and it has a hop's handle or the stream
-/// feeds it.
+/// Whether the stray frames' filter is likely a forgotten hop. It is protected and in no stream, and it has a hop's handle, or frames of
+/// the stream may arrive on its port.
 fn is_left_out(
     refused: &RefusedNetwork<Global>,
     hops: &[StreamHop],
@@ -166,11 +166,11 @@ fn is_left_out(
     if !filter.protected || is_hop(refused.streams.as_slice(), end.bridge, number) {
         return false;
     }
-    is_of_stream(plans, hops, filter.handle)
+    is_handle_of_hop(plans, hops, filter.handle)
         || is_fed(plans, refused.links.as_slice(), hops, end.bridge, open.from)
 }
 
-/// Appends the remedy to add the missing hop, and the heading of the other remedies.
+/// Appends the remedy to add the forgotten hop to the stream, and the heading of the other remedies.
 fn put_left_out<A: Allocator + Copy>(
     said: &mut TextBuilder<Global>,
     bridges: &[BridgeRow<A>],

@@ -1,4 +1,4 @@
-//! Explanations of streams whose frames may be refused: the hop and the condition.
+//! Explanations of streams whose frames may be refused: the first such hop, and the condition that fails there.
 ghost use Rattle.std.specs.Prelude.{◌≤◌, All, IfSome, length};
 ghost use Rattle.std.specs.Option.{ForSome};
 ghost use Rattle.net_file.specs.Rules.{IsTalker};
@@ -19,7 +19,7 @@ use net_latency::{
 use net_model::{Link, Network, StreamHop};
 use std::alloc::Global;
 
-/// Appends a sentence for each of these streams that has a periodic talker whose frames may be refused: the first such hop, and the condition
+/// Appends a sentence for each stream whose periodic talker's frames may be refused: the first hop that may refuse them, and the condition
 /// that fails.
 pub(crate) fn put_refusable_streams(
     alloc: Global,
@@ -107,8 +107,8 @@ fn put_start(
     );
 }
 
-/// Returns the traffic of a talker at hop `place`, from the delays up to the hop before. Returns `None` if its phases lie in two periods or
-/// no link leads to the hop.
+/// Returns the traffic of a talker at hop `place`, from the delays `before` up to the hop before. Returns `None` if its phases lie in two
+/// periods or no link leads to the hop.
 fn hop_traffic(
     links: &[Link],
     hops: &[StreamHop],
@@ -128,8 +128,8 @@ fn hop_traffic(
     traffic_with_phases(talker, phases.from, phases.to)
 }
 
-/// Returns the phases of arrivals over a link with this delay in ns. They count from the start of the earliest arrival's period. The second
-/// value is the time in ns to this period.
+/// Returns the phases of arrivals over a link of `delay` ns, from the start of the earliest arrival's period, and the time in ns from the
+/// period of `done` to this period.
 pub(crate) fn phases_after_link(done: Phases, delay: u64, period: u64) -> (Phases, u128) {
     let start = u128::from(done.from).saturating_add(u128::from(delay));
     let end = u128::from(done.to).saturating_add(u128::from(delay));
@@ -173,8 +173,8 @@ fn link_delay(links: &[Link], hops: &[StreamHop], place: usize) -> Option<u64> {
     None
 }
 
-/// Whether a link leads to each hop up to `place` from the hop before. Only then the delays of the stream up to a hop give the phases
-/// there.
+/// Whether each hop up to `place` has a link to the hop before it. Only then do the delays up to a hop determine the phases at the next
+/// one.
 fn is_chain(links: &[Link], hops: &[StreamHop], place: usize) -> bool {
     for next in 1..=place {
         if link_delay(links, hops, next).is_none() {
@@ -239,8 +239,8 @@ fn put_hop(
     }
 }
 
-/// Appends the first condition that fails for this traffic at a hop. `has_figures` is true if the delays of the stream up to this hop are
-/// known; then the next filter may differ.
+/// Appends the first condition that fails for this traffic at a hop. If delays up to it are known (`has_figures`) and its filter passes the
+/// traffic, it may miss frames of the hop before.
 fn put_condition(
     said: &mut TextBuilder<Global>,
     plan: &Plan<Global>,

@@ -11,8 +11,7 @@ use bridge_filter::FilterPlan;
 use bridge_ident::StreamEntry;
 use bridge_limits::NoMemory;
 use net_file::{BridgeRow, LinkRow, NetworkFile, StreamRow};
-use net_loops::{ForwardingLoop, find_forwarding_loops};
-use net_model::{Network, find_plan};
+use net_model::{ForwardingLoop, Network, find_forwarding_loops, find_plan};
 use std::alloc::{AllocError, Allocator, Global};
 
 /// Returns the number of a VLAN, or `none` for frames whose tag names no VLAN.
@@ -65,7 +64,7 @@ fn push_loop_words(
     )
 }
 
-/// Appends the warning of one group of frames that may loop, with a port where they arrive again.
+/// Appends the warning about one group of frames that may loop, with a port at which they can arrive again and again.
 fn push_loop<A: Allocator + Copy>(
     heap: Global,
     text: &mut String,
@@ -98,7 +97,7 @@ pub(crate) fn push_loops<A: Allocator + Copy>(
     Ok(())
 }
 
-/// Whether one of these streams has this filter of a bridge as a hop.
+/// Whether one of these streams has filter `filter` of the bridge with index `bridge` as a hop.
 fn has_hop<A: Allocator + Copy>(streams: &[StreamRow<A>], bridge: u16, filter: u32) -> bool
     ensures { result ≡ spec.has_hop streams.now bridge filter }
 {
@@ -110,7 +109,7 @@ fn has_hop<A: Allocator + Copy>(streams: &[StreamRow<A>], bridge: u16, filter: u
     false
 }
 
-/// Whether one of these hops is this filter of a bridge.
+/// Whether one of these hops is filter `filter` of the bridge with index `bridge`.
 fn is_hop(hops: &[(u16, u32)], bridge: u16, filter: u32) -> bool
     ensures { result ≡ spec.is_hop hops.now bridge filter }
 {
@@ -127,14 +126,14 @@ fn has_link(links: &[LinkRow], bridge: u16, port: u8) -> bool
     })
 }
 
-/// Whether one of these entries has this handle and stands on a linked port.
+/// Whether one of these entries has this handle and is on a linked port.
 fn has_linked_entry(links: &[LinkRow], bridge: u16, entries: &[StreamEntry], handle: u32) -> bool
     ensures { result ≡ spec.has_linked_entry links.now bridge entries.now handle }
 {
     entries.iter().any(|entry| entry.handle == handle && has_link(links, bridge, entry.port))
 }
 
-/// Whether an entry of the plan has this handle and stands on a linked port, so that frames can get the handle over a link. Returns false
+/// Whether an entry of the plan has this handle and is on a linked port, so that frames can get the handle over a link. Returns false
 /// without a handle.
 fn is_entered_by_link<A: Allocator + Copy>(
     links: &[LinkRow],
@@ -169,7 +168,7 @@ fn is_unlisted<A: Allocator + Copy>(
     is_entered_by_link(links, bridge, plan, filter.1.handle) && !has_hop(streams, bridge, filter.0)
 }
 
-/// Appends the warning of a filter in no stream, with its bridge's name.
+/// Appends the warning about a filter that is a hop of no stream, with its bridge's name.
 #[tactic(auto, unfolding(crate::specs::Telling::unlisted_words))]
 fn push_unlisted_line(text: &mut String, name: &str, filter: u32) -> Result<(), AllocError>
     ensures { OnOk result (string_bytes text.new ≡ string_bytes text.old ++ unlisted_words name.now filter) }
@@ -195,7 +194,7 @@ fn push_unlisted_filter<A: Allocator + Copy>(
     push_unlisted_line(text, name, filter.0)
 }
 
-/// Appends the warnings of a plan's filters in no stream.
+/// Appends the warnings about a plan's filters that are hops of no stream.
 fn push_unlisted_of_plan<A: Allocator + Copy>(
     text: &mut String,
     file: &NetworkFile<A>,
@@ -212,7 +211,7 @@ fn push_unlisted_of_plan<A: Allocator + Copy>(
     Ok(())
 }
 
-/// Appends the warnings of the filters in no stream, of all plans.
+/// Appends the warnings about filters that are hops of no stream, plan by plan.
 fn push_unlisted_filters<A: Allocator + Copy>(
     text: &mut String,
     file: &NetworkFile<A>,
@@ -229,7 +228,7 @@ fn push_unlisted_filters<A: Allocator + Copy>(
     Ok(())
 }
 
-/// Returns the largest service data unit of the filter with this number. Returns `None` if the filter is missing or has no limit.
+/// Returns the limit in octets (`max_sdu`) of the filter with this number. Returns `None` if the filter is missing or has no limit.
 fn filter_sdu<A: Allocator + Copy>(plan: &Plan<A>, number: u32) -> Option<u32>
     ensures { result ≡ spec.filter_sdu (Some plan.now) number }
 {
@@ -241,7 +240,8 @@ fn filter_sdu<A: Allocator + Copy>(plan: &Plan<A>, number: u32) -> Option<u32>
     None
 }
 
-/// Returns the largest service data unit of a hop's filter. Returns `None` if the hop is missing or has no limit.
+/// Returns the limit in octets (`max_sdu`) of a hop's filter. Returns `None` if the bridge or the filter is missing, or the filter has no
+/// limit.
 fn hop_sdu<A: Allocator + Copy>(plans: &[Accepted<A>], hop: (u16, u32)) -> Option<u32>
     ensures { result ≡ spec.hop_sdu plans.now hop }
 {

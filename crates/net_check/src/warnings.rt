@@ -98,8 +98,8 @@ impl<'a, A: Allocator + Copy> Named<'a, A> {
         Ok(())
     }
 
-    /// Appends these warnings for a hop of a stream with a periodic talker; nothing if the bridge is missing. Only delays of periodic
-    /// talkers depend on other devices.
+    /// Appends the warnings `may also come in` for hop `k` of stream `i`, both indexes from 0, which has a periodic talker. Appends nothing if
+    /// the bridge is missing.
     fn push_entering_hop(
         &self,
         text: &mut String,
@@ -206,7 +206,8 @@ impl<'a, A: Allocator + Copy> Named<'a, A> {
     }
 }
 
-/// Whether one of the bounds belongs to a queue of a hop. Bounds list each reachable queue, so without one the frames leave nowhere.
+/// Whether a hop's filter has a reachable queue. The delay bounds list each reachable queue, so without a bound the hop's frames can't
+/// leave the bridge.
 fn has_queue<A: Allocator + Copy>(bounds: &[Vec<QueueBound, A>], hop: StreamHop) -> bool
     ensures { result ≡ spec.has_queue bounds.now hop }
 {
@@ -247,8 +248,8 @@ fn push_warnings<A: Allocator + Copy>(
     named.push_streams(alloc, text, bounds, file.streams())
 }
 
-/// Returns the warnings of an accepted network, one a line. After the lines of `network_warnings` come, for each stream, ports for frames
-/// of other talkers and hops without queue.
+/// Returns the warnings of an accepted network, one a line. After the lines of `network_warnings`, each stream has lines about ports at
+/// which other devices' frames can enter, and hops without queue.
 pub fn all_warnings<A: Allocator + Copy>(
     alloc: A,
     heap: Global,

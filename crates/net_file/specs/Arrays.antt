@@ -1,4 +1,4 @@
--- Properties of the arrays of a document's sections. No public clause uses them.
+-- Properties of the arrays of a document's sections. No contract of a public function uses them.
 use Rattle.std.specs.Prelude.{◌≡◌, ◌<◌, ◌≤◌, true, length}
 use Rattle.toml.specs.View.{items_view}
 use Rattle.bridge_schema.specs.Readers.{are_tables}

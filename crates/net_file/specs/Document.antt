@@ -31,7 +31,7 @@ pub record Arrays : Type 0 where
 abbrev pub no_bridges : NetFault
 no_bridges = fault.Missing (record { section = section.Top; index = 0; field = field.Bridge })
 
--- First pass: takes the sections as arrays of tables, or returns the first fault. No instance is read yet.
+-- Reads the three sections as arrays of tables, or gives the first fault of the top. It reads no instance yet.
 unfoldable pub read_arrays : Members → Result Arrays NetFault
 read_arrays members = do
   keys ← provided (has_only_sections net_sections members) (fault.UnknownKey section.Top 0)
@@ -41,7 +41,8 @@ read_arrays members = do
   streams ← section_items section.Stream members
   Ok (record { bridges = bridges; links = links; streams = streams })
 
--- Second pass: reads the instances, section by section. An instance may depend on earlier ones.
+-- Reads the instances of the three sections, section by section, or gives the first fault. An instance may depend on
+-- earlier ones.
 unfoldable pub read_sections : Arrays → Result Network NetFault
 read_sections arrays = do
   bridges ← instances read_bridge arrays.bridges

@@ -19,15 +19,16 @@ abbrev pub is_no_memory : NetFault → Bool
 is_no_memory fault.NoMemory = true
 is_no_memory _ = false
 
--- Holds if the result of a test is the fault `e` that the definition finds, or memory ran out.
+-- Holds if the result of a call is the fault `e`, or memory ran out.
 abbrev pub Fails : {Y : Type 0} → NetFault → Result Y NetFault → Type 0
 Fails = reading.Fails is_no_memory
 
--- Holds if a call's value, viewed as data, or its fault is the result of the reading, or memory ran out.
+-- Holds if the result of a call, with its value converted by a function, is the result that a definition gives, or
+-- memory ran out.
 abbrev pub GivesAs : {X Y : Type 0} → (X → Y) → Result X NetFault → Result Y NetFault → Type 0
 GivesAs = reading.GivesAs is_no_memory
 
--- Holds if a call's result is the result of the reading, or memory ran out.
+-- Holds if the result of a call is the result that a definition gives, or memory ran out.
 abbrev pub Gives : {X : Type 0} → Result X NetFault → Result X NetFault → Type 0
 Gives = reading.Gives is_no_memory
 
@@ -45,7 +46,7 @@ name_text _ = Err flaw.WrongKind
 
 -- PRESENCE
 
--- The fault of the key at this location, if its value isn't allowed for the reason `flaw`.
+-- The fault of the key at location `place` whose value has this flaw.
 abbrev pub flaw_fault : NetKeyLocation → Flaw → NetFault
 flaw_fault place flaw.WrongKind = fault.WrongKind place
 flaw_fault place flaw.OutOfRange = fault.OutOfRange place
@@ -75,7 +76,7 @@ read_required place kind members = required_value place kind (get_member (key_na
 unfoldable pub read_optional : {A : Type 0} → NetKeyLocation → (Data → Result A Flaw) → Members → Result (Option A) NetFault
 read_optional place kind members = optional_value place kind (get_member (key_name place.field) members)
 
--- Reads a key of a table; absent keys have the default.
+-- Reads a key of a table; an absent key gives the value `default`.
 unfoldable pub read_or_default : {A : Type 0} → A → NetKeyLocation → (Data → Result A Flaw) → Members → Result A NetFault
 read_or_default default place kind members = value_or_default default place kind (get_member (key_name place.field) members)
 

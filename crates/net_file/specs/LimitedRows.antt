@@ -51,7 +51,7 @@ read_rate index members = do
   rate ← read_required (row_key index field.Rate) (number_in_range 0 (10 ^ 11)) members
   Ok (limit.Rate burst rate)
 
--- Reads a number of frames, and the period for which it holds.
+-- Reads the largest number of frames in any period, 1 to 1,024, and the period in ns.
 unfoldable pub read_count : ℕ → Members → Result FrameLimit NetFault
 read_count index members = do
   frames ← read_required (row_key index field.Frames) (number_in_range 1 1024) members
@@ -68,7 +68,7 @@ abbrev pub limit_longest : FrameLimit → ℕ
 limit_longest (limit.Rate burst rate) = min LONGEST_FRAME (burst - 4)
 limit_longest (limit.Count frames period) = LONGEST_FRAME
 
--- Reads a row with a limit, with its number.
+-- Reads the row with a limit and with number `index` from its table, or gives its first fault.
 unfoldable pub read_limited_row : ℕ → Members → Result LimitedRow NetFault
 read_limited_row index members = do
   keys ← provided (has_limited_keys members) (fault.UnknownKey section.Traffic index)

@@ -22,7 +22,7 @@ refusal_text kind name = kind ++ (codes " refused: " ++ name)
 abbrev pub refusal_with_detail : List ℕ → List ℕ → List ℕ → List ℕ
 refusal_with_detail kind name place = kind ++ (codes " refused: " ++ (name ++ (codes " " ++ place)))
 
--- The fault line of a file of this kind.
+-- The fault line of a file. The kind of the file is `network` or `traffic`.
 abbrev pub refusal_line : List ℕ → NetFault → List ℕ
 refusal_line kind fault.Syntax = refusal_text kind (codes "Syntax")
 refusal_line kind fault.TooLong = refusal_text kind (codes "TooLong")

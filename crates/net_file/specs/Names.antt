@@ -21,7 +21,7 @@ is_valid_name s = (nat_le 1 (length s) && nat_le (length s) 32) && list_all is_n
 abbrev pub is_numeral : List ℕ → Bool
 is_numeral s = nat_lt 0 (length s) && all_ascii_digits s
 
--- The number that decimal digits write, if it is from `low` to `high`.
+-- The number that a text of decimal digits stands for, if it is from `low` to `high`, otherwise `None`.
 abbrev pub parse_number : ℕ → ℕ → List ℕ → Option ℕ
 parse_number low high s =
     if is_numeral s && (nat_le low (digits_value 10 s) && nat_le (digits_value 10 s) high) then Some (digits_value 10 s) else None
@@ -35,7 +35,8 @@ pub record NumberedName : Type 0 where
 abbrev pub is_dot : ℕ → Bool
 is_dot c = c == 46
 
--- The text before the first dot, and the number after the dot if it is from `low` to `high`.
+-- The text before the first dot and the number after it, or `None` without a dot or without a number from `low` to
+-- `high`.
 abbrev pub split_numbered_name : ℕ → ℕ → List ℕ → Option NumberedName
 split_numbered_name low high s =
     if nat_lt (position_or_len is_dot s) (length s)

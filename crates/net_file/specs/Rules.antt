@@ -1,4 +1,4 @@
--- Rules of the instances of a network's sections.
+-- Rules that the bridges, links and streams of a network file obey.
 use Rattle.std.specs.Prelude.{◌≡◌, ◌≤◌, ◌<◌, ◌^◌, ℕ, Bool, true, not, List, length, All}
 use Rattle.std.specs.Option.{ForSome}
 use Rattle.std.specs.List.{list_any}
@@ -35,7 +35,7 @@ pub record IsLink (count : ℕ) (link : LinkRow) : Type 0 where
   pub other : IsBridgePort count link.other
   pub delay : link.delay ≤ 10 ^ 9
 
--- Holds if a talker's phases are ordered and lie in the period, and its lengths are ordered and allowed.
+-- Holds if a talker's phases are ordered and less than the period, and its lengths are ordered and allowed.
 pub record IsTalker (t : Talker) : Type 0 where
   pub phases : t.from ≤ t.to
   pub within : t.to < t.period

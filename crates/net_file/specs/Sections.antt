@@ -26,7 +26,7 @@ no_duplicate stands e = provided (not stands) e
 
 -- BRIDGE
 
--- Reads a bridge, with the earlier bridges and its number.
+-- Reads bridge `index` from its table, or gives its first fault. None of the bridges in `earlier` may have its name.
 unfoldable pub read_bridge : List Bridge → ℕ → Members → Result Bridge NetFault
 read_bridge earlier index members =
     let at : NetField → NetKeyLocation = λ key. record { section = section.Bridge; index = index; field = key } in do
@@ -43,7 +43,7 @@ unfoldable pub port_text : List Bridge → Data → Result (ℕ × ℕ) Flaw
 port_text bridges (string s) = resolve_numbered_name bridges 1 16 s
 port_text bridges _ = Err flaw.WrongKind
 
--- Reads a link between these bridges, with its number.
+-- Reads link `index` from its table, or gives its first fault. Its ends must be ports of `bridges`.
 unfoldable pub read_link : List Bridge → ℕ → Members → Result LinkRow NetFault
 read_link bridges index members =
     let at : NetField → NetKeyLocation = λ key. record { section = section.Link; index = index; field = key } in do
@@ -53,7 +53,7 @@ read_link bridges index members =
       delay ← read_or_default 0 (at field.Delay) (number_in_range 0 (10 ^ 9)) members
       Ok (record { one = one; other = other; delay = delay })
 
--- Reads a link between these bridges, with the earlier links and its number.
+-- Reads link `index` as one step of reading the section. Links don't depend on the `earlier` ones.
 abbrev pub read_link_in_list : List Bridge → List LinkRow → ℕ → Members → Result LinkRow NetFault
 read_link_in_list bridges earlier index members = read_link bridges index members
 
@@ -81,7 +81,8 @@ abbrev pub resolve_more_hops : NetKeyLocation → List Bridge → List (ℕ × �
 resolve_more_hops place bridges front no_items = Ok front
 resolve_more_hops place bridges front (item d ds) = value_or_fault place (filter_text bridges d) >>= λ h. resolve_more_hops place bridges (front ++ h ∷ []) ds
 
--- Reads the hops of an array. First come the kinds of all items, then their number and form, then the bridges.
+-- The hops in the value of the key `hops`, or its fault. Kind, number and form of all items are tested before any
+-- bridge is looked up.
 abbrev pub hops_value : NetKeyLocation → List Bridge → Option Data → Result (List (ℕ × ℕ)) NetFault
 hops_value place bridges None = Err (fault.Missing place)
 hops_value place bridges (Some (array items)) =
@@ -123,7 +124,8 @@ read_talker index members =
 abbrev pub read_optional_talker : ℕ → Members → Result (Option Talker) NetFault
 read_optional_talker index members = if has_any_key talker_keys members then (read_talker index members >>= λ t. Ok (Some t)) else Ok None
 
--- Reads a stream, with the bridges, the earlier streams and its number.
+-- Reads stream `index` from its table, or gives its first fault. Its hops are at `bridges`, and no stream in `earlier`
+-- may have its name.
 unfoldable pub read_stream : List Bridge → List Stream → ℕ → Members → Result Stream NetFault
 read_stream bridges earlier index members =
     let at : NetField → NetKeyLocation = λ key. record { section = section.Stream; index = index; field = key } in do

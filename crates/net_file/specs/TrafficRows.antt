@@ -24,7 +24,7 @@ use Rattle.net_file.specs.LimitedRows.{IsLimitedRow, is_limited, read_limited_ro
 abbrev pub row_keys : List NetField
 row_keys = field.Filter ∷ field.Period ∷ field.From ∷ field.To ∷ field.Least ∷ field.Longest ∷ field.Deadline ∷ []
 
--- Reads a row with periodic traffic, with its number. If the first phase isn't less than the period, the fault names the period.
+-- Reads row `index` with periodic traffic. If the first phase isn't less than the period, the fault names the period.
 unfoldable pub read_row : ℕ → Members → Result TrafficRow NetFault
 read_row index members =
     let at : NetField → NetKeyLocation = λ key. record { section = section.Traffic; index = index; field = key } in do
@@ -58,7 +58,7 @@ read_talker_row index members =
 abbrev pub has_filter : List TalkerRow → ℕ → Bool
 has_filter rows filter = list_any (λ r. nat_eq (row_filter r) filter) rows
 
--- Reads a row, with the earlier rows and its number. A filter has at most one row.
+-- Reads row `index`, or gives its first fault. No earlier row may have its filter.
 abbrev pub read_row_in_list : List TalkerRow → ℕ → Members → Result TalkerRow NetFault
 read_row_in_list earlier index members = do
   row ← read_talker_row index members

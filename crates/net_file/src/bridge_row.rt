@@ -15,7 +15,7 @@ use std::alloc::Allocator;
 use std::marker::Model;
 use toml::Table;
 
-/// A bridge of a network file: its name and the path of its plan's file. Contracts can name both.
+/// A bridge of a network file: its name and the path of its plan's file.
 #[derive(Drop)]
 pub struct BridgeRow<A: Allocator + Copy> {
     name: String<A>,
@@ -47,7 +47,7 @@ impl<A: Allocator + Copy> BridgeRow<A> {
     }
 }
 
-/// Whether one of these bridges has this name. `read_bridge` refuses a second bridge of a name as `Duplicate`.
+/// Whether one of these bridges has this name. `read_bridge` then refuses another bridge of this name as `Duplicate`.
 fn has_bridge<A: Allocator + Copy>(bridges: &[BridgeRow<A>], name: &str) -> bool
     ensures { result ≡ rules.has_bridge bridges.now name.now }
 {
@@ -70,7 +70,7 @@ fn bridge_key(index: u32, field: NetField) -> NetKeyLocation
     }
 }
 
-/// Reads bridge `index`, from 1, from its table. Returns the first fault: an earlier bridge may not have its name.
+/// Reads bridge `index`, from 1, from its table, or returns its first fault. None of the bridges in `earlier` may have its name.
 #[tactic(auto, unfolding(crate::specs::Sections::read_bridge))]
 fn read_bridge<A: Allocator + Copy>(
     alloc: A,

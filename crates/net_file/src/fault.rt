@@ -9,7 +9,7 @@ use bridge_schema::{Flaw, ReaderFault, Spell, TextSection};
 use std::alloc::{AllocError, AllocFailed};
 use thiserror::Error;
 
-/// Sections: the top of a file, a network's sections in the order of reading, and the section of traffic.
+/// Sections of files: the top of a file, the three sections of network files in the order of reading, and the section of traffic files.
 #[derive(Clone, Copy, Debug)]
 pub enum NetSection {
     /// Top of the file.
@@ -39,14 +39,14 @@ impl NetSection {
     }
 }
 
-/// Keys of the tables of networks and traffic, and the one required key at a network's top.
+/// Keys of the tables of network and traffic files, and the only required key at the top of a network file, `bridge`.
 #[derive(Clone, Copy, Debug, PartialEq, Eq)]
 pub enum NetField {
     /// Section of bridges, at the top.
     Bridge,
     /// Name of a bridge or of a stream.
     Name,
-    /// File of a bridge's plan.
+    /// Path of the file of a bridge's plan.
     Plan,
     /// Port at one end of a link.
     One,
@@ -62,7 +62,7 @@ pub enum NetField {
     Burst,
     /// Rate of a talker in bit/s.
     Rate,
-    /// Largest number of a talker's frames in any period.
+    /// Largest number of frames that a talker sends in any period.
     Frames,
     /// Period in ns.
     Period,

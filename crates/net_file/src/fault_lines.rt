@@ -13,8 +13,8 @@ pub fn fault_line<A: Allocator + Copy>(alloc: A, fault: &NetFault) -> Result<Str
     refusal_line(alloc, "network", fault)
 }
 
-/// Returns the fault line of a file of the kind `kind` without line feed, for example `traffic refused: OutOfRange traffic 2 period` or `no
-/// memory`.
+/// Returns a file's fault line without line feed, for example `traffic refused: OutOfRange traffic 2 period` or `no memory`. `kind` is
+/// `network` or `traffic`.
 pub fn refusal_line<A: Allocator + Copy>(
     alloc: A,
     kind: &str,

@@ -1,4 +1,4 @@
-//! Keys of the tables of networks and traffic, and their ranges. The readers and the explanations of faults use them.
+//! Keys of the tables of network and traffic files, and the ranges of their values. The readers and the explanations of faults use them.
 
 use crate::fault::{NetField, NetSection};
 use bridge_limits::{END_OF_TIME, LONGEST_FRAME};
@@ -88,7 +88,7 @@ pub const TALKER_KEYS: [NetField; 5] = [
     NetField::Longest,
 ];
 
-/// Keys of a row of traffic, in the order of explanations. No row has all of them.
+/// All keys of traffic rows, in the order of explanations. No row can have all of them, because its kind of traffic excludes some.
 pub const TRAFFIC_KEYS: [NetField; 10] = [
     NetField::Filter,
     NetField::Burst,
@@ -139,7 +139,7 @@ pub const RATE_KEYS: [NetField; 2] = [NetField::Burst, NetField::Rate];
 /// Keys that limit a talker's frames. A row with none of them has periodic traffic.
 pub const LIMIT_KEYS: [NetField; 3] = [NetField::Burst, NetField::Rate, NetField::Frames];
 
-/// Returns the keys of a section's tables, in the order of explanations.
+/// Returns the keys that the tables of a section may have, in the order of explanations. The top has none.
 pub fn section_fields(section: NetSection) -> &'static [NetField] {
     match section {
         NetSection::Top => &[],
@@ -163,7 +163,7 @@ pub enum NetAllowed {
     Port,
     /// List of filters: each has the name of a bridge, a dot and a filter number.
     Hops,
-    /// Filter number in this range.
+    /// Filter number, in this range.
     Number(NumberRange),
     /// Time in ns.
     Time(NumberRange),
@@ -177,7 +177,8 @@ pub enum NetAllowed {
     Frames(NumberRange),
 }
 
-/// Returns the values that a key allows, for explanations of faults. A talker's phases, period and lengths limit each other, too.
+/// Returns the values that a key allows, for explanations of faults. Other keys can restrict them further: a talker's phases must be less
+/// than its period.
 pub fn allowed_value(field: NetField) -> NetAllowed {
     match field {
         NetField::Bridge => NetAllowed::Tables,

@@ -20,7 +20,7 @@ use toml::Table;
 /// Limit of the frames that a talker sends.
 #[derive(Clone, Copy)]
 pub enum FrameLimit {
-    /// In any w ns at most the burst, and what the rate gives in w ns.
+    /// In any w ns, at most the metered octets of the burst and those that the rate allows in w ns.
     Rate {
         /// Burst in metered octets: frames with their frame check sequences, each at least 64.
         burst: u64,
@@ -29,14 +29,14 @@ pub enum FrameLimit {
     },
     /// A number of frames in any period.
     Count {
-        /// Largest number of frames that are sent in less than `period` ns.
+        /// Largest number of frames that the talker sends in less than `period` ns.
         frames: u64,
         /// Period in ns.
         period: u64,
     },
 }
 
-/// A row of a traffic file with a limit of its frames. Its filter belongs to a group.
+/// A row of a traffic file with a limit of its frames. Its filter must belong to a group of the plan.
 #[derive(Clone, Copy)]
 pub struct LimitedRow {
     /// Number of the filter whose frames the row describes.
@@ -51,7 +51,7 @@ pub struct LimitedRow {
     pub deadline: Option<u64>,
 }
 
-/// Whether a row's table has a key that limits the frames.
+/// Whether a row's table has a key that limits the frames (`LIMIT_KEYS`). Otherwise the row has periodic traffic.
 pub(crate) fn is_limited(table: &Table) -> bool
     ensures { result ≡ spec.is_limited (table_view table.now) }
 {

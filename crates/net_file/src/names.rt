@@ -30,7 +30,8 @@ pub(crate) fn is_valid_name(text: &str) -> bool
     1 <= octets.len() && octets.len() <= LONGEST_NAME && are_name_characters(octets)
 }
 
-/// Returns the number that decimal digits write. Returns `None` for other texts, a plus sign, or a number outside `low` to `high`.
+/// Returns the number that a text of decimal digits stands for. Returns `None` for other texts, for a plus sign, and for numbers outside
+/// `low` to `high`.
 #[tactic(auto, using(crate::proofs::Numerals::numeral_from, crate::proofs::Numerals::numeral_to))]
 fn parse_number(text: &str, low: u32, high: u32) -> Option<u32>
     ensures { result ≡ spec.parse_number low high text.now }
@@ -75,8 +76,8 @@ fn bridge_index<A: Allocator + Copy>(bridges: &[BridgeRow<A>], name: &str) -> Op
     None
 }
 
-/// Returns the bridge's index and the number of a port or a filter. A text of another form is `OutOfRange`; a missing bridge is
-/// `Unresolved`.
+/// Returns the bridge's index and the number that a text such as `left.3` names: a port or a filter. Another form is `OutOfRange`, a
+/// missing bridge `Unresolved`.
 pub(crate) fn resolve_numbered_name<A: Allocator + Copy>(
     bridges: &[BridgeRow<A>],
     low: u32,

@@ -65,7 +65,7 @@ impl<A: Allocator + Copy> NetworkFile<A> {
     }
 }
 
-/// Arrays of a network's three sections, not yet read. Keys of the top are tested before any instance is read.
+/// Arrays of a network's three sections, before any instance is read, because the keys at the top are tested first.
 #[derive(Clone, Copy)]
 struct SectionArrays<'a> {
     bridges: &'a [Value],

@@ -12,7 +12,8 @@ use crate::names::is_valid_name;
 use bridge_schema::{ValueKind, get_value, optional_value, required_value, value_or_default};
 use toml::{Table, Value};
 
-/// Reads the value of a required key. Returns the fault `Missing` if the key is absent. Allocates no memory.
+/// Reads the value of the required key at `place` from its table. `kind` defines the allowed values. Returns the fault `Missing` if the key
+/// is absent. Allocates no memory.
 #[tactic(auto, unfolding(crate::specs::Keys::read_required))]
 pub fn read_required<K: ValueKind>(
     table: &Table,
@@ -26,7 +27,8 @@ pub fn read_required<K: ValueKind>(
     required_value(place, kind, get_value(table, place.field.key()))
 }
 
-/// Reads the value of an optional key. Returns `None` if the key is absent. Allocates no memory.
+/// Reads the value of the optional key at `place` from its table. `kind` defines the allowed values. Returns `None` if the key is absent.
+/// Allocates no memory.
 #[tactic(auto, unfolding(crate::specs::Keys::read_optional))]
 pub fn read_optional<K: ValueKind>(
     table: &Table,
@@ -59,7 +61,8 @@ where
 }
 
 #[tactic(auto, unfolding(crate::specs::Keys::any_text))]
-/// Returns the text of a required value. The fault is `Missing` without a value, and `WrongKind` for another kind.
+/// Returns the text that is the value of a required key. The fault is `Missing` without a value, and `WrongKind` for a value of another
+/// kind.
 fn text_value<'a>(place: NetKeyLocation, value: Option<&'a Value>) -> Result<&'a str, NetFault>
     ensures reads { GivesAs (λ x. x.now) result (spec.required_value place spec.any_text
         (option_map (λ v. view v.now) value.entry)) }
@@ -82,7 +85,8 @@ pub(crate) fn read_text<'a>(table: &'a Table, place: NetKeyLocation) -> Result<&
 }
 
 #[tactic(auto, unfolding(crate::specs::Keys::name_text))]
-/// Returns the name of a required value. Other texts are `OutOfRange`; other kinds of values are `WrongKind`.
+/// Returns the name that is the value of a required key. The fault is `Missing` without a value, `OutOfRange` for another text, and
+/// `WrongKind` for another kind.
 fn name_value<'a>(place: NetKeyLocation, value: Option<&'a Value>) -> Result<&'a str, NetFault>
     ensures reads { GivesAs (λ x. x.now) result (spec.required_value place spec.name_text
         (option_map (λ v. view v.now) value.entry)) }

@@ -26,7 +26,7 @@ use toml::{Table, Value};
 /// Largest filter number.
 const MAX_FILTER_NUMBER: u32 = u32::MAX;
 
-/// A stream of a network file: name, hops, optional talker and optional deadline. Contracts can name all its parts.
+/// A stream of a network file: name, hops, optional talker and optional deadline.
 #[derive(Drop)]
 pub struct StreamRow<A: Allocator + Copy> {
     name: String<A>,
@@ -64,7 +64,7 @@ impl<A: Allocator + Copy> StreamRow<A> {
         self.hops.as_slice()
     }
 
-    /// Returns the traffic of the stream's periodic talker, or `None` if the file gives no talker.
+    /// Returns the stream's periodic talker, or `None` if the stream has none in the file.
     pub fn talker(&self) -> Option<Talker>
         ensures { result ≡ self.now.talker }
     {
@@ -80,7 +80,7 @@ impl<A: Allocator + Copy> StreamRow<A> {
     }
 }
 
-/// Whether one of these streams has this name. `read_stream` refuses a second stream of a name as `Duplicate`.
+/// Whether one of these streams has this name. `read_stream` then refuses another stream of this name as `Duplicate`.
 fn has_stream<A: Allocator + Copy>(streams: &[StreamRow<A>], name: &str) -> bool
     ensures { result ≡ rules.has_stream streams.now name.now }
 {
@@ -132,7 +132,7 @@ fn has_hop_count(items: &[Value]) -> bool
     1 <= items.len() && items.len() <= MAX_HOPS
 }
 
-/// Returns the bridge's index and the filter number that a value such as `left.7` names, or why it isn't allowed.
+/// Returns the bridge's index and the filter number that a value such as `left.7` names, or why the value isn't allowed.
 fn resolve_filter<A: Allocator + Copy>(
     bridges: &[BridgeRow<A>],
     value: &Value,
@@ -166,7 +166,7 @@ fn resolve_hop<A: Allocator + Copy>(
     }
 }
 
-/// Returns the filters that the items name, in order.
+/// Returns the bridge's index and the filter number that each item names, in order, or the fault of the first item that isn't allowed.
 fn resolve_hops<A: Allocator + Copy>(
     alloc: A,
     bridges: &[BridgeRow<A>],
@@ -193,7 +193,7 @@ fn resolve_hops<A: Allocator + Copy>(
     Ok(hops)
 }
 
-/// Returns the hops that the value of the key `hops` names. Kind, number and form of all items are tested before any bridge is looked up.
+/// Returns the hops in the value of the key `hops`. It tests the kind, number and form of all items before it looks up any bridge.
 fn hops_value<A: Allocator + Copy>(
     alloc: A,
     bridges: &[BridgeRow<A>],

@@ -29,7 +29,7 @@ pub struct Talker {
     pub longest: u32,
 }
 
-/// Whether a key has a value.
+/// Whether an optional value is present. `has_any_key` calls it for the value of each key.
 fn is_present(value: Option<&Value>) -> bool
     ensures { result ≡ sections.is_present (option_map (λ v. view v.now) value.entry) }
 {
@@ -46,8 +46,8 @@ pub(crate) fn has_any_key(table: &Table, keys: &[NetField]) -> bool
     keys.iter().any(|f| is_present(get_value(table, f.key())))
 }
 
-/// Reads the traffic of stream `index`'s talker. All its keys are required; phases and lengths must be ordered, and phases less than the
-/// period.
+/// Reads the talker of stream `index`, or returns its first fault. All its keys are required. Phases and lengths must be ordered, and
+/// phases less than the period.
 #[tactic(auto, unfolding(crate::specs::Sections::read_talker))]
 fn read_talker(index: u32, table: &Table) -> Result<Talker, NetFault>
     ensures reads { Gives result (sections.read_talker index (table_view table.now)) }
@@ -91,7 +91,7 @@ fn read_talker(index: u32, table: &Table) -> Result<Talker, NetFault>
     })
 }
 
-/// Reads the traffic of a stream's talker. Returns `None` if the table has none of its keys. Allocates no memory.
+/// Reads the talker of stream `index`. Returns `None` if the stream's table has none of a talker's keys. Allocates no memory.
 pub(crate) fn read_optional_talker(index: u32, table: &Table) -> Result<Option<Talker>, NetFault>
     ensures reads { Gives result (sections.read_optional_talker index (table_view table.now)) }
     ensures talker { IfOk result (λ t. ForSome t IsTalker) }

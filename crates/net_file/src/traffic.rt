@@ -27,8 +27,8 @@ fn row_items<'a>(table: &'a Table) -> Result<&'a [Value], NetFault>
     section_items(NetSection::Traffic, table)
 }
 
-/// Reads the rows of traffic from a TOML text, or returns the first fault, row by row and key by key. `heap` holds the document, `alloc`
-/// the rows. No plan is needed.
+/// Reads the rows of a traffic file from a TOML text, or returns the first fault. `heap` holds the document, `alloc` the rows. It doesn't
+/// compare the rows with a plan.
 pub fn parse_traffic<A: Allocator + Copy>(
     alloc: A,
     heap: Global,

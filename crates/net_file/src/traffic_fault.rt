@@ -15,10 +15,10 @@ pub enum TrafficFault {
     /// divide the period.
     #[error("the text isn't traffic")]
     Text(NetFault),
-    /// The filter of this row, from 1, isn't protected, and the row has periodic traffic.
+    /// The row with this number, from 1, has periodic traffic, and its filter isn't protected.
     #[error("a filter that isn't protected")]
     NotProtected(u32),
-    /// The filter of this row, from 1, belongs to no group, and the row has a limit of its frames.
+    /// The row with this number, from 1, has a limit of its frames, and its filter belongs to no group.
     #[error("a filter that belongs to no group")]
     NotGrouped(u32),
 }

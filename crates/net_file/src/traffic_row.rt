@@ -16,7 +16,7 @@ use bridge_schema::{NUMBER, NumberRange, SectionReader, has_only};
 use std::alloc::Allocator;
 use toml::Table;
 
-/// A row of a traffic file with periodic traffic of one filter, and an optional deadline. Its filter is protected.
+/// A row of a traffic file with periodic traffic of one filter, and an optional deadline. The filter must be protected in the plan.
 #[derive(Clone, Copy)]
 pub struct TrafficRow {
     /// Number of the filter whose frames the row describes.
@@ -32,7 +32,7 @@ pub struct TrafficRow {
 pub enum TalkerRow {
     /// At most one frame in each period, between two phases.
     Periodic(TrafficRow),
-    /// Frames within a burst and a rate, or at most several in any period.
+    /// Frames within a burst and a rate, or at most a number of frames in any period.
     Limited(LimitedRow),
 }
 
@@ -118,7 +118,7 @@ fn read_talker_row(index: u32, table: &Table) -> Result<TalkerRow, NetFault>
     Ok(TalkerRow::Periodic(row))
 }
 
-/// Whether one of these rows has this filter. A filter has at most one row.
+/// Whether one of these rows has this filter. `next_row` then refuses another row of this filter as `Duplicate`.
 fn has_filter(rows: &[TalkerRow], filter: u32) -> bool
     ensures { result ≡ spec.has_filter rows.now filter }
 {

@@ -12,8 +12,8 @@ use Rattle.bridge_filter.specs.OwnEvents.{is_filter_number}
 use Rattle.bridge_filter.specs.Verdicts.{frame_filter}
 use Rattle.bridge_filter.proofs.Members.{one_number}
 use Rattle.bridge_filter.proofs.Owned.{flow_listed}
-use Rattle.bridge_work.specs.TalkerFrames.{HasFrameLimit, SentFrame, recent_sent_octets}
-use Rattle.bridge_work.proofs.TalkerFrames.{few_conform}
+use Rattle.bridge_groups.specs.TalkerFrames.{HasFrameLimit, SentFrame, recent_sent_octets}
+use Rattle.bridge_groups.proofs.TalkerFrames.{few_conform}
 use Rattle.bridge_config.specs.Model.{Plan}
 use Rattle.bridge_config.specs.Rules.{IsPlan}
 use Rattle.bridge_semantics.specs.Events.{Arrival, Arrived, Cleared, Event, arrival_filter, arrival_input, frame_destination, input_filter, metered_octets}

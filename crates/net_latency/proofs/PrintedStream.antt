@@ -1,6 +1,7 @@
 -- The frames of a talker whose stream has a printed line with delays and without `refusable` are delivered.
-use Rattle.std.proofs.Common.{◌≡◌, ℕ, true, List, Some, Vec}
+use Rattle.std.proofs.Common.{◌≡◌, ℕ, true, List, Some, Vec, map, subst}
 use Rattle.std.specs.Prelude.{slice_get}
+use Rattle.std.specs.Option.{ForSome}
 use Rattle.bridge_limits.specs.Members.{IsMember}
 use Rattle.bridge_capture.specs.Grammar.{CapturedFrame}
 use Rattle.bridge_semantics.specs.declared.outcome.Outcome.{Outcome}
@@ -9,6 +10,7 @@ use Rattle.bridge_semantics.specs.Merge.{Input, capture_inputs, input_events}
 use Rattle.bridge_bounds.specs.declared.traffic.Traffic.{Traffic}
 use Rattle.bridge_bounds.specs.Traffic.{IsTraffic}
 use Rattle.net_file.specs.declared.talker.Talker.{Talker}
+use Rattle.net_file.specs.Model.{Stream}
 use Rattle.net_file.specs.Rules.{IsTalker}
 use Rattle.net_model.specs.declared.links.StreamHop.{StreamHop}
 use Rattle.net_model.specs.NetworkParts.{NetworkParts, network_value}
@@ -17,7 +19,8 @@ use Rattle.net_latency.specs.declared.bounds.QueueBound.{QueueBound}
 use Rattle.net_latency.specs.declared.latency.StreamLatency.{StreamLatency}
 use Rattle.net_latency.specs.declared.tree.HopQueue.{HopQueue}
 use Rattle.net_latency.specs.Delivered.{AreCommands, IsAcceptedNetwork, IsDeliveredAlong, IsForwardedAlong, IsStreamOfNetwork, KeepsTalkerTraffic}
-use Rattle.net_latency.specs.Streams.{AreQueueBoundsOfPlans}
+use Rattle.net_latency.specs.DeliveredStreams.{DeliversStreams}
+use Rattle.net_latency.specs.Streams.{AreQueueBoundsOfPlans, stream_hop_value}
 use Rattle.net_latency.specs.Talkers.{IsTalkerLatency, hop_queues, talker_traffic}
 use Rattle.net_latency.proofs.ReachedQueues.{all_reached}
 use Rattle.net_latency.proofs.StreamKept.{course_of, hop_course}
@@ -40,3 +43,13 @@ printed_delivered n bounds hops talker r first q commands captures o run a out p
     let keeps = talker_keeps n hops queues first commands captures o accepted known all commanded begins c.once h.tree run t q sent in
     let frame = talker_frame n hops queues first commands captures o accepted known all commanded begins c.once h.tree run t q a sent i in
     delivered n hops queues t r first commands captures o run a out ports accepted known all commanded (talker_is talker valid) begins keeps is pass frame way
+
+-- Each stream of an accepted network whose line has delays without `refusable` is delivered.
+pub printed_streams_delivered : {A : Type 0} (n : NetworkParts A) (bounds : List (Vec QueueBound A)) (streams : List Stream)
+    → IsAcceptedNetwork n
+    → AreQueueBoundsOfPlans n.plans bounds
+    → ((s : Stream) → IsMember s streams → IsStreamOfNetwork n (map stream_hop_value s.hops))
+    → ((s : Stream) → IsMember s streams → ForSome s.talker IsTalker)
+    → DeliversStreams n bounds streams
+printed_streams_delivered n bounds streams accepted are known valid = λ s talker r i talks is pass first q commands captures o run a out ports commanded begins sent frame way.
+    printed_delivered n bounds (map stream_hop_value s.hops) talker r first q commands captures o run a out ports accepted (known s i) are ((valid s i) talker talks) is pass commanded begins sent frame way

@@ -31,12 +31,13 @@ pub record AreBounds {A : Type 0} (p : Plan A) (rows : List QueueBound) : Type 0
   pub all : (n q c : ℕ) (f : FilterPlan) → lookup (nat_eq n) p.filters ≡ Some f → f.protected ≡ true → 1 ≤ q → q ≤ 16 → c < 8 → reaches_queue p f q c ≡ true
       → (b : ℕ) × IsMember (queue_bound n q c b) rows
 
--- Holds if `b` ns is the lesser of the tight bound and, if one is found, the bound by what the stream gate passes. Every SDU has at least
+-- Holds if `b` ns is the tight bound, or a lesser bound by the octets that the stream gate passes. SDUs have at least
 -- the two octets of an EtherType.
 abbrev pub IsLeastBound : {A : Type 0} → Plan A → ℕ → ℕ → ℕ → ℕ → Type 0
 IsLeastBound p n q c b = (a : ℕ) × IsTightBound p n q c a × ((b ≡ a) ⊎ (IsGateWorkBound p n q c 2 b × (b < a)))
 
--- Holds if `b` ns is a bound below `a` for frames of at least 60 octets, by what the stream gate passes. Their SDUs have at least 44 octets.
+-- Holds if `b` ns is a bound below `a` for frames of at least 60 octets, by the octets that the stream gate passes.
+-- Their SDUs have at least 44 octets.
 abbrev pub IsPaddedBound : {A : Type 0} → Plan A → ℕ → ℕ → ℕ → ℕ → ℕ → Type 0
 IsPaddedBound p n q c a b = IsGateWorkBound p n q c 44 b × (b < a)
 
@@ -65,11 +66,13 @@ pub record HasValidPort (r : QueueBound) : Type 0 where
   pub to : r.port ≤ 16
   pub class : r.class < 8
 
--- Holds if queue `j` of filter `i` comes before queue `place` of filter `at`. All are indexes. Clauses about unfinished lists use it.
+-- Holds if queue `j` of filter `i` comes before queue `place` of filter `at`. All four are indexes. `AreBoundsSoFar`
+-- uses it.
 abbrev pub IsHandledQueue : ℕ → ℕ → ℕ → ℕ → Type 0
 IsHandledQueue i j at place = (i < at) ⊎ ((i ≡ at) × (j < place))
 
--- Holds if `rows` has the bounds of all filters before index `at`, and of this filter's queues before index `place`.
+-- Holds if `rows` has the bounds of all filters before index `at` in `order`, and of filter `at` for its queues before
+-- index `place`.
 pub record AreBoundsSoFar {A : Type 0} (p : Plan A) (order : List (ℕ × FilterPlan)) (at place : ℕ) (rows : List QueueBound) : Type 0 where
   pub rises : IsOrdered PrecedesQueue rows
   pub each : (r : QueueBound) → IsMember r rows → IsQueueBound p r.filter r.port r.class r.bound

@@ -1,4 +1,4 @@
--- Streams of accepted networks in whole runs: only a talker's frames arrive at each hop, and each of them is delivered.
+-- Streams of accepted networks in complete runs: the frames of a hop, their paths, and delivery along a path.
 use Rattle.std.specs.Prelude.{◌≡◌, ℕ, true, ◌+◌, ◌<◌, ◌≤◌, List, [], ◌∷◌, Some, None, Vec, map, nat_eq, slice_get}
 use Rattle.std.specs.Map.{lookup}
 use Rattle.bridge_limits.specs.Members.{IsMember}
@@ -62,7 +62,7 @@ AreCommands commands = (b : ℕ) (x : Input) → IsMember x (commands b) → IsC
 
 -- FRAMES OF A HOP
 
--- Holds if the filter of hop `h` receives frame `a`.
+-- Holds if frame `a` arrives at the bridge of hop `h`, and the bridge assigns it to the hop's filter.
 pub record IsFrameOfHop {A : Type 0} (plans : List (Plan A)) (inputs : ℕ → List Input) (h : StreamHop) (a : Arrival) : Type 0 where
   pub plan : Plan A
   pub filter : FilterPlan
@@ -92,7 +92,8 @@ pub record KeepsTalkerTraffic {A : Type 0} (n : NetworkParts A) (captures : ℕ 
 
 -- THE PATH OF A FRAME
 
--- Holds if a bridge with plan `p` forwards the frame that arrives at port `r` by port `q`. The arrival time doesn't matter.
+-- Holds if a bridge with plan `p` forwards a frame from port `r` to port `q`. Forwarding doesn't depend on the arrival
+-- time.
 pub record IsForwardedByPort {A : Type 0} (p : Plan A) (octets : List ℕ) (len r q : ℕ) : Type 0 where
   pub ports : ℕ
   pub input : FilterInput
@@ -101,7 +102,8 @@ pub record IsForwardedByPort {A : Type 0} (p : Plan A) (octets : List ℕ) (len 
   pub goes : has_port ports q ≡ true
   pub at : find_port p.ports q ≡ Some out
 
--- Holds if the bridges forward a frame from port `r` of bridge `b` by port `q`, then by the ports `more` of next hops.
+-- Holds if bridge `b` forwards a frame from port `r` to port `q`. The bridges of the next hops forward it to the ports
+-- in the list, in order.
 abbrev pub IsForwardedAlong : {A : Type 0} → List (Plan A) → List Link → List StreamHop → List ℕ → ℕ → ℕ → ℕ → ℕ → List ℕ → Type 0
 IsForwardedAlong {A} plans links hops octets len b r q [] =
     (p : Plan A) × (slice_get plans b ≡ Some p) × IsForwardedByPort p octets len r q × (next_hop links hops b q ≡ None)
@@ -126,7 +128,7 @@ pub record HasPath {A : Type 0} (n : NetworkParts A) (hops : List StreamHop) (h 
   pub ports : List ℕ
   pub along : IsForwardedAlong n.plans n.links hops a.octets a.len h.bridge a.port port ports
 
--- Holds if the route hop has a copy of the frame at port `q`.
+-- Holds if the copy of route hop `leg` is at port `q`, with the octets and the length of the frame.
 pub record CarriesFrame {A : Type 0} (octets : List ℕ) (len q : ℕ) (leg : RouteHop A) : Type 0 where
   pub port : leg.port ≡ q
   pub octets_are : leg.copy.item.octets ≡ octets
@@ -138,7 +140,7 @@ FollowsPath octets len leg [] q [] = CarriesFrame octets len q leg
 FollowsPath octets len leg (x ∷ more) q (k ∷ ports) = CarriesFrame octets len q leg × FollowsPath octets len x.1 more k ports
 FollowsPath octets len leg more q ports = ⊥
 
--- Holds if the route leaves its hops by the ports `q ∷ ports`.
+-- Holds if the copies of the route leave its hops through the ports `q ∷ ports`, hop by hop.
 abbrev pub HasPorts : {A : Type 0} → RouteHop A → List (ℕ × RouteHop A) → ℕ → List ℕ → Type 0
 HasPorts leg [] q [] = leg.port ≡ q
 HasPorts leg (x ∷ more) q (k ∷ ports) = (leg.port ≡ q) × HasPorts x.1 more k ports
@@ -159,7 +161,8 @@ pub record IsWithinStreamLatency (period at end : ℕ) (r : StreamLatency) : Typ
   pub from : r.phases.from + period_start ≤ end
   pub to : end ≤ r.phases.to + period_start
 
--- Holds if the run has exactly one route of frame `a` from hop `first` along the path `q ∷ ports`. The route keeps the stream's delays `r`.
+-- Holds if the run has exactly one route of frame `a` from hop `first` through the ports `q ∷ ports`. This route keeps
+-- the stream's delays `r`.
 pub record IsDeliveredAlong {A : Type 0} (n : NetworkParts A) (hops : List StreamHop) (queues : List HopQueue)
     (lists : ℕ → ℕ → List (Copy CarriedFrame)) (t : Traffic) (r : StreamLatency) (first : StreamHop) (a : Arrival) (q : ℕ)
     (ports : List ℕ) : Type 0 where

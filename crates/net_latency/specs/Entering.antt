@@ -1,4 +1,5 @@
--- The tests whether only the talker's frames get a hop's handle, and whether each hop's frames get the next hop's filter.
+-- Two tests of a stream: only frames from the talker's port get its hops' handles, and each hop's frames get the next
+-- hop's filter.
 use Rattle.std.specs.Prelude.{◌≡◌, ℕ, Bool, true, false, not, ◌&&◌, List, [], ◌∷◌, Option, Some, None, nat_eq, map, slice_get, if◌then◌else◌}
 use Rattle.std.specs.List.{list_all}
 use Rattle.bridge_config.specs.declared.ports.PortPlan.{PortPlan}
@@ -38,18 +39,19 @@ also_enters_by links is_first b p (Some handle) on = also_enters links is_first 
 abbrev pub may_come_in : {A : Type 0} → List Link → Bool → StreamHop → Plan A → PortPlan A → Bool
 may_come_in links is_first h p on = also_enters_by links is_first h.bridge p (protected_handle p.filters h.filter) on
 
--- True if `may_come_in` holds at none of the ports.
+-- True if none of these ports lets frames of other devices get the handle of the hop (`may_come_in`).
 abbrev pub comes_in_at : {A : Type 0} → List Link → Bool → StreamHop → Plan A → List (PortPlan A) → Bool
 comes_in_at links is_first h p [] = true
 comes_in_at links is_first h p (on ∷ more) =
     if may_come_in links is_first h p on then false else comes_in_at links is_first h p more
 
--- True if `may_come_in` holds at no port of the hop's bridge; true without a plan.
+-- True if no port of the hop's bridge lets frames of other devices get the handle of the hop. True without a plan.
 abbrev pub comes_in_once : {A : Type 0} → List Link → Bool → StreamHop → Option (Plan A) → Bool
 comes_in_once links is_first h None = true
 comes_in_once links is_first h (Some p) = comes_in_at links is_first h p p.ports
 
--- True if `comes_in_once` holds of each hop in the list; `is_first` belongs to the head of the list.
+-- True if `comes_in_once` holds for each hop in the list. `is_first` is true if the list begins with the stream's first
+-- hop.
 abbrev pub come_in_once : {A : Type 0} → List (Plan A) → List Link → Bool → List StreamHop → Bool
 come_in_once plans links is_first [] = true
 come_in_once plans links is_first (h ∷ hs) =
@@ -71,7 +73,7 @@ hands_to_end plans hops x (Some s) = hands_to_hop plans x s.from (hop_at_bridge 
 abbrev pub is_handed : {A : Type 0} → List (Plan A) → List Link → List StreamHop → HopQueue → Bool
 is_handed plans links hops x = hands_to_end plans hops x (sender (map link_value links) x.hop.bridge x.port)
 
--- True if `hands_to_next` holds of each queue of the stream.
+-- True if `is_handed` holds for each queue of the stream.
 abbrev pub are_handed : {A : Type 0} → List (Plan A) → List Link → List StreamHop → List HopQueue → Bool
 are_handed plans links hops queues = list_all (is_handed plans links hops) queues
 
@@ -88,8 +90,8 @@ tested_course once handed None = None
 tested_course true handed (Some x) = Some (handed_course handed x)
 tested_course false handed (Some x) = None
 
--- Holds if `r` has the delays of a stream with a periodic talker. They are known only if its frames alone get its handles; frames pass only if they get each
--- next filter.
+-- Holds if `r` has the delays of a stream with a periodic talker: unknown if other frames can get its handles, and
+-- `passes` only if each hop's frames get the next hop's filter.
 abbrev pub IsStreamCourse : {A : Type 0} → List (Plan A) → List Link → List StreamHop → List HopQueue → Traffic → Option StreamLatency → Type 0
 IsStreamCourse plans links hops queues t r =
     (c : Option StreamLatency) × IsStreamLatency plans links hops queues t c

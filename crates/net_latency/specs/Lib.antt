@@ -11,6 +11,7 @@ pub mod SharedWarnings
 pub mod Printing
 pub mod Streams
 pub mod Talkers
+pub mod DeliveredStreams
 pub mod Traffic
 pub mod LimitedTraffic
 pub mod TalkerRows

@@ -1,4 +1,5 @@
--- Traffic with a limit of its frames: the filters of groups that admit it, and its delays in shared queues.
+-- Rows with a frame limit: talkers that keep the row, grouped filters that admit such a talker, and delays in shared
+-- queues.
 use Rattle.std.specs.Prelude.{◌≡◌, ℕ, Bool, true, false, not, ◌+◌, ◌*◌, ◌≤◌, ◌&&◌, List, [], ◌∷◌, Option, None, Some, nat_eq, min, if◌then◌else◌}
 use Rattle.std.specs.Int.{div_ceil}
 use Rattle.std.specs.List.{list_all}
@@ -9,7 +10,7 @@ use Rattle.bridge_filter.specs.declared.FilterInput.{FilterInput}
 use Rattle.bridge_filter.specs.declared.FilterPlan.{FilterPlan}
 use Rattle.bridge_filter.specs.OwnEvents.{is_filter_number}
 use Rattle.bridge_port.specs.Schedule.{Copy, Started}
-use Rattle.bridge_work.specs.TalkerFrames.{HasFrameLimit, SentFrame, recent_sent_octets}
+use Rattle.bridge_groups.specs.TalkerFrames.{HasFrameLimit, SentFrame, recent_sent_octets}
 use Rattle.bridge_config.specs.Model.{Plan}
 use Rattle.bridge_config.specs.Rules.{find_port}
 use Rattle.bridge_config.specs.declared.ports.PortPlan.{PortPlan}
@@ -37,7 +38,8 @@ sent_frames p n (Arrived a ∷ es) =
     else sent_frames p n es
 sent_frames p n (Cleared clear k ∷ es) = sent_frames p n es
 
--- Holds if frames keep a burst and a rate. In any `w` ns they have at most the octets of the burst, plus the octets that the rate gives.
+-- Holds if frames keep a burst and a rate. In any `w` ns, their metered octets are at most the burst and what the rate
+-- gives in `w` ns.
 abbrev pub KeepsRate : ℕ → ℕ → List SentFrame → Type 0
 KeepsRate burst rate [] = Unit {0}
 KeepsRate burst rate (x ∷ xs) = ((u w : ℕ) → x.at ≡ u + w → recent_sent_octets u (x ∷ xs) * octet_units ≤ burst * octet_units + rate * w) × KeepsRate burst rate xs
@@ -66,19 +68,20 @@ pub record KeepsRow {A : Type 0} (p : Plan A) (r : LimitedRow) (es : List Event)
 
 -- BURST AND RATE
 
--- The burst in metered octets of frames that keep a limit and have at most `longest` octets.
+-- The largest burst, in metered octets, of a talker that keeps a limit with frames of at most `longest` octets.
 abbrev pub limit_burst : FrameLimit → ℕ → ℕ
 limit_burst (limit.Rate burst rate) longest = burst
 limit_burst (limit.Count frames period) longest = metered_octets longest * frames
 
--- The least rate in bit/s, rounded up, of frames that keep a limit and have at most `longest` octets.
+-- The least rate in bit/s, rounded up, that suffices for a talker that keeps a limit with frames of at most `longest`
+-- octets.
 abbrev pub limit_rate : FrameLimit → ℕ → ℕ
 limit_rate (limit.Rate burst rate) longest = rate
 limit_rate (limit.Count frames period) longest = div_ceil (metered_octets longest * frames * octet_units) period
 
 -- DELAYS
 
--- True if the filter of row `r`, looked up in the plan, admits the row's talker.
+-- True if the filter of row `r` passes each frame of the row's talker. False if the plan lacks the filter (`None`).
 abbrev pub admits_row : {A : Type 0} → Plan A → LimitedRow → Option FilterPlan → Bool
 admits_row p r None = false
 admits_row p r (Some f) = admits_talker p f (longest_sdu p f.handle r.longest) (limit_burst r.limit r.longest) (limit_rate r.limit r.longest)

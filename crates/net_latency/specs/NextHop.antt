@@ -1,4 +1,4 @@
--- The hops to which the ports of a network lead, with the delays of links.
+-- The hop of a stream to which a port of a bridge leads over its link.
 use Rattle.std.specs.Prelude.{ℕ, List, [], ◌∷◌, Option, Some, None, map, nat_eq, option_map, if◌then◌else◌}
 use Rattle.net_model.specs.declared.links.Link.{Link}
 use Rattle.net_model.specs.declared.links.StreamHop.{StreamHop}
@@ -7,7 +7,7 @@ use Rattle.net_model.specs.NetworkParts.{end_value, link_value}
 use Rattle.net_latency.specs.declared.next_hop.FarEnd.{FarEnd}
 use Rattle.net_latency.specs.declared.next_hop.NextHop.{NextHop}
 
--- The other end of a link, with its delay.
+-- The other end of a port's link, with the link's delay in ns, in the form of `net_model`.
 abbrev pub sender_of_far_end : FarEnd → Sender
 sender_of_far_end x = record { from = end_value x.end; delay = x.delay }
 

@@ -1,4 +1,4 @@
--- Routes of frames with a periodic talker: phases and delays.
+-- Routes of a periodic talker's frames: hops that feed each other, and the phases and delays of a route.
 use Rattle.std.specs.Prelude.{◌≡◌, ◌⊎◌, ℕ, Bool, true, ◌+◌, ◌≤◌, nat_eq, List, [], ◌∷◌, None, Some}
 use Rattle.std.specs.Map.{lookup}
 use Rattle.bridge_limits.specs.Members.{IsMember}
@@ -53,7 +53,8 @@ IsOwnInput inputs leg x =
 abbrev pub IsCommand : Input → Type 0
 IsCommand x = (clear : Clear) × (m : ℕ) × (x.event ≡ Cleared clear m)
 
--- Holds if the filter of `next` receives over its link only copies from the queue of `leg`, and otherwise only commands.
+-- Holds if the own inputs of hop `next` are copies from the queue of `leg`, which arrive over the link between them, or
+-- commands.
 abbrev pub IsFedByHop : {A : Type 0} → Network A → (ℕ → List Input) → (ℕ → ℕ → List (Copy CarriedFrame)) → RouteHop A → RouteHop A → ℕ → Type 0
 IsFedByHop n inputs lists leg next delay =
     (port : ℕ) (x : Input)
@@ -61,7 +62,7 @@ IsFedByHop n inputs lists leg next delay =
     → IsOwnInput inputs next x
     → IsForwardedCopy lists leg port delay x ⊎ IsCommand x
 
--- Holds if each hop of the route feeds the next one.
+-- Holds if each hop of the route feeds the next one (`IsFedByHop`).
 abbrev pub AreFedInTurn : {A : Type 0} → Network A → (ℕ → List Input) → (ℕ → ℕ → List (Copy CarriedFrame)) → RouteHop A → List (ℕ × RouteHop A) → Type 0
 AreFedInTurn n inputs lists leg [] = Unit {0}
 AreFedInTurn n inputs lists leg (x ∷ more) = IsFedByHop n inputs lists leg x.1 x.0 × AreFedInTurn n inputs lists x.1 more
@@ -73,7 +74,8 @@ pub record HasHopTiming {A : Type 0} (leg : RouteHop A) (a : HopArrival) (x : Ti
   pub timing : IsTiming leg.plan leg.filter leg.port leg.copy.class a.traffic x
   pub phases : x.phases ≡ Some done
 
--- Holds if `r` has the delays of a route for arrival `a` at its first hop, and `done` the phases at its last hop. Frames may pass or not.
+-- Holds if a route has the delays `r` for arrival `a` at its first hop, and the phases `done` at its last hop. The flag
+-- `passes` isn't determined.
 abbrev pub IsRouteLatency : {A : Type 0} → ℕ → HopArrival → RouteHop A → List (ℕ × RouteHop A) → StreamLatency → Phases → Type 0
 IsRouteLatency from a leg [] r done = (x : Timing) × (passes : Bool) × HasHopTiming leg a x done × (r ≡ latency_at_last_queue from a x done passes)
 IsRouteLatency from a leg (y ∷ more) r done =

@@ -8,7 +8,7 @@ use Rattle.bridge_groups.specs.GroupRows.{AreSharedQueues}
 use Rattle.net_latency.specs.Bounds.{AreTightBounds}
 use Rattle.net_latency.specs.SharedLines.{shared_text}
 
--- The mark ` coarse` of a bound that counts all arrival times, or nothing.
+-- The mark ` coarse` of a bound that allows for any arrival time, or nothing.
 abbrev pub coarse_mark : Bool → List ℕ
 coarse_mark coarse = if coarse then codes " coarse" else []
 

@@ -2,7 +2,7 @@
 use Rattle.std.specs.Prelude.{ℕ, Bool, true, List, [], ◌++◌, Option, Some, None, flat_map, codes, decimal, nat_lt, if◌then◌else◌}
 use Rattle.bridge_groups.specs.declared.shared_queues.SharedQueue.{SharedQueue}
 
--- True if no capacity is known with which the queue drops no copy as full, or if its own capacity is less.
+-- True if a queue may drop copies as full: no capacity is known to suffice, or the queue's own `capacity` is less.
 abbrev pub is_lossy : Option ℕ → ℕ → Bool
 is_lossy None capacity = true
 is_lossy (Some room) capacity = nat_lt capacity room

@@ -1,11 +1,11 @@
--- Warnings of the queues that groups share.
+-- Warnings about queues that groups share.
 use Rattle.std.specs.Prelude.{◌≡◌, ℕ, List, [], ◌++◌, Option, Some, None, flat_map, codes, decimal, if◌then◌else◌}
 use Rattle.bridge_config.specs.Model.{Plan}
 use Rattle.bridge_groups.specs.declared.shared_queues.SharedQueue.{SharedQueue}
 use Rattle.bridge_groups.specs.GroupRows.{AreSharedQueues}
 use Rattle.net_latency.specs.SharedLines.{is_lossy}
 
--- The warning of a queue that only its capacity bounds.
+-- The warning for a queue whose delay only its capacity bounds.
 unfoldable pub unmetered_warning : SharedQueue → List ℕ
 unmetered_warning s =
     codes "Warning: only the capacity bounds the delay of group " ++ (decimal s.group ++ (codes " at port " ++ (decimal s.port ++ (codes ", class " ++ (decimal s.class
@@ -21,7 +21,7 @@ lossy_words (Some room) s =
     ++ (codes ", because the queue holds only " ++ (decimal s.capacity ++ (codes " instead of " ++ (decimal room
     ++ codes ". Raise `rooms`, or lower the rates of the meters.\n")))))))))
 
--- The warning of a queue that may drop copies as full.
+-- The warning for a queue that may drop copies as full.
 abbrev pub lossy_warning : SharedQueue → List ℕ
 lossy_warning s = lossy_words s.room s
 
@@ -33,6 +33,6 @@ shared_warning s = if s.is_metered then (if is_lossy s.room s.capacity then loss
 abbrev pub shared_warnings : List SharedQueue → List ℕ
 shared_warnings rows = flat_map shared_warning rows
 
--- Holds if `text` has one warning for each marked queue of those that the plan's groups share, and nothing else.
+-- Holds if `text` is the list of warnings for the queues with a mark that the plan's groups share.
 abbrev pub AreSharedWarnings : {A : Type 0} → Plan A → List ℕ → Type 0
 AreSharedWarnings p text = (shared : List SharedQueue) × AreSharedQueues p shared × (text ≡ shared_warnings shared)

@@ -49,8 +49,8 @@ abbrev pub HopPasses : {A : Type 0} → Option (Plan A) → ℕ → Traffic → 
 HopPasses None n t = ⊥
 HopPasses (Some p) n t = (f : FilterPlan) × (lookup (nat_eq n) p.filters ≡ Some f) × Passes p f t
 
--- The delays of a route that ends at a queue. The worst delay is the lesser of two: the time between the phases, and the sum of worst delays. The best delay is
--- a sum.
+-- The delays of a route that ends at a queue. Worst: the lesser of the summed worst delays and the time from phase
+-- `from` to the last phase of `done`. Best: the summed best delays.
 abbrev pub latency_at_last_queue : ℕ → HopArrival → Timing → Phases → Bool → StreamLatency
 latency_at_last_queue from a x done passes = record {
   passes = a.passes && passes;
@@ -126,11 +126,11 @@ abbrev pub IfElse : Bool → Type 0 → Type 0 → Type 0
 IfElse true A B = A
 IfElse false A B = B
 
--- The range of phases that has the phases of both routes.
+-- The least range of phases that includes the phases of two routes.
 abbrev pub both_phases : Phases → Phases → Phases
 both_phases a b = record { from = min a.from b.from; to = max a.to b.to }
 
--- Delays that hold for both routes: the greater worst and the lesser best delay.
+-- Delays that hold for two routes `a` and `b`: the greater worst and the lesser best delay.
 abbrev pub combine : StreamLatency → StreamLatency → StreamLatency
 combine a b = record {
   passes = a.passes && b.passes;
@@ -176,7 +176,7 @@ Pairwise R xs ys = ⊥
 abbrev pub is_queue_of_hop : StreamHop → HopQueue → Bool
 is_queue_of_hop h x = nat_eq x.hop.bridge h.bridge
 
--- Holds if `r` has the delays after a step: of the last queue, or of the next hop's routes.
+-- Holds if `r` has the delays after a step: at the last queue, or by `T` over all routes from the next hop on.
 abbrev pub IsLatencyAfterExit : (StreamHop → HopArrival → Option StreamLatency → Type 0) → Option QueueExit → Option StreamLatency → Type 0
 IsLatencyAfterExit T None r = r ≡ None
 IsLatencyAfterExit T (Some (stop.Last x)) r = r ≡ Some x
@@ -186,7 +186,8 @@ IsLatencyAfterExit T (Some (stop.Next h a)) r = T h a r
 abbrev pub IsQueueLatency : {A : Type 0} → (StreamHop → HopArrival → Option StreamLatency → Type 0) → StreamModel A → HopArrival → Bool → HopQueue → Option StreamLatency → Type 0
 IsQueueLatency T n a passes x r = (s : Option QueueExit) × IsQueueExit n x a passes s × IsLatencyAfterExit T s r
 
--- Holds if `after` has the delays of `before` and of one queue more, if this queue belongs to the hop.
+-- Holds if `after` has the delays of `before` and of queue `x` if the queue belongs to hop `h`, otherwise those of
+-- `before`.
 abbrev pub AddsQueueLatency : {A : Type 0} → (StreamHop → HopArrival → Option StreamLatency → Type 0) → StreamModel A → StreamHop → HopArrival → Bool → HopQueue → CombinedLatency → CombinedLatency → Type 0
 AddsQueueLatency T n h a passes x before after =
     IfElse (is_queue_of_hop h x) ((r : Option StreamLatency) × IsQueueLatency T n a passes x r × (after ≡ add_latency before r)) (after ≡ before)
@@ -221,7 +222,7 @@ IsStreamLatency plans links hops queues t r =
 
 -- NUMBERS
 
--- Holds if the sums can grow by `k` more hops without overflow.
+-- Holds if the delays up to a hop can grow by `k` more hops without overflow of 128 bits.
 pub record HasHeadroom (k : ℕ) (a : HopArrival) : Type 0 where
   pub later : a.later + k * 2 ^ 66 ≤ 2 ^ 127
   pub worst : a.worst + k * 2 ^ 66 ≤ 2 ^ 127

@@ -1,5 +1,5 @@
--- Delays of a stream's frames through its hops.
-use Rattle.std.specs.Prelude.{ℕ, Bool, true, false, ◌+◌, ◌&&◌, ◌||◌, nat_eq, max, List, [], ◌∷◌, ◌++◌, Option, Some, None, drop, fold, sum_by, flat_map, slice_get, Vec, codes, decimal, if◌then◌else◌}
+-- Delay bounds of streams, and the lines about streams that `net check` prints.
+use Rattle.std.specs.Prelude.{ℕ, Bool, true, false, ◌+◌, ◌-◌, ◌&&◌, ◌||◌, nat_eq, max, List, [], ◌∷◌, ◌++◌, Option, Some, None, drop, fold, sum_by, flat_map, slice_get, Vec, codes, decimal, if◌then◌else◌}
 use Rattle.std.specs.List.{list_all, list_any}
 use Rattle.bridge_config.specs.Model.{Plan}
 use Rattle.net_latency.specs.declared.latency.StreamLatency.{StreamLatency}
@@ -20,7 +20,7 @@ greater_bound n m r = if nat_eq r.filter n then max m r.bound else m
 abbrev pub filter_bound : ℕ → List QueueBound → ℕ
 filter_bound n rows = fold (greater_bound n) 0 rows
 
--- The bounds of an optional list, or an empty list.
+-- The bounds in an optional vector, or an empty list for `None`.
 abbrev pub bounds_if_any : {A : Type 0} → Option (Vec QueueBound A) → List QueueBound
 bounds_if_any None = []
 bounds_if_any (Some v) = v.items
@@ -41,15 +41,16 @@ is_joining_link hops b l = (nat_eq l.one.0 b && has_hop_at_bridge hops l.other.0
 abbrev pub greater_delay : List (ℕ × ℕ) → ℕ → ℕ → LinkRow → ℕ
 greater_delay hops b m l = if is_joining_link hops b l then max m l.delay else m
 
--- The greatest delay of a link between bridge `b` and the bridges of these hops.
+-- The greatest delay in ns of a link between bridge `b` and the bridges of these hops; 0 without a link.
 abbrev pub link_delay : List LinkRow → List (ℕ × ℕ) → ℕ → ℕ
 link_delay links hops b = fold (greater_delay hops b) 0 links
 
--- The greatest delay of a link between a hop and the bridges of these hops.
+-- The greatest delay in ns of a link between the bridge of hop `h` and the bridges of these hops; 0 without a link.
 abbrev pub hop_delay : List LinkRow → List (ℕ × ℕ) → ℕ × ℕ → ℕ
 hop_delay links hops h = link_delay links hops h.0
 
--- The delay bound of a frame that crosses each hop once. It sums each hop's greatest bound and the greatest link delay to each later hop.
+-- The delay bound in ns of a frame that crosses each hop once. It sums each hop's greatest bound, and the greatest link
+-- delay of each hop after the first.
 abbrev pub stream_bound : {A : Type 0} → List (Vec QueueBound A) → List LinkRow → List (ℕ × ℕ) → ℕ
 stream_bound bounds links hops = sum_by (hop_bound bounds) hops + sum_by (hop_delay links hops) (drop 1 hops)
 
@@ -62,10 +63,12 @@ abbrev pub worst_latency : Option StreamLatency → ℕ → ℕ
 worst_latency None bound = bound
 worst_latency (Some x) bound = x.worst
 
--- The word of a stream whose frames may be refused.
-abbrev pub refusal_word : Bool → List ℕ
-refusal_word true = codes ""
-refusal_word false = codes " refusable"
+-- The word of a stream: `refusable` if its frames may be refused, `arrives` if each frame of its talker arrives within the delays. A stream without a periodic
+-- talker has none.
+abbrev pub arrival_word : Bool → Option StreamLatency → List ℕ
+arrival_word false c = codes " refusable"
+arrival_word true None = codes ""
+arrival_word true (Some x) = codes " arrives"
 
 -- True if the talker isn't periodic, or each of its frames passes.
 abbrev pub is_passing : Option Talker → Option StreamLatency → Bool
@@ -73,17 +76,26 @@ is_passing None c = true
 is_passing (Some t) None = false
 is_passing (Some t) (Some x) = x.passes
 
--- The delays of a stream, or its bound if the delays are unknown.
-abbrev pub latency_words : Option StreamLatency → ℕ → List ℕ
-latency_words None bound = codes " bound " ++ decimal bound
-latency_words (Some x) bound =
-    delay_words x.worst x.best (Some x.phases)
+-- The delays and phases of a stream; empty if they are unknown.
+abbrev pub course_words : Option StreamLatency → List ℕ
+course_words None = codes ""
+course_words (Some x) = delay_words x.worst x.best (Some x.phases)
 
--- The line of a stream: its name, and its delays or its bound, and whether it meets its deadline.
+-- The delays of a stream if they are known, and its bound.
+abbrev pub latency_words : Option StreamLatency → ℕ → List ℕ
+latency_words c bound = course_words c ++ (codes " bound " ++ decimal bound)
+
+-- The time between a deadline and a worst delay: the margin of a met deadline, or what a missed one lacks. Empty without a deadline.
+abbrev pub margin_words : Option ℕ → ℕ → List ℕ
+margin_words None worst = codes ""
+margin_words (Some d) worst = if is_met (Some d) worst then codes " margin " ++ decimal (d - worst) else codes " lacks " ++ decimal (worst - d)
+
+-- The line of a stream: its name and word, its delays and bound, and whether it meets its deadline, with the margin.
 unfoldable pub stream_line : {A : Type 0} → List (Vec QueueBound A) → List LinkRow → Stream × Option StreamLatency → List ℕ
 stream_line bounds links r =
-    codes "stream " ++ (r.0.name ++ (refusal_word (is_passing r.0.talker r.1) ++ (latency_words r.1 (stream_bound bounds links r.0.hops)
-    ++ (deadline_words r.0.deadline (worst_latency r.1 (stream_bound bounds links r.0.hops)) ++ codes "\n"))))
+    codes "stream " ++ (r.0.name ++ (arrival_word (is_passing r.0.talker r.1) r.1 ++ (latency_words r.1 (stream_bound bounds links r.0.hops)
+    ++ (deadline_words r.0.deadline (worst_latency r.1 (stream_bound bounds links r.0.hops))
+    ++ (margin_words r.0.deadline (worst_latency r.1 (stream_bound bounds links r.0.hops)) ++ codes "\n")))))
 
 -- The lines of all streams, in file order.
 abbrev pub stream_lines : {A : Type 0} → List (Vec QueueBound A) → List LinkRow → List (Stream × Option StreamLatency) → List ℕ

@@ -1,4 +1,5 @@
--- Rows of traffic of both kinds: their faults compared with the plan, and their delays in each queue.
+-- Traffic rows of both kinds, with a period or with a frame limit: their faults compared with the plan, and their
+-- delays in each queue.
 use Rattle.std.specs.Prelude.{◌≡◌, ℕ, ◌+◌, ◌++◌, List, [], ◌∷◌, Option, None, Some, nat_eq, if◌then◌else◌}
 use Rattle.std.specs.Map.{lookup}
 use Rattle.std.specs.Option.{is_some}

@@ -47,7 +47,7 @@ first_misfit plans index (s ∷ ss) =
 
 -- DELAYS OF TALKERS' FRAMES
 
--- The traffic of a network file's talker, in the form of `bridge_bounds`.
+-- The traffic of a network file's talker in the form of `bridge_bounds`, which defines delays.
 abbrev pub talker_traffic : Talker → Traffic
 talker_traffic t = record { period = t.period; from = t.from; to = t.to; least = t.least; longest = t.longest }
 
@@ -59,7 +59,7 @@ hop_queue h r = record { hop = h; port = r.port; class = r.class }
 abbrev pub is_queue_of_hop : StreamHop → QueueBound → Bool
 is_queue_of_hop h r = nat_eq r.filter h.filter
 
--- The queues of a hop, among the queues of its bridge.
+-- The reachable queues of hop `h`, from the delay bounds `rows` of its bridge.
 abbrev pub filter_queues : List QueueBound → StreamHop → List HopQueue
 filter_queues rows h = map (hop_queue h) (filter (is_queue_of_hop h) rows)
 

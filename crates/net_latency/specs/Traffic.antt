@@ -38,29 +38,29 @@ use Rattle.net_latency.specs.declared.timings.TrafficFigures.TheVariants as figu
 abbrev pub is_multiple : ℕ → ℕ → Bool
 is_multiple period cycle = nat_eq (period % cycle) 0
 
--- True if a period is a multiple of the cycle times of a stream gate's schedule.
+-- True if a period is a multiple of each cycle time of a stream gate's schedule. A fixed gate has none.
 abbrev pub suits_schedule : {A : Type 0} → ℕ → Schedule A → Bool
 suits_schedule period (schedule.Fixed lets ipv) = true
 suits_schedule period (schedule.Cyclic l) = is_multiple period l.cycle
 suits_schedule period (schedule.Joined j) = is_multiple period j.old.cycle && is_multiple period j.new.cycle
 
--- True if a period is a multiple of the cycle times of an optional stream gate.
+-- True if a period is a multiple of each cycle time of an optional stream gate. True without a gate.
 abbrev pub suits_gate : {A : Type 0} → ℕ → Option (GatePlan A) → Bool
 suits_gate period None = true
 suits_gate period (Some g) = suits_schedule period g.schedule
 
--- True if a period is a multiple of the cycle times of a port's lists.
+-- True if a period is a multiple of each cycle time of a port's gate control lists. True without a list.
 abbrev pub suits_lists : {A : Type 0} → ℕ → Option (Egress A) → Bool
 suits_lists period None = true
 suits_lists period (Some (egress.Cyclic l)) = is_multiple period l.cycle
 suits_lists period (Some (egress.Joined j)) = is_multiple period j.old.cycle && is_multiple period j.new.cycle
 
--- True if a period is a multiple of the cycle times of an optional port.
+-- True if a period is a multiple of each cycle time of an optional port. True without a port.
 abbrev pub suits_port : {A : Type 0} → ℕ → Option (PortPlan A) → Bool
 suits_port period None = true
 suits_port period (Some out) = suits_lists period out.list
 
--- True if filter `f` has a reachable queue at port `q`, and the port's cycle times don't divide the period.
+-- True if filter `f` has a reachable queue at port `q`, and the period isn't a multiple of the port's cycle times.
 abbrev pub has_misfit_at_port : {A : Type 0} → Plan A → FilterPlan → ℕ → ℕ → Bool
 has_misfit_at_port p f period q = some_number_passes 8 (λ c. reaches_queue p f q c) && not (suits_port period (find_port p.ports q))
 
@@ -137,7 +137,7 @@ AreRowTimings p index r [] xs = xs ≡ []
 AreRowTimings p index r (b ∷ bs) xs =
     IfElse (nat_eq b.filter r.filter) (Begins (IsRowTiming p index r b) (AreRowTimings p index r bs) xs) (AreRowTimings p index r bs xs)
 
--- The results of a row: its delays in each queue, or the result that it has no queue.
+-- The results of a row: its delays in each queue, or one `Nowhere` if its filter has no reachable queue.
 abbrev pub row_figures : ℕ → ℕ → List QueueTiming → List TrafficFigures
 row_figures row filter [] = figures.Nowhere row filter ∷ []
 row_figures row filter (x ∷ xs) = map figures.Queue (x ∷ xs)

@@ -1,4 +1,4 @@
--- Lines of traffic.
+-- Lines of traffic rows, and the output and faults of `bounds --traffic`.
 use Rattle.std.specs.Prelude.{◌≡◌, ◌⊎◌, ℕ, ◌-◌, Bool, true, false, ◌++◌, List, Option, None, Some, Ok, Err, flat_map, codes, decimal, string_bytes, take}
 use Rattle.bridge_config.specs.Model.{Plan}
 use Rattle.net_file.specs.declared.fault.NetFault.{NetFault}
@@ -65,13 +65,14 @@ abbrev pub figures_line : TrafficFigures → List ℕ
 figures_line (figures.Queue x) = timing_line x
 figures_line (figures.Nowhere row filter) = nowhere_line row filter
 
--- The lines of all results, one for each.
+-- One line for each result of a traffic row in a queue or without queue, in order.
 abbrev pub timings_text : List TrafficFigures → List ℕ
 timings_text xs = flat_map figures_line xs
 
 -- THE COMMAND `bounds --traffic`
 
--- Holds if a file has these rows. No more octets are read than show that the file is too long.
+-- Holds if a file with the octets `words` has these rows. At most 1,048,577 octets are read, because a longer file is
+-- refused.
 abbrev pub ReadsRows : List ℕ → List TalkerRow → Type 0
 ReadsRows words rows = rows_of_text (take 1048577 words) ≡ Ok rows
 
@@ -85,7 +86,7 @@ pub record AreLinesOfTraffic {A : Type 0} (p : Plan A) (rows : List TalkerRow) (
   pub lines_are : lines ≡ bounds ++ timings_text timings
   pub kept_is : kept ≡ are_in_time timings
 
--- Holds if `lines` and `kept` are the output for the plan of `input` and the traffic of `words`.
+-- Holds if `lines` and `kept` are the output for the plan file `input` and the traffic file `words`.
 pub record PrintsTraffic (A : Type 0) (input words lines : List ℕ) (kept : Bool) : Type 0 where
   pub plan : Plan A
   pub accepts : Accepts input plan
@@ -99,11 +100,11 @@ IsTrafficFailure e (fault.Network line) = string_bytes line ≡ traffic_line e
 IsTrafficFailure e fault.NoMemory = Unit {0}
 IsTrafficFailure e f = ⊥
 
--- Holds if a file gives no rows: it has fault `f`, or memory ran out.
+-- Holds if fault `f` is a reason to read no rows from the file `words`: its contents are refused, or memory ran out.
 abbrev pub RefusesRows : List ℕ → Failure → Type 0
 RefusesRows words f = (f ≡ fault.NoMemory) ⊎ ((e : NetFault) × (rows_of_text (take 1048577 words) ≡ Err e) × IsTrafficFailure (text.Text e) f)
 
--- Holds if rows give no delays: they don't suit the plan, or memory ran out.
+-- Holds if fault `f` is a reason to print no delays of these rows: one doesn't suit the plan, or memory ran out.
 abbrev pub RefusesTimings : {A : Type 0} → Plan A → List TalkerRow → Failure → Type 0
 RefusesTimings p rows f = (f ≡ fault.NoMemory) ⊎ ((e : TrafficFault) × (first_row_fault p 1 rows ≡ Some e) × IsTrafficFailure e f)
 

@@ -25,7 +25,7 @@ pub record RouteHop (A : Type 0) : Type 0 where
 abbrev pub hop_end : {A : Type 0} → RouteHop A → ℕ
 hop_end leg = leg.start + transmission_time leg.copy.item.len leg.out.speed
 
--- Holds if the hop belongs to a run of the network whose ports have these copies.
+-- Holds if `leg` is a queue of the network, and its copy is sent in a run with the copies `lists`, by bridge and port.
 pub record IsRouteHop {A : Type 0} (n : Network A) (lists : ℕ → ℕ → List (Copy CarriedFrame)) (leg : RouteHop A) : Type 0 where
   pub plan : slice_get n.bridges leg.bridge ≡ Some leg.plan
   pub port : find_port leg.plan.ports leg.port ≡ Some leg.out
@@ -45,12 +45,12 @@ abbrev pub IsRoute : {A : Type 0} → Network A → (ℕ → ℕ → List (Copy 
 IsRoute n lists leg [] = IsRouteHop n lists leg
 IsRoute n lists leg (x ∷ more) = IsRouteHop n lists leg × IsNextHop n leg x.1 x.0 × IsRoute n lists x.1 more
 
--- The last hop of a route: its end of transmission ends the delay.
+-- The last hop of a route. The frame's delay ends with the end of transmission there.
 abbrev pub last_hop : {A : Type 0} → RouteHop A → List (ℕ × RouteHop A) → RouteHop A
 last_hop leg [] = leg
 last_hop leg (x ∷ more) = last_hop x.1 more
 
--- The sum of all hops' bounds and all links' delays.
+-- The sum in ns of the bounds of all hops of a route and the delays of all links between them.
 abbrev pub route_bound : {A : Type 0} → RouteHop A → List (ℕ × RouteHop A) → ℕ
 route_bound leg [] = leg.bound
 route_bound leg (x ∷ more) = leg.bound + (x.0 + route_bound x.1 more)

@@ -1,4 +1,4 @@
-//! Delay bounds of all queues of a plan.
+//! Delay bounds of all reachable queues of a plan's protected filters.
 ghost use Rattle.std.specs.Prelude.{All, ◌≡◌, ℕ, ◌+◌, ◌<◌, ◌≤◌, [], Some, length, nat_eq, OnOk, IfOk, MatchOption};
 ghost use Rattle.std.specs.Map.{lookup};
 ghost use Rattle.bridge_limits.specs.Members.{IsOrdered};
@@ -27,7 +27,7 @@ pub struct QueueBound {
     pub bound: u64,
 }
 
-/// Number of queues at 16 ports.
+/// Number of queues of a bridge: 8 classes at 16 ports.
 const QUEUES: u8 = 128;
 
 /// Whether the queue of `class` at `port` is reachable for the filter. `reach` is the filter's reach, computed once by the caller. Returns
@@ -77,8 +77,8 @@ fn bound_in_reach<A: Allocator + Copy>(
     queue_bound(accepted, filter.0, port, class)
 }
 
-/// Appends to `rows` the bound of queue `place` (0 to 127) for the filter with index `at` in `order`. Appends nothing if the filter is
-/// unprotected or can't reach the queue.
+/// Appends to `rows` the bound of the filter with index `at` in `order`. Its queue is `place`, 0 to 127 by port and class. Appends nothing
+/// if the filter is unprotected or can't reach it.
 fn put_bound<A: Allocator + Copy>(
     accepted: &Accepted<A>,
     order: &[(u32, FilterPlan)],
@@ -109,7 +109,8 @@ fn put_bound<A: Allocator + Copy>(
     Ok(())
 }
 
-/// Appends to `rows` the bounds of all queues that the filter with index `at` can reach, by rising port and class.
+/// Appends to `rows` the bounds of all queues that the filter with index `at` in `order` can reach, by rising port and class. Appends
+/// nothing if the filter is unprotected.
 fn put_filter_bounds<A: Allocator + Copy>(
     accepted: &Accepted<A>,
     order: &[(u32, FilterPlan)],

@@ -1,5 +1,5 @@
-//! Explanations of refused traffic and of talkers whose period doesn't suit the plans. They list filters or cycles, and name a remedy. No
-//! call fails: files that can't be read again are left out.
+//! Explanations of refused traffic rows and of periods that aren't multiples of the cycles in the plans. They list filters or cycle times,
+//! and a remedy.
 
 use crate::hop_faults::{put_grouped, put_protected};
 use crate::texts::{NetworkText, reread_text};
@@ -21,7 +21,7 @@ use std::fs;
 use std::rt::Files;
 use toml::Table;
 
-/// A traffic file and the path of its plan, read again for an explanation.
+/// A traffic file that was read again for an explanation, and the path of its plan.
 #[derive(Clone, Copy)]
 struct TrafficText<'a> {
     /// Path of the traffic file.
@@ -32,8 +32,8 @@ struct TrafficText<'a> {
     plan: &'a str,
 }
 
-/// Explains why the plan refuses the traffic; reads both files again. The traffic file itself has no fault. Returns `None` if a file can't
-/// be read again or memory runs out.
+/// Explains why a row of the traffic file doesn't suit the plan, for `--explain`. Reads both files again. Returns `None` if a file can't be
+/// read or memory runs out.
 pub fn explain_traffic<H: AllocGlobal + Files>(
     rt: &H,
     plan: &str,
@@ -109,7 +109,7 @@ fn explain_rows(
     None
 }
 
-/// Explains row `index` with periodic traffic: its period, or its filter.
+/// Explains row `index`, with periodic traffic. The fault is its period, or its filter is missing, unprotected or in a group.
 fn explain_periodic_row(
     alloc: Global,
     asked: TrafficText<'_>,
@@ -128,7 +128,8 @@ fn explain_periodic_row(
     }
 }
 
-/// Explains a row with periodic traffic whose filter belongs to a group, and names the limit that such a talker keeps.
+/// Explains a row with periodic traffic whose filter belongs to a group. Names the frame limit that the row can have instead: `frames` and
+/// `period`.
 fn explain_grouped_filter(
     alloc: Global,
     asked: TrafficText<'_>,
@@ -186,8 +187,8 @@ fn explain_limited_row(
     said.finish().ok()
 }
 
-/// Explains a row whose filter is missing or unprotected in the plan, and lists the protected filters. The period of such a row isn't
-/// tested.
+/// Explains a row with periodic traffic whose filter is missing or unprotected in the plan. Lists the protected filters. The period of such
+/// a row isn't tested.
 fn explain_unusable_filter(
     alloc: Global,
     asked: TrafficText<'_>,
@@ -220,16 +221,18 @@ fn explain_unusable_filter(
 /// Cycle times on a route, and the period that must be a multiple of each.
 #[derive(Clone, Copy)]
 struct Cycles<'a> {
-    /// Period in ns.
+    /// Period of the talker in ns.
     period: u64,
     /// Name of the bridge; empty for a plan without network.
     bridge: &'a str,
-    /// Cycle time in ns that is a multiple of every cycle time up to now: 1 at first, 0 if none of them is.
+    /// A cycle time in ns that is a multiple of every cycle time so far: 1 before the first one. It is 0 once no cycle time was such a
+    /// multiple.
     common: u64,
 }
 
 impl<'a> Cycles<'a> {
-    /// Appends a sentence with the cycle time of `what` number `number`, and whether it divides the period. Updates the common multiple.
+    /// Appends a sentence with the cycle time `cycle` of a gate or port (`what`) with number `number`, and whether the period is a multiple
+    /// of it. Updates `common`.
     fn put_cycle(&mut self, said: &mut TextBuilder<Global>, what: &str, number: u32, cycle: u64) {
         let common = self.common;
         self.common = if common == 0 || cycle == 0 {
@@ -271,7 +274,7 @@ impl<'a> Cycles<'a> {
     }
 
     /// Appends the cycle times of the port's gate control lists: none without a list, two if the list changes.
-    fn put_port(&mut self, said: &mut TextBuilder<Global>, plan: &Plan<Global>, number: u8) {
+    fn put_port_cycles(&mut self, said: &mut TextBuilder<Global>, plan: &Plan<Global>, number: u8) {
         let Some(port) = plan.port(number) else {
             return;
         };
@@ -297,7 +300,7 @@ impl<'a> Cycles<'a> {
         let reach = filter_reach(plan, filter);
         for place in 0..16u8 {
             if can_wait_at_port(plan, filter, &reach, place + 1) {
-                self.put_port(said, plan, place + 1);
+                self.put_port_cycles(said, plan, place + 1);
             }
         }
     }
@@ -311,7 +314,7 @@ impl<'a> Cycles<'a> {
         }
     }
 
-    /// Appends a sentence with suitable periods: multiples of `common`, or a hint to find a common multiple.
+    /// Appends a sentence with suitable periods: multiples of `common` or, if `common` is 0, common multiples of the listed cycles.
     fn put_remedy(self, said: &mut TextBuilder<Global>) {
         if self.common == 0 {
             return said.put("Use a common multiple of these cycles.\n");

@@ -36,12 +36,13 @@ pub fn stream_queues_are_reachable<A: Allocator + Copy>()
         → HasReachableQueues plans hops (hop_queues bounds hops) }
 {}
 
-/// The commands of command files, by bridge, are commands.
+/// Inputs that are read from command files clear a flag: none is a frame. `AreCommands`, a condition of the other laws, holds for them.
 pub fn read_commands_are_commands<A: Allocator + Copy>()
     ensures { (commands : ℕ → List Command) → AreCommands (λ (b : ℕ). commands_of (commands b)) }
 {}
 
-/// If the frames at the talker's port of a stream keep the traffic, the own events of the first hop keep it, whatever arrives elsewhere.
+/// If the frames at the talker's port keep the traffic, all frames that the first hop's filter receives keep it, whatever arrives at other
+/// ports.
 pub fn talker_port_keeps_traffic<A: Allocator + Copy>()
     ensures { (n : NetworkParts A) (hops : List StreamHop) (queues : List HopQueue) (first : StreamHop) (t : Traffic)
         (q : ℕ) (commands : ℕ → List Input) (captures : ℕ → ℕ → List CapturedFrame) (o : ℕ → Outcome A)
@@ -57,7 +58,8 @@ pub fn talker_port_keeps_traffic<A: Allocator + Copy>()
         → KeepsTrafficOfHop n.plans run.inputs t first }
 {}
 
-/// Each hop of a stream's route feeds the next one if the hops are a tree and only the talker's frames can get the stream's handles.
+/// On each route of a stream, each later hop's filter receives only copies from the hop before it. The hops must be a tree, and only the
+/// talker's frames may get their handles.
 pub fn stream_is_fed_in_turn<A: Allocator + Copy>()
     ensures { (n : NetworkParts A) (hops : List StreamHop) (queues : List HopQueue) (first : StreamHop)
         (commands : ℕ → List Input) (captures : ℕ → ℕ → List CapturedFrame) (o : ℕ → Outcome A)
@@ -74,8 +76,8 @@ pub fn stream_is_fed_in_turn<A: Allocator + Copy>()
         → AreFedInTurn (network_value n) run.inputs run.lists leg more }
 {}
 
-/// The printed delays and phases of a stream hold for each frame of its talker and each route, whatever all others send. Only the talker
-/// must keep its traffic.
+/// Each frame of a stream's talker keeps the printed delays and phases on each route. Only this talker must keep its traffic; other devices
+/// may send anything.
 pub fn stream_keeps_latency<A: Allocator + Copy>()
     ensures { (n : NetworkParts A) (hops : List StreamHop) (queues : List HopQueue) (t : Traffic) (r : StreamLatency)
         (commands : ℕ → List Input) (captures : ℕ → ℕ → List CapturedFrame) (o : ℕ → Outcome A)
@@ -93,7 +95,8 @@ pub fn stream_keeps_latency<A: Allocator + Copy>()
         → KeepsStreamLatency t leg more r }
 {}
 
-/// If a stream's delays pass, each frame of its talker is delivered along each path that forwards it, whatever all others send.
+/// If the delays of a stream have the flag `passes`, each frame of its talker is delivered along each path of bridges that forward it.
+/// Other devices may send anything.
 pub fn stream_is_delivered<A: Allocator + Copy>()
     ensures { (n : NetworkParts A) (hops : List StreamHop) (queues : List HopQueue) (t : Traffic) (r : StreamLatency)
         (first : StreamHop) (commands : ℕ → List Input) (captures : ℕ → ℕ → List CapturedFrame) (o : ℕ → Outcome A)
@@ -112,8 +115,8 @@ pub fn stream_is_delivered<A: Allocator + Copy>()
         → IsDeliveredAlong n hops queues run.lists t r first a q ports }
 {}
 
-/// If the stream entries of a stream compare destination addresses, the bridges forward each frame of its talker along some path. Without
-/// `refusable`, the frame is then delivered along this path.
+/// If all stream entries of a stream compare destination addresses, the bridges forward each frame of its talker along some path. By
+/// `stream_is_delivered`, the frame is delivered along it.
 pub fn talker_frame_has_path<A: Allocator + Copy>()
     ensures { (n : NetworkParts A) (hops : List StreamHop) (queues : List HopQueue) (t : Traffic) (r : StreamLatency)
         (first : StreamHop) (commands : ℕ → List Input) (captures : ℕ → ℕ → List CapturedFrame) (o : ℕ → Outcome A)
@@ -132,7 +135,8 @@ pub fn talker_frame_has_path<A: Allocator + Copy>()
         → HasPath n hops first a }
 {}
 
-/// If `net check` prints delays of a stream without `refusable`, each frame at its talker's port is delivered. Other ports don't matter.
+/// If `net check` prints `arrives` and the talker keeps its traffic, each frame at the talker's port is delivered, whatever arrives at
+/// other ports.
 pub fn printed_stream_is_delivered<A: Allocator + Copy>()
     ensures { (n : NetworkParts A) (bounds : List (Vec QueueBound A)) (hops : List StreamHop) (talker : Talker)
         (r : StreamLatency) (first : StreamHop) (q : ℕ) (commands : ℕ → List Input)

@@ -1,4 +1,4 @@
-//! The tests whether only the talker's frames get the handle of a hop, and whether each hop's frames get the next hop's filter.
+//! Two tests of a stream: only frames from the talker's port get the handles of its hops, and each hop's frames get the next hop's filter.
 ghost use Rattle.std.specs.Prelude.{◌≡◌, ◌≤◌, All, length, slice_get, true};
 ghost use Rattle.net_model.specs.Faults.{is_entry_port};
 ghost use Rattle.bridge_bounds.specs.Traffic.{IsTraffic};
@@ -17,7 +17,7 @@ use net_model::{
 };
 use std::alloc::Allocator;
 
-/// Whether port `on` is open and has an entry with this handle, so that frames from outside can get the handle there.
+/// Whether port `on` is open and has a stream entry with this handle. Then devices outside the network can send frames that get the handle.
 fn enters<A: Allocator + Copy>(
     links: &[Link],
     bridge: u16,
@@ -33,7 +33,7 @@ fn enters<A: Allocator + Copy>(
     has_entry(plan, on.number, handle)
 }
 
-/// Whether a port is the talker's port: the first open port that has an entry with this handle.
+/// Whether a port is the talker's port: the first open port in the plan's order that has a stream entry with this handle.
 fn is_talker_port<A: Allocator + Copy>(
     links: &[Link],
     bridge: u16,
@@ -51,8 +51,8 @@ fn is_talker_port<A: Allocator + Copy>(
     false
 }
 
-/// Whether frames of other devices can get the handle at port `on`: it is open, has an entry, and isn't the talker's port. Only the first
-/// hop has a talker's port.
+/// Whether frames of other devices can get the handle at port `on`. The port is open, has an entry, and isn't the talker's port, which only
+/// the first hop has.
 fn is_other_entry_port<A: Allocator + Copy>(
     links: &[Link],
     is_first: bool,
@@ -69,7 +69,8 @@ fn is_other_entry_port<A: Allocator + Copy>(
     !is_first || !is_talker_port(links, bridge, plan, handle, on.number)
 }
 
-/// Whether frames of other devices can get the handle of a hop at port `on` of its bridge.
+/// Whether frames of other devices than the talker can get the hop's handle at port `on` of its bridge. Explanations and warnings of `net
+/// check` also use it.
 pub fn can_others_enter<A: Allocator + Copy>(
     links: &[Link],
     is_first: bool,
@@ -86,8 +87,7 @@ pub fn can_others_enter<A: Allocator + Copy>(
     }
 }
 
-/// Whether only frames of the stream can get the handle of a hop at the bridge with this plan. Otherwise a delay would depend on other
-/// devices.
+/// Whether no port of the hop's bridge lets frames of other devices get the hop's handle. Otherwise delays would depend on these devices.
 fn is_entry_exclusive<A: Allocator + Copy>(
     links: &[Link],
     is_first: bool,
@@ -104,7 +104,7 @@ fn is_entry_exclusive<A: Allocator + Copy>(
     true
 }
 
-/// Whether only frames of the stream can get the handle of a hop. Returns true if the hop's bridge is missing.
+/// Whether only the talker's frames can get the handle of a hop from outside the network. Returns true if the hop's bridge is missing.
 fn is_single_entry<A: Allocator + Copy>(
     plans: &[Accepted<A>],
     links: &[Link],
@@ -119,7 +119,8 @@ fn is_single_entry<A: Allocator + Copy>(
     }
 }
 
-/// Whether only frames of the stream can get the handles of its hops. Without this, `checked_stream_latency` returns no delays.
+/// Whether only the talker's frames can get the handles of the stream's hops from outside the network. Otherwise `checked_stream_latency`
+/// returns `None`.
 fn are_single_entries<A: Allocator + Copy>(
     plans: &[Accepted<A>],
     links: &[Link],
@@ -174,7 +175,7 @@ fn are_handed<A: Allocator + Copy>(
     true
 }
 
-/// Returns the delays; clears the flag `passes` if a hop's frames may miss the next hop's filter.
+/// Returns the delays `course`, with the flag `passes` cleared if frames of a hop may miss the next hop's filter (`handed` is false).
 fn handed_course(handed: bool, course: StreamLatency) -> StreamLatency
     ensures { result ≡ spec.handed_course handed course }
 {
@@ -206,7 +207,8 @@ pub fn checked_stream_latency<A: Allocator + Copy>(
     tested_course(once, handed, course)
 }
 
-/// Returns the delays of a stream, or `None` if they are unknown or other devices' frames can get its handles (`once` is false).
+/// Returns the delays `course` of a stream after the two tests. Returns `None` if they are unknown, or other devices' frames can get its
+/// handles (`once` is false).
 fn tested_course(once: bool, handed: bool, course: Option<StreamLatency>) -> Option<StreamLatency>
     ensures { result ≡ spec.tested_course once handed course }
 {

@@ -1,4 +1,4 @@
-//! Explanations of a refused hop of a stream.
+//! Explanations of a refused hop of a stream, and sentences that list a plan's protected or grouped filters.
 
 use crate::texts::{NetworkText, put_numbers};
 use bridge_bounds::find_filter;
@@ -13,7 +13,7 @@ use std::alloc::Global;
 /// A refused hop, with its numbers in the fault line.
 #[derive(Clone, Copy)]
 struct RefusedHop<'a> {
-    /// Number of its stream, from 1.
+    /// Number of the hop's stream in the network file, from 1.
     stream: usize,
     /// Number of the hop in the stream, from 1.
     place: usize,
@@ -23,7 +23,8 @@ struct RefusedHop<'a> {
     bridge: &'a BridgeRow<Global>,
 }
 
-/// Explains why a hop of a stream is refused. Streams and hops are counted from 1. Returns `None` if the hop is missing or memory runs out.
+/// Explains why `refused` has a fault at a hop: hop `place` of stream `stream`, both counted from 1. Returns `None` if the hop is missing
+/// or memory runs out.
 pub fn explain_hop_fault(
     alloc: Global,
     asked: NetworkText<'_>,
@@ -53,12 +54,12 @@ pub fn explain_hop_fault(
     said.finish().ok()
 }
 
-/// Returns the plan of the bridge with index `bridge`, from 0, or `None`.
+/// Returns the plan of the bridge with index `bridge`, from 0, or `None` if the network lacks the bridge.
 fn bridge_plan(refused: &RefusedNetwork<Global>, bridge: u16) -> Option<&Accepted<Global>> {
     refused.plans.get(bridge as usize)
 }
 
-/// Returns the name of stream `stream`, counted from 1, or an empty text.
+/// Returns the name of stream `stream`, counted from 1, or an empty text if the file lacks the stream.
 fn stream_name<'a>(asked: NetworkText<'a>, stream: usize) -> &'a str {
     match asked.file.streams().get(stream.wrapping_sub(1)) {
         Some(row) => row.name(),
@@ -78,7 +79,7 @@ fn put_hop(said: &mut TextBuilder<Global>, asked: NetworkText<'_>, found: Refuse
     );
 }
 
-/// Appends that the plan lacks a protected filter with the hop's number, and the protected filters that it has.
+/// Appends that the hop's filter is missing or unprotected in the plan of its bridge, then the protected filters of this plan and a remedy.
 fn put_filters(
     alloc: Global,
     said: &mut TextBuilder<Global>,
@@ -104,7 +105,8 @@ fn put_filters(
     said.put(remedy);
 }
 
-/// Appends the numbers of the protected filters: the choices for a wrong number.
+/// Appends a sentence with the numbers of a plan's protected filters, from which the reader can choose. Discards the whole explanation if
+/// memory runs out.
 pub(crate) fn put_protected(
     alloc: Global,
     said: &mut TextBuilder<Global>,
@@ -124,7 +126,8 @@ pub(crate) fn put_protected(
     said.put(".\n");
 }
 
-/// Appends a sentence with the numbers of a plan's grouped filters. If memory runs out, the explanation is left out.
+/// Appends a sentence with the numbers of a plan's grouped filters, from which the reader can choose. Discards the whole explanation if
+/// memory runs out.
 pub(crate) fn put_grouped(
     alloc: Global,
     said: &mut TextBuilder<Global>,
@@ -144,7 +147,7 @@ pub(crate) fn put_grouped(
     said.put(".\n");
 }
 
-/// Returns the number, from 1, of the first hop that equals `hop`, or 0.
+/// Returns the number, from 1, of the first hop in `hops` that equals `hop`, or 0 if none does.
 fn hop_index(hops: &[StreamHop], hop: StreamHop) -> u64 {
     let mut place = 0u64;
     for other in hops {
@@ -156,7 +159,7 @@ fn hop_index(hops: &[StreamHop], hop: StreamHop) -> u64 {
     0
 }
 
-/// Appends the stream and number of the earlier hop that equals the refused one.
+/// Appends which earlier hop has the refused hop's bridge and filter: its number, and the name of its stream. Then appends a remedy.
 fn put_twice(
     said: &mut TextBuilder<Global>,
     asked: NetworkText<'_>,
@@ -183,7 +186,7 @@ fn put_twice(
     );
 }
 
-/// Appends that no open port of the bridge has an entry for the filter of the talker's hop. So no frame from outside can reach it.
+/// Appends that no open port of the bridge has a stream entry with the handle of the first hop's filter, so no talker's frame can reach it.
 fn put_no_entry(
     said: &mut TextBuilder<Global>,
     accepted: &Accepted<Global>,
@@ -213,7 +216,8 @@ fn is_joined(links: &[Link], hops: &[StreamHop], bridge: u16) -> bool {
     false
 }
 
-/// Appends why no frame of another hop can reach the refused hop: no link joins their bridges, or the filter accepts no such frame.
+/// Appends why no frame of another hop in `hops` can reach the refused hop: no link joins their bridges, or the refused hop's filter
+/// accepts no such frame.
 fn put_unfed(
     said: &mut TextBuilder<Global>,
     links: &[Link],

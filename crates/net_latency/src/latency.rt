@@ -1,4 +1,4 @@
-//! Delays of a stream's frames over all their routes.
+//! Delays of a periodic talker's frames over all routes through the hops of its stream.
 ghost use Rattle.std.specs.Prelude.{◌≡◌, ◌+◌, ◌≤◌, All, length};
 ghost use Rattle.bridge_bounds.specs.Traffic.{IsTraffic};
 ghost use Rattle.net_latency.specs.StreamLatency as spec;
@@ -20,20 +20,20 @@ pub struct StreamLatency {
     pub worst: u128,
     /// Best delay in ns.
     pub best: u128,
-    /// Phases of the ends of transmission at a last hop, in a period there.
+    /// Phases of the ends of transmission at a last hop, in ns from the start of a period.
     pub phases: Phases,
 }
 
-/// Delays of the queues of one hop, gathered queue by queue.
+/// Delays over the routes from one hop on. `hop_latency` adds the hop's queues one after the other.
 #[derive(Clone, Copy)]
 pub(crate) enum CombinedLatency {
     /// No queue was added.
     NoQueue,
-    /// Delays of all queues together. `None` if the delays of a queue are unknown.
+    /// Delays that hold for each added queue. `None` if the delays of a queue are unknown.
     Latency(Option<StreamLatency>),
 }
 
-/// Returns the range of phases that has the phases of both routes.
+/// Returns the least range of phases that includes both ranges. `combine` merges the phases of two routes by it.
 fn both_phases(a: Phases, b: Phases) -> Phases
     ensures { result ≡ spec.both_phases a b }
 {
@@ -43,7 +43,7 @@ fn both_phases(a: Phases, b: Phases) -> Phases
     }
 }
 
-/// Returns delays that hold for both routes: the greater worst and the lesser best delay.
+/// Returns delays that hold for two routes `a` and `b`: the greater worst and the lesser best delay.
 fn combine(a: StreamLatency, b: StreamLatency) -> StreamLatency
     ensures { result ≡ spec.combine a b }
 {
@@ -55,7 +55,7 @@ fn combine(a: StreamLatency, b: StreamLatency) -> StreamLatency
     }
 }
 
-/// Returns delays that hold for both routes, or `None` if the delays of one are unknown.
+/// Returns delays that hold for two routes, or `None` if the delays of one are unknown.
 fn combine_if_both(a: Option<StreamLatency>, b: Option<StreamLatency>) -> Option<StreamLatency>
     ensures { result ≡ spec.combine_if_both a b }
 {
@@ -87,14 +87,15 @@ fn known_latency(gathered: CombinedLatency) -> Option<StreamLatency>
     }
 }
 
-/// Whether a queue belongs to a hop. Comparing bridges is enough, because each hop of a tree has its own bridge.
+/// Whether a queue belongs to a hop. It compares only bridges, because each hop of a tree is at another bridge.
 fn is_queue_of_hop(hop: StreamHop, queue: &HopQueue) -> bool
     ensures { result ≡ spec.is_queue_of_hop hop queue.now }
 {
     queue.hop.bridge == hop.bridge
 }
 
-/// Returns the delays of the routes from a queue on, through at most `depth` more hops. Returns `None` if they are unknown.
+/// Returns the delays over all routes that begin at `queue` and pass at most `depth` hops after it. `came` is the arrival at the queue's
+/// hop. Returns `None` if they are unknown.
 #[cycle(hop_latency)]
 fn queue_latency<A: Allocator + Copy>(
     case: &StreamContext<'_, A>,
@@ -117,7 +118,8 @@ fn queue_latency<A: Allocator + Copy>(
     }
 }
 
-/// Returns `gathered` with the delays of the queue if it belongs to the hop, otherwise `gathered`.
+/// Returns `gathered` with the delays of `queue` added if the queue belongs to `hop`, otherwise `gathered`. `came` says how frames arrive at
+/// the hop, and `depth` how many more hops are followed. `hop_latency` calls it for each queue.
 #[cycle(hop_latency)]
 fn add_queue_latency<A: Allocator + Copy>(
     case: &StreamContext<'_, A>,
@@ -142,8 +144,8 @@ fn add_queue_latency<A: Allocator + Copy>(
     add_latency(gathered, told)
 }
 
-/// Returns the delays of all routes from a hop on, through at most `depth` hops. `depth` ends the recursion. Returns `None` if the delays
-/// are unknown.
+/// Returns the delays over all routes that begin at `hop` and have at most `depth` hops. `depth` ends the recursion. Returns `None` if the
+/// delays are unknown.
 #[cycle(hop_latency)]
 fn hop_latency<A: Allocator + Copy>(
     case: &StreamContext<'_, A>,
@@ -181,8 +183,8 @@ fn first_hop_arrival(traffic: &Traffic) -> HopArrival
     }
 }
 
-/// Returns the delays of a stream with a periodic talker at its first hop. Returns `None` if the hops are no tree, phases are unknown or
-/// lie in two periods, or a queue is missing.
+/// Returns the delays over all routes of a stream with this periodic talker. Returns `None` if the hops are no tree, a hop has no queue, or
+/// phases are unknown or lie in two periods.
 pub fn stream_latency<A: Allocator + Copy>(
     plans: &[Accepted<A>],
     links: &[Link],

@@ -51,8 +51,7 @@ ghost use Rattle.net_latency.specs.Ways.{IsRoute, RouteHop, route_bound, hop_end
 
 use std::alloc::Allocator;
 
-/// Bounds of hops add up. A frame's delay over its route is at most the sum of its queues' bounds and its links' delays. Talkers may send
-/// anything.
+/// A frame's delay over its route is at most the sum of the bounds of its queues and the delays of its links. Talkers may send anything.
 pub fn route_in_time<A: Allocator + Copy>()
     ensures { (n : Network A) (commands : ℕ → List Input) (captures : ℕ → ℕ → List CapturedFrame) (o : ℕ → Outcome A)
         (run : IsNetworkRun n commands captures o) (leg : RouteHop A) (more : List (ℕ × RouteHop A))
@@ -61,8 +60,8 @@ pub fn route_in_time<A: Allocator + Copy>()
         → hop_end (last_hop leg more) ≤ leg.copy.at + route_bound leg more }
 {}
 
-/// A frame of a periodic talker keeps the delays and phases of its route (`phases`) and the delays of its stream (`course`). Bridges on the
-/// route must receive no other frames of the stream.
+/// A frame of a periodic talker keeps the delays and phases of its route (`phases`) and of its stream (`course`). Each later hop must
+/// receive only copies from the hop before it (`AreFedInTurn`).
 pub fn route_in_phases<A: Allocator + Copy>()
     ensures phases { (n : Network A) (commands : ℕ → List Input) (captures : ℕ → ℕ → List CapturedFrame) (o : ℕ
         → Outcome A)
@@ -92,8 +91,8 @@ pub fn route_in_phases<A: Allocator + Copy>()
         → KeepsStreamLatency t leg more r }
 {}
 
-/// If a traffic row has the word `passes`, each frame passes (`filter`). Each copy is sent between the phases, within the delays (`queue`).
-/// Other traffic doesn't matter.
+/// If a periodic row prints `passes`, its filter passes each frame (`filter`). Each copy leaves between the row's phases and within its
+/// delays (`queue`). Other talkers may send anything.
 pub fn passing_row_is_sent<A: Allocator + Copy>()
     ensures filter { (p : Plan A) (f : FilterPlan) (es : List Event) (lists : ℕ
         → List (Copy CarriedFrame)) (o : Outcome A)
@@ -127,9 +126,9 @@ pub fn passing_row_is_sent<A: Allocator + Copy>()
         → IsSentInTime out r x y }
 {}
 
-/// If the lines of a row of a group's filter have the word `passes`, each frame of a talker that keeps the row passes (`filter`).
+/// If all lines of a grouped filter's row print `passes`, the filter passes each frame of a talker that keeps the row (`filter`).
 ///
-/// Each egress port sends it within the delays of one of the lines (`frame`). Other talkers may send anything.
+/// Each egress port of the frame sends it within the delays of one of these lines (`frame`).
 pub fn passing_limited_row_is_sent<A: Allocator + Copy>()
     ensures filter { (p : Plan A) (group index : ℕ) (f : FilterPlan) (r : LimitedRow) (s : SharedQueue)
         (x : QueueTiming) (es : List Event) (lists : ℕ → List (Copy CarriedFrame)) (o : Outcome A) (v : View A)
@@ -166,8 +165,8 @@ pub fn passing_limited_row_is_sent<A: Allocator + Copy>()
         × IsSentFrame out a r.filter (count_filter_frames p r.filter older + 1) x y }
 {}
 
-/// If the copies of a hop's queue start once a period, their arrivals at the next hop keep the period. A chain of these laws bounds a
-/// route's total delay.
+/// If the copies in a hop's queue start once a period, the frames arrive at the next hop once a period. Applied hop by hop, this law bounds
+/// the delay of a route.
 pub fn next_hop_in_periods<A: Allocator + Copy>()
     ensures { (n : Network A) (stream : List (ℕ × ℕ)) (commands : ℕ → List Input) (captures : ℕ → ℕ
         → List CapturedFrame)

@@ -35,8 +35,10 @@ pub use marked_queues::shared_warnings;
 pub use printing::bounds_job;
 pub use refusable::{explain_refusable, put_reason};
 pub use reporting::{TrafficReport, traffic_job};
-pub use streams::{StreamLines, all_queue_bounds, bounds_of_bridge, stream_bounds, stream_lines};
-pub use talkers::{first_misfit, latency_through_hops};
+pub use streams::{
+    StreamLines, all_queue_bounds, bounds_of_bridge, stream_bound, stream_bounds, stream_lines,
+};
+pub use talkers::{first_misfit, latency_through_hops, talker_latency};
 pub use texts::{NetworkText, put_numbers, reread_text};
 pub use tight::{TightBound, tight_queue_bounds};
 pub use timings::{QueueTiming, TrafficFigures, are_in_time, queue_timings};

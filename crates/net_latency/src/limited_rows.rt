@@ -1,4 +1,4 @@
-//! Delays of a group's talkers in shared queues, and the test whether their filters admit them.
+//! Delays of a group's talkers in shared queues, and the test whether their filters' gates and meters admit the talkers.
 ghost use Rattle.std.specs.Prelude.{◌≡◌, ◌*◌, ◌++◌, ◌∷◌, ◌≤◌, IfOk, List, OnOk, Some, [], nat_eq};
 ghost use Rattle.std.specs.Int.{div_ceil};
 ghost use Rattle.std.specs.Map.{lookup};
@@ -27,7 +27,7 @@ use bridge_meter::UNITS_PER_OCTET;
 use net_file::{FrameLimit, LimitedRow};
 use std::alloc::Allocator;
 
-/// Returns the metered octets of `frames` frames of `longest` octets.
+/// Returns the metered octets of `frames` frames of `longest` octets each: with padding to 60 octets and the check sequence.
 fn metered_frames(frames: u64, longest: u32) -> u64
     requires frames { frames ≤ 1024 }
     requires longest { longest ≤ LONGEST_FRAME }
@@ -37,7 +37,7 @@ fn metered_frames(frames: u64, longest: u32) -> u64
     u64::from(longest.max(60) + 4) * frames
 }
 
-/// Returns the burst in metered octets of frames that keep a limit and have at most `longest` octets.
+/// Returns the largest burst, in metered octets, of a talker that keeps `limit` with frames of at most `longest` octets.
 pub(crate) fn limit_burst(limit: FrameLimit, longest: u32) -> u64
     requires limit { IsFrameLimit limit }
     requires longest { longest ≤ LONGEST_FRAME }
@@ -58,7 +58,7 @@ fn least_rate(octets: u64, period: u64) -> u64
     (octets * UNITS_PER_OCTET as u64).div_ceil(period)
 }
 
-/// Returns the least rate in bit/s of frames that keep a limit and have at most `longest` octets.
+/// Returns the least rate in bit/s that suffices for a talker that keeps `limit` with frames of at most `longest` octets.
 pub(crate) fn limit_rate(limit: FrameLimit, longest: u32) -> u64
     requires limit { IsFrameLimit limit }
     requires longest { longest ≤ LONGEST_FRAME }
@@ -70,7 +70,7 @@ pub(crate) fn limit_rate(limit: FrameLimit, longest: u32) -> u64
     }
 }
 
-/// Whether a filter admits the talker of a row.
+/// Whether a filter passes each frame of a row's talker, by the filter's gate, SDU limit and meter.
 fn admits_row<A: Allocator + Copy>(plan: &Plan<A>, row: &LimitedRow, filter: &FilterPlan) -> bool
     requires row { IsLimitedRow row.now }
     ensures { result ≡ spec.admits_row plan.now row.now (Some filter.now) }
@@ -100,7 +100,7 @@ fn shares_queue<A: Allocator + Copy>(
     }
 }
 
-/// A row with a limit whose filter the plan has, and whether the filter admits the talker.
+/// A row with a frame limit, its filter, and whether the filter admits the row's talker.
 #[derive(Clone, Copy)]
 struct TestedRow {
     /// Number of the row in the file, from 1.
@@ -109,7 +109,7 @@ struct TestedRow {
     row: LimitedRow,
     /// Filter of the row.
     filter: FilterPlan,
-    /// Reach of the filter.
+    /// Which queues the filter's frames can enter, computed once for all queues.
     reach: Reach,
     /// Whether the filter admits the talker.
     admits: bool,

@@ -1,4 +1,4 @@
-//! Warnings of the queues that groups share.
+//! Warnings about queues that groups share: queues that may drop copies as full, and queues that only their capacity bounds.
 ghost use Rattle.std.specs.Prelude.{◌≡◌, ◌++◌, IfOk, OnOk, string_bytes};
 ghost use Rattle.net_latency.specs.SharedWarnings.{AreSharedWarnings, lossy_warning, shared_warning, shared_warnings, unmetered_warning};
 
@@ -8,7 +8,8 @@ use bridge_groups::{SharedQueue, plan_shared_queues};
 use bridge_limits::NoMemory;
 use std::alloc::{AllocError, Allocator};
 
-/// Appends the warning of a queue that only its capacity bounds.
+/// Appends the warning for a queue whose delay only its capacity bounds, because a filter of its group has no meter, or the meters pass
+/// more than the windows carry.
 #[tactic(auto, unfolding(crate::specs::SharedWarnings::unmetered_warning))]
 fn push_unmetered_warning<A: Allocator + Copy>(
     text: &mut String<A>,
@@ -28,7 +29,7 @@ fn push_unmetered_warning<A: Allocator + Copy>(
     )
 }
 
-/// Appends the warning of a queue that may drop copies as full.
+/// Appends the warning for a queue that may be full and drop copies, because its capacity isn't known to suffice.
 #[tactic(auto, unfolding(crate::specs::SharedWarnings::lossy_words))]
 fn push_lossy_warning<A: Allocator + Copy>(
     text: &mut String<A>,
@@ -71,7 +72,7 @@ fn push_shared_warning<A: Allocator + Copy>(
     Ok(())
 }
 
-/// Returns one warning for each marked queue, in the order of `rows`.
+/// Returns one warning for each queue of `rows` with the mark `unmetered` or `lossy`, in the order of `rows`.
 fn rows_warnings<A: Allocator + Copy>(alloc: A, rows: &[SharedQueue]) -> Result<String<A>, NoMemory>
     ensures { IfOk result (λ text. string_bytes text ≡ shared_warnings rows.now) }
 {

@@ -1,4 +1,4 @@
-//! The hops to which the ports of a network lead.
+//! Search for the other end of a port's link, and for the hop of a stream there.
 ghost use Rattle.std.specs.Prelude.{◌≡◌, map, option_map};
 ghost use Rattle.net_model.specs.Networks.{sender};
 ghost use Rattle.net_model.specs.NetworkParts.{link_value};
@@ -45,7 +45,7 @@ pub(crate) fn far_end(links: &[Link], bridge: u16, port: u8) -> Option<FarEnd>
     None
 }
 
-/// Returns the first of these hops at a bridge, or `None` if the stream has no hop there.
+/// Returns the first hop in `hops` at a bridge, or `None` if there is none.
 pub(crate) fn hop_at_bridge(hops: &[StreamHop], bridge: u16) -> Option<StreamHop>
     ensures { result ≡ hop_at_bridge hops.now bridge }
 {
@@ -57,7 +57,8 @@ pub(crate) fn hop_at_bridge(hops: &[StreamHop], bridge: u16) -> Option<StreamHop
     None
 }
 
-/// Returns the hop of the stream at the other end of the port's link. Returns `None` if the port is open or the stream has no hop there.
+/// Returns the hop of the stream at the other end of the port's link, and the link's delay. Returns `None` if the port is open or the
+/// stream has no hop there.
 pub(crate) fn next_hop(links: &[Link], hops: &[StreamHop], bridge: u16, port: u8) -> Option<NextHop>
     ensures { result ≡ next_hop links.now hops.now bridge port }
 {

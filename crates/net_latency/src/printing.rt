@@ -1,4 +1,4 @@
-//! Lines of delay bounds.
+//! Lines of delay bounds: the output of `bounds`.
 ghost use Rattle.std.specs.Prelude.{◌≡◌, ◌++◌, ℕ, List, Some, IfOk, IfErr, OnOk, string_bytes};
 ghost use Rattle.app_failure.specs.Jobs.{EndsCheck};
 ghost use Rattle.net_latency.specs.Printing.{AreBoundLines, PrintsBounds, bound_line, bounds_text, coarse_mark, padded_figure};
@@ -12,7 +12,7 @@ use bridge_limits::NoMemory;
 use std::alloc::{AllocError, Allocator, Global};
 use std::io::Read;
 
-/// Returns the mark of a coarse bound, or an empty text.
+/// Returns ` coarse` for a coarse bound (`TightBound::coarse`), otherwise an empty text.
 fn coarse_mark(coarse: bool) -> &'static str
     ensures { result.now ≡ coarse_mark coarse }
 {
@@ -73,8 +73,8 @@ pub fn bounds_text<A: Allocator + Copy>(
     Ok(text)
 }
 
-/// Returns the lines of all tight bounds of an accepted plan, then those of its shared queues: the output of `bounds`, with traffic or
-/// without.
+/// Returns the lines of all tight bounds of an accepted plan, then the lines of its shared queues. `bounds` prints them, with or without
+/// `--traffic`.
 pub(crate) fn bound_lines<A: Allocator + Copy>(
     alloc: A,
     accepted: &Accepted<A>,

@@ -1,4 +1,4 @@
-//! Frames that leave a queue of a hop: they leave the stream's hops, or they continue to another hop.
+//! What follows a queue of a hop: the end of the route, or the arrival at the next hop.
 ghost use Rattle.std.specs.Prelude.{◌≡◌, ◌+◌, ◌↔◌, IfSome, option_map, slice_get, true, ℕ};
 ghost use Rattle.bridge_bounds.specs.Traffic.{IsTraffic};
 ghost use Rattle.net_latency.specs.StreamLatency as spec;
@@ -25,9 +25,9 @@ pub(crate) struct StreamContext<'a, A: Allocator + Copy> {
 /// Arrival of a talker's frames at a hop, with their delays up to this hop.
 #[derive(Clone, Copy)]
 pub struct HopArrival {
-    /// The frames, with their phases of arrival at the hop.
+    /// Period and lengths of the talker's frames, with the phases of their arrival at the hop.
     pub traffic: Traffic,
-    /// Time in ns from the talker's period to the period of these phases.
+    /// Time in ns from the start of the talker's period to the start of the period in which `traffic` counts its phases.
     pub later: u128,
     /// Worst delay up to this hop, in ns.
     pub worst: u128,
@@ -37,12 +37,12 @@ pub struct HopArrival {
     pub passes: bool,
 }
 
-/// Next step of frames that have left a queue. Phases of the arrival decide how long they wait at the next hop.
+/// Next step of frames that have left a queue. The phases of their arrival decide how long they wait at the next hop.
 #[derive(Clone, Copy)]
 pub(crate) enum QueueExit {
-    /// The frames leave the stream's hops.
+    /// The queue's port leads to no hop of the stream: the delays of the whole route.
     Last(StreamLatency),
-    /// The frames continue to another hop.
+    /// The next hop, and the arrival of the frames there.
     Next(StreamHop, HopArrival),
 }
 
@@ -75,7 +75,8 @@ pub(crate) fn hop_passes<A: Allocator + Copy>(
     }
 }
 
-/// Returns the delays of a route that ends at a queue: the sums of the delays of its hops and links. The phases can lower the worst delay.
+/// Returns the delays of a route that ends at a queue. Worst: the lesser of summed worst delays and time from the talker's first phase
+/// `from` to the last of `done`. Best: summed best delays.
 fn latency_at_last_queue(
     from: u64,
     came: &HopArrival,
@@ -95,7 +96,7 @@ fn latency_at_last_queue(
     }
 }
 
-/// Returns the arrival at the next hop. Returns `None` if its phases lie in two periods.
+/// Returns the arrival at the next hop, over a link with a delay of `delay` ns. Returns `None` if the phases of arrival lie in two periods.
 fn next_hop_arrival(
     came: &HopArrival,
     x: &Timing,
@@ -133,7 +134,8 @@ fn next_hop_arrival(
     })
 }
 
-/// Returns the next step of frames that leave a queue between the phases `done`. Without a next hop (`None`), the route ends here.
+/// Returns the next step of frames that leave a queue between the phases `done`. If `onward` is `None`, the route ends at this queue.
+/// Returns `None` if the phases of arrival lie in two periods.
 fn exit_over_link(
     from: u64,
     came: &HopArrival,
@@ -156,7 +158,8 @@ fn exit_over_link(
     }
 }
 
-/// Returns the next step of frames at a queue. Returns `None` if the bridge is missing or the phases are unknown.
+/// Returns the next step of frames with arrival `came` at the queue's hop. Returns `None` if the bridge is missing, or phases are unknown
+/// or lie in two periods.
 pub(crate) fn queue_exit<A: Allocator + Copy>(
     case: &StreamContext<'_, A>,
     queue: &HopQueue,

@@ -1,4 +1,5 @@
-//! Explanations of traffic that may be refused: the condition that fails. No call fails: files that can't be read again are left out.
+//! Explanations of the word `refusable`: for each queue, the first condition that fails. If files can't be read again, there is no
+//! explanation (`None`).
 ghost use Rattle.std.specs.Prelude.{◌≤◌, All, length};
 ghost use Rattle.bridge_bounds.specs.Traffic.{IsTraffic};
 ghost use Rattle.net_file.specs.LimitedRows.{IsLimitedRow};
@@ -20,7 +21,7 @@ use std::alloc::Global;
 use std::fs;
 use std::rt::Files;
 
-/// Octets of a frame check sequence, which the lengths of traffic leave out.
+/// Octets of a frame check sequence. The lengths in traffic rows don't include it.
 const CHECK_OCTETS: u32 = 4;
 
 /// Explains why frames of a traffic file may be refused, for each queue whose line says `refusable`; reads both files again. Returns `None`
@@ -45,7 +46,7 @@ pub fn explain_refusable<H: AllocGlobal + Files>(
     said
 }
 
-/// Explains why frames of these rows may be refused, a sentence for each row and queue. Returns `None` if memory runs out.
+/// Returns one sentence for each row and queue in which frames may be refused. Returns `None` if memory runs out.
 fn explain_refusable_rows(
     alloc: Global,
     accepted: &Accepted<Global>,
@@ -65,7 +66,7 @@ fn explain_refusable_rows(
     said.finish().ok()
 }
 
-/// Appends a sentence for each queue in which frames of this row may be refused.
+/// Appends a sentence for each queue in which frames of row `index` may be refused. `timings` has the results of all rows.
 fn put_row(
     said: &mut TextBuilder<Global>,
     plan: &Plan<Global>,
@@ -113,7 +114,8 @@ fn put_queue(
     }
 }
 
-/// Appends the first condition that fails for a talker of a group: its filter's gate, limit of the SDU or meter, or the queue's capacity.
+/// Appends the first condition that fails for a talker of a group. It concerns its filter's gate, SDU limit or meter, or the queue's
+/// capacity.
 fn put_limited_reason(
     said: &mut TextBuilder<Global>,
     plan: &Plan<Global>,
@@ -151,7 +153,8 @@ fn put_long(said: &mut TextBuilder<Global>, octets: u32, most: u32) {
     );
 }
 
-/// Appends that the filter's meter has too small a burst size or rate for the talker, or is missing. Returns whether it appended a sentence.
+/// Appends that the filter's meter has too small a burst size or rate for the talker, or is missing. Returns whether it appended a
+/// sentence.
 fn put_lacking_tokens(
     said: &mut TextBuilder<Global>,
     plan: &Plan<Global>,
@@ -214,7 +217,8 @@ fn put_lacking_room(said: &mut TextBuilder<Global>, shared: &[SharedQueue], queu
     }
 }
 
-/// Appends the first condition that fails for this traffic at the filter and its queue of `class`. `net check` also calls it for hops.
+/// Appends the first condition that fails for periodic traffic at a filter and its queue of class `class`. Explanations of `net check` also
+/// call it, for the hops of streams.
 pub fn put_reason(
     said: &mut TextBuilder<Global>,
     plan: &Plan<Global>,

@@ -38,7 +38,7 @@ fn traffic_refusal(heap: Global, fault: &TrafficFault) -> Failure
     }
 }
 
-/// Reads the rows of a traffic file's contents. A refused file is the program's fault with its fault line.
+/// Returns the rows of a traffic file with the contents `text`. For refused contents, returns the program's fault with the fault line.
 fn parse_rows<A: Allocator + Copy>(
     alloc: A,
     heap: Global,
@@ -79,7 +79,7 @@ pub(crate) fn read_rows<R: Read + Drop, A: Allocator + Copy>(
     }
 }
 
-/// Returns the output for an accepted plan and rows that suit it: lines of bounds, then lines of traffic.
+/// Returns the output for an accepted plan and rows without a fault (`traffic_fault`): lines of bounds, then lines of traffic.
 fn report_traffic<A: Allocator + Copy>(
     alloc: A,
     accepted: &Accepted<A>,
@@ -104,7 +104,8 @@ fn report_traffic<A: Allocator + Copy>(
     Ok(TrafficReport { text, kept })
 }
 
-/// Returns the lines of an accepted plan and of these rows, or the fault of a row that doesn't suit the plan.
+/// Returns the output for an accepted plan and traffic rows: lines of bounds, then lines of traffic. Returns the program's fault if a row
+/// doesn't suit the plan.
 fn check_and_report<A: Allocator + Copy>(
     alloc: A,
     heap: Global,

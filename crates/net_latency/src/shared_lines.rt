@@ -1,4 +1,4 @@
-//! Lines of the queues that groups share.
+//! Lines of `bounds` about the queues that groups share.
 ghost use Rattle.std.specs.Prelude.{◌≡◌, ◌++◌, OnOk, string_bytes};
 ghost use Rattle.net_latency.specs.SharedLines.{is_lossy, room_words, shared_line, shared_mark, shared_text};
 
@@ -6,7 +6,8 @@ use bridge_groups::SharedQueue;
 use bridge_limits::NoMemory;
 use std::alloc::{AllocError, Allocator};
 
-/// Whether no capacity is known with which a queue drops no copy as full, or its own capacity is less.
+/// Whether a queue may drop copies as full. `room` is the capacity that suffices, or `None` if none is known. `capacity` is the queue's own
+/// capacity.
 pub(crate) fn is_lossy(room: Option<u16>, capacity: u16) -> bool
     ensures { result ≡ is_lossy room capacity }
 {

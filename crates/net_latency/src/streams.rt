@@ -1,4 +1,4 @@
-//! Delays of a network's streams, from talker to listener.
+//! Delays of a network's streams, from talker to listener, and the lines about them that `net check` prints.
 ghost use Rattle.std.specs.Prelude.{All, ◌≡◌, ◌&&◌, ◌≤◌, ◌*◌, ◌^◌, length, map, slice_get, sum_by, IfOk, string_bytes};
 ghost use Rattle.bridge_text.specs.Growth.{HasGrown};
 ghost use Rattle.std.specs.Option.{ForSome};
@@ -22,7 +22,7 @@ use net_file::{LinkRow, StreamRow, Talker};
 use net_model::Network;
 use std::alloc::Allocator;
 
-/// Returns the delay bounds of the queues of each plan, by bridge index. Computed once, since all streams use them.
+/// Returns for each plan the delay bounds of its reachable queues, in the order of `plans`. `net check` computes them once for all streams.
 pub fn all_queue_bounds<A: Allocator + Copy>(
     alloc: A,
     plans: &[Accepted<A>],
@@ -42,7 +42,8 @@ pub fn all_queue_bounds<A: Allocator + Copy>(
     Ok(bounds)
 }
 
-/// Returns the greater of `most` and the queue's bound if the queue belongs to the filter, otherwise `most`.
+/// Returns the greater of `most` and the bound of `row` in ns if `row` has filter `filter`, otherwise `most`. `filter_bound` calls it for
+/// each row.
 fn greater_bound(filter: u32, most: u64, row: &QueueBound) -> u64
     ensures { result ≡ greater_bound filter most row.now }
 {
@@ -53,7 +54,7 @@ fn greater_bound(filter: u32, most: u64, row: &QueueBound) -> u64
     }
 }
 
-/// Returns the greatest delay bound of a filter's queues; 0 if it has none.
+/// Returns the greatest delay bound in ns of a filter's queues in `rows`; 0 if it has none.
 fn filter_bound(filter: u32, rows: &[QueueBound]) -> u64
     ensures { result ≡ filter_bound filter rows.now }
 {
@@ -84,7 +85,7 @@ fn hop_bound<A: Allocator + Copy>(bounds: &[Vec<QueueBound, A>], hop: (u16, u32)
     filter_bound(hop.1, bounds_of_bridge(bounds, hop.0))
 }
 
-/// Whether one of these hops is at the bridge.
+/// Whether one of these hops is at the bridge. A hop is a pair: index of its bridge and number of its filter.
 fn has_hop_at_bridge(hops: &[(u16, u32)], bridge: u16) -> bool
     ensures { result ≡ has_hop_at_bridge hops.now bridge }
 {
@@ -100,7 +101,8 @@ fn is_joining_link(hops: &[(u16, u32)], bridge: u16, link: &LinkRow) -> bool
     to_one || to_other
 }
 
-/// Returns the greater of `most` and the link's delay if the link joins the bridge to the bridge of a hop, otherwise `most`.
+/// Returns the greater of `most` and the link's delay in ns if the link joins `bridge` to the bridge of a hop, otherwise `most`.
+/// `link_delay` calls it for each link.
 fn greater_delay(hops: &[(u16, u32)], bridge: u16, most: u64, link: &LinkRow) -> u64
     ensures { result ≡ greater_delay hops.now bridge most link.now }
 {
@@ -111,7 +113,8 @@ fn greater_delay(hops: &[(u16, u32)], bridge: u16, most: u64, link: &LinkRow) ->
     }
 }
 
-/// Returns the greatest delay in ns of a link between the bridge and the bridges of these hops.
+/// Returns the greatest delay in ns of a link between `bridge` and the bridges of `hops`, because frames may arrive over any of these
+/// links. Returns 0 without a link.
 fn link_delay(links: &[LinkRow], hops: &[(u16, u32)], bridge: u16) -> u64
     ensures { result ≡ link_delay links.now hops.now bridge }
 {
@@ -122,14 +125,14 @@ fn link_delay(links: &[LinkRow], hops: &[(u16, u32)], bridge: u16) -> u64
     greatest
 }
 
-/// Returns the greatest delay in ns of a link between a hop's bridge and the bridges of these hops.
+/// Returns the greatest delay in ns of a link between the bridge of `hop` and the bridges of `hops`; 0 without a link.
 fn hop_delay(links: &[LinkRow], hops: &[(u16, u32)], hop: (u16, u32)) -> u64
     ensures { result ≡ hop_delay links.now hops.now hop }
 {
     link_delay(links, hops, hop.0)
 }
 
-/// Returns the sum of all hops' delay bounds in ns.
+/// Returns the sum over all hops of `hop_bound`, in ns.
 fn total_bound<A: Allocator + Copy>(bounds: &[Vec<QueueBound, A>], hops: &[(u16, u32)]) -> u128
     requires few { length hops.now ≤ 64 }
     ensures sum { result ≡ sum_by (hop_bound bounds.now) hops.now }
@@ -142,7 +145,8 @@ fn total_bound<A: Allocator + Copy>(bounds: &[Vec<QueueBound, A>], hops: &[(u16,
     sum
 }
 
-/// Returns a sum in ns: for each hop in `later`, the greatest delay of a link to it from a bridge of the stream.
+/// Returns the sum over the hops in `later` of `hop_delay`, in ns. `later` has the stream's hops without the first, because a link leads to
+/// each of them.
 fn total_delay(links: &[LinkRow], hops: &[(u16, u32)], later: &[(u16, u32)]) -> u128
     requires few { length later.now ≤ 64 }
     ensures sum { result ≡ sum_by (hop_delay links.now hops.now) later.now }
@@ -155,9 +159,9 @@ fn total_delay(links: &[LinkRow], hops: &[(u16, u32)], later: &[(u16, u32)]) -> 
     sum
 }
 
-/// Returns the delay bound of a stream in ns, for frames that cross each hop once. It is the sum of each hop's greatest bound and the
-/// greatest link delay to each later hop.
-fn stream_bound<A: Allocator + Copy>(
+/// Returns the delay bound in ns of a stream whose frames cross each hop once. It sums each hop's greatest bound, and the greatest link
+/// delay of each hop after the first.
+pub fn stream_bound<A: Allocator + Copy>(
     bounds: &[Vec<QueueBound, A>],
     links: &[LinkRow],
     hops: &[(u16, u32)],
@@ -201,26 +205,56 @@ fn worst_latency(course: Option<StreamLatency>, bound: u128) -> u128
     }
 }
 
-/// Writes the delays of a stream, or its bound if the delays are unknown.
-fn put_latency<B: Allocator>(text: &mut TextBuilder<B>, course: Option<StreamLatency>, bound: u128)
-    ensures { HasGrown text.old (spec.latency_words course bound) text.new }
+/// Writes the delays and phases of a stream. Writes nothing if they are unknown (`course` is `None`).
+fn put_course<B: Allocator>(text: &mut TextBuilder<B>, course: Option<StreamLatency>)
+    ensures { HasGrown text.old (spec.course_words course) text.new }
 {
     let Some(course) = course else {
-        text.put(" bound ");
-        text.put_integer(bound);
-        return;
+        return text.put("");
     };
     put_delays(text, course.worst, course.best, Some(course.phases));
 }
 
-/// Returns the word ` refusable` for a stream whose frames may be refused, otherwise an empty text.
-fn refusal_word(passes: bool) -> &'static str
-    ensures { result.now ≡ spec.refusal_word passes }
+/// Writes the delays of a stream if they are known, and its bound.
+fn put_latency<B: Allocator>(text: &mut TextBuilder<B>, course: Option<StreamLatency>, bound: u128)
+    ensures { HasGrown text.old (spec.latency_words course bound) text.new }
 {
-    if passes { "" } else { " refusable" }
+    put_course(text, course);
+    text.put(" bound ");
+    text.put_integer(bound);
 }
 
-/// Whether each frame of a periodic talker passes. Returns true without a periodic talker, and false if the delays are unknown.
+/// Returns ` arrives` for a stream whose frames all arrive within known delays, ` refusable` if frames may be refused, otherwise an empty
+/// text.
+fn arrival_word(passes: bool, course: Option<StreamLatency>) -> &'static str
+    ensures { result.now ≡ spec.arrival_word passes course }
+{
+    match (passes, course) {
+        (false, _) => " refusable",
+        (true, None) => "",
+        (true, Some(_)) => " arrives",
+    }
+}
+
+/// Writes the time between a deadline and a worst delay in ns: the margin, or what is lacking. Writes nothing without a deadline.
+fn put_margin<B: Allocator>(text: &mut TextBuilder<B>, deadline: Option<u64>, worst: u128)
+    ensures { HasGrown text.old (spec.margin_words deadline worst) text.new }
+{
+    let Some(limit) = deadline else {
+        return text.put("");
+    };
+    let limit = limit as u128;
+    if worst <= limit {
+        text.put(" margin ");
+        text.put_integer(limit - worst);
+    } else {
+        text.put(" lacks ");
+        text.put_integer(worst - limit);
+    }
+}
+
+/// Whether each frame of a stream's periodic talker passes all hops. Returns true without a periodic talker, and false if its delays are
+/// unknown.
 fn is_passing(talker: Option<Talker>, course: Option<StreamLatency>) -> bool
     ensures { result ≡ spec.is_passing talker course }
 {
@@ -243,7 +277,7 @@ fn is_in_time(
     passes && timings::is_met(deadline, worst_latency(course, bound))
 }
 
-/// Lines of `net check` about the streams, and whether all of them are kept.
+/// Lines of `net check` about the streams, and whether all streams pass and meet their deadlines.
 #[derive(Drop)]
 pub struct StreamLines<B: Allocator> {
     /// One line for each stream.
@@ -252,7 +286,7 @@ pub struct StreamLines<B: Allocator> {
     pub kept: bool,
 }
 
-/// Writes the line of a stream with its delays. Returns whether the stream passes and meets its deadline.
+/// Writes the line of a stream with its delays and its margin. Returns whether the stream passes and meets its deadline.
 fn put_stream<A: Allocator + Copy, B: Allocator>(
     text: &mut TextBuilder<B>,
     bounds: &[Vec<QueueBound, A>],
@@ -270,9 +304,11 @@ fn put_stream<A: Allocator + Copy, B: Allocator>(
     let passes = is_passing(stream.talker(), course);
     text.put("stream ");
     text.put(stream.name());
-    text.put(refusal_word(passes));
+    text.put(arrival_word(passes, course));
     put_latency(text, course, bound);
-    put_deadline(text, deadline, worst_latency(course, bound));
+    let worst = worst_latency(course, bound);
+    put_deadline(text, deadline, worst);
+    put_margin(text, deadline, worst);
     text.put("\n");
     is_in_time(passes, course, deadline, bound)
 }

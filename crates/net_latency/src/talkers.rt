@@ -27,8 +27,7 @@ use net_file::{NetFault, NetField, NetKeyLocation, NetSection, StreamRow, Talker
 use net_model::{Link, StreamHop};
 use std::alloc::Allocator;
 
-/// Whether the period suits the filter with this number: no cycle time on its route fails to divide it. Returns true if the filter is
-/// missing.
+/// Whether the period is a multiple of each cycle time on the route of the filter with this number. Returns true if the filter is missing.
 fn suits_filter<A: Allocator + Copy>(plan: &Plan<A>, filter: u32, period: u64) -> bool
     ensures { result ≡ spec.suits_filter plan.now period (lookup (nat_eq filter) plan.now.filters) }
 {
@@ -45,7 +44,8 @@ fn accepted_plan<A: Allocator + Copy>(plans: &[Accepted<A>], bridge: u16) -> Opt
     plans.get(bridge as usize)
 }
 
-/// Whether the period suits a hop. Returns true if its bridge is missing.
+/// Whether the period suits a hop's filter (`suits_filter`). `hop` has the index of its bridge and the number of its filter. Returns true
+/// if the bridge is missing.
 fn suits_hop<A: Allocator + Copy>(plans: &[Accepted<A>], hop: (u16, u32), period: u64) -> bool
     ensures { result ≡ spec.suits_hop (slice_get plans.now hop.0) hop.1 period }
 {
@@ -99,7 +99,7 @@ pub fn first_misfit<A: Allocator + Copy>(
     None
 }
 
-/// Converts a talker of a network file to the traffic that delays are computed of.
+/// Converts a talker of a network file to the traffic of `bridge_bounds`, which computes delays.
 fn talker_traffic(talker: &Talker) -> Traffic
     requires { IsTalker talker.now }
     ensures traffic { result ≡ spec.talker_traffic talker.now }
@@ -137,7 +137,7 @@ fn put_hop_queue<A: Allocator + Copy>(
     Ok(())
 }
 
-/// Appends to `queues` the queues of a hop. `rows` has the delay bounds of its bridge, one for each reachable queue.
+/// Appends to `queues` the reachable queues of a hop's filter. `rows` has the delay bounds of all protected filters of the hop's bridge.
 fn put_filter_queues<A: Allocator + Copy>(
     rows: &[QueueBound],
     hop: StreamHop,
@@ -156,7 +156,7 @@ fn put_filter_queues<A: Allocator + Copy>(
     Ok(())
 }
 
-/// Appends to `queues` the reachable queues of a hop. `bounds` has the delay bounds of each bridge.
+/// Appends to `queues` the reachable queues of a hop. `bounds` has the delay bounds of all bridges, by bridge index.
 fn put_queues<A: Allocator + Copy>(
     bounds: &[Vec<QueueBound, A>],
     hop: StreamHop,
@@ -170,7 +170,8 @@ fn put_queues<A: Allocator + Copy>(
     put_filter_queues(bounds_of_bridge(bounds, hop.bridge), hop, queues)
 }
 
-/// Returns the reachable queues of all hops, hop by hop. Delay bounds list each reachable queue, so they are the source.
+/// Returns the reachable queues of all hops, hop by hop. It finds them in the delay bounds `bounds`, because these list each reachable
+/// queue.
 fn hop_queues<A: Allocator + Copy>(
     alloc: A,
     bounds: &[Vec<QueueBound, A>],
@@ -189,8 +190,8 @@ fn hop_queues<A: Allocator + Copy>(
     Ok(queues)
 }
 
-/// Returns the delays of a talker's frames through these hops, or `None` if they are unknown. `net check` calls it with changed hops to
-/// find the cause.
+/// Returns the delays of a talker's frames through these hops, or `None` if they are unknown. Explanations of `net check` call it with the
+/// first hops of a stream to find a refusable hop.
 pub fn latency_through_hops<A: Allocator + Copy>(
     alloc: A,
     plans: &[Accepted<A>],
@@ -213,7 +214,7 @@ pub fn latency_through_hops<A: Allocator + Copy>(
 }
 
 /// Returns the delays of a stream's frames. Returns `None` without a periodic talker, or if the delays are unknown.
-pub(crate) fn talker_latency<A: Allocator + Copy>(
+pub fn talker_latency<A: Allocator + Copy>(
     alloc: A,
     plans: &[Accepted<A>],
     links: &[Link],

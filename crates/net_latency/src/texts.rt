@@ -1,4 +1,4 @@
-//! Files that are read again for an explanation.
+//! Helpers of explanations: reading files again after a command, positions in a network file, and lists of numbers.
 
 use app_files::read_text;
 use bridge_text::{Document, Instance, Position, TextBuilder, put_position};
@@ -7,8 +7,8 @@ use std::alloc::Global;
 use std::fs;
 use std::rt::Files;
 
-/// Reads a file's contents again, for an explanation. Returns `None` for a pipe, which gives its contents once, and for a file that can't
-/// be read. Networks and traffic aren't kept after a command.
+/// Reads a file's contents again for an explanation, because a command doesn't keep them. Returns `None` if the file can't be read or is a
+/// pipe, which gives its contents only once.
 pub fn reread_text<H: AllocGlobal + Files>(rt: &H, path: &str) -> Option<Vec<u8>> {
     if !fs::metadata(rt, path).ok()?.is_file() {
         return None;
@@ -29,13 +29,13 @@ pub struct NetworkText<'a> {
 }
 
 impl<'a> NetworkText<'a> {
-    /// Returns the bridge with this index, from 0, or `None`.
+    /// Returns the bridge of the network file with this index, from 0, or `None` if there is none.
     pub fn bridge(self, place: u16) -> Option<&'a BridgeRow<Global>> {
         self.file.bridges().get(place as usize)
     }
 
-    /// Appends the path of the file, and the position of an instance's key, or of its header if `key` is `None`. Instances are counted from
-    /// 1.
+    /// Appends the path of the file and the position of a key, or of the section's header if `key` is `None`. `index` is the number of the
+    /// section's instance, from 1.
     pub fn put_place(
         self,
         said: &mut TextBuilder<Global>,
@@ -47,8 +47,8 @@ impl<'a> NetworkText<'a> {
         put_position(said, self.position(section, index, key));
     }
 
-    /// Returns the position of an instance's key, or of its header if `key` is `None`. Instances are counted from 1. Returns `None` if the
-    /// document lacks it.
+    /// Returns the position of a key, or of the section's header if `key` is `None`. `index` counts the section's instances from 1. Returns
+    /// `None` if the document lacks it.
     fn position(self, section: NetSection, index: usize, key: Option<&str>) -> Option<Position> {
         let instance = Instance {
             document: self.document,
@@ -59,7 +59,7 @@ impl<'a> NetworkText<'a> {
     }
 }
 
-/// Appends the first 16 numbers with commas between them, and two points if there are more.
+/// Appends the first 16 numbers with commas between them, then `..` if `numbers` has more.
 pub fn put_numbers(said: &mut TextBuilder<Global>, numbers: &[u64]) {
     let mut is_first = true;
     for number in numbers.iter().take(MOST_NUMBERS) {

@@ -19,7 +19,7 @@ pub struct TightBound {
     pub port: u8,
     /// Class of the queue, 0 to 7.
     pub class: u8,
-    /// Whether the bound by capacity counts all arrival times, because two lists have no common cycle.
+    /// Whether the bound allows for any arrival time, because the lists of stream gate and port have no common cycle.
     pub coarse: bool,
     /// Largest delay in ns of a sent copy, from arrival to the end of transmission, gap included.
     pub bound: u64,
@@ -27,9 +27,10 @@ pub struct TightBound {
     pub padded: Option<u64>,
 }
 
-/// Returns the lesser of a queue's tight bound `tight` and its bound by what the stream gate passes, both in ns.
+/// Returns the lesser of two bounds of a queue in ns: `tight`, and the bound by the octets that the filter's stream gate passes.
 ///
-/// Returns `tight` if two lists have no common cycle (`coarse`), because the search would take too long.
+/// Returns `tight` if the lists of stream gate and port have no common cycle (`coarse`), because the search for the other bound would take
+/// too long.
 fn least_bound<A: Allocator + Copy>(
     accepted: &Accepted<A>,
     queue: &QueueBound,
@@ -55,9 +56,10 @@ fn least_bound<A: Allocator + Copy>(
     }
 }
 
-/// Returns the bound in ns of a queue for frames of at least 60 octets, by what the stream gate passes.
+/// Returns a queue's bound in ns for frames of at least 60 octets, by the octets that the filter's stream gate passes.
 ///
-/// Returns `None` if it isn't below `bound`, if no such frame passes, or if two lists have no common cycle (`coarse`).
+/// Returns `None` if it isn't below `bound`, if no frame of this length passes, or if the lists of stream gate and port have no common
+/// cycle (`coarse`).
 fn padded_bound<A: Allocator + Copy>(
     accepted: &Accepted<A>,
     queue: &QueueBound,
@@ -76,7 +78,7 @@ fn padded_bound<A: Allocator + Copy>(
     }
 }
 
-/// Appends to `made` the tight bound of the queue that `bound` names.
+/// Appends to `made` the tight bounds of the queue of `bound`, for all frames and for frames of at least 60 octets.
 fn put_tight_bound<A: Allocator + Copy>(
     accepted: &Accepted<A>,
     bound: &QueueBound,
@@ -102,7 +104,7 @@ fn put_tight_bound<A: Allocator + Copy>(
     Ok(())
 }
 
-/// Returns the tight bounds of the queues that `bounds` names, in order. A tight bound is at most the queue's bound.
+/// Returns the tight bounds of the queues in `bounds`, in the order of `bounds`. A tight bound is at most the queue's bound there.
 fn tighten_bounds<A: Allocator + Copy>(
     alloc: A,
     accepted: &Accepted<A>,

@@ -1,4 +1,4 @@
-//! Delays of traffic in each queue of its filters, and their lines.
+//! Delays of the frames of traffic rows in each queue that their filters can reach, and the lines of `bounds --traffic`.
 ghost use Rattle.std.specs.Prelude.{◌≡◌, ◌↔◌, ◌++◌, ◌∷◌, ◌≤◌, All, IfOk, List, OnOk, Some, [], length, map, string_bytes, true};
 ghost use Rattle.bridge_text.specs.Growth.{HasGrown};
 ghost use Rattle.bridge_bounds.specs.Bounds.{IsQueueBound};
@@ -32,15 +32,15 @@ pub struct QueueTiming {
     pub port: u8,
     /// Class of the queue, 0 to 7.
     pub class: u8,
-    /// Whether each frame passes the filter, and the queue accepts it: each has left before the next one arrives.
+    /// Whether the filter passes each frame of the row, and the queue accepts each frame.
     pub passes: bool,
-    /// Delays of the frames that pass.
+    /// Delays of the row's frames in the queue, if they pass the filter.
     pub timing: Timing,
     /// Largest allowed delay in ns. `None` means no limit.
     pub deadline: Option<u64>,
 }
 
-/// Delays of a traffic row in a queue of its filter, or the fact that no queue is reachable.
+/// Result of a traffic row: its delays in one queue of its filter, or that no queue is reachable.
 #[derive(Clone, Copy)]
 pub enum TrafficFigures {
     /// Delays in one queue.
@@ -54,7 +54,7 @@ pub enum TrafficFigures {
     },
 }
 
-/// Whether each frame of a row passes its filter. Returns false if the plan lacks the filter.
+/// Whether the filter of a row with periodic traffic passes each of its frames. Returns false if the plan lacks the filter.
 fn row_passes<A: Allocator + Copy>(accepted: &Accepted<A>, row: &TrafficRow) -> bool
     requires row { IsRow row.now }
     ensures { (result ≡ true) ↔ RowPasses accepted.now row.now }
@@ -106,7 +106,8 @@ fn push_queue_timing<A: Allocator + Copy>(
     Ok(())
 }
 
-/// Returns the delays of a row, one for each reachable queue of its filter. Returns an empty list if there is none.
+/// Returns the delays of row `index`, with periodic traffic, in each queue of its filter in `bounds`, in this order. Returns an empty list
+/// if no queue is reachable.
 fn row_timings<A: Allocator + Copy>(
     alloc: A,
     accepted: &Accepted<A>,
@@ -221,7 +222,7 @@ pub(crate) fn is_met(deadline: Option<u64>, worst: u128) -> bool
     }
 }
 
-/// Whether each frame passes and meets its deadline in a queue. Returns false for a row without queue.
+/// Whether each frame of a row passes and meets its deadline in a queue. Returns false for a row whose filter has no reachable queue.
 fn is_kept(figures: &TrafficFigures) -> bool
     ensures { result ≡ spec.is_row_kept figures.now }
 {
@@ -352,7 +353,7 @@ fn put_nowhere<A: Allocator>(text: &mut TextBuilder<A>, row: u32, filter: u32)
     text.put(" nowhere\n");
 }
 
-/// Writes the line of a row in a queue, or of a row without queue.
+/// Writes one line: the delays of a row in a queue, or `nowhere` for a row without reachable queue.
 fn put_row_line<A: Allocator>(text: &mut TextBuilder<A>, figures: &TrafficFigures)
     ensures { HasGrown text.old (printing.figures_line figures.now) text.new }
 {

@@ -1,4 +1,4 @@
-//! Faults of traffic compared with its plan.
+//! Tests whether a period suits the cycles of a plan, and the faults of traffic rows compared with a plan.
 ghost use Rattle.std.specs.Prelude.{◌≡◌, ◌||◌, ◌+◌, ◌<◌, ◌≤◌, length, nat_eq, option_map};
 ghost use Rattle.std.specs.Map.{lookup};
 ghost use Rattle.bridge_check.specs.Reach.{some_number_passes, reaches_queue};
@@ -18,7 +18,8 @@ use net_file::{
 };
 use std::alloc::Allocator;
 
-/// Whether a period is a multiple of the cycle times of a stream gate's schedule. Returns true for a fixed gate, which has no cycle.
+/// Whether a period is a multiple of each cycle time of a stream gate: of the old and of the new list. Returns true for a fixed gate, which
+/// has no cycle.
 fn suits_schedule<A: Allocator + Copy>(period: u64, schedule: &Schedule<A>) -> bool
     ensures { result ≡ spec.suits_schedule period schedule.now }
 {
@@ -32,7 +33,7 @@ fn suits_schedule<A: Allocator + Copy>(period: u64, schedule: &Schedule<A>) -> b
     }
 }
 
-/// Whether a period is a multiple of the cycle times of a port's gate control lists. Returns true without a list.
+/// Whether a period is a multiple of each cycle time of a port: of the old and of the new gate control list. Returns true without a list.
 fn suits_lists<A: Allocator + Copy>(period: u64, lists: &Option<Egress<A>>) -> bool
     ensures { result ≡ spec.suits_lists period lists.now }
 {
@@ -93,7 +94,7 @@ fn suits_port<A: Allocator + Copy>(period: u64, port: Option<&PortPlan<A>>) -> b
     }
 }
 
-/// Whether the filter has a reachable queue at a port whose cycle times don't divide the period.
+/// Whether the filter has a reachable queue at `port`, and the period isn't a multiple of this port's cycle times.
 fn has_misfit_at_port<A: Allocator + Copy>(
     plan: &Plan<A>,
     filter: &FilterPlan,
@@ -111,7 +112,7 @@ fn has_misfit_at_port<A: Allocator + Copy>(
     comes && !suits
 }
 
-/// Whether the filter has a reachable queue at any port whose cycle times don't divide the period.
+/// Whether the filter has a reachable queue at some port, and the period isn't a multiple of this port's cycle times.
 fn has_misfit<A: Allocator + Copy>(
     plan: &Plan<A>,
     filter: &FilterPlan,
@@ -129,7 +130,8 @@ fn has_misfit<A: Allocator + Copy>(
     found
 }
 
-/// Whether a period is a multiple of each cycle time on the route of a filter's frames.
+/// Whether a period is a multiple of each cycle time on the route of a filter's frames: of its stream gate, and of each port with a
+/// reachable queue.
 pub(crate) fn suits<A: Allocator + Copy>(plan: &Plan<A>, filter: &FilterPlan, period: u64) -> bool
     ensures { result ≡ spec.suits plan.now filter.now period }
 {
@@ -140,7 +142,8 @@ pub(crate) fn suits<A: Allocator + Copy>(plan: &Plan<A>, filter: &FilterPlan, pe
     !has_misfit(plan, filter, &reach, period)
 }
 
-/// Returns the fault of row `index` with periodic traffic: the filter is missing or unprotected, or the period doesn't suit.
+/// Returns the fault of row `index` with periodic traffic, or `None`. Its filter is missing or unprotected, or its period isn't a multiple
+/// of each cycle on the route.
 pub(crate) fn row_fault<A: Allocator + Copy>(
     plan: &Plan<A>,
     index: u32,
@@ -168,7 +171,7 @@ pub(crate) fn row_fault<A: Allocator + Copy>(
     None
 }
 
-/// Returns the fault of row `index` with a limit: the filter is missing, or belongs to no group.
+/// Returns the fault of row `index` with a limit of its frames, or `None`. The filter is missing, or belongs to no group.
 fn group_fault<A: Allocator + Copy>(plan: &Plan<A>, index: u32, filter: u32) -> Option<TrafficFault>
     ensures { result ≡ kinds.group_fault index (lookup (nat_eq filter) plan.now.filters) }
 {
@@ -199,8 +202,8 @@ pub(crate) fn talker_row_fault<A: Allocator + Copy>(
     }
 }
 
-/// Returns the first fault of traffic compared with its plan, row by row, or `None`. The filter may be missing, unprotected or in no group,
-/// or a cycle on its route may not divide the period.
+/// Returns the first fault of the rows compared with the plan, or `None`. A filter is missing, unprotected or in no group, or a period
+/// doesn't suit the cycles.
 pub fn traffic_fault<A: Allocator + Copy>(
     plan: &Plan<A>,
     rows: &[TalkerRow],

@@ -1,4 +1,4 @@
-//! The test whether the hops of a stream are a tree.
+//! The test whether the hops of a stream are a tree. Delays are known only for trees.
 ghost use Rattle.std.specs.Prelude.{◌≡◌, ◌&&◌};
 ghost use Rattle.net_latency.specs.Trees as spec;
 
@@ -16,7 +16,7 @@ pub struct HopQueue {
     pub class: u8,
 }
 
-/// Whether the port of a queue has a link to the bridge.
+/// Whether the port of a queue has a link to `bridge`, so that the queue's frames arrive there.
 fn is_feeder(links: &[Link], bridge: u16, queue: &HopQueue) -> bool
     ensures { result ≡ spec.is_feeder links.now bridge queue.now }
 {
@@ -26,7 +26,7 @@ fn is_feeder(links: &[Link], bridge: u16, queue: &HopQueue) -> bool
     }
 }
 
-/// Returns how many of these queues lead to a bridge. A tree allows one, and none for its root.
+/// Returns the number of `queues` whose port has a link to `bridge`. In a tree, it is at most 1, and 0 for the bridge of the root.
 fn count_feeders(links: &[Link], queues: &[HopQueue], bridge: u16) -> usize
     ensures { result ≡ spec.count_feeders links.now queues.now bridge }
 {
@@ -36,7 +36,8 @@ fn count_feeders(links: &[Link], queues: &[HopQueue], bridge: u16) -> usize
         .count()
 }
 
-/// Whether a hop is the first of these hops at its bridge. Otherwise the stream crosses the bridge twice.
+/// Whether the first of `hops` at the bridge of `hop` has the filter of `hop`. Otherwise two hops are at this bridge, so the stream may
+/// cross it twice.
 fn is_first_at_bridge(hops: &[StreamHop], hop: &StreamHop) -> bool
     ensures { result ≡ spec.is_first_at_bridge hops.now hop.now }
 {
@@ -46,14 +47,14 @@ fn is_first_at_bridge(hops: &[StreamHop], hop: &StreamHop) -> bool
     }
 }
 
-/// Whether each hop is the first at its bridge.
+/// Whether no two hops are at one bridge with different filters: each is the first of `hops` at its bridge.
 fn have_distinct_bridges(hops: &[StreamHop]) -> bool
     ensures { result ≡ spec.have_distinct_bridges hops.now }
 {
     hops.iter().all(|h| is_first_at_bridge(hops, h))
 }
 
-/// Whether at most one queue leads to each hop.
+/// Whether at most one of `queues` leads to the bridge of each hop (`count_feeders`).
 fn have_single_feeders(links: &[Link], hops: &[StreamHop], queues: &[HopQueue]) -> bool
     ensures { result ≡ spec.have_single_feeders links.now hops.now queues.now }
 {

@@ -16,3 +16,11 @@ pub mod Reaching
 pub mod Sampled
 pub mod Walked
 pub mod EntryPorts
+pub mod Filtered
+pub mod Laid
+pub mod Searched
+pub mod AllGroups
+pub mod Named
+pub mod Others
+pub mod Stepping
+pub mod Told

@@ -15,7 +15,8 @@ use Rattle.bridge_semantics.specs.Outputs.{departed_frame}
 use Rattle.bridge_semantics.specs.Runs.{AreSolo, IsFilterView}
 use Rattle.net_model.specs.Networks.{Network, Sender, sender, delayed_frame, external_inputs, Hop, hop, IsHop}
 
--- Holds if input `x` at port `q` is an own frame of hop `h`, sent by a stream hop at `s.from` one link delay earlier.
+-- Holds if input `x` at port `q` is an own frame of hop `h` that another hop of the stream sent from bridge port
+-- `s.from` one link delay earlier.
 pub record ArrivesOverLink {A : Type 0} (n : Network A) (stream : List (ℕ × ℕ)) (lists : Hop A → ℕ → ℕ → List (Copy CarriedFrame))
     (h : Hop A) (q : ℕ) (s : Sender) (x : Input) : Type 0 where
   pub plan : Plan A
@@ -41,8 +42,8 @@ own_external_inputs h commands captures q = own_inputs h.plan h.number h.filter 
 abbrev pub IsQueuedAtPort : (ℕ → ℕ → List (Copy CarriedFrame)) → ℕ → Copy CarriedFrame → Type 0
 IsQueuedAtPort lists q x = (c : ℕ) × IsMember x (lists q c)
 
--- Holds if each hop's record results from its own inputs from outside and the stream's frames over links. Field `own` has a hop's inputs. Field `lists` has the
--- copies of each queue.
+-- Holds if each hop's record results only from its own inputs from outside and the stream's frames over links. `own`
+-- has the inputs of each hop, `lists` the copies of its queues.
 pub record IsAlone {A : Type 0} (n : Network A) (commands : ℕ → List Input) (captures : ℕ → ℕ → List CapturedFrame)
     (stream : List (ℕ × ℕ)) (views : Hop A → Option (View A)) : Type 0 where
   pub own : Hop A → List Input

@@ -1,4 +1,5 @@
--- A test on the plans that decides which streams of a network are closed.
+-- A test on plans and links which shows that a stream is closed: over links, its hops accept only frames of the
+-- stream's hops (`IsClosed`).
 use Rattle.std.specs.Prelude.{ℕ, Bool, true, false, ◌&&◌, nat_eq, List, Option, Some, None, slice_get}
 use Rattle.std.specs.List.{list_any, list_all}
 use Rattle.bridge_filter.specs.declared.FilterPlan.{FilterPlan}

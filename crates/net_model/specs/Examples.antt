@@ -175,7 +175,7 @@ module _ (A : Type 0) where
   unfolding first_among_numbers
   both_fed = refl
 
-  -- If the second hop's entry stands on an open port, the hop isn't fed.
+  -- If the second hop's entry is on an open port, the hop isn't fed.
   not_fed : stream_test_fault (of_two (a_plan (an_entry 1 ∷ []) true) (an_entry 2 ∷ [])) hop_test.Fed 0 hops
       ≡ Some (fault.NotFed 1 2)
   unfolding first_among_numbers
@@ -187,7 +187,7 @@ module _ (A : Type 0) where
   unfolding first_among_numbers
   not_protected = refl
 
-  -- The first hop stands twice.
+  -- The third hop is the first hop again.
   hop_twice : stream_test_fault (of_two (a_plan [] true) []) hop_test.Unique 0 (a_hop 0 1 ∷ a_hop 1 1 ∷ a_hop 0 1 ∷ [])
       ≡ Some (fault.HopTwice 1 3)
   unfolding first_among_numbers

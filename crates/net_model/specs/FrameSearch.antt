@@ -29,8 +29,8 @@ abbrev pub is_own_filter : {A : Type 0} → Plan A → (ℕ → Bool) → ℕ �
 is_own_filter p is_of_stream q None = false
 is_own_filter p is_of_stream q (Some m) = is_of_stream m.0 && can_wait_at_port_number p m.1 q
 
--- True if `w` asks for frames of optional filter `m` that leave by port `q`: stray frames (Strays), or the stream's own (Own). Frames without a filter are
--- stray.
+-- True if a search for stray frames (Strays) or own frames (Own) looks for frames of optional filter `m` that leave by
+-- port `q`. Frames without a filter are stray.
 abbrev pub is_asked : {A : Type 0} → FrameQuery → Plan A → (ℕ → Bool) → ℕ → Option (ℕ × FilterPlan) → Bool
 is_asked Strays p is_of_stream q m = not (is_safe_filter p is_of_stream q m)
 is_asked Own p is_of_stream q m = is_own_filter p is_of_stream q m
@@ -41,8 +41,8 @@ abbrev pub frames_if_asked : Bool → Option (ℕ × FilterPlan) → ℕ → Opt
 frames_if_asked true m from = Some (record { filter = option_map (λ (x : ℕ × FilterPlan). x.0) m; from = from })
 frames_if_asked false m from = None
 
--- An example of frames with this priority and optional handle, received on port `from`, if `w` asks for their filter;
--- otherwise `None`.
+-- An example of frames with this priority and optional handle, received on port `from`, if the search looks for their
+-- filter; otherwise `None`.
 abbrev pub frames_by_handle : {A : Type 0} → FrameQuery → Plan A → (ℕ → Bool) → ℕ → ℕ → ℕ → Option ℕ → Option FoundFrames
 frames_by_handle w p is_of_stream q from priority handle =
     frames_if_asked (is_asked w p is_of_stream q (matching_filter p handle priority)) (matching_filter p handle priority) from

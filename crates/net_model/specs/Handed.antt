@@ -1,4 +1,4 @@
--- State of the test of handed frames in the code. No public clause uses it.
+-- State of the test whether the next hop gets each frame (src/handing.rt). No contract of a public function uses it.
 use Rattle.std.specs.Prelude.{◌≡◌, ◌≤◌, ℕ, Bool, true, false, not, nat_eq, Option, Some, None}
 use Rattle.bridge_frame.specs.declared.Tag.{Tag}
 use Rattle.bridge_ident.specs.declared.StreamEntry.{StreamEntry}
@@ -23,11 +23,12 @@ pub record IsHanding {A : Type 0} (h : Handing A) : Type 0 where
   pub taker_from : 1 ≤ h.taker.on.now.number
   pub taker_to : h.taker.on.now.number ≤ 16
 
--- True if the next filter gets each frame with this tag that entry `e` identifies at the sender's port `from`.
+-- True if the receiving filter gets each frame with this tag that the sender's entry `e` identifies at its ingress port
+-- `from`.
 abbrev pub hands_tag : {A : Type 0} → Handing A → StreamEntry → PortPlan A → Option Tag → Bool
 hands_tag h e from tag = handing.hands_tag h.plan.now h.filter h.port h.taker.plan.now h.taker.on.now h.taker.filter e from tag
 
--- True if the next filter gets each frame that entry `e` identifies at its port.
+-- True if the receiving filter gets each frame that the sender's entry `e` identifies at its port.
 abbrev pub hands_entry : {A : Type 0} → Handing A → StreamEntry → Bool
 hands_entry h e =
     handing.hands_entry h.plan.now h.filter h.port h.taker.plan.now h.taker.on.now h.taker.filter e (find_port h.plan.now.ports e.port)

@@ -30,8 +30,8 @@ gives_all next on n s = list_all (is_given next on n s) (possible_handles next.s
 abbrev pub takes_all : {A : Type 0} → Plan A → PortPlan A → ℕ → FramePattern → Bool
 takes_all next on n s = goes_on next on s && gives_all next on n s
 
--- True if frames with this tag that entry `e` matches at port `from` get filter `n` at the next bridge's port `on`. Frames of other filters, or that can't
--- leave by port `q`, don't matter.
+-- True if all frames with this tag that filter `m` passes on to port `q` get filter `n` at the next bridge's port `on`.
+-- The sender's entry `e` gives these frames to filter `m` at port `from`.
 abbrev pub hands_tag : {A : Type 0} → Plan A → ℕ → ℕ → Plan A → PortPlan A → ℕ → StreamEntry → PortPlan A → Option Tag → Bool
 hands_tag p m q next on n e from tag =
     not (is_feeding_entry p from m e tag)

@@ -14,3 +14,9 @@ pub mod TestedNetwork
 pub mod Checked
 pub mod Examples
 pub mod StrayFrames
+pub mod Walks
+pub mod Pruning
+pub mod Searching
+pub mod FrameGroups
+pub mod LoopSteps
+pub mod ForwardingLoops

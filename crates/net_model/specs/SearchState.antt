@@ -1,4 +1,4 @@
--- State of the search for frames that a hop may accept. No public clause uses it.
+-- State of the search for frames that a hop may accept. No contract of a public function uses it.
 use Rattle.std.specs.Prelude.{◌≡◌, ◌≤◌, ℕ, Bool, true, Option, Some, None}
 use Rattle.bridge_frame.specs.declared.Tag.{Tag}
 use Rattle.bridge_ident.specs.declared.StreamEntry.{StreamEntry}
@@ -19,15 +19,17 @@ abbrev pub lesser_optional_filter : Option (ℕ × FilterPlan) → Option (ℕ �
 lesser_optional_filter None o = o
 lesser_optional_filter (Some f) o = lesser_filter f o
 
--- True for the numbers of the sender's filters that are hops of the stream.
+-- True for a filter number if this filter of the sending bridge is a hop of the stream.
 abbrev pub hops : {A : Type 0} → SendingPort A → ℕ → Bool
 hops s = has_hop (stream_value s.stream.now) s.end.bridge
 
--- Example of frames with this priority and handle that arrive on port `from` of the sender, if the search asks for them.
+-- An example of frames with this priority and handle that arrive on port `from` of the sender, if the search looks for
+-- them.
 abbrev pub frames_from_port : {A : Type 0} → SendingPort A → ℕ → ℕ → Option ℕ → Option FoundFrames
 frames_from_port s from priority handle = finding.frames_by_handle s.question s.plan.now (hops s) s.end.port from priority handle
 
--- The first frames of pattern `s` that the search asks for and that arrive on the sender's port with number `port`, or `None`.
+-- The first example of frames of pattern `sort` that the search looks for and that arrive on port `port` of the sender,
+-- or `None`.
 abbrev pub frames_on_ingress_number : {A : Type 0} → SendingPort A → FramePattern → ℕ → Option FoundFrames
 frames_on_ingress_number s sort port = finding.first_frame_on_ingress_if_any s.question s.plan.now (hops s) s.end.port sort (find_port s.plan.now.ports port)
 
@@ -41,12 +43,12 @@ pub record IsTakingFilter {A : Type 0} (t : TakingFilter A) : Type 0 where
   pub sending : IsSendingPort t.sending
   pub names : (h k : ℕ) → is_filter_number t.filter (matching_filter t.next.now (Some h) k) ≡ true → h ≡ t.handle
 
--- The first frames with this tag and the address of entry `e` that the search asks for, or `None`.
+-- The first example of frames with this tag and the address of entry `e` that the search looks for, or `None`.
 abbrev pub first_frame_with_tag : {A : Type 0} → TakingFilter A → StreamEntry → Option Tag → Option FoundFrames
 first_frame_with_tag t e tag =
     finding.first_taken_with_tag t.sending.question t.sending.plan.now (hops t.sending) t.sending.end.port t.next.now t.on.now t.filter e tag
 
--- The first frames that the hop's filter accepts and the search asks for, or `None`.
+-- The first example of frames that the hop's filter accepts and that the search looks for, or `None`.
 abbrev pub first_taken_frame : {A : Type 0} → TakingFilter A → Option FoundFrames
 first_taken_frame t =
     finding.first_taken t.sending.question t.sending.plan.now (hops t.sending) t.sending.end.port t.next.now t.on.now t.filter

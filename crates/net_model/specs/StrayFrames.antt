@@ -1,4 +1,5 @@
--- Stray frames. If a hop accepts a stray frame over a link, its stream isn't closed.
+-- Stray frames: a hop accepts them over a link, but they belong to no hop of its stream. A stream with stray frames
+-- isn't closed.
 use Rattle.std.specs.Prelude.{◌≡◌, ℕ, Bool, false, ◌&&◌, List, [], Option, None, Some, is_some, slice_get}
 use Rattle.bridge_config.specs.declared.ports.PortPlan.{PortPlan}
 use Rattle.bridge_config.specs.Model.{Plan}
@@ -16,7 +17,7 @@ use Rattle.net_model.specs.Faults.{protected_handle, first_taken_at_port_number,
 use Rattle.net_model.specs.SearchState as walking
 use Rattle.net_model.specs.NetworkParts.{NetworkParts, peer_port, stream_value}
 
--- Holds if the filter accepts the frames at its port and the search asks for them.
+-- Holds if the filter accepts the frames `s` at its port, and the search looks for them.
 abbrev pub IsSample : {A : Type 0} → TakingFilter A → StrayFrame → Type 0
 IsSample t s = (f : FoundFrames) × (walking.first_frame_with_tag t s.entry s.tag ≡ Some f)
 

@@ -1,4 +1,5 @@
-//! Ports of a bridge on which stream entries give a handle. A hop's tests ask for each of 16 ports, so they are computed once.
+//! Ports of a bridge on which stream entries give a handle. The tests of a hop need a flag for each of 16 ports, so the flags are computed
+//! once for the hop.
 ghost use Rattle.std.specs.Prelude.{◌≡◌, ◌||◌, ◌+◌, false, nat_eq, slice_index_or};
 ghost use Rattle.bridge_check.specs.ReachTables.{test_results};
 ghost use Rattle.net_model.specs.Faults.{has_entry};
@@ -6,7 +7,7 @@ ghost use Rattle.net_model.specs.Faults.{has_entry};
 use bridge_config::Plan;
 use std::alloc::Allocator;
 
-/// Sets the flag of port `port`. `ports` has one flag for each port, from port 1.
+/// Sets the flag of port `port`, 1 to 16. `ports` has one flag for each port: index 0 is port 1.
 fn mark_port(ports: &mut [bool; 16], port: u8)
     ensures { ports.new ≡ test_results 16 (λ i. slice_index_or ports.old i false || nat_eq port (i + 1)) }
 {

@@ -1,4 +1,4 @@
-//! Reasons for refusing a network.
+//! The reason for which `net check` refuses a network, and its number.
 ghost use Rattle.std.specs.Prelude.{◌≡◌};
 ghost use Rattle.net_model.specs.FaultCodes.{fault_code};
 
@@ -31,14 +31,14 @@ pub enum NetworkFault {
         stream: usize,
         hop: usize,
     },
-    /// The hop stands in an earlier stream, or earlier in its own stream.
+    /// An earlier hop, in an earlier stream or in the same stream, has the bridge and filter of this hop.
     #[error("a repeated hop")]
     HopTwice {
         stream: usize,
         hop: usize,
     },
-    /// Over the link of port `port`, the hop accepts stray frames. At the sender they arrive on port `from` and belong to `filter`; `None`
-    /// stands for no filter.
+    /// The hop accepts stray frames over the link of port `port` of `bridge`. They come in on port `from` of the bridge at the link's other
+    /// end, as frames of its `filter` (`None`: unfiltered).
     #[error("a hop that accepts stray frames over a link")]
     NotClosed {
         stream: usize,

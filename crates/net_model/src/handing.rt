@@ -1,5 +1,5 @@
-//! The test whether a hop's filter gets each frame that the previous hop sends. `net_latency` needs it: only then do delay bounds of
-//! consecutive hops add up.
+//! The test whether a hop's filter gets each frame that the previous hop sends. If it doesn't, frames of the stream may be refused, and
+//! `net check` prints `refusable`.
 ghost use Rattle.std.specs.Prelude.{◌≡◌, ◌≤◌, Some};
 ghost use Rattle.std.specs.List.{list_all};
 ghost use Rattle.bridge_filter.specs.OwnEvents.{is_filter_number};
@@ -23,7 +23,7 @@ use bridge_frame::Tag;
 use bridge_ident::{Kind, StreamEntry};
 use std::alloc::Allocator;
 
-/// A port of the next bridge, and the filter that must get there each frame that the previous hop sends.
+/// The receiving end of a link: its bridge's plan, its port, and the filter that must get each frame that the previous hop sends.
 #[derive(Drop)]
 struct Taker<'a, A: Allocator + Copy> {
     plan: &'a Plan<A>,
@@ -32,8 +32,8 @@ struct Taker<'a, A: Allocator + Copy> {
 }
 
 impl<'a, A: Allocator + Copy> Taker<'a, A> {
-    /// Whether the next bridge forwards frames with this tag and the address of `named`. Returns true for a source address, because the
-    /// destination is then unknown.
+    /// Whether the receiving bridge forwards frames with this tag and the address of entry `named` by some port. Returns true for a source
+    /// address, because the destination is then unknown.
     fn is_forwarded(&self, named: &StreamEntry, tag: Option<Tag>) -> bool
         requires from { 1 ≤ self.now.on.now.number }
         requires to { self.now.on.now.number ≤ 16 }
@@ -51,7 +51,8 @@ impl<'a, A: Allocator + Copy> Taker<'a, A> {
         }
     }
 
-    /// Whether frames with this tag and this stream handle belong to the filter. `None` stands for a frame without handle.
+    /// Whether frames with this tag and this stream handle belong to the receiving filter. `None` stands for an untagged frame, and for a
+    /// frame without handle.
     fn is_given(&self, tag: Option<Tag>, handle: Option<u32>) -> bool
         ensures { result ≡ is_filter_number self.now.filter (feeding.matching_filter self.now.plan.now handle
             (classified.frame_priority self.now.on.now tag)) }
@@ -62,8 +63,8 @@ impl<'a, A: Allocator + Copy> Taker<'a, A> {
         }
     }
 
-    /// Whether each frame with this tag and the address of `named` belongs to the filter, whichever entry matches it. False if no entry
-    /// surely matches and frames without handle belong to another filter.
+    /// Whether each frame with this tag and the address of entry `named` gets the receiving filter, whichever of the receiving bridge's
+    /// entries matches it. If none surely matches, frames without handle must get it too.
     fn gives_all(&self, named: &StreamEntry, tag: Option<Tag>) -> bool
         ensures { result ≡ spec.gives_all self.now.plan.now self.now.on.now self.now.filter
             (frame_pattern named.now tag) }
@@ -81,7 +82,8 @@ impl<'a, A: Allocator + Copy> Taker<'a, A> {
         self.is_given(tag, None)
     }
 
-    /// Whether the bridge forwards each frame with this tag and the address of `named`, and judges the frame by the filter.
+    /// Whether the receiving bridge forwards each frame with this tag and the address of `named`, the sender's stream entry, and its
+    /// receiving filter judges the frame.
     fn takes_all(&self, named: &StreamEntry, tag: Option<Tag>) -> bool
         requires from { 1 ≤ self.now.on.now.number }
         requires to { self.now.on.now.number ≤ 16 }
@@ -104,7 +106,8 @@ fn is_other_handle(own: Option<u32>, handle: u32) -> bool
     }
 }
 
-/// One link under test: the sender's filter, the port by which its frames leave, and the filter that must get them at the next bridge.
+/// One link under test: plan, filter and egress port of the sending bridge, and the filter at the receiving end that must get the sender's
+/// frames.
 #[derive(Drop)]
 struct Handing<'a, A: Allocator + Copy> {
     plan: &'a Plan<A>,
@@ -116,8 +119,8 @@ struct Handing<'a, A: Allocator + Copy> {
 }
 
 impl<'a, A: Allocator + Copy> Handing<'a, A> {
-    /// Whether the next filter gets each frame with this tag that `entry` identifies at the sender's port `from`. True if such frames
-    /// belong to another filter or can't leave by the link's port.
+    /// Whether the receiving filter gets each frame with this tag that `entry` identifies at the sender's ingress port `from`. True if the
+    /// frames belong to another filter, or can't leave over the link.
     fn hands_tag(&self, entry: &StreamEntry, from: &PortPlan<A>, tag: Option<Tag>) -> bool
         requires handing { IsHanding self.now }
         requires from { 1 ≤ from.now.number }
@@ -133,7 +136,7 @@ impl<'a, A: Allocator + Copy> Handing<'a, A> {
         self.taker.takes_all(entry, tag)
     }
 
-    /// Whether the next filter gets each frame of `entry` with this VLAN identifier and priority.
+    /// Whether the receiving filter gets each frame of the sender's entry `entry` with VLAN identifier `vid` and priority `pcp`.
     fn hands_priority(&self, entry: &StreamEntry, from: &PortPlan<A>, vid: u16, pcp: u8) -> bool
         requires handing { IsHanding self.now }
         requires from { 1 ≤ from.now.number }
@@ -144,7 +147,7 @@ impl<'a, A: Allocator + Copy> Handing<'a, A> {
         self.hands_tag(entry, from, Some(Tag { pcp, dei, vid }))
     }
 
-    /// Whether the next filter gets each frame of `entry` with this VLAN identifier, for all eight priorities.
+    /// Whether the receiving filter gets each frame of the sender's entry `entry` with VLAN identifier `vid`, for all eight priorities.
     fn hands_tagged(&self, entry: &StreamEntry, from: &PortPlan<A>, vid: u16) -> bool
         requires handing { IsHanding self.now }
         requires from { 1 ≤ from.now.number }
@@ -162,7 +165,7 @@ impl<'a, A: Allocator + Copy> Handing<'a, A> {
         self.hands_priority(entry, from, vid, 0) & one
     }
 
-    /// Whether the next filter gets each frame that `entry` identifies at the sender's port `from`, for all 17 possible tags.
+    /// Whether the receiving filter gets each frame that `entry` identifies at the sender's ingress port `from`, for all 17 possible tags.
     fn is_fed_by_entry(&self, entry: &StreamEntry, from: &PortPlan<A>) -> bool
         requires handing { IsHanding self.now }
         requires from { 1 ≤ from.now.number }
@@ -175,8 +178,8 @@ impl<'a, A: Allocator + Copy> Handing<'a, A> {
         untagged & (priority & tagged)
     }
 
-    /// Whether the next filter gets each frame that `entry` identifies. True if the sender's filter has another handle, or if the sender
-    /// lacks the entry's port.
+    /// Whether the receiving filter gets each frame that the sender's entry `entry` identifies. True if the sender's filter has another
+    /// handle, or if the sender lacks the entry's port.
     fn hands_entry(&self, entry: &StreamEntry) -> bool
         requires handing { IsHanding self.now }
         ensures { result ≡ hands_entry self.now entry.now }
@@ -190,7 +193,7 @@ impl<'a, A: Allocator + Copy> Handing<'a, A> {
         }
     }
 
-    /// Whether the next filter gets each frame of the sender's filter that leaves by the port.
+    /// Whether the receiving filter gets each frame of the sender's filter that leaves over the link.
     fn hands_all(&self) -> bool
         requires handing { IsHanding self.now }
         ensures { result ≡ spec.hands_all self.now.plan.now self.now.filter self.now.port self.now.taker.plan.now
@@ -201,7 +204,8 @@ impl<'a, A: Allocator + Copy> Handing<'a, A> {
     }
 }
 
-/// Whether filter `taker` at port `at` of bridge `next` gets each frame that `filter` sends from `port`.
+/// Whether filter `taker` at port `at` of the bridge with plan `next` gets each frame of filter `filter` that the bridge with plan `plan`
+/// sends from `port`. Returns false if port `at` is missing.
 fn receives_every_frame<A: Allocator + Copy>(
     plan: &Plan<A>,
     filter: u32,
@@ -236,8 +240,8 @@ fn receives_every_frame<A: Allocator + Copy>(
     }
 }
 
-/// Whether each frame of `hop` that leaves by `port` belongs to filter `taker` at the link's other end. Returns false if a bridge or port
-/// is missing.
+/// Whether each frame of `hop` that leaves by `port` gets filter `taker` at `end`, the link's other end. Returns false if a bridge or the
+/// port of `end` is missing.
 pub fn is_received_by_next_hop<A: Allocator + Copy>(
     plans: &[Accepted<A>],
     hop: StreamHop,

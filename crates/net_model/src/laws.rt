@@ -31,8 +31,8 @@ ghost use Rattle.net_model.specs.declared.sending_port.FrameQuery.TheVariants.{S
 
 use std::alloc::Allocator;
 
-/// Each hop of a closed stream has the record that it would have alone on an idle network. This holds for every complete run of an accepted
-/// network.
+/// In every complete run of an accepted network, each hop of a closed stream has the record that it would have if the stream were alone on
+/// an idle network.
 pub fn stream_alone<A: Allocator + Copy>()
     ensures { (n : Network A) (stream : List (ℕ × ℕ)) (commands : ℕ → List Input) (captures : ℕ → ℕ
         → List CapturedFrame)
@@ -44,8 +44,7 @@ pub fn stream_alone<A: Allocator + Copy>()
         → IsAlone n commands captures stream (λ (h : Hop A). lookup (nat_eq h.number) (o h.bridge).filters.items) }
 {}
 
-/// A stream alone on an idle network has one result. Its inputs from outside decide the record of each of its hops, also if links form a
-/// cycle.
+/// If a stream is alone on an idle network, its inputs from outside determine the record of each of its hops, even if links form a cycle.
 pub fn stream_alone_has_one_result<A: Allocator + Copy>()
     ensures { (n : Network A) (stream : List (ℕ × ℕ)) (commands others : ℕ → List Input)
         (captures frames : ℕ → ℕ → List CapturedFrame) (tells says : Hop A → Option (View A)) (h : Hop A) (u v : View A)
@@ -76,8 +75,8 @@ pub fn other_traffic_changes_nothing<A: Allocator + Copy>()
         → AreSameViews u v }
 {}
 
-/// If the test on the plans at a link's ends passes, the hop's filter accepts only frames of the stream. This holds for every input of the
-/// sending bridge.
+/// If `takes_only` holds for the plans at a link's ends, the hop's filter accepts over this link only frames of the stream, whatever the
+/// sending bridge receives.
 pub fn only_stream_is_taken<A: Allocator + Copy>()
     ensures { (p next : Plan A) (is_of_stream : ℕ → Bool) (q r n t : ℕ) (f : FilterPlan) (out on : PortPlan A)
         (es : List Event) (o : Offer)
@@ -94,7 +93,7 @@ pub fn only_stream_is_taken<A: Allocator + Copy>()
         → (m : ℕ × FilterPlan) × IsMember m p.filters × (is_of_stream m.0 ≡ true) × (o.item.flow ≡ Some m.0) }
 {}
 
-/// A stream of an accepted network is closed if each of its hops passes the test.
+/// A stream of an accepted network is closed if each of its hops passes the test `hop_passes`, which needs only the plans and links.
 pub fn tested_stream_is_closed<A: Allocator + Copy>()
     ensures { (n : Network A) (stream : List (ℕ × ℕ))
         → IsNetwork n
@@ -109,15 +108,15 @@ pub fn consistent_runs_are_network_run<A: Allocator + Copy>()
         → IsNetworkRun n commands captures o }
 {}
 
-/// The search for stray frames finds nothing exactly if the hop's filter accepts only frames of the stream from the sending port.
+/// The search for stray frames (`first_taken`) finds none exactly if the test `takes_only` holds for the sending port and the hop's filter.
 pub fn stray_exists_if_test_fails<A: Allocator + Copy>()
     ensures { (p next : Plan A) (is_of_stream : ℕ → Bool) (q n : ℕ) (on : PortPlan A)
         → IsPlan p
         → (first_taken Strays p is_of_stream q next on n ≡ None) ↔ (takes_only p is_of_stream q next on n ≡ true) }
 {}
 
-/// If the test on the plans at a link's ends holds, the next filter gets each copy that leaves the sender's port. The next bridge must
-/// forward the copy.
+/// If `hands_all` holds for the plans at a link's ends, filter `n` at the receiving end gets each copy of filter `m` that arrives over the
+/// link and that the bridge there forwards.
 pub fn each_is_handed<A: Allocator + Copy>()
     ensures { (p next : Plan A) (q r m n t set : ℕ) (f : FilterPlan) (call : FilterInput) (out on : PortPlan A)
         (es : List Event) (o : Offer)

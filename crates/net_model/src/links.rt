@@ -24,7 +24,7 @@ pub struct Link {
     pub delay: u64,
 }
 
-/// Hop of a stream: a stream filter of one bridge.
+/// Hop of a stream: a protected stream filter of one bridge, by the bridge's index, from 0, and the filter's number.
 #[derive(Clone, Copy, Debug, PartialEq, Eq)]
 pub struct StreamHop {
     pub bridge: u16,
@@ -38,7 +38,7 @@ pub fn is_bridge_port(end: BridgePort, bridge: u16, port: u8) -> bool
     end.bridge == bridge && end.port == port
 }
 
-/// Returns the port at the other end of the port's first link. Returns `None` for an open port, which receives the frames of a capture.
+/// Returns the bridge port at the other end of the port's first link, or `None` for an open port.
 pub fn peer_port(links: &[Link], bridge: u16, port: u8) -> Option<BridgePort>
     ensures { option_map end_value result ≡ peer_port links.now bridge port }
 {
@@ -53,7 +53,7 @@ pub fn peer_port(links: &[Link], bridge: u16, port: u8) -> Option<BridgePort>
     None
 }
 
-/// Whether the stream contains filter `filter` of bridge `bridge`.
+/// Whether `stream` has a hop with filter `filter` at the bridge with index `bridge`.
 pub(crate) fn has_hop(stream: &[StreamHop], bridge: u16, filter: u32) -> bool
     ensures { result ≡ accepting.has_hop (stream_value stream.now) bridge filter }
 {

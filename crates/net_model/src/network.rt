@@ -74,7 +74,7 @@ pub struct RefusedNetwork<A: Allocator + Copy> {
     pub fault: NetworkFault,
 }
 
-/// Gives the prover the fact that every plan is accepted. Reading an accepted plan shows this fact.
+/// Does nothing at run time: each call of `plan` gives the prover the fact that the plan is accepted.
 fn assert_accepted<A: Allocator + Copy>(plans: &[Accepted<A>])
     ensures { All IsAccepted plans.now }
 {

@@ -1,4 +1,4 @@
-//! Tests of a network's links and hops.
+//! The tests that a network must pass to be accepted: three for links, then four for hops.
 ghost use Rattle.std.specs.Prelude.{◌≡◌, ◌+◌, ◌<◌, Some, IfSome, length, option_map, slice_get};
 ghost use Rattle.bridge_config.specs.Rules.{IsPlan};
 ghost use Rattle.bridge_check.specs.Faults.{first_option};
@@ -33,9 +33,9 @@ pub(crate) enum LinkTest {
 /// Tests of a hop, in the order of the tests. Each test runs over all hops before the next one.
 #[derive(Clone, Copy)]
 pub(crate) enum HopTest {
-    /// The hop is a protected filter.
+    /// The hop's bridge exists and has a protected filter with the hop's number.
     Protected,
-    /// The hop stands once in all streams.
+    /// No earlier hop of any stream has the bridge and filter of the hop.
     Unique,
     /// Over links, the hop accepts only frames of its stream's hops.
     Closed,
@@ -143,7 +143,7 @@ fn is_protected_hop<A: Allocator + Copy>(plans: &[Accepted<A>], hop: &StreamHop)
     }
 }
 
-/// Whether `hop` stands in one of the earlier `streams`, or among the earlier `hops` of its own stream.
+/// Whether `hop` is a hop of one of the earlier `streams`, or one of the earlier `hops` of its own stream.
 fn is_repeated_hop<A: Allocator + Copy>(
     streams: &[Vec<StreamHop, A>],
     hops: &[StreamHop],
@@ -192,7 +192,7 @@ pub(crate) struct TestedHop<'a, A: Allocator + Copy> {
     pub hop: StreamHop,
     /// Plan of the hop's bridge.
     pub next: &'a Plan<A>,
-    /// Stream handle of the hop's filter.
+    /// Stream handle of the hop's filter. Entries give frames this handle.
     pub handle: u32,
     /// A flag for each port of the hop's bridge, from port 1: whether an entry gives the handle there.
     pub ports: [bool; 16],
@@ -290,7 +290,8 @@ impl<'a, A: Allocator + Copy> TestedHop<'a, A> {
         }
     }
 
-    /// Returns `before` if it has frames, otherwise an example of frames at port `j` + 1. Only ports with an entry can get frames.
+    /// Returns `before` if it has frames, otherwise an example of frames at port `j` + 1. It skips ports without an entry of the hop's
+    /// handle, because the hop gets no frames there.
     fn first_or_frame_on_port(
         &self,
         before: Option<(u8, FoundFrames)>,
@@ -354,7 +355,8 @@ impl<'a, A: Allocator + Copy> TestedHop<'a, A> {
         false
     }
 
-    /// Whether frames of the stream can reach the hop: on an open port if its index `place` is 0, otherwise over a link.
+    /// Whether frames of the stream can reach the hop with index `place` in its stream: on an open port if the index is 0, otherwise over a
+    /// link.
     fn is_reached(&self, place: usize) -> bool
         requires { IsTestedHop self.now }
         ensures { result ≡ spec.is_reached (tested_parts self.now.case) self.now.stream.now place self.now.hop
@@ -449,7 +451,7 @@ impl<'a, A: Allocator + Copy> TestedNetwork<'a, A> {
         self.link_test_fault(test, i, &self.links[i])
     }
 
-    /// Returns the fault of the first link that fails `test`.
+    /// Returns the fault of the first link that fails `test`, or `None` if all links pass.
     #[tactic(auto, using(bridge_check::proofs::Told::first_none, bridge_check::proofs::Told::first_more))]
     fn link_fault(&self, test: LinkTest) -> Option<NetworkFault>
         ensures { result ≡ spec.link_fault (tested_parts self.now) test }
@@ -517,7 +519,7 @@ impl<'a, A: Allocator + Copy> TestedNetwork<'a, A> {
         }
     }
 
-    /// Returns the fault of `test` for hop `k` of stream `i`, both indexes from 0.
+    /// Returns the fault of `test` for hop `k` of stream `i`, both indexes from 0, or `None` if the hop passes. The fault counts from 1.
     fn hop_test_fault(
         &self,
         test: HopTest,
@@ -576,7 +578,7 @@ impl<'a, A: Allocator + Copy> TestedNetwork<'a, A> {
         self.hop_test_fault(test, i, stream, k, stream[k])
     }
 
-    /// Returns the first fault of `test` among the hops of stream `i`.
+    /// Returns the first fault of `test` among the hops of stream `i`, or `None` if all pass.
     #[tactic(auto, using(bridge_check::proofs::Told::first_none, bridge_check::proofs::Told::first_more))]
     fn stream_test_fault(
         &self,

@@ -1,4 +1,4 @@
-//! The bridge port that sends to a given port.
+//! Search for the bridge port that sends to a given port, for network runs.
 ghost use Rattle.std.specs.Prelude.{◌≡◌, map, option_map};
 ghost use Rattle.net_model.specs.Networks as networks;
 ghost use Rattle.net_model.specs.NetworkParts.{end_value, link_value, sender_value};
@@ -12,7 +12,8 @@ pub struct Sender {
     pub delay: u64,
 }
 
-/// Returns the other end of the port's first link, with the link's delay. The bridge is given by its index, from 0.
+/// Returns the other end of the port's first link, with the link's delay, or `None` for an open port. `bridge` is the bridge's index, from
+/// 0.
 pub fn find_sender(links: &[Link], bridge: usize, port: u8) -> Option<Sender>
     ensures { option_map sender_value result ≡ networks.sender (map link_value links.now) bridge port }
 {

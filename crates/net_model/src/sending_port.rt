@@ -20,7 +20,7 @@ use bridge_frame::Tag;
 use bridge_ident::{Kind, StreamEntry, TagKind, has_vlan_tag};
 use std::alloc::Allocator;
 
-/// Which frames a search is for: the test `Closed` searches stray frames, the test `Fed` searches own frames.
+/// Kind of frames that a search looks for. The test `Closed` looks for stray frames, the test `Fed` for own frames.
 #[derive(Clone, Copy)]
 pub(crate) enum FrameQuery {
     /// Stray frames: they belong to no hop of the stream.
@@ -34,7 +34,7 @@ pub(crate) enum FrameQuery {
 pub(crate) struct FoundFrames {
     /// Filter of the frames at the sender, or `None` if no filter matches.
     pub filter: Option<u32>,
-    /// Port of the sender on which the frames arrive.
+    /// Port of the sending bridge on which the frames arrive there.
     pub from: u8,
 }
 
@@ -43,15 +43,15 @@ pub(crate) struct FoundFrames {
 pub(crate) struct SendingPort<'a, A: Allocator + Copy> {
     /// Plan of the sending bridge.
     pub plan: &'a Plan<A>,
-    /// The sending port.
+    /// The sending port: bridge index and port number.
     pub end: BridgePort,
-    /// The stream whose hops separate own frames from stray frames.
+    /// The stream of the search: own frames belong to one of its hops, stray frames to none.
     pub stream: &'a [StreamHop],
     /// Whether the search is for stray or own frames.
     pub question: FrameQuery,
 }
 
-/// Whether an entry of tag kind `kind` accepts a frame with this tag, or an untagged frame.
+/// Whether a stream entry of tag kind `kind` accepts a frame with tag `tag`; `None` stands for an untagged frame.
 pub(crate) fn accepts_tag(kind: TagKind, tag: Option<Tag>) -> bool
     ensures { result ≡ ident.accepts_tag kind tag }
 {
@@ -62,7 +62,7 @@ pub(crate) fn accepts_tag(kind: TagKind, tag: Option<Tag>) -> bool
     }
 }
 
-/// Returns the VLAN in which `port` classifies a frame with this tag, or an untagged frame.
+/// Returns the VLAN in which `port` classifies a frame with tag `tag`; `None` stands for an untagged frame.
 pub(crate) fn classified_vid<A: Allocator + Copy>(port: &PortPlan<A>, tag: Option<Tag>) -> u16
     ensures { result ≡ classified.frame_vid port.now tag }
 {
@@ -72,7 +72,7 @@ pub(crate) fn classified_vid<A: Allocator + Copy>(port: &PortPlan<A>, tag: Optio
     }
 }
 
-/// Returns the priority that a frame with this tag, or an untagged frame, has on `port`.
+/// Returns the priority that a frame with tag `tag` has on `port`; `None` stands for an untagged frame.
 pub(crate) fn frame_priority<A: Allocator + Copy>(port: &PortPlan<A>, tag: Option<Tag>) -> u8
     ensures { result ≡ classified.frame_priority port.now tag }
 {
@@ -93,8 +93,8 @@ pub(crate) fn is_same_kind(a: Kind, b: Kind) -> bool
     }
 }
 
-/// Whether `entry` can match frames with this tag and the address of `named`, on port `port` in VLAN `vid`. True if the entry compares an
-/// address that `named` leaves open.
+/// Whether `entry` can match frames with this tag and the address of `named`, on port `port` in VLAN `vid`. If `entry` compares the other
+/// kind of address, it can match.
 pub(crate) fn can_match(
     entry: &StreamEntry,
     port: u8,
@@ -243,7 +243,8 @@ pub(crate) fn maps_tag_to_filter<A: Allocator + Copy>(
 }
 
 impl<'a, A: Allocator + Copy> SendingPort<'a, A> {
-    /// Whether the filter is a hop of the stream, or its frames can't wait at the sending port. Returns false for unfiltered frames.
+    /// Whether frames of filter `flow` can't be stray: the filter is a hop of the stream, or its frames can't wait at the sending port.
+    /// False for unfiltered frames (`None`).
     fn is_safe_filter(&self, flow: Option<(u32, FilterPlan)>) -> bool
         requires { IsSendingPort self.now }
         ensures { result ≡ feeding.is_safe_filter self.now.plan.now (hops self.now) self.now.end.port flow }
@@ -257,7 +258,7 @@ impl<'a, A: Allocator + Copy> SendingPort<'a, A> {
         }
     }
 
-    /// Whether the filter is a hop of the stream and its frames can wait at the sending port.
+    /// Whether filter `flow` is a hop of the stream and its frames can wait at the sending port. False for unfiltered frames (`None`).
     fn is_own_filter(&self, flow: Option<(u32, FilterPlan)>) -> bool
         requires { IsSendingPort self.now }
         ensures { result ≡ is_own_filter self.now.plan.now (hops self.now) self.now.end.port flow }
@@ -282,8 +283,8 @@ impl<'a, A: Allocator + Copy> SendingPort<'a, A> {
         }
     }
 
-    /// Returns the frames with this handle and priority that arrive on port `from` as an example, or `None` if the search isn't for their
-    /// filter.
+    /// Returns an example: the filter of frames with this handle and priority, and their ingress port `from`. Returns `None` if the search
+    /// doesn't look for frames of this filter.
     fn find_frames(&self, from: u8, priority: u8, handle: Option<u32>) -> Option<FoundFrames>
         requires { IsSendingPort self.now }
         ensures { result ≡ frames_from_port self.now from priority handle }

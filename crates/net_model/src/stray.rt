@@ -19,7 +19,8 @@ use bridge_frame::Tag;
 use bridge_ident::StreamEntry;
 use std::alloc::Allocator;
 
-/// Stray frames: frames that arrive over a link with the address of `entry` and this tag. Explanations of an open stream name them.
+/// Stray frames that a hop accepts over a link: all with the address of `entry` and tag `tag`. Explanations of the fault `NotClosed` name
+/// them.
 #[derive(Clone, Copy)]
 pub struct StrayFrame {
     pub entry: StreamEntry,
@@ -67,8 +68,8 @@ impl<'a, A: Allocator + Copy> TakingFilter<'a, A> {
         None
     }
 
-    /// Returns an example of frames with the address of `entry`. Returns `None` if the entry has another port or handle than the hop's
-    /// filter, or without an example.
+    /// Returns an example of frames with the address of `entry`, or `None`. Entries of another port or another handle than the hop's filter
+    /// have none.
     fn entry_sample(&self, entry: &StreamEntry) -> Option<StrayFrame>
         requires { IsTakingFilter self.now }
         ensures asked { IfSome result (IsSample self.now) }
@@ -221,7 +222,7 @@ fn first_stray_on_port_number<A: Allocator + Copy>(
 }
 
 /// Returns example frames that a hop accepts at a port over its link although they belong to no hop of the stream. Returns frames exactly
-/// if the test `NotClosed` finds such frames at this port.
+/// if the test `Closed` finds stray frames at this port.
 pub fn find_stray<A: Allocator + Copy>(
     plans: &[Accepted<A>],
     links: &[Link],

@@ -11,7 +11,7 @@ use bridge_frame::Tag;
 use bridge_ident::StreamEntry;
 use std::alloc::Allocator;
 
-/// Filter of a hop at a linked port, and the port that sends to it.
+/// Filter of a hop, a linked port of its bridge, and the port at the link's other end that sends to it.
 #[derive(Drop)]
 pub(crate) struct TakingFilter<'a, A: Allocator + Copy> {
     /// Port at the other end of the link.

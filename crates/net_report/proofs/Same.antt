@@ -17,12 +17,13 @@ use Rattle.net_report.specs.declared.copy_counting.CopyCounts.{CopyCounts}
 use Rattle.net_report.specs.declared.sources.SourceFrame.{SourceFrame}
 use Rattle.net_report.specs.declared.hop_counting.HopCounts.{HopCounts}
 use Rattle.net_report.specs.Counting.{AreCounted, AreCopyCounts, frame_count, zero_counts, with_departures, with_drops, with_hop, with_arrivals, with_verdicts}
+use Rattle.net_report.specs.declared.statistics.DelayStatistics.{DelayStatistics}
 use Rattle.net_report.specs.Statistics.{delay_statistics}
 use Rattle.net_report.specs.FrameTable.{departure_lines, drop_lines, verdict_lines, view_lines}
 use Rattle.net_report.specs.Hops.{AreOnwardPorts, has_hop_at_bridge, has_next_hop, is_bridge_with_hop}
 use Rattle.net_report.specs.StreamTable.{hop_line, stream_line}
 use Rattle.net_report.specs.Tables.{AreDelays, AreRowsOfHop, AreRowsOfHops, AreRowsOfStream, Heading}
-use Rattle.net_report.specs.HopCounts.{counts_by_ports, departure_delays, is_blocked, is_full, is_gate_closed, is_octets_exceeded, is_delivery, is_oversize, is_red, is_shut_octets, is_shut_rx, is_yellow_dropped, never_fits}
+use Rattle.net_report.specs.HopCounts.{counts_by_ports, delays_at_hop, departure_delays, is_blocked, is_full, is_gate_closed, is_octets_exceeded, is_delivery, is_oversize, is_red, is_shut_octets, is_shut_rx, is_yellow_dropped, never_fits}
 
 -- Two hops at one bridge with equal records.
 pub record IsSameHop {A : Type 0} (h g : HopRun A) : Type 0 where
@@ -169,6 +170,13 @@ lines_same : {A : Type 0} (stream name : List ℕ) (roots : List (Option SourceF
 lines_same stream name roots ways v w same =
     from_view {R = List ℕ} (λ os vs ds ls. verdict_lines stream name roots os 1 vs ++ (drop_lines stream name roots os ds ++ departure_lines stream name roots os ways ls)) v w same
 
+-- The delays at a hop of a record's copies.
+abbrev at_hop : {A : Type 0} → View A → Option DelayStatistics
+at_hop v = delay_statistics (delays_at_hop v.origins.items v.departures.items)
+
+at_hop_same : {A : Type 0} (v w : View A) → AreSameViews v w → at_hop v ≡ at_hop w
+at_hop_same v w same = from_view {R = Option DelayStatistics} (λ os vs ds ls. delay_statistics (delays_at_hop os ls)) v w same
+
 hop_once : {A : Type 0} (links : List Link) (hops gops : List (HopRun A)) → AreSameHops hops gops
     → (stream name : List ℕ) (h g : HopRun A) (roots more : List (Option SourceFrame)) (row other_row lines other_lines : List ℕ) → IsSameHop h g → roots ≡ more
     → AreRowsOfHop links hops stream name h roots row lines → AreRowsOfHop links gops stream name g more other_row other_lines
@@ -178,11 +186,12 @@ hop_once links hops gops all stream name h g roots more row other_row lines othe
     let w = g.view.now in
     let same_ways = ways_once links hops gops all h.bridge g.bridge same.bridge one.ways other.ways one.are_ways other.are_ways in (
       one.row_is
-          ∙ (ap (λ (x : List Bool). hop_line stream name (counts_by_ports x v) (delay_statistics (departure_delays x roots v.departures.items))) same_ways
-          ∙ (ap (λ (x : HopCounts). hop_line stream name x (delay_statistics (departure_delays other.ways roots v.departures.items))) (counts_same other.ways v w same.view)
-          ∙ (ap (λ (x : List (Option SourceFrame)). hop_line stream name (counts_by_ports other.ways w) (delay_statistics (departure_delays other.ways x v.departures.items))) same_roots
-          ∙ (ap (λ (x : List Departure). hop_line stream name (counts_by_ports other.ways w) (delay_statistics (departure_delays other.ways more x))) same.view.departures
-          ∙ sym other.row_is)))),
+          ∙ (ap (λ (x : List Bool). hop_line stream name (counts_by_ports x v) (delay_statistics (departure_delays x roots v.departures.items)) (at_hop v)) same_ways
+          ∙ (ap (λ (x : HopCounts). hop_line stream name x (delay_statistics (departure_delays other.ways roots v.departures.items)) (at_hop v)) (counts_same other.ways v w same.view)
+          ∙ (ap (λ (x : List (Option SourceFrame)). hop_line stream name (counts_by_ports other.ways w) (delay_statistics (departure_delays other.ways x v.departures.items)) (at_hop v)) same_roots
+          ∙ (ap (λ (x : List Departure). hop_line stream name (counts_by_ports other.ways w) (delay_statistics (departure_delays other.ways more x)) (at_hop v)) same.view.departures
+          ∙ (ap (λ (x : Option DelayStatistics). hop_line stream name (counts_by_ports other.ways w) (delay_statistics (departure_delays other.ways more w.departures.items)) x) (at_hop_same v w same.view)
+          ∙ sym other.row_is))))),
       one.lines_are
           ∙ (ap (λ (x : List Bool). view_lines stream name roots x v) same_ways
           ∙ (ap (λ (x : List (Option SourceFrame)). view_lines stream name x other.ways v) same_roots
@@ -220,9 +229,9 @@ stream_once links hops gops known more tallies others s rows other_rows lines ot
     let same_delays = delays_once links hops gops same hops gops known more one.delays other.delays same roots one.are_delays other.are_delays in
     let same_hops = hops_once links hops gops same s.name s.hops hops gops known more one.hop_rows other.hop_rows lines other_lines same roots one.are_hops other.are_hops in (
       one.rows_are
-          ∙ (ap (λ (x : List CopyCounts). stream_line s.name x (delay_statistics one.delays) s.bound s.deadline ++ one.hop_rows) same_tallies
-          ∙ (ap (λ (x : List ℕ). stream_line s.name others (delay_statistics x) s.bound s.deadline ++ one.hop_rows) same_delays
-          ∙ (ap (λ (x : List ℕ). stream_line s.name others (delay_statistics other.delays) s.bound s.deadline ++ x) same_hops.0
+          ∙ (ap (λ (x : List CopyCounts). stream_line s.name x (delay_statistics one.delays) s.bound s.deadline s.worst ++ one.hop_rows) same_tallies
+          ∙ (ap (λ (x : List ℕ). stream_line s.name others (delay_statistics x) s.bound s.deadline s.worst ++ one.hop_rows) same_delays
+          ∙ (ap (λ (x : List ℕ). stream_line s.name others (delay_statistics other.delays) s.bound s.deadline s.worst ++ x) same_hops.0
           ∙ sym other.rows_are))),
       same_hops.1,
     )

@@ -9,7 +9,6 @@ use Rattle.net_report.specs.declared.copy_counting.HopRun.{HopRun}
 use Rattle.net_report.specs.declared.copy_counting.CopyCounts.{CopyCounts}
 use Rattle.net_report.specs.declared.sources.SourceFrame.{SourceFrame}
 use Rattle.net_report.specs.Statistics.{delay_statistics}
-use Rattle.net_report.specs.Hops.{AreOnwardPorts}
 use Rattle.net_report.specs.StreamTable.{stream_line}
 use Rattle.net_report.specs.HopCounts.{departure_delays}
 use Rattle.net_report.specs.Tables.{AddDelays, AreDelays, AreRowsOfHop, AreRowsOfHops, Heading, WriteHops, WriteStream, WritesHop}
@@ -89,7 +88,7 @@ delays_at {A} links hops known i h d k c old new many within h_is k_is are more 
 
 -- Both writers have the row of a whole stream, and then the rows of its hops.
 pub stream_written : {A : Type 0} (links : List Link) (hops : List (HopRun A)) (known : List (Vec (Option SourceFrame) A)) (tallies : List CopyCounts) (s : Heading) (delays line : List ℕ) (a0 a1 a2 b0 b1 : Option (List ℕ))
-    → AreDelays links hops hops known delays → line ≡ stream_line s.name tallies (delay_statistics delays) s.bound s.deadline → Appends a0 a1 line
+    → AreDelays links hops hops known delays → line ≡ stream_line s.name tallies (delay_statistics delays) s.bound s.deadline s.worst → Appends a0 a1 line
     → WriteHops links hops s.name s.hops hops known a1 a2 b0 b1 → WriteStream links hops known tallies s a0 a2 b0 b1
 stream_written links hops known tallies s delays line a0 a1 a2 b0 b1 are is first (rows, lines, all, more, frames) = (
   line ++ rows,

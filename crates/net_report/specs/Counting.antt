@@ -1,4 +1,4 @@
--- Counts of each first-hop frame's copies, over all hops.
+-- Counts of copies, summed over all hops, for each frame of a stream's first hop.
 use Rattle.std.specs.Prelude.{◌≡◌, ℕ, ◌+◌, ◌-◌, ◌^◌, Bool, true, false, nat_eq, nat_lt, Option, Some, None, List, [], ◌∷◌, fold, length, replicate, slice_get, slice_set, Vec, if◌then◌else◌}
 use Rattle.bridge_filter.specs.declared.Verdict.{Verdict}
 use Rattle.net_model.specs.declared.links.Link.{Link}
@@ -18,19 +18,20 @@ use Rattle.net_report.specs.SourceFrames.{source_frame}
 abbrev pub saturating_increment : ℕ → ℕ
 saturating_increment n = if nat_lt n (2 ^ 64 - 1) then n + 1 else n
 
--- The counts of a first-hop frame, with one more copy of this fate.
+-- The counts of a first-hop frame, with one added to the count of this fate.
 abbrev pub add_fate : CopyCounts → CopyFate → CopyCounts
 add_fate t fate.Delivered = record t { delivered = saturating_increment t.delivered }
 add_fate t fate.Refused = record t { refused = saturating_increment t.refused }
 add_fate t fate.Forwarded = record t { sent_on = saturating_increment t.sent_on }
 add_fate t fate.Arrived = record t { taken = saturating_increment t.taken }
 
--- The list of counts with one more at index `k`, if this index exists.
+-- The list of counts with one more of fate `f` at index `k`, where `Some t` are the counts at this index; unchanged for
+-- `None`.
 abbrev pub set_counts_if_any : List CopyCounts → ℕ → CopyFate → Option CopyCounts → List CopyCounts
 set_counts_if_any ts k f None = ts
 set_counts_if_any ts k f (Some t) = slice_set ts k (add_fate t f)
 
--- The list of counts with one more of a fate at index `k`.
+-- The list of counts with one more of fate `f` at index `k`; unchanged if the list has no such index.
 abbrev pub count_at_index : List CopyCounts → ℕ → CopyFate → List CopyCounts
 count_at_index ts k f = set_counts_if_any ts k f (slice_get ts k)
 
@@ -59,11 +60,12 @@ with_drop roots ts d = count_frame fate.Refused ts (source_frame roots d.own)
 abbrev pub with_drops : List (Option SourceFrame) → List CopyCounts → List Dropped → List CopyCounts
 with_drops roots ts ds = fold (with_drop roots) ts ds
 
--- The counts with a frame that passed or was refused.
+-- The counts after a verdict: one more refused for the frame's source `root`, unless the frame passed.
 abbrev pub with_verdict : List CopyCounts → Option SourceFrame → Verdict → List CopyCounts
 with_verdict ts root v = if is_pass v then ts else count_frame fate.Refused ts root
 
--- The counts with frames that passed or were refused; frames have numbers from `n` on.
+-- The counts after these verdicts. The first verdict belongs to the hop's frame with number `n`, the next one to frame
+-- `n + 1`.
 abbrev pub with_verdicts : List (Option SourceFrame) → ℕ → List CopyCounts → List Verdict → List CopyCounts
 with_verdicts roots n ts [] = ts
 with_verdicts roots n ts (v ∷ vs) = with_verdicts roots (n + 1) (with_verdict ts (source_frame roots n) v) vs
@@ -76,7 +78,8 @@ with_arrivals ts roots = fold (count_frame fate.Arrived) ts roots
 abbrev pub with_view : {A : Type 0} → List Bool → List (Option SourceFrame) → List CopyCounts → View A → List CopyCounts
 with_view ways roots ts v = with_verdicts roots 1 (with_drops roots (with_departures ways roots ts v.departures.items) v.drops.items) v.verdicts.items
 
--- The counts with a hop. Arrivals at the first hop don't count as arrivals from a hop.
+-- The counts with everything of one hop. The flag is true for the first hop, whose arrivals don't count, because no hop
+-- sent them.
 abbrev pub with_hop : {A : Type 0} → Bool → List Bool → List (Option SourceFrame) → List CopyCounts → View A → List CopyCounts
 with_hop true ways roots ts v = with_view ways roots ts v
 with_hop false ways roots ts v = with_arrivals (with_view ways roots ts v) roots

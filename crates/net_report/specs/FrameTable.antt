@@ -14,7 +14,8 @@ use Rattle.net_report.specs.Hops.{AreOnwardPorts, is_onward}
 use Rattle.net_report.specs.HopCounts.{is_pass}
 use Rattle.net_report.specs.SourceFrames.{source_frame}
 
--- The number of the source frame and its arrival time at the first hop, or empty fields.
+-- The number of the source frame and its arrival time at the first hop in ns, or two empty fields if the source is
+-- unknown.
 abbrev pub source_frame_words : Option SourceFrame → List ℕ
 source_frame_words None = codes ",,"
 source_frame_words (Some r) = decimal r.number ++ (codes "," ++ (decimal r.came ++ codes ","))
@@ -31,7 +32,7 @@ refused_line stream hop root at v = line_start stream hop root at ++ (verdict_wo
 unfoldable pub drop_line : List ℕ → List ℕ → Option SourceFrame → ℕ → Dropped → List ℕ
 drop_line stream hop root at d = line_start stream hop root at ++ (refusal_word d.refusal ++ (codes "," ++ (decimal d.port ++ codes ",,,\n")))
 
--- The word for a copy that left to a hop or was delivered.
+-- The word for a copy that left: `sent` if its port leads to a hop (`true`), otherwise `delivered`.
 abbrev pub departure_word : Bool → List ℕ
 departure_word true = codes "sent"
 departure_word false = codes "delivered"
@@ -52,7 +53,7 @@ departure_line stream hop root at d on = line_start stream hop root at ++ (depar
 abbrev pub verdict_line : List ℕ → List ℕ → Option SourceFrame → ℕ → Verdict → List ℕ
 verdict_line stream hop root at v = if is_pass v then [] else refused_line stream hop root at v
 
--- The rows of the frames that a hop refused, by their numbers from `n` on.
+-- The rows of the frames that a hop refused. The first verdict belongs to the frame with number `n`.
 abbrev pub verdict_lines : List ℕ → List ℕ → List (Option SourceFrame) → List Origin → ℕ → List Verdict → List ℕ
 verdict_lines stream hop roots origins n [] = []
 verdict_lines stream hop roots origins n (v ∷ vs) = verdict_line stream hop (source_frame roots n) (at_of origins n) v ++ verdict_lines stream hop roots origins (n + 1) vs

@@ -1,12 +1,14 @@
 -- Counts and delays of delivered and lost copies at a hop.
-use Rattle.std.specs.Prelude.{ℕ, ◌-◌, Bool, true, false, not, Option, Some, None, List, [], ◌∷◌, length, count_by, flat_map}
+use Rattle.std.specs.Prelude.{ℕ, ◌-◌, Bool, true, false, not, Option, Some, None, List, [], ◌∷◌, length, count_by, flat_map, map}
 use Rattle.bridge_filter.specs.declared.Verdict.{Verdict}
 use Rattle.bridge_filter.specs.declared.Verdict.TheVariants as verdict
 use Rattle.bridge_port.specs.declared.item.Refusal.{Refusal}
 use Rattle.bridge_port.specs.declared.item.Refusal.TheVariants as refusal
 use Rattle.bridge_semantics.specs.declared.outcome.Departure.{Departure}
 use Rattle.bridge_semantics.specs.declared.outcome.Dropped.{Dropped}
+use Rattle.bridge_semantics.specs.declared.outcome.Origin.{Origin}
 use Rattle.bridge_semantics.specs.declared.outcome.View.{View}
+use Rattle.bridge_report.specs.Figures.{at_of}
 use Rattle.net_report.specs.declared.hop_counting.HopCounts.{HopCounts}
 use Rattle.net_report.specs.declared.sources.SourceFrame.{SourceFrame}
 use Rattle.net_report.specs.Hops.{is_onward}
@@ -32,12 +34,13 @@ abbrev pub is_gate_closed : Verdict → Bool
 is_gate_closed verdict.GateClosed = true
 is_gate_closed v = false
 
--- True if a frame that arrived while the stream gate was closed has shut the gate.
+-- True if a frame was refused because an earlier frame, which arrived while the stream gate was closed, had shut the
+-- gate.
 abbrev pub is_shut_rx : Verdict → Bool
 is_shut_rx verdict.ShutByRx = true
 is_shut_rx v = false
 
--- True if a frame with too many octets has shut the stream gate.
+-- True if a frame was refused because an earlier frame with too many octets had shut the stream gate.
 abbrev pub is_shut_octets : Verdict → Bool
 is_shut_octets verdict.ShutByOctets = true
 is_shut_octets v = false
@@ -96,7 +99,7 @@ abbrev pub delay_if_known : Departure → Option SourceFrame → List ℕ
 delay_if_known d None = []
 delay_if_known d (Some r) = (d.done - r.came) ∷ []
 
--- The list `delays` for a delivered copy, an empty list for a copy whose port leads to a hop.
+-- The list `delays` for a delivered copy (`false`), an empty list for a copy whose port leads to a hop (`true`).
 abbrev pub if_delivered : Bool → List ℕ → List ℕ
 if_delivered true delays = []
 if_delivered false delays = delays
@@ -108,3 +111,11 @@ delay_of ways roots d = if_delivered (is_onward ways d.port) (delay_if_known d (
 -- The delays of the copies that a hop delivered, in the order of leaving.
 abbrev pub departure_delays : List Bool → List (Option SourceFrame) → List Departure → List ℕ
 departure_delays ways roots departures = flat_map (delay_of ways roots) departures
+
+-- The delay of a copy at its hop: from the frame's arrival there to the end of the copy's transmission.
+abbrev pub delay_at_hop : List Origin → Departure → ℕ
+delay_at_hop origins d = d.done - at_of origins d.own
+
+-- The delays at a hop of all copies that left it, in the order of leaving.
+abbrev pub delays_at_hop : List Origin → List Departure → List ℕ
+delays_at_hop origins departures = map (delay_at_hop origins) departures

@@ -23,16 +23,16 @@ has_next_hop links hops b q = is_bridge_with_hop hops (sender (map link_value li
 abbrev pub AreOnwardAnswers : {A : Type 0} → List Link → List (HopRun A) → ℕ → List Bool → Type 0
 AreOnwardAnswers links hops b ways = (i : ℕ) (on : Bool) → slice_get ways i ≡ Some on → on ≡ has_next_hop links hops b (i + 1)
 
--- Holds if `ways` has these answers for ports 1 to 16.
+-- Holds if `ways` has, for each port of bridge `b` from 1 to 16, whether it leads to a bridge with a hop.
 pub record AreOnwardPorts {A : Type 0} (links : List Link) (hops : List (HopRun A)) (b : ℕ) (ways : List Bool) : Type 0 where
   pub many : length ways ≡ 16
   pub each : AreOnwardAnswers links hops b ways
 
--- The optional answer; false without an answer.
+-- The optional truth value; false for `None`.
 abbrev pub or_false : Option Bool → Bool
 or_false None = false
 or_false (Some b) = b
 
--- True if port `q` leads to a hop, by the answers for ports from 1 on.
+-- True if port `q` leads to a hop. `ways` has this for ports from 1 on; other ports lead to none.
 abbrev pub is_onward : List Bool → ℕ → Bool
 is_onward ways q = if nat_eq q 0 then false else or_false (slice_get ways (q - 1))

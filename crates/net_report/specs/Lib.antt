@@ -9,3 +9,4 @@ pub mod FrameTable
 pub mod StreamTable
 pub mod Losing
 pub mod Tables
+pub mod Examples

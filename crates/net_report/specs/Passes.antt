@@ -1,4 +1,5 @@
--- The search for source frames in passes over the hops. Its result depends only on the links and on each hop's frames and copies.
+-- The search for source frames, which runs over all hops until it finds no more. Its result depends only on the links
+-- and on each hop's frames and copies.
 use Rattle.std.specs.Prelude.{◌≡◌, ℕ, zero, suc, ◌+◌, nat_eq, Option, Some, None, List, [], ◌∷◌, length, map, slice_get, slice_set, Vec, if◌then◌else◌}
 use Rattle.std.specs.Fn.{iterate}
 use Rattle.net_model.specs.Networks.{Sender, sender}
@@ -26,7 +27,7 @@ traces hops = map trace_of hops
 abbrev pub contents : {A : Type 0} → List (Vec (Option SourceFrame) A) → List (List (Option SourceFrame))
 contents {A} all = map (λ (v : Vec (Option SourceFrame) A). v.items) all
 
--- Applies `f` for each number below a bound, from 0 on.
+-- The value `a` after `f` was applied for each number below a bound, from 0 on.
 abbrev pub upto : {X : Type 0} → (ℕ → X → X) → ℕ → X → X
 upto f zero a = a
 upto f (suc n) a = f n (upto f n a)
@@ -37,7 +38,8 @@ traced_list s sent sent_roots q [] xs = []
 traced_list s sent sent_roots q (o ∷ os) [] = []
 traced_list s sent sent_roots q (o ∷ os) (x ∷ xs) = source_after_tracing s sent sent_roots q o x ∷ traced_list s sent sent_roots q os xs
 
--- The sources after tracing from one hop to another hop's port, if the first hop is at the sending bridge.
+-- The sources after tracing frames of hop `h` on port `q` to copies of hop `g`, if `g` is at the sending bridge. `mine`
+-- has the sources of `h`, `others` of `g`.
 abbrev pub paired : Sender → ℕ → ℕ → List (List (Option SourceFrame)) → Option Trace → Option Trace → Option (List (Option SourceFrame)) → Option (List (Option SourceFrame)) → List (List (Option SourceFrame))
 paired s i q all (Some h) (Some g) (Some mine) (Some others) = if nat_eq g.bridge s.from.bridge then slice_set all i (traced_list s g.departures others q h.origins mine) else all
 paired s i q all _ _ _ _ = all
@@ -68,7 +70,7 @@ port_step links ts i q all = sent_step ts i q all (sender_at links q (slice_get 
 unfoldable pub hop_step : List Link → List Trace → ℕ → List (List (Option SourceFrame)) → List (List (Option SourceFrame))
 hop_step links ts i all = upto (λ k. port_step links ts i (k + 1)) 16 all
 
--- The sources after tracing the arrivals at each hop.
+-- The sources of each hop's frames after one more pass, from the sources `all` that earlier passes found.
 abbrev pub pass : List Link → List Trace → List (List (Option SourceFrame)) → List (List (Option SourceFrame))
 pass links ts all = upto (hop_step links ts) (length ts) all
 
@@ -76,7 +78,7 @@ pass links ts all = upto (hop_step links ts) (length ts) all
 abbrev pub own_root : ℕ → Origin → SourceFrame
 own_root n o = record { number = n; came = o.at }
 
--- First-hop frames as their own sources, with numbers from `n` on.
+-- One source for each of these first-hop frames: the frame itself, with numbers from `n` on.
 abbrev pub own_from : ℕ → List Origin → List (Option SourceFrame)
 own_from n [] = []
 own_from n (o ∷ os) = Some (own_root n o) ∷ own_from (n + 1) os

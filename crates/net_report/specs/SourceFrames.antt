@@ -1,4 +1,4 @@
--- Source frames: the first-hop frame from which each frame of each hop stems.
+-- Source frames: for each frame of each hop, the frame of the first hop of which it is a copy.
 use Rattle.std.specs.Prelude.{◌≡◌, ℕ, zero, suc, ◌+◌, ◌-◌, ◌<◌, ◌≤◌, Bool, true, false, ◌&&◌, nat_eq, nat_le, Option, Some, None, List, [], ◌∷◌, length, map, slice_get, Vec, if◌then◌else◌}
 use Rattle.bridge_limits.specs.Members.{IsMember}
 use Rattle.net_model.specs.Networks.{Sender, sender}
@@ -13,7 +13,7 @@ use Rattle.net_report.specs.declared.sources.SourceFrame.{SourceFrame}
 abbrev pub is_due : ℕ → ℕ → ℕ → Departure → Bool
 is_due q delay at d = nat_eq d.port q && nat_le at (d.done + delay)
 
--- The copies from the first one that left by port `q` and arrives at time `at` or later.
+-- The list of copies, without those before the first one that left by port `q` and arrives at time `at` or later.
 abbrev pub due_departures : ℕ → ℕ → ℕ → List Departure → List Departure
 due_departures q delay at [] = []
 due_departures q delay at (d ∷ ds) = if is_due q delay at d then d ∷ ds else due_departures q delay at ds
@@ -36,12 +36,13 @@ source_over_link roots delay at (d ∷ ds) = if nat_eq (d.done + delay) at then 
 abbrev pub source_by_copy : Sender → List Departure → List (Option SourceFrame) → Origin → Option SourceFrame
 source_by_copy s sent roots o = source_over_link roots s.delay o.at (due_departures s.from.port s.delay o.at sent)
 
--- The known source of a frame, otherwise the found one.
+-- The first optional source if it is known, otherwise the second.
 abbrev pub or_else : Option SourceFrame → Option SourceFrame → Option SourceFrame
 or_else None r = r
 or_else (Some x) r = Some x
 
--- The source of a frame after tracing the arrivals on port `q` from the copies `sent`.
+-- The source of a frame after tracing: its known source `x` or, if it arrived on port `q`, the source of the matching
+-- copy in `sent`.
 abbrev pub source_after_tracing : Sender → List Departure → List (Option SourceFrame) → ℕ → Origin → Option SourceFrame → Option SourceFrame
 source_after_tracing s sent roots q o x = if nat_eq o.port q then or_else x (source_by_copy s sent roots o) else x
 
@@ -67,7 +68,7 @@ pub record IsFirstHopFrame {A : Type 0} (hops : List (HopRun A)) (i k : ℕ) (r 
   pub came : slice_get hop.view.now.origins.items k ≡ Some origin
   pub root : r ≡ record { number = k + 1; came = origin.at }
 
--- Holds if a frame arrived over a link as a copy of a frame with a known source.
+-- Holds if frame `k` of hop `i` arrived over a link as a copy of another hop's frame for which `Known` holds.
 pub record IsCopyOfKnownFrame {A : Type 0} (links : List Link) (hops : List (HopRun A)) (Known : ℕ → ℕ → Type 0) (i k : ℕ) : Type 0 where
   pub hop : HopRun A
   pub other : HopRun A
@@ -100,7 +101,7 @@ pub record IsSourceByCopy (s : Sender) (sent : List Departure) (sent_roots : Lis
   pub moment : copy.done + s.delay ≡ o.at
   pub known : source_frame sent_roots copy.own ≡ Some r
 
--- Holds if each frame's new source is its old one or the one found over the link.
+-- Holds if each frame's source in `new` is its source in `old` or, if that is unknown, the source found over the link.
 abbrev pub IsTracedByFrame : Sender → List Departure → List (Option SourceFrame) → ℕ → List Origin → List (Option SourceFrame) → List (Option SourceFrame) → Type 0
 IsTracedByFrame s sent sent_roots q origins old new = (k : ℕ) (o : Origin) (x y : Option SourceFrame) → slice_get origins k ≡ Some o → slice_get old k ≡ Some x → slice_get new k ≡ Some y
     → y ≡ source_after_tracing s sent sent_roots q o x
@@ -112,11 +113,11 @@ pub record AreTraced (s : Sender) (sent : List Departure) (sent_roots : List (Op
   pub covers : (k : ℕ) → k < length old → k < length origins → k < length new
   pub each : IsTracedByFrame s sent sent_roots q origins old new
 
--- Holds if no unknown source is known in the new list.
+-- Holds if each source that is unknown in the list `old` is also unknown in the list `new`.
 abbrev pub AddsNoSource : List (Option SourceFrame) → List (Option SourceFrame) → Type 0
 AddsNoSource old new = (k : ℕ) (y : Option SourceFrame) → slice_get old k ≡ Some None → slice_get new k ≡ Some y → y ≡ None
 
--- Holds if tracing over the link finds no more source.
+-- Holds if tracing arrivals on port `q` from the copies `sent` finds no source that `roots` lacks.
 abbrev pub IsExhausted : Sender → List Departure → List (Option SourceFrame) → ℕ → List Origin → List (Option SourceFrame) → Type 0
 IsExhausted s sent sent_roots q origins roots = (k : ℕ) (o : Origin) (x : Option SourceFrame) → slice_get origins k ≡ Some o → slice_get roots k ≡ Some x → source_after_tracing s sent sent_roots q o x ≡ x
 
@@ -175,7 +176,8 @@ abbrev pub HaveEach : {A : Type 0} → List (HopRun A) → List (Vec (Option Sou
 HaveEach {A} hops all = (i : ℕ) (h : HopRun A) (known : Vec (Option SourceFrame) A) → slice_get hops i ≡ Some h → slice_get all i ≡ Some known
     → length known.items ≡ length h.view.now.origins.items
 
--- Holds if all known sources are sources, each first-hop frame is known, and each frame has an entry.
+-- Holds if each known source is the frame's source, each first-hop frame is its own source, and each frame has an entry
+-- in `all`.
 pub record AreSound {A : Type 0} (links : List Link) (hops : List (HopRun A)) (all : List (Vec (Option SourceFrame) A)) : Type 0 where
   pub from : HaveSources links hops all
   pub first : AreFirstHopFramesKnown hops all

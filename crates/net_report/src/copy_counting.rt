@@ -1,5 +1,5 @@
-//! Counts of each first-hop frame's copies, over all hops of a stream. From them come the columns of `streams.csv` and the lines about lost
-//! frames.
+//! Counts of copies, summed over all hops, for each frame of a stream's first hop. The rows of `streams.csv` and the lines about lost
+//! frames use them.
 ghost use Rattle.std.specs.Prelude.{◌≡◌, Bool, true, List, IfOk, OnOk};
 ghost use Rattle.net_report.specs.Counting as spec;
 ghost use Rattle.net_report.specs.Hops.{AreOnwardPorts};
@@ -16,24 +16,24 @@ use std::alloc::Allocator;
 /// Fate of a copy, or of a frame at a hop.
 #[derive(Clone, Copy)]
 pub enum CopyFate {
-    /// The copy left by a port that leads to no hop.
+    /// The copy left by a port without next hop: an open port, or a link to a bridge without a hop of the stream.
     Delivered,
     /// A filter refused the frame, or a port dropped the copy.
     Refused,
-    /// The copy left by a port that leads to a hop.
+    /// The copy left by a port whose link leads to a bridge with a hop of the stream.
     Forwarded,
     /// The frame arrived at a later hop than the first.
     Arrived,
 }
 
-/// Returns `count` plus one, or `count` if it is the largest number. So counting can't overflow.
+/// Returns `count` plus one, or `count` if it is the largest 64-bit number, so that counting can't overflow.
 fn saturating_increment(count: u64) -> u64
     ensures { result ≡ spec.saturating_increment count }
 {
     if count < u64::MAX { count + 1 } else { count }
 }
 
-/// Returns the counts of a first-hop frame with one more of this fate.
+/// Returns the counts of a first-hop frame, with one added to the count of this fate.
 fn add_fate(tally: CopyCounts, fate: CopyFate) -> CopyCounts
     ensures { result ≡ spec.add_fate tally fate }
 {
@@ -71,7 +71,7 @@ fn add_fate(tally: CopyCounts, fate: CopyFate) -> CopyCounts
     }
 }
 
-/// Counts a copy with this fate: adds one to the matching count of `tallies[place]`. Does nothing if the index is too large.
+/// Counts a copy or frame with this fate: adds one to the matching count of `tallies[place]`. Does nothing if the index is too large.
 fn count_at_index(tallies: &mut [CopyCounts], place: usize, fate: CopyFate)
     ensures { tallies.new ≡ spec.count_at_index tallies.old place fate }
 {
@@ -80,7 +80,7 @@ fn count_at_index(tallies: &mut [CopyCounts], place: usize, fate: CopyFate)
     }
 }
 
-/// Counts a copy with this fate for its first-hop frame `root`. Does nothing if the frame is unknown (`None`).
+/// Counts a copy or frame with this fate for its source, the first-hop frame `root`. Does nothing if the source is unknown (`None`).
 fn count_frame(tallies: &mut [CopyCounts], root: Option<SourceFrame>, fate: CopyFate)
     ensures { tallies.new ≡ spec.count_frame fate tallies.old root }
 {
@@ -104,7 +104,8 @@ fn departure_fate(ways: &[bool], departure: &Departure) -> CopyFate
     }
 }
 
-/// Counts the copies that left a hop, each for its first-hop frame. `roots` has the source of each frame of the hop.
+/// Counts the copies that left a hop, each for its first-hop frame. `roots` has the source of each frame of the hop, `ways` whether ports 1
+/// to 16 lead to a hop.
 fn count_departures(
     tallies: &mut [CopyCounts],
     roots: &[Option<SourceFrame>],
@@ -184,7 +185,8 @@ fn count_hop_record<A: Allocator>(
     count_verdicts(tallies, roots, &view.verdicts);
 }
 
-/// Returns the number of frames that arrived at the first hop, or 0 for a stream without hops: one item of the counts for each.
+/// Returns the number of frames that arrived at the first hop, or 0 for a stream without hops. `count_copies` makes one item for each of
+/// them.
 fn frame_count<A: Allocator>(hops: &[HopRun<'_, A>]) -> usize
     ensures { result ≡ spec.frame_count hops.now }
 {
@@ -259,7 +261,8 @@ fn count_hops<A: Allocator + Copy>(
     Ok(())
 }
 
-/// Returns for each first-hop frame how many copies were delivered, were refused or dropped, were forwarded to a hop, and arrived there.
+/// Returns for each first-hop frame the numbers of copies that were delivered, were refused or dropped, were sent to a bridge with a hop,
+/// and arrived at a hop. `all` has the source frames.
 pub fn count_copies<A: Allocator + Copy>(
     alloc: A,
     links: &[Link],

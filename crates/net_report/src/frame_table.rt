@@ -22,7 +22,7 @@ use std::alloc::Allocator;
 /// arrival time at this hop. Times and delays are in ns.
 pub const FRAMES_HEADER: &str = "stream,hop,frame,came,at,fate,port,start,done,delay\n";
 
-/// Writes the number of the source frame and its arrival time at the first hop, or empty fields.
+/// Writes the number of the source frame and its arrival time at the first hop in ns, or two empty fields if the source is unknown.
 fn put_source_frame<A: Allocator>(text: &mut TextBuilder<A>, root: Option<SourceFrame>)
     ensures { HasGrown text.old (spec.source_frame_words root) text.new }
 {
@@ -141,7 +141,8 @@ fn put_verdict<A: Allocator>(
     }
 }
 
-/// Writes the rows of the frames that a hop refused. Frames are numbered from 1.
+/// Writes the rows of the frames that a hop refused. `roots` and `origins` have source and arrival of each frame of the hop, in order of
+/// their numbers from 1.
 fn put_verdicts<A: Allocator>(
     text: &mut TextBuilder<A>,
     stream: &str,
@@ -191,7 +192,7 @@ fn put_drops<A: Allocator>(
     }
 }
 
-/// Writes the rows of the copies that left a hop.
+/// Writes the rows of the copies that left a hop. `ways` has for ports 1 to 16 whether the port leads to a hop.
 fn put_departures<A: Allocator>(
     text: &mut TextBuilder<A>,
     stream: &str,

@@ -1,4 +1,4 @@
-//! Counts and delays of a stream's copies at one hop.
+//! Counts of frames and copies at one hop of a stream, and delays of its copies.
 ghost use Rattle.std.specs.Prelude.{◌≡◌, ◌++◌, Bool, List, count_by, IfOk, OnOk};
 ghost use Rattle.net_report.specs.Hops.{AreOnwardPorts};
 ghost use Rattle.net_report.specs.HopCounts as spec;
@@ -9,7 +9,10 @@ use crate::sources::{SourceFrame, source_frame};
 use bridge_filter::Verdict;
 use bridge_limits::NoMemory;
 use bridge_port::Refusal;
-use bridge_semantics::{Departure, Dropped, StoredDeparture, StoredDrop, StoredVerdict, View};
+use bridge_report::arrival_time;
+use bridge_semantics::{
+    Departure, Dropped, StoredDeparture, StoredDrop, StoredOrigin, StoredVerdict, View,
+};
 use net_model::Link;
 use std::alloc::Allocator;
 
@@ -124,7 +127,7 @@ fn count_oversize(verdicts: &[StoredVerdict]) -> usize
         .count()
 }
 
-/// Returns the number of frames that arrived while the stream gate was closed.
+/// Returns the number of frames that were refused because the stream gate was closed when they arrived.
 fn count_gate_closed(verdicts: &[StoredVerdict]) -> usize
     ensures { result ≡ count_by spec.is_gate_closed verdicts.now }
 {
@@ -151,7 +154,7 @@ fn count_shut_octets(verdicts: &[StoredVerdict]) -> usize
         .count()
 }
 
-/// Returns the number of frames that exceeded an interval's octets.
+/// Returns the number of frames that were refused because they exceeded the octets of a stream gate's interval.
 fn count_octets_exceeded(verdicts: &[StoredVerdict]) -> usize
     ensures { result ≡ count_by spec.is_octets_exceeded verdicts.now }
 {
@@ -168,7 +171,7 @@ fn count_red(verdicts: &[StoredVerdict]) -> usize
     verdicts.iter().filter(|v| is_red(&v.verdict())).count()
 }
 
-/// Returns the number of yellow frames that the meter refused.
+/// Returns the number of frames that were refused because the meter coloured them yellow and drops yellow frames.
 fn count_yellow_dropped(verdicts: &[StoredVerdict]) -> usize
     ensures { result ≡ count_by spec.is_yellow_dropped verdicts.now }
 {
@@ -178,7 +181,7 @@ fn count_yellow_dropped(verdicts: &[StoredVerdict]) -> usize
         .count()
 }
 
-/// Returns the number of copies that found their queue full.
+/// Returns the number of copies that a hop dropped because their queue was full.
 fn count_full(drops: &[StoredDrop]) -> usize
     ensures { result ≡ count_by spec.is_full drops.now }
 {
@@ -195,7 +198,8 @@ fn count_never_fits(drops: &[StoredDrop]) -> usize
         .count()
 }
 
-/// Returns the number of copies that left by ports without next hop: the hop delivered them.
+/// Returns the number of delivered copies of a hop: they left by ports without next hop. `ways` has for ports 1 to 16 whether the port
+/// leads to a hop.
 fn count_delivered(ways: &[bool], departures: &[StoredDeparture]) -> usize
     ensures { result ≡ count_by (spec.is_delivery ways.now) departures.now }
 {
@@ -205,8 +209,8 @@ fn count_delivered(ways: &[bool], departures: &[StoredDeparture]) -> usize
         .count()
 }
 
-/// Returns the counts of a hop from its record. `ways` has for each port whether it leads to a hop; callers with `ways` save its
-/// computation.
+/// Returns the counts of a hop from its record `view`. `ways` has for ports 1 to 16 whether the port leads to a hop. Callers that have
+/// computed `ways` use this.
 pub(crate) fn counts_by_ports<A: Allocator>(ways: &[bool], view: &View<A>) -> HopCounts
     ensures { result ≡ spec.counts_by_ports ways.now view.now }
 {
@@ -261,7 +265,8 @@ fn push_delay<A: Allocator>(
     Ok(())
 }
 
-/// Returns the delays in ns of the copies that left by ports without next hop, in the order of leaving.
+/// Returns the delays in ns of the copies that a hop delivered, from arrival at the first hop, in the order of leaving. Copies with unknown
+/// source have none.
 pub(crate) fn departure_delays<A: Allocator + Copy>(
     alloc: A,
     ways: &[bool],
@@ -273,6 +278,30 @@ pub(crate) fn departure_delays<A: Allocator + Copy>(
     let mut delays = Vec::new(alloc);
     for departure in departures {
         push_delay(&mut delays, ways, roots, &departure.departure())?;
+    }
+    Ok(delays)
+}
+
+/// Returns the delay of a copy at its hop in ns: from the frame's arrival there to the end of the copy's transmission.
+fn delay_at_hop(origins: &[StoredOrigin], departure: &Departure) -> u64
+    ensures { result ≡ spec.delay_at_hop origins.now departure.now }
+{
+    departure
+        .done
+        .saturating_sub(arrival_time(origins, departure.own))
+}
+
+/// Returns the delays at a hop in ns of all copies that left it, in the order of leaving.
+pub(crate) fn delays_at_hop<A: Allocator + Copy>(
+    alloc: A,
+    origins: &[StoredOrigin],
+    departures: &[StoredDeparture],
+) -> Result<Vec<u64, A>, NoMemory>
+    ensures { IfOk result (λ delays. delays.items ≡ spec.delays_at_hop origins.now departures.now) }
+{
+    let mut delays = Vec::new(alloc);
+    for departure in departures {
+        delays.push(delay_at_hop(origins, &departure.departure()))?;
     }
     Ok(delays)
 }

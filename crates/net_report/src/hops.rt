@@ -7,14 +7,14 @@ use bridge_limits::NoMemory;
 use net_model::{Link, find_sender};
 use std::alloc::Allocator;
 
-/// Whether one of these hops is at the bridge.
+/// Whether one of these hops is at the bridge with index `bridge`.
 fn has_hop_at_bridge<A: Allocator>(hops: &[HopRun<'_, A>], bridge: usize) -> bool
     ensures { result ≡ spec.has_hop_at_bridge hops.now bridge }
 {
     hops.iter().any(|hop| hop.bridge == bridge)
 }
 
-/// Whether a port is linked to a bridge that has a hop. If not, copies that leave by the port count as delivered.
+/// Whether a port is linked to a bridge with a hop of the stream. If not, copies that leave by the port count as delivered.
 pub fn has_next_hop<A: Allocator>(
     links: &[Link],
     hops: &[HopRun<'_, A>],
@@ -45,7 +45,7 @@ pub fn onward_ports<A: Allocator + Copy>(
     Ok(ways)
 }
 
-/// Whether a port leads to a hop. `ways` has the answers for ports from 1 on; other port numbers lead to no hop.
+/// Whether a port leads to a hop. `ways` has the results of `onward_ports` for ports 1 to 16. Returns false for other port numbers.
 pub(crate) fn is_onward(ways: &[bool], port: u8) -> bool
     ensures { result ≡ spec.is_onward ways.now port }
 {

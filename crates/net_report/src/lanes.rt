@@ -1,4 +1,4 @@
-//! Windows of queues in the picture of a run.
+//! Windows of queues in the picture of a run: the times at which a queue's class is open.
 ghost use Rattle.std.specs.Prelude.{◌<◌};
 
 use crate::run_picture::{RunPicture, bar_x_and_width, put_titled};
@@ -6,17 +6,18 @@ use crate::windows::{count_windows, is_class_open, next_gate_change};
 use bridge_cycle::{END_OF_TURNS, Egress};
 use std::alloc::Allocator;
 
-/// Largest number of windows drawn for a queue.
+/// Largest number of windows that are drawn for a queue, so that the windows of one queue don't fill the picture.
 const MAX_WINDOWS: u64 = 500;
 
-/// Title of a window.
+/// Title of a drawn window, which browsers show as a hint: {0} is its port, {1} its class.
 const WINDOW_WORDS: &str = "port {0} opens class {1}";
 
 /// Title of the hatched part of a row, in which windows aren't drawn.
 const HATCH_WORDS: &str =
     "port {0}, class {1}: windows drawn: {2} of {3}, none of those after {4} ns";
 
-/// Draws a window of a queue, in the background of its row. Counts it in `drawn` unless the picture is full.
+/// Draws a window of a queue (port and class), from time `from` to time `to` in ns, in the row at height `y`. Counts it in `drawn` unless
+/// the picture is full.
 pub(crate) fn put_window(picture: &mut RunPicture, y: u64, queue: (u8, u8), from: u64, to: u64) {
     let (port, class) = (u64::from(queue.0), u64::from(queue.1));
     let bar = bar_x_and_width(picture, from, to, y.saturating_sub(10), 20);
@@ -27,7 +28,8 @@ pub(crate) fn put_window(picture: &mut RunPicture, y: u64, queue: (u8, u8), from
     }
 }
 
-/// Hatches the part of a row from `from` on, in which windows aren't drawn. `all` is the number of windows for the title.
+/// Hatches the row at height `y` from time `from` on, because windows after it aren't drawn. The title reports `all`, the number of
+/// windows.
 fn put_hatch(picture: &mut RunPicture, y: u64, queue: (u8, u8), from: u64, all: u64) {
     let (port, class) = (u64::from(queue.0), u64::from(queue.1));
     let to = picture.span.to;
@@ -36,7 +38,7 @@ fn put_hatch(picture: &mut RunPicture, y: u64, queue: (u8, u8), from: u64, all: 
     put_titled(picture, "hatch", bar, HATCH_WORDS, &numbers, "");
 }
 
-/// Draws the first windows of a class over the time of a picture, and hatches the rest if there are too many.
+/// Draws the first 500 windows of a queue (port and class) in the picture's time span. Hatches the rest of the row if there are more.
 pub(crate) fn put_windows<A: Allocator + Copy>(
     picture: &mut RunPicture,
     y: u64,

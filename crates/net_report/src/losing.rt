@@ -53,21 +53,23 @@ fn put_hops<A: Allocator>(text: &mut TextBuilder<A>, hops: &[HopLosses<A>])
     }
 }
 
-/// Whether no copy of a frame was delivered, refused, dropped or astray: the last hop of the frame forwarded it to no port.
+/// Whether no copy of a first-hop frame was delivered, refused, dropped or astray. Then the last hop that accepted the frame forwarded it
+/// to no port.
 fn is_nowhere(tally: &CopyCounts) -> bool
     ensures { result ≡ spec.is_nowhere tally.now }
 {
     tally.delivered == 0 && tally.refused == 0 && tally.sent_on <= tally.taken
 }
 
-/// Returns the number of frames that were forwarded to no port.
+/// Returns the number of first-hop frames that were forwarded to no port (`is_nowhere`).
 fn count_not_forwarded(tallies: &[CopyCounts]) -> usize
     ensures { result ≡ count_by spec.is_nowhere tallies.now }
 {
     tallies.iter().filter(|tally| is_nowhere(*tally)).count()
 }
 
-/// Writes why a stream lost frames: causes at its hops, astray copies, and frames forwarded to no port.
+/// Writes why a stream lost frames: the causes at its hops, the number of astray copies, and the number of frames that were forwarded to no
+/// port.
 fn put_why<A: Allocator>(text: &mut TextBuilder<A>, tallies: &[CopyCounts], hops: &[HopLosses<A>])
     ensures { HasGrown text.old (spec.why_words tallies.now hops.now) text.new }
 {
@@ -112,7 +114,7 @@ fn put_lost_if<A: Allocator>(
     }
 }
 
-/// Returns the number of delays above a deadline: delivered copies that missed it.
+/// Returns the number of delays in ns above `deadline`: the delivered copies that missed the deadline.
 fn count_late(deadline: u64, delays: &[u64]) -> usize
     ensures { result ≡ spec.late_in deadline delays.now }
 {

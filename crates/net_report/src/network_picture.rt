@@ -1,9 +1,9 @@
-//! The picture of a network.
+//! The picture of a network that the command `picture` draws, as SVG.
 ghost use Rattle.std.specs.Prelude.{◌≤◌, IfOk, length, string_bytes};
 
 use bridge_limits::NoMemory;
+use bridge_text::{Bar, Element, Point, Shapes, Size, fill_form, picture_head, text_line};
 use net_file::{BridgeRow, LinkRow, StreamRow};
-use show_svg::{Bar, Element, Point, Shapes, Size, fill_form, picture_head, text_line};
 use std::alloc::{Allocator, Global};
 
 /// Left edge of the first bridge's column, in pixels.
@@ -18,7 +18,7 @@ const ROW_HEIGHT: u64 = 26;
 /// Height of a bridge's box in pixels.
 const BOX_HEIGHT: u64 = 30;
 
-/// Styles of all shapes.
+/// Styles of all shapes, in CSS.
 const STYLES: &str = ":root{color-scheme:light dark}\
 text{font:13px system-ui,sans-serif;fill:#222}.m{text-anchor:middle;font-weight:700}.s{font-size:11px;fill:#666}\
 .page{fill:#fff}.box{fill:#e3e8ef;stroke:#8a94a3}.link{fill:none;stroke:#8a94a3;stroke-width:2}.way{fill:none;stroke:#2a7de1;stroke-width:3}.hop{fill:#2a7de1}\
@@ -27,16 +27,16 @@ text{font:13px system-ui,sans-serif;fill:#222}.m{text-anchor:middle;font-weight:
 /// Note at the end of a picture with omitted shapes.
 const LEFT_OUT: &str = "not drawn: {0} shapes (no space)";
 
-/// Title of a link: its ports and its delay.
+/// Title of a link, which browsers show as a hint: the ports at both ends and the delay.
 const LINK: &str = "{a}.{0} to {b}.{1}, {2} ns";
 
-/// Title of a hop.
+/// Title of a hop: the bridge's name and the filter's number.
 const HOP: &str = "{a}.{0}";
 
 /// Text with a stream's delay bound.
 const STREAM_BOUND: &str = "bound {a} ns";
 
-/// Draws a text at a point. An empty style stands for none.
+/// Draws a text at a point: `form` with `word` for its mark `{a}`. `style` names a class of `STYLES`; an empty text stands for none.
 fn put_text(shapes: &mut Shapes, style: &str, at: Point, form: &str, word: &str) {
     shapes.begin_text(style, at);
     shapes.add_piece(form, &[], &[word]);
@@ -48,7 +48,7 @@ fn column_middle(place: u16) -> u64 {
     LEFT_MARGIN + COLUMN_WIDTH * u64::from(place) + COLUMN_WIDTH / 2
 }
 
-/// Returns the distance of two bridges in columns, at most 10. The bound limits the height of arcs.
+/// Returns the distance of two bridges in columns, but at most 10. So arcs of distant bridges don't get too high.
 fn column_distance(one: u16, other: u16) -> u64 {
     let most = u64::from(one.max(other));
     let least = u64::from(one.min(other));
@@ -63,7 +63,7 @@ fn arc_height(link: &LinkRow) -> u64 {
     columns.saturating_mul(16).saturating_add(26 + 7 * lane)
 }
 
-/// Returns the greatest height of an arc, in pixels: the space above the boxes.
+/// Returns the height in pixels of the tallest arc. The boxes begin below this space.
 fn tallest_arc(links: &[LinkRow]) -> u64 {
     let mut most = 26u64;
     for link in links {
@@ -178,7 +178,8 @@ fn picture_width(bridges: usize) -> u64 {
     LEFT_MARGIN + COLUMN_WIDTH * columns + 170
 }
 
-/// Returns the height in pixels of the row of the stream with index `place`, below the bridges' boxes.
+/// Returns the position of the row of the stream with index `place`, in pixels from the top of the picture. Rows are below the bridges'
+/// boxes.
 fn stream_y(top: u64, place: usize) -> u64 {
     top.saturating_add(BOX_HEIGHT + 30)
         .saturating_add(ROW_HEIGHT.saturating_mul(place as u64))
@@ -209,8 +210,8 @@ fn put_all<A: Allocator + Copy>(
     Ok(())
 }
 
-/// Returns the picture of a network as SVG of at most 2,000,000 octets: boxes for bridges, arcs for links, and a row for each stream. A
-/// note counts the shapes that don't fit.
+/// Returns a network's picture as SVG of at most 2,000,000 octets: bridges, links, and a row for each stream. `bounds` has the streams'
+/// delay bounds in ns. A note counts omitted shapes.
 pub fn draw_network<A: Allocator + Copy>(
     alloc: Global,
     bridges: &[BridgeRow<A>],

@@ -6,11 +6,11 @@ use crate::run_picture::{
 };
 use bridge_report::{refusal_word, verdict_word};
 use bridge_semantics::{Departure, StoredOrigin, View};
+use bridge_text::{Element, Mark, Point};
 use net_model::{Link, find_sender};
-use show_svg::{Element, Mark, Point};
 use std::alloc::Allocator;
 
-/// Half of a mark's width and height, in pixels.
+/// Half of the width and height of a triangle for a refused frame or a dropped copy, in pixels.
 const HALF: u64 = 6;
 
 /// Title of a copy that left.
@@ -22,7 +22,7 @@ const REFUSED_WORDS: &str = "frame {0}, arrived at {1} ns: refused ({a})";
 /// Title of a dropped copy.
 const DROPPED_WORDS: &str = "frame {0}, arrived at {1} ns: dropped at port {2} ({a})";
 
-/// Returns the arrival time of a hop's frame with number `own`, from 1, or `other` if it is missing.
+/// Returns the arrival time in ns of a hop's frame with number `own`, from 1, or `other` if the frame is missing.
 fn arrival_time_or(origins: &[StoredOrigin], own: u64, other: u64) -> u64 {
     if own == 0 {
         return other;
@@ -33,13 +33,13 @@ fn arrival_time_or(origins: &[StoredOrigin], own: u64, other: u64) -> u64 {
     }
 }
 
-/// Draws a line over a link: the way of a copy to its next hop.
+/// Draws the line of a copy that crosses a link, from its end of transmission to its arrival at the next hop.
 fn put_line(picture: &mut RunPicture, from: Point, to: Point) {
     picture.shapes.draw("link", Element::Line(from, to));
     picture.shapes.end_shape();
 }
 
-/// Whether a frame arrived at a hop on this port at this time. Uses a binary search, because a hop's frames are in order of arrival.
+/// Whether a frame of a hop's record arrived on `port` at time `at`. Uses a binary search, because the frames are in order of arrival.
 fn has_come<A: Allocator>(view: &View<A>, port: u8, at: u64) -> bool {
     let first = view
         .origins
@@ -56,7 +56,7 @@ fn has_come<A: Allocator>(view: &View<A>, port: u8, at: u64) -> bool {
     false
 }
 
-/// Returns the index of the hop at a bridge at which a frame arrived on this port at this time. Returns `None` if no hop has such a frame.
+/// Returns the index of the first hop at `bridge` with a frame that arrived on `port` at time `at`. Returns `None` if there is none.
 fn hop_reached<A: Allocator>(
     hops: &[HopRun<'_, A>],
     bridge: usize,
@@ -71,7 +71,8 @@ fn hop_reached<A: Allocator>(
     None
 }
 
-/// Draws the line of a copy over a link to the row of the hop that accepted it. Draws nothing if no hop of the stream accepted it.
+/// Draws the line of a copy over a link to the row of the hop that accepted it. `y` is the height of the sender's row. Draws nothing if no
+/// hop accepted it.
 fn put_link<A: Allocator>(
     picture: &mut RunPicture,
     links: &[Link],

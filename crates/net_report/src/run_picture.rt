@@ -1,4 +1,4 @@
-//! The picture of a network run: streams, hops and frames.
+//! The picture of a network run: one row for each hop of each stream, with its frames over time.
 ghost use Rattle.std.specs.Prelude.{◌≤◌, IfOk, length, string_bytes};
 
 use crate::copy_counting::HopRun;
@@ -7,9 +7,8 @@ use crate::rows::put_hop;
 use bridge_cycle::Egress;
 use bridge_limits::NoMemory;
 use bridge_semantics::View;
-use bridge_text::TextBuilder;
+use bridge_text::{Bar, Element, Shapes, Size, Span, TextBuilder, picture_head, text_line};
 use net_model::Link;
-use show_svg::{Bar, Element, Shapes, Size, Span, picture_head, text_line};
 use std::alloc::{Allocator, Global};
 
 /// Left edge of the time axis, in pixels.
@@ -27,7 +26,7 @@ const TOP_MARGIN: u64 = 60;
 /// Side of a hatch square for omitted windows, in pixels.
 const HATCHES: u64 = 7;
 
-/// Styles of all shapes.
+/// Styles of all shapes, in CSS.
 const STYLES: &str = ":root{color-scheme:light dark}\
 text{font:13px system-ui,sans-serif;fill:#222}.s{font-size:11px;fill:#666}.page{fill:#fff}\
 .row{stroke:#d5dae1}.open{fill:#cdeccf}.wait{fill:#f0b429}.out{fill:#2a7de1}.lost{fill:#d64545}.link{stroke:#8a94a3}\
@@ -38,10 +37,10 @@ text{font:13px system-ui,sans-serif;fill:#222}.s{font-size:11px;fill:#666}.page{
 const LEGEND: &str = "{0} to {1} ns; yellow: waiting, blue: on the link, green: queue open, \
 red triangle: refused by the filter (tip up) or dropped by a queue (tip down)";
 
-/// Note about windows that aren't drawn.
+/// Note in the legend about windows that aren't drawn.
 const WINDOWS_LEFT_OUT: &str = "; windows drawn: {0} of {1} (hatched: not drawn)";
 
-/// Note about shapes that don't fit into the picture.
+/// Note in the legend about shapes that don't fit into the picture.
 const LEFT_OUT: &str = "; not drawn: {0} shapes";
 
 /// A picture under construction: the time that it shows, its rows, the number of windows in all and of drawn windows, and its shapes.
@@ -77,12 +76,13 @@ fn widen_span_by_record<A: Allocator>(view: &View<A>, span: Span) -> Span {
     Span { from, to }
 }
 
-/// Returns the position of a time, in pixels from the left.
+/// Returns the position of time `moment` on the time axis, in pixels from the left edge of the picture.
 pub(crate) fn time_x(picture: &RunPicture, moment: u64) -> u64 {
     LEFT_MARGIN + picture.span.axis_distance(moment, TIME_WIDTH)
 }
 
-/// Draws an element with a title, which browsers show when the pointer rests on it.
+/// Draws an element with a title, which browsers show when the pointer rests on it. The title is `words` with `numbers` and `word` at its
+/// marks.
 pub(crate) fn put_titled(
     picture: &mut RunPicture,
     style: &str,
@@ -98,7 +98,7 @@ pub(crate) fn put_titled(
     shapes.end_shape();
 }
 
-/// Returns the position of a row, in pixels from the top.
+/// Returns the position of the row with index `row`, in pixels from the top of the picture.
 pub(crate) fn row_y(row: u64) -> u64 {
     row.saturating_mul(ROW_HEIGHT).saturating_add(TOP_MARGIN)
 }
@@ -140,8 +140,8 @@ impl RunPicture {
         self.span = widen_span(hops, self.span);
     }
 
-    /// Draws the windows of a class at a port in the row of hop `place`. A port without list is always open. Call this before `put_stream`,
-    /// which draws over them.
+    /// Draws the windows of a class at a port in the row of hop `place` of the next stream. A port without list is always open. Call this
+    /// before `put_stream`, which draws over the windows.
     pub fn put_open_windows<A: Allocator + Copy>(
         &mut self,
         place: usize,

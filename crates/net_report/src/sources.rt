@@ -1,4 +1,4 @@
-//! Source frames: the first-hop frame from which each frame of each hop stems.
+//! Source frames: for each frame of each hop, the frame of the first hop of which it is a copy.
 ghost use Rattle.std.specs.Prelude.{◌≡◌, ◌<◌, ◌≤◌, ℕ, List, false, length, IfOk, OnOk};
 ghost use Rattle.net_model.specs.declared.links.Link.{Link};
 ghost use Rattle.net_model.specs.NetworkParts.{sender_value};
@@ -36,7 +36,7 @@ fn first_hop_sources<A: Allocator + Copy>(
     Ok(roots)
 }
 
-/// Returns one unknown source (`None`) for each of a hop's frames. Tracing replaces them.
+/// Returns one unknown source (`None`) for each of a hop's frames. `trace_source_frames` replaces those that it finds.
 fn unknown_sources<A: Allocator + Copy>(
     alloc: A,
     origins: &[StoredOrigin],
@@ -85,15 +85,15 @@ fn initial_sources<A: Allocator + Copy>(
     Ok(all)
 }
 
-/// Whether a copy left by this port and arrives over its link, `delay` ns after its end, at time `at` or later.
+/// Whether a copy left by `port` and arrives over the port's link at time `at` or later. It arrives `delay` ns after its end of
+/// transmission.
 fn is_due(departure: &Departure, port: u8, delay: u64, at: u64) -> bool
     ensures { result ≡ spec.is_due port delay at departure.now }
 {
     departure.port == port && at as u128 <= departure.done as u128 + delay as u128
 }
 
-/// Returns the copies from the first one on that left by this port and arrives over its link at time `at` or later. Earlier copies are
-/// skipped.
+/// Returns `departures` without the copies before the first one that left by `port` and arrives over its link at time `at` or later.
 fn due_departures(
     departures: &[StoredDeparture],
     port: u8,
@@ -125,7 +125,7 @@ pub fn source_frame(roots: &[Option<SourceFrame>], own: u64) -> Option<SourceFra
     }
 }
 
-/// Returns the source of the first copy if it arrives over the link exactly at time `at`, otherwise `None`.
+/// Returns the source of the first copy in `departures` if the copy arrives over the link exactly at time `at`, otherwise `None`.
 fn source_over_link(
     roots: &[Option<SourceFrame>],
     departures: &[StoredDeparture],
@@ -147,8 +147,8 @@ fn source_over_link(
     }
 }
 
-/// Returns the copies from the first one that arrives at time `at` or later. Continues in `left` if `at` isn't before `since`, otherwise
-/// searches all copies again.
+/// Returns the sender's copies from the first one that arrives at time `at` or later. Searches only `left`, which suffices from time
+/// `since` on, or else all copies `sent`.
 fn resume_due_departures<'a>(
     sender: Sender,
     sent: &'a [StoredDeparture],
@@ -165,8 +165,8 @@ fn resume_due_departures<'a>(
     due_departures(left, sender.from.port, sender.delay, at)
 }
 
-/// Returns a frame's source after tracing, the copies left for later frames, and the time from which they are enough. Later frames of the
-/// port then don't search all copies again.
+/// Returns the source of a frame, the rest of the sender's copies to search for later frames, and the time from which this rest suffices.
+/// So later frames of the port don't search all copies.
 fn trace_frame<'a>(
     sender: Sender,
     sent: &'a [StoredDeparture],
@@ -196,7 +196,8 @@ fn trace_frame<'a>(
     )
 }
 
-/// Returns the sources of a hop's frames after tracing the frames from another hop on this port.
+/// Returns the sources of a hop's frames, with those found for frames that arrived on `port` from another hop. `sent` has this hop's
+/// copies, `sent_roots` the sources of its frames.
 fn trace_from_sender<A: Allocator + Copy>(
     alloc: A,
     sender: Sender,
@@ -233,7 +234,7 @@ fn trace_from_sender<A: Allocator + Copy>(
     Ok(made)
 }
 
-/// Whether a source is known in `new` that was unknown in `old`.
+/// Whether a source is known in `new` and unknown in `old` at one index.
 fn has_new_source(old: &[Option<SourceFrame>], new: &[Option<SourceFrame>]) -> bool
     ensures { result ≡ false → spec.AddsNoSource old.now new.now }
 {
@@ -292,8 +293,8 @@ fn trace_pair<A: Allocator + Copy>(
     Ok(true)
 }
 
-/// Whether `one` or `other` is true. Loops over hops and ports gather by it whether a pass found more sources. Their proofs need its
-/// clauses, which `||` lacks.
+/// Whether `one` or `other` is true. Loops over hops and ports combine by it whether they found more sources. Their proofs need the
+/// contract, which `||` lacks.
 fn either(one: bool, other: bool) -> bool
     ensures one { result ≡ false → one ≡ false }
     ensures other { result ≡ false → other ≡ false }
@@ -389,8 +390,8 @@ fn trace_hop<A: Allocator + Copy>(
     Ok(more)
 }
 
-/// Traces the frames that arrived at each hop over links: one pass. Returns whether more sources are known; then another pass may find
-/// more.
+/// Traces once, for each hop, the frames that arrived over links. Returns whether more sources are known. Then `trace_source_frames`
+/// repeats it, because more may be found.
 fn trace_all<A: Allocator + Copy>(
     alloc: A,
     links: &[Link],
@@ -414,8 +415,8 @@ fn trace_all<A: Allocator + Copy>(
     Ok(more)
 }
 
-/// Returns the source of each frame of each hop. A frame that arrived over a link has the source of the copy that was sent one delay
-/// before. Only the first hop's index matters.
+/// Returns the source of each frame of each hop, by hop, or `None` for a frame without source. A frame from a link has the source of the
+/// copy that ended one link delay before.
 pub fn trace_source_frames<A: Allocator + Copy>(
     alloc: A,
     links: &[Link],

@@ -1,4 +1,4 @@
-//! Least, mean and greatest delay.
+//! Statistics of delays, for the rows of `streams.csv`.
 ghost use Rattle.std.specs.Prelude.{◌≡◌};
 ghost use Rattle.net_report.specs.Statistics as spec;
 

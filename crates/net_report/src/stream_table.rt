@@ -11,10 +11,10 @@ use bridge_limits::NoMemory;
 use bridge_text::TextBuilder;
 use std::alloc::Allocator;
 
-/// First line of the table `streams.csv`. A row belongs to a stream (hop `all`) or to a hop. Delays, bounds and deadlines are in ns. The
-/// column `met` is `none` if no frame arrived.
+/// First line of the table `streams.csv`. A row belongs to a stream (hop `all`) or to a hop. Delays, bounds, deadlines and margins are in
+/// ns. The column `met` is `none` if no frame arrived.
 pub const STREAMS_HEADER: &str =
-    "stream,hop,frames,delivered,lost,blocked,oversize,gate-closed,shut-rx,shut-octets,octets-exceeded,red,yellow-dropped,full,never,astray,least,mean,greatest,jitter,bound,deadline,met\n";
+    "stream,hop,frames,delivered,lost,blocked,oversize,gate-closed,shut-rx,shut-octets,octets-exceeded,red,yellow-dropped,full,never,astray,least,mean,greatest,jitter,bound,deadline,met,worst,margin,hop-least,hop-greatest\n";
 
 /// Writes least, mean and greatest delay and jitter in ns, or empty fields without a delay.
 fn put_statistics<A: Allocator>(text: &mut TextBuilder<A>, figures: Option<DelayStatistics>)
@@ -83,26 +83,48 @@ fn put_hop_start<A: Allocator>(
     put_wide_with_suffix(text, lost_copies(counts), ",");
 }
 
-/// Returns the row of a hop in `streams.csv`. `figures` is `None` if the hop delivered no copy.
+/// Writes the last two fields of a hop's row: least and greatest delay at the hop in ns, or empty fields if no copy left.
+fn put_hop_delays<A: Allocator>(text: &mut TextBuilder<A>, figures: Option<DelayStatistics>)
+    ensures { HasGrown text.old (spec.hop_delay_words figures) text.new }
+{
+    match figures {
+        Some(
+            DelayStatistics {
+                least,
+                greatest,
+                ..
+            },
+        ) => {
+            put_number_with_suffix(text, least, ",");
+            put_number_with_suffix(text, greatest, "\n");
+        }
+        None => text.put(",\n"),
+    }
+}
+
+/// Returns the row of a hop in `streams.csv`. `figures` are its delivered copies' delays from the first hop, `here` delays at the hop of
+/// all copies that left; `None` without copies.
 pub fn hop_line<A: Allocator + Copy>(
     alloc: A,
     stream: &str,
     hop: &str,
     counts: &HopCounts,
     figures: Option<DelayStatistics>,
+    here: Option<DelayStatistics>,
 ) -> Result<String<A>, NoMemory>
-    ensures { IfOk result (λ text. string_bytes text ≡ spec.hop_line stream.now hop.now counts.now figures) }
+    ensures { IfOk result (λ text. string_bytes text ≡ spec.hop_line stream.now hop.now counts.now figures here) }
 {
     let mut text = TextBuilder::new(alloc);
     put_hop_start(&mut text, stream, hop, counts);
     put_loss_causes(&mut text, counts);
     text.put(",");
     put_statistics(&mut text, figures);
-    text.put(",,\n");
+    text.put(",,,,,");
+    put_hop_delays(&mut text, here);
     text.finish()
 }
 
-/// Returns the number of delivered frames: a copy was delivered, and none was lost.
+/// Returns the number of delivered first-hop frames: a copy was delivered, and no copy was refused, dropped or astray.
 pub fn delivered_frames(tallies: &[CopyCounts]) -> usize
     ensures { result ≡ spec.delivered_frames tallies.now }
 {
@@ -116,7 +138,8 @@ pub(crate) fn total_astray(tallies: &[CopyCounts]) -> u128
     tallies.iter().map(|tally| u128::from(tally.astray())).sum()
 }
 
-/// Writes the beginning of a stream's row, up to the fields that only hops have: these are empty, except astray copies.
+/// Writes the beginning of a stream's row, up to the astray copies. The fields of loss causes are empty, because only rows of hops have
+/// them.
 fn put_stream_start<A: Allocator>(text: &mut TextBuilder<A>, stream: &str, tallies: &[CopyCounts])
     ensures { HasGrown text.old (spec.stream_start stream.now tallies.now) text.new }
 {
@@ -147,7 +170,7 @@ fn is_deadline_met(tallies: &[CopyCounts], figures: Option<DelayStatistics>, dea
     delivered_frames(tallies) == tallies.len() && is_below_deadline(figures, deadline)
 }
 
-/// Returns the word, after a comma, for a stream without frames, or whose deadline was met or missed.
+/// Returns a comma and a word: `none` for a stream without frames (`is_silent`), otherwise `met` or `missed` for its deadline.
 fn met_word(is_silent: bool, met: bool) -> &'static str
     ensures { result.now ≡ spec.met_word is_silent met }
 {
@@ -160,7 +183,7 @@ fn met_word(is_silent: bool, met: bool) -> &'static str
     }
 }
 
-/// Writes a deadline and whether it was met, or empty fields.
+/// Writes a deadline in ns and whether it was met, or two empty fields without a deadline.
 fn put_deadline<A: Allocator>(
     text: &mut TextBuilder<A>,
     tallies: &[CopyCounts],
@@ -178,7 +201,40 @@ fn put_deadline<A: Allocator>(
     }
 }
 
-/// Returns the row of a whole stream in `streams.csv`. `figures` is `None` if no copy was delivered.
+/// Writes the worst delay in ns and a comma, or an empty field.
+fn put_worst<A: Allocator>(text: &mut TextBuilder<A>, worst: Option<u128>)
+    ensures { HasGrown text.old (spec.worst_words worst) text.new }
+{
+    match worst {
+        Some(worst) => put_wide_with_suffix(text, worst, ","),
+        None => text.put(","),
+    }
+}
+
+/// Writes a deadline less a worst delay, in ns. The number is negative if the delay exceeds the deadline.
+fn put_difference<A: Allocator>(text: &mut TextBuilder<A>, deadline: u128, worst: u128)
+    ensures { HasGrown text.old (spec.difference_words deadline worst) text.new }
+{
+    if worst <= deadline {
+        text.put_integer(deadline - worst);
+    } else {
+        text.put("-");
+        text.put_integer(worst - deadline);
+    }
+}
+
+/// Writes the margin: deadline less worst delay, in ns. Writes nothing if either is missing.
+fn put_margin<A: Allocator>(text: &mut TextBuilder<A>, deadline: Option<u64>, worst: Option<u128>)
+    ensures { HasGrown text.old (spec.margin_words deadline worst) text.new }
+{
+    match (deadline, worst) {
+        (Some(deadline), Some(worst)) => put_difference(text, deadline as u128, worst),
+        _ => text.put(""),
+    }
+}
+
+/// Returns the row of a whole stream in `streams.csv`. `figures` is `None` if no copy was delivered, `worst` if the delays of its talker's
+/// frames are unknown.
 pub fn stream_line<A: Allocator + Copy>(
     alloc: A,
     stream: &str,
@@ -186,15 +242,20 @@ pub fn stream_line<A: Allocator + Copy>(
     figures: Option<DelayStatistics>,
     bound: u128,
     deadline: Option<u64>,
+    worst: Option<u128>,
 ) -> Result<String<A>, NoMemory>
-    ensures { IfOk result (λ text. string_bytes text ≡ spec.stream_line stream.now tallies.now figures bound deadline) }
+    ensures { IfOk result (λ text. string_bytes text
+        ≡ spec.stream_line stream.now tallies.now figures bound deadline worst) }
 {
     let mut text = TextBuilder::new(alloc);
     put_stream_start(&mut text, stream, tallies);
     put_statistics(&mut text, figures);
     put_wide_with_suffix(&mut text, bound, ",");
     put_deadline(&mut text, tallies, figures, deadline);
-    text.put("\n");
+    text.put(",");
+    put_worst(&mut text, worst);
+    put_margin(&mut text, deadline, worst);
+    text.put(",,\n");
     text.finish()
 }
 

@@ -5,7 +5,7 @@ ghost use Rattle.net_report.specs.Tables.{AddDelays, AreDelays, AreRowsOfHop, Wr
 
 use crate::copy_counting::{CopyCounts, HopRun};
 use crate::frame_table::put_hop_lines;
-use crate::hop_counting::{counts_by_ports, departure_delays};
+use crate::hop_counting::{counts_by_ports, delays_at_hop, departure_delays};
 use crate::hops::onward_ports;
 use crate::sources::SourceFrame;
 use crate::statistics::delay_statistics;
@@ -16,7 +16,7 @@ use net_model::Link;
 use std::alloc::Allocator;
 use std::io::Write;
 
-/// One of the two tables. Faults name the table that wasn't written.
+/// One of the two tables. A fault names the table that couldn't be written.
 #[derive(Clone, Copy, Debug, PartialEq, Eq)]
 pub enum Table {
     /// The table of streams.
@@ -25,7 +25,7 @@ pub enum Table {
     Frames,
 }
 
-/// Fault when the rows of a stream are written.
+/// Why the rows of a stream couldn't be written to the two tables.
 #[derive(Clone, Copy, Debug, PartialEq, Eq)]
 pub enum TableFault {
     /// The writer of a table failed.
@@ -40,15 +40,17 @@ impl From<NoMemory> for TableFault {
     }
 }
 
-/// Names of a stream and its hops in the tables, with its bound and its deadline.
+/// Names of a stream and its hops in the tables, with its bound, its worst delay and its deadline.
 #[derive(Clone, Copy)]
 pub struct Heading<'a, A: Allocator> {
     /// Name of the stream.
     pub name: &'a str,
     /// Names of the hops, in order.
     pub hops: &'a [String<A>],
-    /// Bound of `net check`, in ns.
+    /// Delay bound that `net check` prints, in ns.
     pub bound: u128,
+    /// Worst delay of the talker's frames in ns. `None` without a periodic talker, or if the delays are unknown.
+    pub worst: Option<u128>,
     /// Deadline in ns, if the stream has one.
     pub deadline: Option<u64>,
 }
@@ -88,7 +90,15 @@ fn rows_of_hop<A: Allocator + Copy>(
     let ways = onward_ports(alloc, links, hops, hop.bridge)?;
     let counts = counts_by_ports(&ways, hop.view);
     let delays = departure_delays(alloc, &ways, roots, &hop.view.departures)?;
-    let row = hop_line(alloc, stream, name, &counts, delay_statistics(&delays))?;
+    let here = delays_at_hop(alloc, &hop.view.origins, &hop.view.departures)?;
+    let row = hop_line(
+        alloc,
+        stream,
+        name,
+        &counts,
+        delay_statistics(&delays),
+        delay_statistics(&here),
+    )?;
     let mut text = TextBuilder::new(alloc);
     put_hop_lines(&mut text, stream, name, roots, &ways, hop.view);
     let lines = text.finish()?;
@@ -164,7 +174,8 @@ fn push_delays<A: Allocator + Copy>(
     Ok(())
 }
 
-/// Returns the delays in ns of the copies that a stream delivered, from arrival at the first hop. The order is by hop, then by leaving.
+/// Returns the delays in ns of the copies that a stream delivered, from arrival at the first hop. They are in the order of hops, and of
+/// leaving at each hop.
 pub fn stream_delays<A: Allocator + Copy>(
     alloc: A,
     links: &[Link],
@@ -205,6 +216,7 @@ pub fn write_stream<A: Allocator + Copy, V: Write, W: Write>(
         delay_statistics(&delays),
         heading.bound,
         heading.deadline,
+        heading.worst,
     )?;
     put_table(streams, line.as_str(), Table::Streams)?;
     write_hops(

@@ -1,11 +1,12 @@
-//! Windows of a queue: the times during which lists open its class.
+//! Windows of a queue: the times during which gate control lists open its class. Pictures of runs show them.
 ghost use Rattle.std.specs.Prelude.{◌≡◌, ◌≤◌, ◌<◌};
 
 use bridge_cycle::{END_OF_TURNS, Egress, MAX_ENTRIES, Timeline, is_open};
-use show_svg::Span;
+use bridge_text::Span;
 use std::alloc::Allocator;
 
-/// Largest number of intervals to search until a class opens or closes: they cover parts of an old and a new list.
+/// Largest number of intervals that a search examines until a class opens or closes. They suffice for the old and the new list of a
+/// schedule change.
 const MAX_TURNS: usize = 8 * MAX_ENTRIES;
 
 /// Whether the gate control lists open a class at time `at`.
@@ -16,7 +17,7 @@ pub(crate) fn is_class_open<A: Allocator + Copy>(list: &Egress<A>, class: u8, at
     is_open(list.turn(at).state, class)
 }
 
-/// Returns the cycle time in ns of the list at time `at`, and the end of this list's time.
+/// Returns the cycle time in ns of the list in force at time `at`, and the time at which this list ends.
 fn active_list<A: Allocator + Copy>(list: &Egress<A>, at: u64) -> (u64, u64)
     ensures cycle { 1 ≤ result.0 }
     ensures until { result.1 ≤ END_OF_TURNS }
@@ -34,7 +35,8 @@ fn active_list<A: Allocator + Copy>(list: &Egress<A>, at: u64) -> (u64, u64)
     }
 }
 
-/// Returns how often a class opens after time `after` and up to time `to`, within one cycle of a list.
+/// Returns the number of times that a class opens after time `after` and up to time `to`. The caller ensures that this is at most one cycle
+/// of a list.
 fn count_openings<A: Allocator + Copy>(list: &Egress<A>, class: u8, after: u64, to: u64) -> u64
     requires class { class < 8 }
     requires soon { to < END_OF_TURNS }
@@ -60,7 +62,8 @@ fn count_openings<A: Allocator + Copy>(list: &Egress<A>, class: u8, after: u64, 
     count
 }
 
-/// Returns how often a class opens after time `after` and up to time `to`, under one list. Each whole cycle counts like the first.
+/// Returns the number of times that a class opens after time `after` and up to time `to`, while one list is in force. It counts one cycle
+/// and multiplies.
 fn count_list_openings<A: Allocator + Copy>(
     list: &Egress<A>,
     class: u8,
@@ -83,7 +86,7 @@ fn count_list_openings<A: Allocator + Copy>(
         .saturating_add(count_openings(list, class, rest, to))
 }
 
-/// Returns the number of windows of a class in a span of time. The cost doesn't grow with the span.
+/// Returns the number of windows of a class in a span of time. The cost doesn't depend on the length of the span.
 pub(crate) fn count_windows<A: Allocator + Copy>(list: &Egress<A>, class: u8, span: Span) -> u64
     requires { class < 8 }
 {

@@ -11,7 +11,7 @@ use Rattle.bridge_capture.specs.Grammar.{CapturedFrame}
 use Rattle.bridge_capture.specs.WrittenCapture.{written_words, written_frame}
 use Rattle.bridge_capture.proofs.Again.{record_length}
 use Rattle.bridge_core.specs.CaptureWriters.{FitsRecord}
-use Rattle.net_run.specs.DelayedCapture.{AppendsDelayedRecord, IsWord, delayed, delayed_time, time_words}
+use Rattle.net_run.specs.DelayedCapture.{AppendsDelayedRecord, IsWord, delayed, delayed_time, time_words, word_at}
 
 -- The words of the first record.
 seconds_word : (c : CapturedFrame) (more : List ℕ) → FitsRecord c → from_le_bytes w32 (take 4 (drop 0 (written_frame c ++ more))) ≡ c.time / 10 ^ 9
@@ -25,6 +25,10 @@ fraction_word c more = from_le_bytes-to_le_bytes_4 (c.time % 10 ^ 9) (omega arit
 captured_word : (c : CapturedFrame) (more : List ℕ) → FitsRecord c → from_le_bytes w32 (take 4 (drop 8 (written_frame c ++ more))) ≡ length c.octets
 unfolding written_words
 captured_word c more fits = let few = fits.captured in from_le_bytes-to_le_bytes_4 (length c.octets) (omega (arith, few))
+
+-- The captured length of the first record.
+pub captured_is : (c : CapturedFrame) (more : List ℕ) → FitsRecord c → word_at (written_frame c ++ more) 8 ≡ length c.octets
+captured_is c more fits = captured_word c more fits
 
 pub item_length : (c : CapturedFrame) (more : List ℕ) → length (written_frame c ++ more) ≡ 16 + length c.octets + length more
 item_length c more = let whole = length-append (written_frame c) more in let own = record_length c in omega (arith, whole, own)

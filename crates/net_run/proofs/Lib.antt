@@ -9,3 +9,4 @@ pub mod Feeding
 pub mod Stopped
 pub mod Handing
 pub mod Made
+pub mod Delaying

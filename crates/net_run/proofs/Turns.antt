@@ -1,17 +1,13 @@
 -- The bridges of a network from step to step of a loop.
 use Rattle.std.proofs.Common.{◌≡◌, ◌≢◌, ℕ, zero, suc, Bool, true, false, ◌+◌, ◌≤◌, ◌<◌, List, [], ◌∷◌, ◌++◌, length, map, take, drop, drop_of_length-le, nat_eq, nat_lt, append-nil, slice_index_or, slice_set, Option, Some, None, refl, sym, ap, ◌∙◌, subst, arith}
 use Rattle.std.proofs.lemmas.Option.{slice_get-get_or, same_Some}
-use Rattle.std.specs.Prelude.{All, IfOk, Result, Ok, Err, Vec, slice_get, is_some, if◌then◌else◌}
+use Rattle.std.specs.Prelude.{All, Result, Ok, slice_get, is_some, if◌then◌else◌}
 use Rattle.std.proofs.lemmas.Bool.{eq-eqb, eqb-false, eqb-true}
 use Rattle.std.proofs.lemmas.Bool.Decides.{nat_tests}
 use Rattle.net_model.specs.Networks.{Sender}
-use Rattle.bridge_capture.specs.Grammar.{CapturedFrame}
-use Rattle.bridge_capture.specs.WrittenCapture.{written_text}
-use Rattle.bridge_core.specs.CaptureWriters.{FitsRecord}
 use Rattle.std.proofs.lemmas.List.Elements.{All-cons, All-head, All-nil, All-tail}
 use Rattle.bridge_limits.proofs.Cases.{by_bool}
 use Rattle.bridge_capture.specs.declared.fault.RunFault.{RunFault}
-use Rattle.net_run.specs.DelayedCapture.{delayed}
 use Rattle.net_run.specs.BridgeRuns.{IsBridgeUpToDate, ConstantPart, HasRun, IsPortUpToDate, IsDelayedCapture, BridgeRunState, StopsBridge, constant_part, open_texts, sent_capture, text_of_port, run_texts}
 
 -- If a new item has an equal image, the list of images stays the same.
@@ -75,11 +71,6 @@ index_map f (x ∷ xs) (suc i) d = index_map f xs i d
 pub ground_given : {A : Type 0} (v : BridgeRunState A) (i : ℕ) (s : Sender) (t : List ℕ) (w : BridgeRunState A) → slice_get v.senders i ≡ Some (Some s) → w ≡ record v { texts = slice_set v.texts i t; outcome = None } → constant_part w ≡ constant_part v
 ground_given {A} v i s t w linked is =
     ap constant_part is ∙ ap (λ (l : List (List ℕ)). record { plan = v.plan; commands = v.commands; ports = v.ports; senders = v.senders; outside = l }) (open_set v.senders v.texts i s t linked)
-
--- The delayed capture is the capture that the link delivers, for any frames.
-pub later_if : {E X : Type 0} (delay : ℕ) (tap : List ℕ) (r : Result (Vec ℕ X) E) → ((frames : List CapturedFrame) → tap ≡ written_text frames → All FitsRecord frames → IfOk r (λ v. v.items ≡ written_text (map (delayed delay) frames))) → IfOk r (λ v. IsDelayedCapture delay tap v.items)
-later_if delay tap (Ok v) h = λ frames t. h frames t.is t.fits
-later_if delay tap (Err e) h = tt
 
 -- The item at an index.
 pub at_place : {X : Type 0} (xs : List X) (i : ℕ) (d x : X) → i < length xs → slice_get xs i ≡ Some x → slice_index_or xs i d ≡ x

@@ -1,4 +1,4 @@
--- Bridges of a network between two rounds: inputs and sent frames.
+-- Bridges of a network between two rounds: their inputs, sent frames and results, and what a round changes.
 use Rattle.std.specs.Prelude.{◌≡◌, ◌≢◌, ◌<◌, ℕ, All, Option, Some, None, is_some, option_map, nat_eq, List, [], ◌∷◌, length, map, slice_get, Vec, if◌then◌else◌}
 use Rattle.bridge_capture.specs.declared.capture_fault.CaptureFault.TheVariants as faults
 use Rattle.bridge_capture.specs.Grammar.{CapturedFrame, IsCapture, AtEnd}
@@ -52,13 +52,14 @@ StopsBridge p ports commands texts (run.Capture port fault) =
 StopsBridge p ports commands texts (run.Write port) = ⊥
 StopsBridge p ports commands texts run.NoMemory = Unit {0}
 
--- The fault of a run into memory: a sink fails only if memory runs out.
+-- The fault of a run whose outputs are sinks in memory. A write fault becomes `NoMemory`, because such a sink fails
+-- only if memory runs out.
 abbrev pub as_memory_fault : RunFault → RunFault
 as_memory_fault (run.Write port) = run.NoMemory
 as_memory_fault (run.Capture port fault) = run.Capture port fault
 as_memory_fault run.NoMemory = run.NoMemory
 
--- The octets of texts, one list for each text.
+-- The octets of captures in memory, one list for each capture.
 abbrev pub text_octets : {A : Type 0} → List (Vec ℕ A) → List (List ℕ)
 text_octets {A} texts = map (λ (v : Vec ℕ A). v.items) texts
 
@@ -66,7 +67,7 @@ text_octets {A} texts = map (λ (v : Vec ℕ A). v.items) texts
 abbrev pub sink_octets : List MemoryDevice → List (List ℕ)
 sink_octets taps = map (λ (d : MemoryDevice). d.octets) taps
 
--- Converts the senders of ports to the form of these definitions.
+-- Converts the senders of a bridge's ports from the form of the program to the form of these definitions.
 abbrev pub sender_values : List (Option Sender) → List (Option networks.Sender)
 sender_values senders = map (option_map sender_value) senders
 
@@ -81,7 +82,7 @@ pub record BridgeRunState (A : Type 0) : Type 0 where
   pub taps : List (List ℕ)
   pub outcome : Option (Outcome A)
 
--- Holds if the bridge has a complete run over the captures that came to its ports.
+-- Holds if the bridge has a complete run over the input captures of its ports.
 abbrev pub HasCompleteRun : {A : Type 0} → BridgeRunState A → Type 0
 HasCompleteRun {A} x = (taps : List (List ℕ)) × (o : Outcome A) × RunsBridge x.plan x.ports x.commands x.texts taps o
 
@@ -112,7 +113,7 @@ pub record ConstantPart (A : Type 0) : Type 0 where
 abbrev pub constant_part : {A : Type 0} → BridgeRunState A → ConstantPart A
 constant_part s = record { plan = s.plan; commands = s.commands; ports = s.ports; senders = s.senders; outside = open_texts s.senders s.texts }
 
--- Holds if inputs from outside suit the plan: ordered commands, and a capture for each port.
+-- Holds if the inputs of a bridge from outside suit its plan: commands in order, and one capture for each port.
 pub record IsBridgeInput {A : Type 0} (p : Plan A) (c : BridgeInput A) : Type 0 where
   pub commands : AreCommands p c.commands.items
   pub captures : length c.captures.items ≡ length p.ports
@@ -152,7 +153,7 @@ abbrev pub IsPortUpToDate : {A : Type 0} → List (BridgeRunState A) → BridgeR
 IsPortUpToDate {A} xs x i = (s : networks.Sender) (text : List ℕ) → slice_get x.senders i ≡ Some (Some s) → slice_get x.texts i ≡ Some text
     → IsDelayedCapture s.delay (sent_capture (slice_get xs s.from.bridge) s.from.port) text
 
--- Holds if all ports of bridge `b` are up to date.
+-- Holds if all ports of bridge `b` are up to date: each is open, or has the frames that its sender sent last.
 abbrev pub IsBridgeUpToDate : {A : Type 0} → List (BridgeRunState A) → ℕ → Type 0
 IsBridgeUpToDate {A} xs b = (i : ℕ) (x : BridgeRunState A) → slice_get xs b ≡ Some x → i < length x.ports → IsPortUpToDate xs x i
 
@@ -181,12 +182,14 @@ pub record HaveRun {A : Type 0} (before after : List (BridgeRunState A)) : Type 
   pub kept : All IsBridgeRun after
   pub runs : All HasRun after
 
--- Holds if each linked port has the frames that bridges which have run sent to it.
+-- Holds if the bridges `given` are the bridges `ran` after delivery: each linked port has the frames that its sender in
+-- `ran` sent.
 pub record AreGiven {A : Type 0} (ran given : List (BridgeRunState A)) : Type 0 where
   pub same : map constant_part given ≡ map constant_part ran
   pub each : (b i : ℕ) (x : BridgeRunState A) → slice_get given b ≡ Some x → i < length x.ports → IsPortUpToDate ran x i
 
--- Holds if all bridges before index `b`, and the ports of this bridge before index `i`, have the frames sent to them.
+-- Holds if delivery has reached port index `i` of bridge `b`: all earlier bridges, and the earlier ports of `b`, have
+-- the frames sent to them.
 pub record AreGivenBeforePort {A : Type 0} (ran given : List (BridgeRunState A)) (b i : ℕ) : Type 0 where
   pub same : map constant_part given ≡ map constant_part ran
   pub taps : map run_captures given ≡ map run_captures ran

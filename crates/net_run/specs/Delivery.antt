@@ -7,7 +7,7 @@ use Rattle.net_run.specs.BridgeRuns.{AreUpToDate, IsBridgeUpToDate, AreGiven, Ar
 abbrev pub AreUnchanged : {A : Type 0} → List Bool → List (BridgeRunState A) → List (BridgeRunState A) → Type 0
 AreUnchanged {A} ran old new = (c : ℕ) → slice_get ran c ≡ Some false → (y : BridgeRunState A) × (slice_get old c ≡ Some y) × HasRun y × (slice_get new c ≡ Some y)
 
--- Holds if each port whose sender has a result has the frames that its sender sent.
+-- Holds if each port whose sending bridge has a result has the frames that this bridge sent to it.
 abbrev pub AreRunsFed : {A : Type 0} → List (BridgeRunState A) → Type 0
 AreRunsFed {A} xs = (b i : ℕ) (x y : BridgeRunState A) (s : Sender) → slice_get xs b ≡ Some x → i < length x.ports → slice_get x.senders i ≡ Some (Some s) → slice_get xs s.from.bridge ≡ Some y → HasRun y → IsPortUpToDate xs x i
 

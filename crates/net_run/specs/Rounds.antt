@@ -75,7 +75,8 @@ OthersChangeNothing {A} n came settled =
     → lookup (nat_eq h.number) (o h.bridge).filters.items ≡ Some u → lookup (nat_eq h.number) (r h.bridge).filters.items ≡ Some v
     → AreSameViews u v
 
--- Holds if `settled` has the results and sent captures of these bridges.
+-- Holds if the results `settled` are those of the bridges `xs`: each has its bridge's outcome, and the captures of the
+-- frames that the bridge sent.
 pub record AreBridgeResults {A : Type 0} (xs : List (BridgeRunState A)) (settled : List (BridgeResult A)) : Type 0 where
   pub outcomes : map (λ (s : BridgeResult A). Some s.outcome) settled ≡ map (λ x. x.outcome) xs
   pub taps : map (λ (s : BridgeResult A). sink_octets s.taps.items) settled ≡ map (λ x. x.taps) xs
@@ -84,12 +85,12 @@ pub record AreBridgeResults {A : Type 0} (xs : List (BridgeRunState A)) (settled
 abbrev pub HaveTaps : {A : Type 0} → List (Plan A) → List (BridgeResult A) → Type 0
 HaveTaps {A} plans settled = (b : ℕ) (p : Plan A) (s : BridgeResult A) → slice_get plans b ≡ Some p → slice_get settled b ≡ Some s → length s.taps.items ≡ length p.ports
 
--- Holds if each bridge of `xs` before the bridge with index `b` has a complete run over the captures that came to it.
+-- Holds if each bridge of `xs` with an index below `b` has a complete run over its input captures.
 abbrev pub HaveCompleteRunsBefore : {A : Type 0} → List (BridgeRunState A) → ℕ → Type 0
 HaveCompleteRunsBefore {A} xs b = (c : ℕ) → c < b → (y : BridgeRunState A) × (slice_get xs c ≡ Some y) × HasCompleteRun y
 
--- Holds if a fault of a network says that the bridge with index `b` stopped with the fault `e`. If memory ran out for the bridge, it
--- ran out for the network.
+-- Holds if the fault of a network run names bridge `b`, which stopped with fault `e`. If memory ran out for the bridge,
+-- both faults are `NoMemory`.
 abbrev pub IsFaultAt : ℕ → RunFault → RoundsFault → Type 0
 IsFaultAt b e (fault.Bridge c f) = (c ≡ b) × (f ≡ e) × (f ≢ run.NoMemory)
 IsFaultAt b e (fault.NotSettled c q) = ⊥
@@ -101,8 +102,8 @@ StopsRound {A} xs (fault.Bridge b e) = (x : BridgeRunState A) × (slice_get xs b
 StopsRound xs (fault.NotSettled b q) = ⊥
 StopsRound xs fault.NoMemory = Unit {0}
 
--- Holds if `xs` has the bridges before the round with index `k`. At first no frame has arrived over a link; later, linked ports have the frames of the round
--- before.
+-- Holds if `xs` has the bridges before round `k`, counted from 0. Before round 0, no frame has arrived over a link;
+-- later, linked ports have the frames of the round before.
 abbrev pub AreRunsBeforeRound : {A : Type 0} → NetworkParts A → List (BridgeInput A) → ℕ → List (BridgeRunState A) → Type 0
 AreRunsBeforeRound n came zero xs = AreInitialRuns n came xs
 AreRunsBeforeRound {A} n came (suc k) xs = (before : List (BridgeRunState A)) × (ran : List (BridgeRunState A)) × AreRunsBeforeRound n came k before × HaveRun before ran × AreGiven ran xs
@@ -111,7 +112,7 @@ AreRunsBeforeRound {A} n came (suc k) xs = (before : List (BridgeRunState A)) ×
 abbrev pub IsUnsettledPort : {A : Type 0} → NetworkParts A → List (BridgeInput A) → ℕ → ℕ → ℕ → Type 0
 IsUnsettledPort {A} n came k b q = (before : List (BridgeRunState A)) × (ran : List (BridgeRunState A)) × AreRunsBeforeRound n came k before × HaveRun before ran × IsFirstOutdated ran b q
 
--- Holds if after each round with an index below `k`, a link still delivers other frames than its sender sent.
+-- Holds if each round with an index below `k` changed the input of some port, so that another round was needed.
 abbrev pub AreUnsettledBefore : {A : Type 0} → NetworkParts A → List (BridgeInput A) → ℕ → Type 0
 AreUnsettledBefore n came k = (j : ℕ) → j < k → (b : ℕ) × (q : ℕ) × IsUnsettledPort n came j b q
 

@@ -1,12 +1,16 @@
-//! A bridge in a network run: its inputs and its sent frames.
+//! A bridge in a network run: its inputs, the captures of its sent frames, and its result.
 ghost use Rattle.std.specs.Prelude.{◌≡◌, ◌≢◌, ◌+◌, ◌<◌, ℕ, All, List, [], Some, is_some, length, map, option_map, slice_get, slice_set, IfOk, IfErr, OnOk, Ok, true, false};
 ghost use Rattle.bridge_capture.specs.Memory.{is_unfailing_source};
 ghost use Rattle.bridge_config.specs.Commands.{AreCommands};
 ghost use Rattle.bridge_core.specs.WholeRuns.{ArePortNumbers};
 ghost use Rattle.net_model.specs.Networks as networks;
-ghost use Rattle.net_run.specs.BridgeRuns.{HasCompleteRun, HasRun, IsInitialRun, IsBridgeInput, IsBridgeRun, NoInput, NoInputBeforeIndex, RunsBridge, StopsBridge, constant_part, as_memory_fault, open_texts, sender_values, sink_octets, text_of_port, text_octets};
+ghost use Rattle.net_run.specs.BridgeRuns.{HasCompleteRun, HasRun, IsDelayedCapture, IsInitialRun, IsBridgeInput, IsBridgeRun, NoInput, NoInputBeforeIndex, RunsBridge, StopsBridge, constant_part, as_memory_fault, open_texts, sender_values, sink_octets, text_of_port, text_octets};
+ghost use Rattle.net_run.specs.InputCaptures.{sent_octets};
 ghost use Rattle.net_model.specs.NetworkParts.{link_value, sender_value};
 
+use crate::input_capture::{
+    InputCapture, SharedCapture, copy_inputs, input_captures, share_captures,
+};
 use bridge_capture::{RunFault, SliceSource, VecSink};
 use bridge_check::Accepted;
 use bridge_config::Command;
@@ -17,7 +21,7 @@ use net_model::{Link, Sender, find_sender};
 use std::alloc::Allocator;
 use std::marker::Model;
 
-/// Returns one source over each capture, by rising port number: `bridge_core` reads captures by sources.
+/// Returns one source for each capture in `texts`, in the same order, because `bridge_core` reads captures from sources.
 fn capture_sources<'a, A: Allocator + Copy>(
     alloc: A,
     texts: &'a [Vec<u8, A>],
@@ -52,7 +56,7 @@ pub(crate) struct RunOutput<A: Allocator + Copy> {
     taps: Vec<VecSink<A>, A>,
 }
 
-/// Runs the bridge of an accepted plan over these commands and captures, one for each port by rising number.
+/// Runs the bridge of an accepted plan over these commands and input captures. `texts` has one capture for each port in `ports`.
 pub(crate) fn run_bridge<A: Allocator + Copy>(
     alloc: A,
     accepted: &Accepted<A>,
@@ -99,23 +103,56 @@ fn as_memory_fault(fault: RunFault) -> RunFault
     }
 }
 
-/// Returns the capture of the frames that a port sent. Returns no octets if the port is missing or the bridge hasn't run.
+/// Runs a bridge over copies of its input captures, one for each port by rising number. Returns its result, and the captures of the frames
+/// that each port sent.
+fn run_over_inputs<A: Allocator + Copy>(
+    alloc: A,
+    accepted: &Accepted<A>,
+    ports: &[u8],
+    commands: &[Command],
+    inputs: &[InputCapture<A>],
+) -> Result<(Outcome<A>, Vec<SharedCapture<A>, A>), RunFault>
+    requires numbers { ArePortNumbers accepted.now ports.now }
+    requires commands { AreCommands accepted.now commands.now }
+    requires inputs { length inputs.now ≡ length ports.now }
+    ensures runs { IfOk result (λ ran. RunsBridge accepted.now ports.now commands.now inputs.now
+        (sink_octets ran.1.items) ran.0) }
+    ensures many { IfOk result (λ ran. length ran.1.items ≡ length ports.now) }
+    ensures stops { IfErr result (StopsBridge accepted.now ports.now commands.now inputs.now) }
+{
+    let Ok(texts) = copy_inputs(alloc, inputs) else {
+        return Err(RunFault::NoMemory);
+    };
+    let ran = run_bridge(alloc, accepted, ports, commands, &texts);
+    drop(texts);
+    let RunOutput { outcome, taps } = match ran {
+        Ok(ran) => ran,
+        Err(fault) => return Err(fault),
+    };
+    let Ok(taps) = share_captures(alloc, taps) else {
+        drop(outcome);
+        return Err(RunFault::NoMemory);
+    };
+    Ok((outcome, taps))
+}
+
+/// Returns the capture in `taps` of the frames that port `port` sent. Returns `None` if the port is missing or the bridge hasn't run.
 fn find_port_capture<'a, A: Allocator + Copy>(
     ports: &[u8],
-    taps: &'a [VecSink<A>],
+    taps: &'a [SharedCapture<A>],
     port: u8,
-) -> &'a [u8]
-    ensures { result.now ≡ text_of_port ports.now (sink_octets taps.entry.now) port }
+) -> Option<&'a SharedCapture<A>>
+    ensures { sent_octets (option_map (λ d. d.now) result) ≡ text_of_port ports.now (sink_octets taps.entry.now) port }
 {
     for place in 0..ports.len() {
         if place >= taps.len() {
-            return &[];
+            return None;
         }
         if ports[place] == port {
-            return taps[place].octets();
+            return Some(&taps[place]);
         }
     }
-    &[]
+    None
 }
 
 /// Input of one bridge of a network from outside: its commands, and a capture for each port.
@@ -156,8 +193,8 @@ const EMPTY_CAPTURE: [u8; 24] = [
     0x4d, 0x3c, 0xb2, 0xa1, 2, 0, 4, 0, 0, 0, 0, 0, 0, 0, 0, 0, 0xff, 0xff, 0, 0, 1, 0, 0, 0,
 ];
 
-/// Replaces the capture of the port with index `place` by a capture without frames if the port has a link. In the first round no frame has
-/// arrived over a link.
+/// Replaces the capture in `texts` of the port with index `place` by one without frames if the port has a link. Before the first round, no
+/// frame has arrived over a link.
 fn clear_linked_port<A: Allocator + Copy>(
     alloc: A,
     senders: &[Option<Sender>],
@@ -180,7 +217,7 @@ fn clear_linked_port<A: Allocator + Copy>(
     Ok(texts)
 }
 
-/// Replaces the captures of all linked ports by captures without frames.
+/// Replaces the captures in `texts` of all linked ports by captures without frames. `senders` has `None` for open ports.
 fn clear_linked_ports<A: Allocator + Copy>(
     alloc: A,
     senders: &[Option<Sender>],
@@ -207,13 +244,13 @@ pub(crate) struct BridgeRun<'a, A: Allocator + Copy> {
     commands: Vec<Command, A>,
     ports: Vec<u8, A>,
     senders: Vec<Option<Sender>, A>,
-    texts: Vec<Vec<u8, A>, A>,
-    taps: Vec<VecSink<A>, A>,
+    texts: Vec<InputCapture<A>, A>,
+    taps: Vec<SharedCapture<A>, A>,
     outcome: Option<Outcome<A>>,
 }
 
 impl<'a, A: Allocator + Copy> Model for BridgeRun<'a, A> {
-    ghost use Rattle.net_run.specs.BridgeRuns.{IsBridgeRun, BridgeRunState, sender_values, sink_octets, text_octets};
+    ghost use Rattle.net_run.specs.BridgeRuns.{IsBridgeRun, BridgeRunState, sender_values, sink_octets};
 
     ghost Value = { BridgeRunState A };
 
@@ -222,7 +259,7 @@ impl<'a, A: Allocator + Copy> Model for BridgeRun<'a, A> {
       commands = s.commands.items;
       ports = s.ports.items;
       senders = sender_values s.senders.items;
-      texts = text_octets s.texts.items;
+      texts = s.texts.items;
       taps = sink_octets s.taps.items;
       outcome = s.outcome;
     } };
@@ -232,14 +269,15 @@ impl<'a, A: Allocator + Copy> Model for BridgeRun<'a, A> {
       commands = s.commands.items;
       ports = s.ports.items;
       senders = sender_values s.senders.items;
-      texts = text_octets s.texts.items;
+      texts = s.texts.items;
       taps = sink_octets s.taps.items;
       outcome = s.outcome;
     }) };
 }
 
 impl<'a, A: Allocator + Copy> BridgeRun<'a, A> {
-    /// Returns a bridge before the first round. No frame has arrived over a link.
+    /// Returns the bridge with index `bridge` before the first round, with its inputs `came` from outside. No frame has arrived over a
+    /// link.
     pub(crate) fn begin(
         alloc: A,
         accepted: &'a Accepted<A>,
@@ -253,7 +291,8 @@ impl<'a, A: Allocator + Copy> BridgeRun<'a, A> {
         let ports = accepted.plan().port_numbers(alloc)?;
         let senders = port_senders(alloc, links, bridge, &ports)?;
         let BridgeInput { commands, captures } = came;
-        let texts = clear_linked_ports(alloc, &senders, captures)?;
+        let captures = clear_linked_ports(alloc, &senders, captures)?;
+        let texts = input_captures(alloc, captures)?;
         Ok(BridgeRun {
             accepted,
             commands,
@@ -266,7 +305,7 @@ impl<'a, A: Allocator + Copy> BridgeRun<'a, A> {
     }
 
     /// Returns the result of the run, and the captures of the frames that the ports sent. The bridge must have a result.
-    pub(crate) fn finish(self) -> (Outcome<A>, Vec<VecSink<A>, A>)
+    pub(crate) fn finish(self) -> (Outcome<A>, Vec<SharedCapture<A>, A>)
         requires { HasRun self }
         ensures { (self.entry.outcome ≡ Some result.0) × (self.entry.taps ≡ sink_octets result.1.items) }
     {
@@ -282,7 +321,7 @@ impl<'a, A: Allocator + Copy> BridgeRun<'a, A> {
         self.outcome.is_some()
     }
 
-    /// Returns the number of the bridge's ports: indexes of ports are less.
+    /// Returns the number of the bridge's ports. Methods with a parameter `place` accept only indexes below it.
     pub(crate) fn port_count(&self) -> usize
         ensures size { result ≡ length self.now.ports }
         ensures kept { IsBridgeRun self.now }
@@ -307,44 +346,59 @@ impl<'a, A: Allocator + Copy> BridgeRun<'a, A> {
     }
 
     /// Returns the input capture of the port with index `place`.
-    pub(crate) fn input_capture(&self, place: usize) -> &[u8]
+    pub(crate) fn input_capture(&self, place: usize) -> &InputCapture<A>
         requires { place < length self.now.ports }
         ensures { slice_get self.now.texts place ≡ Some result.now }
     {
         &self.texts[place]
     }
 
-    /// Returns the capture of the frames that a port sent, or no octets if the port is missing.
-    pub(crate) fn port_capture(&self, port: u8) -> &[u8]
-        ensures { result.now ≡ text_of_port self.now.ports self.now.taps port }
+    /// Returns the input capture for the port at the other end of a link: the frames that `port` sent, `delay` ns later. The capture is
+    /// empty if the port is missing.
+    pub(crate) fn delivered_capture(
+        &self,
+        alloc: A,
+        port: u8,
+        delay: u64,
+    ) -> Result<InputCapture<A>, NoMemory>
+        ensures { IfOk result (IsDelayedCapture delay (text_of_port self.now.ports self.now.taps port)) }
     {
-        find_port_capture(&self.ports, &self.taps, port)
+        match find_port_capture(&self.ports, &self.taps, port) {
+            Some(sent) => InputCapture::over_link(alloc, sent, delay),
+            None => Ok(InputCapture::from_octets(Vec::new(alloc))),
+        }
     }
 
-    /// Sets the input capture of the linked port with index `place`. Drops the result of the last run, so that the next round runs the
-    /// bridge again.
-    pub(crate) fn set_input(&mut self, place: usize, text: Vec<u8, A>)
+    /// Sets the input capture of the linked port with index `place`. Drops the result of the bridge's last run, so that the bridge runs
+    /// again in the next round.
+    pub(crate) fn set_input(&mut self, place: usize, input: InputCapture<A>)
         requires place { place < length self.old.ports }
         requires linked { (s : networks.Sender) × (slice_get self.old.senders place ≡ Some (Some s)) }
         ensures ground { constant_part self.new ≡ constant_part self.old }
-        ensures texts { self.new.texts ≡ slice_set self.old.texts place text.items }
+        ensures texts { self.new.texts ≡ slice_set self.old.texts place input }
         ensures taps { self.new.taps ≡ self.old.taps }
     {
         self.outcome = None;
-        self.texts[place] = text;
+        self.texts[place] = input;
     }
 
-    /// Whether the port with index `place` has this input capture. If yes, the sender's last run changed nothing for this bridge.
-    pub(crate) fn has_input(&self, place: usize, text: &[u8]) -> bool
+    /// Whether the input capture of the port with index `place` has the octets of `input`. If so, the frames from the port's sender haven't
+    /// changed.
+    pub(crate) fn has_input(
+        &self,
+        alloc: A,
+        place: usize,
+        input: &InputCapture<A>,
+    ) -> Result<bool, NoMemory>
         requires { place < length self.now.ports }
-        ensures same { result ≡ true → slice_get self.now.texts place ≡ Some text.now }
-        ensures other { result ≡ false → (here : List ℕ) × (slice_get self.now.texts place ≡ Some here)
-            × (here ≢ text.now) }
+        ensures same { IfOk result (λ is_same. is_same ≡ true → slice_get self.now.texts place ≡ Some input.now) }
+        ensures other { IfOk result (λ is_same. is_same ≡ false → (here : List ℕ)
+            × (slice_get self.now.texts place ≡ Some here) × (here ≢ input.now)) }
     {
-        self.input_capture(place) == text
+        self.input_capture(place).has_same_octets(alloc, input)
     }
 
-    /// Runs the bridge over its inputs if it has no result. Returns whether it ran.
+    /// Runs the bridge over its inputs, unless it has a result for them. Returns whether it ran.
     pub(crate) fn run(&mut self, alloc: A) -> Result<bool, RunFault>
         ensures same { OnOk result ((constant_part self.new ≡ constant_part self.old)
             × (self.new.texts ≡ self.old.texts)) }
@@ -356,7 +410,7 @@ impl<'a, A: Allocator + Copy> BridgeRun<'a, A> {
         if self.outcome.is_some() {
             return Ok(false);
         }
-        let ran = match run_bridge(
+        let ran = match run_over_inputs(
             alloc,
             self.accepted,
             &self.ports,
@@ -366,7 +420,7 @@ impl<'a, A: Allocator + Copy> BridgeRun<'a, A> {
             Ok(ran) => ran,
             Err(fault) => return Err(fault),
         };
-        let RunOutput { outcome, taps } = ran;
+        let (outcome, taps) = ran;
         self.taps = taps;
         self.outcome = Some(outcome);
         Ok(true)

@@ -1,10 +1,11 @@
-//! Captures with all frames delayed by a link.
-ghost use Rattle.std.specs.Prelude.{◌≡◌, ℕ, ◌≤◌, ◌<◌, ◌+◌, ◌*◌, ◌^◌, ◌++◌, All, List, Some, None, flat_map, length, map, option_map, IfOk};
+//! Captures of a port's sent frames, converted to the input of the port at the other end of the link: each frame arrives one link delay
+//! later.
+ghost use Rattle.std.specs.Prelude.{◌≡◌, ℕ, ◌≤◌, ◌<◌, ◌+◌, ◌*◌, ◌^◌, ◌++◌, All, List, Some, None, flat_map, length, map, option_map, IfOk, OnOk};
 ghost use Rattle.std.specs.Int.{to_le_bytes};
 ghost use Rattle.bridge_capture.specs.Grammar.{CapturedFrame};
 ghost use Rattle.bridge_capture.specs.WrittenCapture.{written_frame, written_text};
 ghost use Rattle.bridge_core.specs.CaptureWriters.{FitsRecord};
-ghost use Rattle.net_run.specs.DelayedCapture.{AppendsDelayedRecord, IsWord, delayed, delayed_time, time_words};
+ghost use Rattle.net_run.specs.DelayedCapture.{AppendsDelayedRecord, IsRecordAppended, IsWord, delayed, delayed_records, delayed_text, delayed_time, time_words};
 
 use bridge_limits::{END_OF_TIME, NoMemory};
 use std::alloc::Allocator;
@@ -31,7 +32,7 @@ fn delayed_time(moment: u64, delay: u64) -> u64
     moment.saturating_add(delay).min(END_OF_TIME)
 }
 
-/// Returns the words of a record that have its time, little-endian: four octets of seconds and four of nanoseconds.
+/// Returns the eight octets of a record's time: four octets of seconds, then four of nanoseconds, both little-endian.
 #[tactic(auto, unfolding(crate::specs::DelayedCapture::time_words))]
 fn time_words(moment: u64) -> [u8; 8]
     requires { moment < 2 ^ 32 * 10 ^ 9 }
@@ -51,14 +52,16 @@ fn time_words(moment: u64) -> [u8; 8]
     ]
 }
 
-/// Appends the first record of `octets`, delayed by `delay`, to `text`. Returns the octets after this record, or `None` if no whole record
-/// is left.
+/// Appends to `text` the first record of `octets`, with its time `delay` ns later. Returns the octets after this record. Returns `None` if
+/// `octets` doesn't begin with a whole record.
 fn append_delayed_record<'a, A: Allocator>(
     octets: &'a [u8],
     delay: u64,
     text: &mut Vec<u8, A>,
 ) -> Result<Option<&'a [u8]>, NoMemory>
     ensures adds { IfOk result (λ rest. AppendsDelayedRecord delay octets.entry.now text.old.items text.new.items
+        (option_map (λ s. s.now) rest)) }
+    ensures exact { IfOk result (λ rest. IsRecordAppended delay octets.entry.now text.old.items text.new.items
         (option_map (λ s. s.now) rest)) }
     ensures kept { IfOk result (λ rest. option_map (λ s. s.now) rest ≡ None → text.new ≡ text.old) }
     ensures fewer { IfOk result (λ rest. (more : List ℕ) → option_map (λ s. s.now) rest ≡ Some more
@@ -77,14 +80,17 @@ fn append_delayed_record<'a, A: Allocator>(
     Ok(Some(&octets[end..]))
 }
 
-/// Appends each record of `octets`, delayed by `delay`, to `text`.
+/// Appends to `text` each record of `octets`, with its time `delay` ns later.
 fn append_delayed_records<A: Allocator>(
     octets: &[u8],
     delay: u64,
     text: &mut Vec<u8, A>,
 ) -> Result<(), NoMemory>
-    ensures { (frames : List CapturedFrame) → octets.now ≡ flat_map written_frame frames → All FitsRecord frames →
+    ensures frames { (frames : List CapturedFrame) → octets.now ≡ flat_map written_frame frames
+        → All FitsRecord frames →
         IfOk result (λ _. text.new.items ≡ text.old.items ++ flat_map written_frame (map (delayed delay) frames)) }
+    ensures exact { OnOk result (text.new.items ≡ text.old.items
+        ++ delayed_records (length octets.now) delay octets.now) }
 {
     let mut left = octets;
     while let Some(rest) = append_delayed_record(left, delay, text)? {
@@ -100,8 +106,9 @@ pub fn delay_capture<A: Allocator>(
     text: &[u8],
     delay: u64,
 ) -> Result<Vec<u8, A>, NoMemory>
-    ensures { (frames : List CapturedFrame) → text.now ≡ written_text frames → All FitsRecord frames →
+    ensures frames { (frames : List CapturedFrame) → text.now ≡ written_text frames → All FitsRecord frames →
         IfOk result (λ later. later.items ≡ written_text (map (delayed delay) frames)) }
+    ensures exact { IfOk result (λ later. later.items ≡ delayed_text delay text.now) }
 {
     let mut later = Vec::with_capacity(alloc, text.len())?;
     if text.len() < HEADER_LENGTH {

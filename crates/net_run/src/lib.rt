@@ -3,6 +3,7 @@
 
 mod bridge_run;
 mod delayed_capture;
+mod input_capture;
 mod rounds;
 
 pub use bridge_run::{BridgeInput, is_linked};

@@ -5,10 +5,11 @@ ghost use Rattle.net_model.specs.Networks.{IsNetwork};
 ghost use Rattle.net_model.specs.NetworkParts.{network_value, sender_value};
 ghost use Rattle.net_run.specs.BridgeRuns.{AreUpToDate, NeedsRound, HasRun, HaveRun, IsDelayedCapture, IsBridgeRun, BridgeRunState, constant_part, sent_capture, run_texts};
 ghost use Rattle.net_run.specs.Delivery.{AreBridgesFed, AreOthersFed, AreRunsFed, IsBridgeFed, AreUnchanged, IsPortFed};
+ghost use Rattle.net_run.specs.EndedRuns.{AreEndedRuns, AreResultsOfRuns};
 ghost use Rattle.net_run.specs.Rounds.{AreInitialRuns, AreBridgeInputs, AreBridgeResults, HaveTaps, IsFaultAt, IsolatesStreams, OthersChangeNothing, RunsNetwork, SettlesIn, StopsRound, StopsNetworkRun};
 
 use crate::bridge_run::{BridgeInput, BridgeRun};
-use crate::delayed_capture::delay_capture;
+use crate::input_capture::{InputCapture, SharedCapture, sinks_of_captures};
 use bridge_capture::{RunFault, VecSink};
 use bridge_limits::NoMemory;
 use bridge_semantics::Outcome;
@@ -32,10 +33,10 @@ impl RoundObserver for NoObserver {
 /// Why a network run ends without result.
 #[derive(Clone, Copy, Debug, PartialEq, Eq)]
 pub enum RoundsFault {
-    /// A bridge refuses a capture. It is the round's first bridge with a fault, by its index from 0. The fault is never `Write`, nor a
-    /// capture's `Read`.
+    /// A bridge refuses a capture: the first bridge of the round with a fault, by its index from 0. The fault is neither `Write` nor the
+    /// fault `Read` of a capture.
     Bridge { bridge: usize, fault: RunFault },
-    /// After the last round, this linked port still received other frames than in the round before.
+    /// In the last allowed round, this linked port still received other frames than in the round before. It is the first such port.
     NotSettled { bridge: usize, port: u8 },
     /// Memory ran out.
     NoMemory,
@@ -55,27 +56,28 @@ pub struct BridgeResult<A: Allocator + Copy> {
 pub struct SettledNetwork<A: Allocator + Copy> {
     /// Results of the bridges, in the order of the network.
     pub bridges: Vec<BridgeResult<A>, A>,
-    /// Number of rounds, from 1. Only in the last round did each link carry the same frames as in the round before.
+    /// Number of rounds, from 1. The last round is the first after which no port's input changed.
     pub rounds: u32,
 }
 
-/// Returns the capture that a link delivers: the sender's capture, delayed by the link. Returns no octets if the sending bridge is missing.
+/// Returns the input capture that a link delivers from `sender`: its sent frames, later by the link's delay. The capture is empty if the
+/// sending bridge is missing.
 fn capture_over_link<A: Allocator + Copy>(
     alloc: A,
     stations: &[BridgeRun<'_, A>],
     sender: Sender,
-) -> Result<Vec<u8, A>, NoMemory>
-    ensures { IfOk result (λ text. IsDelayedCapture sender.delay
-        (sent_capture (slice_get stations.now sender.from.bridge) sender.from.port) text.items) }
+) -> Result<InputCapture<A>, NoMemory>
+    ensures { IfOk result (IsDelayedCapture sender.delay
+        (sent_capture (slice_get stations.now sender.from.bridge) sender.from.port)) }
 {
     let Some(station) = stations.get(sender.from.bridge as usize) else {
-        return delay_capture(alloc, &[], sender.delay);
+        return Ok(InputCapture::from_octets(Vec::new(alloc)));
     };
-    delay_capture(alloc, station.port_capture(sender.from.port), sender.delay)
+    station.delivered_capture(alloc, sender.from.port, sender.delay)
 }
 
-/// Whether `bridge` skipped this round, because its inputs hadn't changed. `ran` says for each bridge whether it ran; a missing bridge
-/// didn't skip.
+/// Whether `bridge` skipped this round, because its inputs hadn't changed. `ran` has for each bridge whether it ran. Returns false for a
+/// missing bridge.
 fn has_skipped_round(ran: &[bool], bridge: u16) -> bool
     ensures { result ≡ true → slice_get ran.now bridge ≡ Some false }
 {
@@ -100,13 +102,14 @@ fn deliver_capture<A: Allocator + Copy>(
         → slice_get x.senders place ≡ Some (Some (sender_value sender)) }
     ensures { IfOk result (λ found. IsPortFed stations.old stations.new bridge place found) }
 {
-    let text = capture_over_link(alloc, stations, sender)?;
+    let input = capture_over_link(alloc, stations, sender)?;
     let station = &mut stations[bridge];
-    if station.has_input(place, &text) {
+    let is_same = station.has_input(alloc, place, &input)?;
+    if is_same {
         return Ok(None);
     }
     let port = station.port(place);
-    station.set_input(place, text);
+    station.set_input(place, input);
     Ok(Some(port))
 }
 
@@ -152,7 +155,7 @@ fn feed_bridge<A: Allocator + Copy>(
     Ok(first)
 }
 
-/// Returns the bridge's index with the optional port, or `None` without a port. `NotSettled` names both.
+/// Returns the pair of the bridge's index and the port, or `None` without a port. The fault `NotSettled` names both.
 fn with_bridge(bridge: usize, port: Option<u8>) -> Option<(usize, u8)>
     ensures { result ≡ option_map (λ q. (bridge, q)) port }
 {
@@ -162,7 +165,8 @@ fn with_bridge(bridge: usize, port: Option<u8>) -> Option<(usize, u8)>
     }
 }
 
-/// Delivers to every linked port the frames sent to it in the last round. Returns the first bridge and port whose input changed, or `None`.
+/// Delivers to every linked port the frames sent to it in this round. Returns the first bridge and port whose input changed, or `None` if
+/// none changed.
 fn feed_bridges<A: Allocator + Copy>(
     alloc: A,
     stations: &mut [BridgeRun<'_, A>],
@@ -179,7 +183,8 @@ fn feed_bridges<A: Allocator + Copy>(
     Ok(first)
 }
 
-/// Reports to the observer that a bridge begins to run, if it has no result. A bridge with a result skips the round.
+/// Reports to the observer `watch` that a bridge begins to run in round `turn`. Reports nothing if the bridge has a result, because it then
+/// skips the round.
 fn announce_start<A: Allocator + Copy, W: RoundObserver>(
     stations: &[BridgeRun<'_, A>],
     bridge: usize,
@@ -193,7 +198,7 @@ fn announce_start<A: Allocator + Copy, W: RoundObserver>(
     }
 }
 
-/// Returns the fault of a network run in which this bridge stopped: the bridge with its fault, or `NoMemory`.
+/// Returns the fault of a network run in which `bridge` stopped with `fault`: the bridge with this fault, or `NoMemory` if memory ran out.
 fn bridge_fault(bridge: usize, fault: RunFault) -> RoundsFault
     ensures { IsFaultAt bridge fault result }
 {
@@ -203,7 +208,7 @@ fn bridge_fault(bridge: usize, fault: RunFault) -> RoundsFault
     }
 }
 
-/// Runs each bridge without result over its inputs. Returns for each bridge whether it ran.
+/// Runs each bridge that has no result for its inputs. Returns for each bridge whether it ran. Stops at the first bridge with a fault.
 fn run_bridges<A: Allocator + Copy, W: RoundObserver>(
     alloc: A,
     stations: &mut [BridgeRun<'_, A>],
@@ -232,6 +237,45 @@ fn run_bridges<A: Allocator + Copy, W: RoundObserver>(
     Ok(all)
 }
 
+/// Result of a bridge, and the captures of the frames that its ports sent. When all bridges have ended, no input shares these captures.
+#[derive(Drop)]
+struct EndedRun<A: Allocator + Copy> {
+    outcome: Outcome<A>,
+    taps: Vec<SharedCapture<A>, A>,
+}
+
+/// Returns the results and sent captures of bridges that have run, in the order of the network. Drops their inputs.
+fn ended_runs<A: Allocator + Copy>(
+    alloc: A,
+    stations: Vec<BridgeRun<'_, A>, A>,
+) -> Result<Vec<EndedRun<A>, A>, NoMemory>
+    requires { All HasRun stations.items }
+    ensures { IfOk result (λ all. AreEndedRuns stations.entry.items all.items) }
+{
+    let mut all = Vec::with_capacity(alloc, stations.len())?;
+    for station in stations {
+        let (outcome, taps) = station.finish();
+        all.push(EndedRun { outcome, taps })?;
+    }
+    Ok(all)
+}
+
+/// Converts the ended runs of bridges to their results, in order: each sent capture becomes a sink.
+fn results_of_runs<A: Allocator + Copy>(
+    alloc: A,
+    ended: Vec<EndedRun<A>, A>,
+) -> Result<Vec<BridgeResult<A>, A>, NoMemory>
+    ensures { IfOk result (λ all. AreResultsOfRuns ended.items all.items) }
+{
+    let mut all = Vec::with_capacity(alloc, ended.len())?;
+    for run in ended {
+        let EndedRun { outcome, taps } = run;
+        let taps = sinks_of_captures(alloc, taps)?;
+        all.push(BridgeResult { outcome, taps })?;
+    }
+    Ok(all)
+}
+
 /// Returns the results and sent captures of bridges that have run, in the order of the network.
 fn bridge_results<A: Allocator + Copy>(
     alloc: A,
@@ -240,12 +284,9 @@ fn bridge_results<A: Allocator + Copy>(
     requires { All HasRun stations.items }
     ensures { IfOk result (λ all. AreBridgeResults stations.entry.items all.items) }
 {
-    let mut all = Vec::with_capacity(alloc, stations.len())?;
-    for station in stations {
-        let (outcome, taps) = station.finish();
-        all.push(BridgeResult { outcome, taps })?;
-    }
-    Ok(all)
+    let ended = ended_runs(alloc, stations)?;
+    let results = results_of_runs(alloc, ended)?;
+    Ok(results)
 }
 
 /// Returns the bridges of a network before the first round. No frame has arrived over a link.
@@ -273,7 +314,7 @@ fn initial_bridge_runs<'a, A: Allocator + Copy>(
     Ok(stations)
 }
 
-/// Gives the prover the properties of each bridge: reading a bridge shows them.
+/// Does nothing at run time: each call of `port_count` gives the prover the properties of a bridge.
 fn assert_bridge_runs<A: Allocator + Copy>(stations: &[BridgeRun<'_, A>])
     ensures { All IsBridgeRun stations.now }
 {
@@ -282,8 +323,8 @@ fn assert_bridge_runs<A: Allocator + Copy>(stations: &[BridgeRun<'_, A>])
     }
 }
 
-/// Runs one round: each bridge with a changed input runs, and each linked port gets the frames sent to it. Returns the first bridge and
-/// port whose input changed; `None` ends the run.
+/// Runs one round: each bridge with changed inputs runs, and each linked port gets the frames sent to it. Returns the first bridge and port
+/// whose input changed, or `None` if the run ends.
 fn run_round<A: Allocator + Copy, W: RoundObserver>(
     alloc: A,
     stations: &mut [BridgeRun<'_, A>],
@@ -305,7 +346,7 @@ fn run_round<A: Allocator + Copy, W: RoundObserver>(
     }
 }
 
-/// Gives the prover the properties of a network: reading the network shows them.
+/// Does nothing at run time: the calls give the prover the properties of an accepted network.
 fn assert_network<A: Allocator + Copy>(network: &Network<A>)
     ensures network { IsNetwork (network_value network.now) }
     ensures closed { AreClosed network.now }

@@ -146,7 +146,7 @@ enum OptionFault {
     Early,
     /// The command doesn't have the option.
     Other,
-    /// The option stands there twice.
+    /// The option occurs twice.
     Twice,
     /// The option lacks its value.
     NoValue,
@@ -157,7 +157,7 @@ enum OptionFault {
 /// Start of the reasons of most usages, which applies to any option. A sentence about one option replaces it.
 const ANY_OPTION: &str = "An option is unknown here, repeated, or lacks its value.\n";
 
-/// Returns the name of the option at the start of `part`, without its `--`. `part` is a usage after `[--`.
+/// Returns the name of the option at the start of `part`, without its `--`. `part` is the rest of a command's usage after `[--`.
 fn called_option(part: &str) -> &str {
     let front = match part.split_once(']') {
         Some((front, _)) => front,
@@ -286,7 +286,8 @@ fn put_wrong(said: &mut Said, call: &Usage, name: &str, fault: OptionFault) {
     }
 }
 
-/// Returns a reason without its first sentence about options, unless that is the whole reason. No option is at fault then.
+/// Returns a command's reason without its first sentence, which is about options, unless it has no other. `put_reason` calls it if no
+/// option is at fault.
 fn reason_alone(reason: &'static str) -> &'static str {
     match reason.strip_prefix(ANY_OPTION) {
         Some(rest) if !rest.is_empty() => rest,

@@ -11,7 +11,7 @@ pub(crate) struct SourceText<'a> {
     pub text: &'a str,
     /// Document of the text.
     pub document: &'a Table,
-    /// Document of the plan: this document, or the plan of these commands.
+    /// Document of the plan: `document` itself, or for commands the document of their plan.
     pub plan: &'a Table,
     /// Whether the text has commands.
     pub is_commands: bool,

@@ -76,7 +76,7 @@ pub(crate) fn put_entry_flaws(
     }
 }
 
-/// Writes the value of an entry's key and the allowed values. `number` is the entry's, from 1; `list` is the key of its list.
+/// Writes the value of an entry's key and the allowed values. `number` is the entry's number, from 1; `list` is the key of its list.
 fn put_flaw(said: &mut Said, number: u64, list: &str, key: KeyRule, entry: &Table) {
     let KeyRule(field, allowed, _) = key;
     let value = entry.get(field.key());

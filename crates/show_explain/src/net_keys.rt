@@ -42,7 +42,7 @@ pub(crate) fn put_net_place(
     }
 }
 
-/// Returns the name of a network's first bridge, or another name, for examples in explanations.
+/// Returns the name of a network's first bridge, for examples in explanations. Returns `NAME` if it has none.
 pub(crate) fn example_bridge<'a>(document: Document<'a>) -> &'a str {
     let bridges = section_instances(document.table, NetSection::Bridge.name());
     let first = match bridges.first() {
@@ -75,7 +75,7 @@ pub(crate) fn put_key_value(
     }
 }
 
-/// Whether a key is one of those that a row of traffic has beside lengths, deadline and filter: `period`, `from` or `to`.
+/// Whether a key is `period`, `from` or `to`, the keys of a row of traffic that state its phases.
 fn is_of_phases(field: NetField) -> bool {
     matches!(field, NetField::Period | NetField::From | NetField::To)
 }
@@ -167,8 +167,8 @@ fn lower_limit(instance: Instance<'_>, field: NetField) -> Option<(NetField, u64
     Some((key, value, value.saturating_add(more)))
 }
 
-/// Returns the key that limits a key from above, its value, and the greatest value allowed: phases are less than the period, and a burst
-/// has room for a frame with its frame check sequence. Returns `None` if no key does.
+/// Returns the key that limits another key from above, if any, with its value and the greatest value that it allows: phases are less than
+/// the period, and a burst holds a frame.
 fn upper_limit(instance: Instance<'_>, field: NetField) -> Option<(NetField, u64, u64)> {
     let (key, less) = match field {
         NetField::From | NetField::To => (NetField::Period, 1),

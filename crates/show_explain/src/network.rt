@@ -202,7 +202,8 @@ fn put_excluded_key(
     );
 }
 
-/// Returns the first key that a limit of a row of traffic excludes, and the limit's first key. Returns `None` if there is no such key.
+/// Returns the first key in a row of traffic that the row's limit (burst or frames) excludes, and the first key of this limit. Returns
+/// `None` if the limit excludes no key.
 fn excluded_key(table: &Table) -> Option<(NetField, NetField)> {
     let limit = first_present(table, &LIMIT_KEYS)?;
     let allowed: &[NetField] = if let NetField::Frames = limit {

@@ -57,7 +57,7 @@ matches_any (e ∷ es) port head vid = is_match e port head vid || matches_any e
 abbrev pub HideTogether : List StreamEntry → StreamEntry → Type 0
 HideTogether earlier other = (port : ℕ) (head : Head) (vid : ℕ) → is_match other port head vid ≡ true → matches_any earlier port head vid ≡ true
 
--- The part of a tag kind that accepts frames which name a VLAN, or `None`.
+-- The tag kind that accepts only the frames of a given tag kind which name a VLAN; `None` if there are none.
 abbrev pub named_alone : TagKind → Option TagKind
 named_alone tag.All = Some tag.Tagged
 named_alone tag.Tagged = Some tag.Tagged

@@ -108,7 +108,7 @@ fn filter_position(text: &[u8], filters: &[(u32, FilterPlan)], number: u32) -> O
     None
 }
 
-/// Writes the finding of a failed test, after the name of its file: the filter's position and the explanation.
+/// Writes the finding of a failed test, to stand after the path of the plan: the filter's position and the explanation.
 fn put_finding<A: Allocator + Copy>(
     said: &mut LintText,
     text: &[u8],
@@ -173,13 +173,15 @@ fn put_check<A: Allocator + Copy>(
     }
 }
 
-/// Explains that frames without a matching filter would pass unfiltered: a catch-all filter is missing. `number` is the tested filter's.
+/// Explains that frames without a matching filter would pass unfiltered: a catch-all filter is missing. `number` is the number of the
+/// filter that fails the test.
 fn put_no_catch_all(said: &mut LintText, filters: &[(u32, FilterPlan)], number: u32) {
     let greatest = greatest_filter_number(filters);
     put_shared_part(said, filters, NO_CATCH_ALL, number, greatest, 0);
 }
 
-/// Returns the number of the first other filter that uses stream gate `gate`, or `None`.
+/// Returns the number of the first filter, other than `number`, that uses stream gate `gate`, or `None`. `put_shared_gate` names this
+/// filter.
 fn other_with_gate(filters: &[(u32, FilterPlan)], number: u32, gate: u32) -> Option<u32>
     ensures { result ≡ spec.first_other_filter (λ f. nat_eq f.gate gate) number filters.now }
 {
@@ -201,7 +203,7 @@ fn has_meter(filter: &FilterPlan, meter: u32) -> bool
     }
 }
 
-/// Returns the number of the first other filter that uses meter `meter`, or `None`.
+/// Returns the number of the first filter, other than `number`, that uses meter `meter`, or `None`. `put_shared_meter` names this filter.
 fn other_with_meter(filters: &[(u32, FilterPlan)], number: u32, meter: u32) -> Option<u32>
     ensures { result ≡ spec.first_other_filter (spec.has_meter meter) number filters.now }
 {
@@ -233,7 +235,7 @@ fn kind_word(filter: &FilterPlan) -> &'static str {
     }
 }
 
-/// Returns the key for which `check` tests a filter: `protected` or `group`.
+/// Returns the key that makes `check` test a filter: `protected` or `group`. Explanations advise to remove it.
 fn kind_key(filter: &FilterPlan) -> &'static str {
     if filter.protected {
         "protected"
@@ -250,7 +252,8 @@ fn kind_of_number(filters: &[(u32, FilterPlan)], number: u32) -> &'static str {
     }
 }
 
-/// Writes a sentence about two filters and the stream gate or meter `own` that both use. The sentence states the kinds of both filters.
+/// Writes the sentence of `template` about filters `number` and `other`, with their kinds. `own` is the stream gate or meter that both use,
+/// or 0.
 fn put_shared_part(
     said: &mut LintText,
     filters: &[(u32, FilterPlan)],
@@ -340,8 +343,8 @@ fn shared_entry_state(entries: &[(u8, u64)], class: u8, at: u64) -> Option<u8>
     None
 }
 
-/// Returns the state at offset `at` that opens class `class` and another class, or `None`. Searches the port's old list first; the flag is
-/// true for the new list.
+/// Returns the gate state at offset `at` in ns that opens `class` and another class, or `None`. The flag is true if only the port's new
+/// list has this state.
 fn shared_state<A: Allocator + Copy>(port: &PortPlan<A>, class: u8, at: u64) -> Option<(u8, bool)>
     requires { class < 8 }
 {
@@ -358,8 +361,7 @@ fn shared_state<A: Allocator + Copy>(port: &PortPlan<A>, class: u8, at: u64) -> 
     }
 }
 
-/// Returns the state of port `port` at offset `at` that opens class `class` and another class, or `None`. The flag is true for the new
-/// list.
+/// Returns the result of `shared_state` for port `port` of the plan. Returns `None` if the plan lacks the port, or if `class` is above 7.
 fn shared_state_of_port<A: Allocator + Copy>(
     plan: &Plan<A>,
     port: u8,
@@ -459,8 +461,8 @@ fn put_window<A: Allocator + Copy>(
     said.put_template(window_remedy(state.is_some(), is_other), &numbers, &[]);
 }
 
-/// Returns the remedy for a shared window: class `{2}` of port `{1}` gets its own window for filter `{0}`. The port may have a list
-/// already, and another remedy may precede this one.
+/// Returns the remedy for a shared window: class `{2}` of port `{1}` gets a window of its own. `has_list` is true if the port has a list,
+/// `is_second` if another remedy precedes.
 fn window_remedy(has_list: bool, is_second: bool) -> &'static str {
     match (has_list, is_second) {
         (true, false) =>

@@ -22,8 +22,8 @@ fn first_waiting_filter<A: Allocator + Copy>(plan: &Plan<A>, port: u8, class: u8
     None
 }
 
-/// Adds a warning for each list of the port that never opens class `class`, if an unprotected filter can reach the class. `number` is the
-/// port's.
+/// Adds a warning for each list of a port that never opens class `class`, if an unprotected filter can reach the class. `number` is the
+/// number of the port.
 fn find_class<A: Allocator + Copy>(
     found: &mut Vec<Warning>,
     plan: &Plan<A>,

@@ -9,7 +9,8 @@ use bridge_gate::{GateEntry, Schedule};
 use bridge_limits::LONGEST_FRAME;
 use std::alloc::{AllocError, Allocator, Global};
 
-/// Returns the list of a stream gate at `stage`. Returns `None` for a gate with a fixed state.
+/// Returns the list that a stream gate has at `stage`: before a schedule change, after it, or always. Returns `None` for a gate with a
+/// fixed state.
 pub(crate) fn gate_list<A: Allocator + Copy>(
     schedule: &Schedule<A>,
     stage: ScheduleStage,
@@ -27,7 +28,8 @@ pub(crate) fn gate_list<A: Allocator + Copy>(
     }
 }
 
-/// Returns the gate control list of a port at `stage`. Returns `None` if the port has no list: it is always open.
+/// Returns the gate control list that a port has at `stage`: before a schedule change, after it, or always. Returns `None` if the port has
+/// no list: it is always open.
 pub(crate) fn port_list<A: Allocator + Copy>(
     port: &PortPlan<A>,
     stage: ScheduleStage,
@@ -55,7 +57,7 @@ pub(crate) fn has_port_change<A: Allocator + Copy>(port: &PortPlan<A>) -> bool {
     matches!(&port.list, Some(Egress::Joined(_)))
 }
 
-/// Returns the stages for which warnings are searched: one without a schedule change, two with a change.
+/// Returns the stages for which callers look for warnings: `Always` without a schedule change, otherwise before and after the change.
 pub(crate) fn change_stages(is_changed: bool) -> &'static [ScheduleStage] {
     if is_changed {
         &[ScheduleStage::BeforeChange, ScheduleStage::AfterChange]
@@ -98,7 +100,8 @@ pub(crate) fn offered_load<A: Allocator + Copy>(
     OfferedLoad { sdu, length, times }
 }
 
-/// Sets the transmission time of port `port`, 1 to 16; does nothing for other numbers.
+/// Sets the transmission time in ns of a frame at port `port`, 1 to 16. `offered_load` calls it for each ingress port of a filter's
+/// streams.
 fn set_port_time(times: &mut [u64; 16], port: u8, time: u64) {
     if let Some(there) = times.get_mut(usize::from(port).saturating_sub(1)) {
         *there = time;
@@ -129,7 +132,7 @@ impl OpeningSpan {
 }
 
 impl OfferedLoad {
-    /// Returns how many frames can arrive on all links during the entry, in each cycle.
+    /// Returns how many longest frames can arrive on all links during the entry of one cycle.
     fn frames_on_all_links(&self, span: OpeningSpan) -> u64 {
         let mut count = 0u64;
         for time in &self.times {
@@ -140,7 +143,7 @@ impl OfferedLoad {
         count
     }
 
-    /// Returns how many frames an octet limit passes during the entry; 0 without a limit.
+    /// Returns how many frames pass during the entry: the octet limit and the links bound this number. Returns 0 without an octet limit.
     fn limited_count(&self, limit: Option<u32>, span: OpeningSpan) -> u64 {
         match limit {
             Some(octets) if self.sdu > 0 => {
@@ -165,7 +168,8 @@ pub(crate) struct GateOpening {
     pub count: u64,
 }
 
-/// Returns the open entries of a stream gate's list. The last entry lasts to the end of the cycle.
+/// Returns the open entries of a stream gate's list, each with the number of frames of load `feed` that it passes. The last entry lasts to
+/// the end of the cycle.
 pub(crate) fn gate_openings<A: Allocator + Copy>(
     alloc: Global,
     list: &CyclicList<GateEntry, A>,

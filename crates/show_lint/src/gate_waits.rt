@@ -44,8 +44,8 @@ fn frame_wait<A: Allocator + Copy>(
     first_fit(list, class, occupied, from) - from
 }
 
-/// Returns the waits of frames that arrive when a stream gate opens, first at `first`, then once in each `cycle` ns. The frames must fit
-/// the class's longest window.
+/// Returns the waits of frames that arrive when a stream gate opens: first at `first`, then once in each `cycle` ns. `gate_waits` calls it
+/// if the frames fit the class's longest window.
 fn waits_by_cycle<A: Allocator + Copy>(
     list: &CyclicList<u8, A>,
     class: u8,

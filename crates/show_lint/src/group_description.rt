@@ -51,12 +51,12 @@ struct Sharers {
     burst: u64,
     /// Rate in bit/s that the meters pass in the long run.
     rate: u64,
-    /// The first filter without a meter.
+    /// Number of the first filter without a meter; `None` if all have meters.
     unmetered: Option<u32>,
 }
 
 impl Sharers {
-    /// Adds a filter, by its number and its meter.
+    /// Adds what filter `number` can send by its meter, and its longest frame.
     fn add<A: Allocator + Copy>(&mut self, plan: &Plan<A>, number: u32, filter: &FilterPlan) {
         self.count = self.count.saturating_add(1);
         self.sdu = self.sdu.max(filter.max_sdu.unwrap_or(0));
@@ -77,7 +77,7 @@ impl Sharers {
     }
 }
 
-/// Returns what the filters of a group that can reach the queue can send.
+/// Returns what the filters that share the queue of `row` can send together.
 fn queue_sharers<A: Allocator + Copy>(plan: &Plan<A>, row: &SharedQueue) -> Sharers
     requires from { 1 ≤ row.now.port }
     requires to { row.now.port ≤ 16 }

@@ -20,7 +20,7 @@ fn covers_tag(one: TagKind, other: TagKind) -> bool
     }
 }
 
-/// Whether both kinds compare the destination address, or both compare the source address.
+/// Whether both kinds of stream identification compare the destination address, or both compare the source address.
 fn is_same_kind(one: Kind, other: Kind) -> bool
     ensures { result ≡ spec.is_same_kind one other }
 {

@@ -53,7 +53,7 @@ pub(crate) fn find_meter_warnings<A: Allocator + Copy>(
     find_rates(alloc, found, plan, number, filter, &limits)
 }
 
-/// Whether all buckets that a frame may use are smaller than `octets`. Then each frame of this length is refused.
+/// Whether all buckets that a frame may use are smaller than `octets`. Then the meter refuses each frame of this length.
 fn has_small_buckets(limits: &MeterPlan, octets: u32) -> bool {
     let octets = u64::from(octets);
     limits.cbs < octets && (limits.drop_yellow || limits.ebs < octets)

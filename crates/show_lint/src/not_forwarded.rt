@@ -14,7 +14,7 @@ use std::alloc::{AllocError, Allocator};
 /// First five octets of the addresses that no bridge forwards; the last octet is at most 15.
 const RESERVED: [u8; 5] = [0x01, 0x80, 0xC2, 0x00, 0x00];
 
-/// Whether frames to the stream's address, from its port and VLAN, have no egress port.
+/// Whether frames to the stream's address, from its port and VLAN, have no egress port. `stream_cause` then looks for the reason.
 pub fn is_not_forwarded<A: Allocator + Copy>(plan: &Plan<A>, stream: &StreamEntry) -> bool
     requires from { 1 ≤ stream.now.port }
     requires to { stream.now.port ≤ 16 }

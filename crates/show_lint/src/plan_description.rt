@@ -23,8 +23,8 @@ const TIGHT: &str = "With the octet limit of its gate the bound is {0} ns.\n";
 
 const PADDED: &str = "For frames of at least 60 octets the bound is {0} ns.\n";
 
-/// Describes an accepted plan: for each protected filter and each group its queues, their windows, the longest frame that fits and the
-/// delay bound; then all warnings. `idle` is the line of a schedule change without effect (`idle_change`).
+/// Describes an accepted plan: the queues of each protected filter and group, with windows, longest fitting frame and delay bound, then all
+/// warnings. `idle` is the line of a schedule change without effect (`idle_change`).
 pub fn describe_plan(
     alloc: Global,
     accepted: &Accepted<Global>,
@@ -68,7 +68,7 @@ fn put_warnings<A: Allocator + Copy>(
     }
 }
 
-/// Writes the queues of each protected filter and each group, with windows and bounds. A group stands in the place of its first filter.
+/// Writes the queues of each protected filter and each group, with windows and bounds. The queues of a group stand at its first filter.
 fn put_filters<A: Allocator + Copy>(
     said: &mut LintText,
     accepted: &Accepted<A>,
@@ -88,7 +88,7 @@ fn put_filters<A: Allocator + Copy>(
     }
 }
 
-/// Writes the queues of a filter at all ports.
+/// Writes the reachable queues of a protected filter at all ports, by rising port.
 fn put_ports<A: Allocator + Copy>(
     said: &mut LintText,
     accepted: &Accepted<A>,
@@ -102,7 +102,7 @@ fn put_ports<A: Allocator + Copy>(
     }
 }
 
-/// Writes the queues of a filter at one port.
+/// Writes the reachable queues of a protected filter at one port, by rising class.
 fn put_classes<A: Allocator + Copy>(
     said: &mut LintText,
     accepted: &Accepted<A>,
@@ -169,8 +169,8 @@ fn put_bound<A: Allocator + Copy>(
     }
 }
 
-/// Writes the bounds by the octet limits of the filter's stream gate, if they are below `bound`, the bound by capacity. The numbers are
-/// those of `bounds`: for any capture, and for frames of at least 60 octets. `tight` is the bound by the simple rule.
+/// Writes the bounds by octet limits that are below `bound`, the bound by capacity: one for any capture, one for frames of at least 60
+/// octets. `tight` is the result of `tight_queue_bound`.
 fn put_gate_bounds<A: Allocator + Copy>(
     said: &mut LintText,
     accepted: &Accepted<A>,

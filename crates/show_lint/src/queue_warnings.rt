@@ -49,7 +49,7 @@ fn open_time<A: Allocator + Copy>(list: &CyclicList<u8, A>, class: u8) -> u64
     open
 }
 
-/// Whether `occupied` ns in each `cycle` ns exceed `open` ns in each `round` ns. Then the queue grows for ever.
+/// Whether frames that take `occupied` ns in each `cycle` ns exceed windows of `open` ns in each `round` ns. Then the queue grows for ever.
 fn is_overloaded(occupied: u64, cycle: u64, open: u64, round: u64) -> bool {
     let wanted = u128::from(occupied).saturating_mul(u128::from(round));
     let given = u128::from(open).saturating_mul(u128::from(cycle));
@@ -101,8 +101,8 @@ fn opening_waits<A: Allocator + Copy>(
     )
 }
 
-/// Returns the least number of an entry's frames that still wait when it ends, by the longest wait at its start. Returns 0 if the waits are
-/// unknown.
+/// Returns the least number of an entry's frames that still wait when the entry ends, by the longest wait at its start. Returns 0 if the
+/// waits are unknown.
 fn frames_left_waiting<A: Allocator + Copy>(
     queue: &ScheduledQueue<'_, A>,
     opening: &GateOpening,

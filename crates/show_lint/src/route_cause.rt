@@ -29,7 +29,7 @@ const ENTRY: &str = "`stream` {1} leads filter {0} to port {2} by a `static` ent
 const FLOOD: &str =
     "`stream` {1} leads filter {0} to port {2}. VLAN {3} has no `static` entry for its address, so its frames go to all members.\n";
 
-/// Whether a VLAN has a static entry for an address.
+/// Whether a VLAN has a static entry for an address. Without one, frames to this address flood the VLAN.
 fn has_entry(statics: &[StaticEntry], vid: u16, address: [u8; 6]) -> bool {
     statics
         .iter()

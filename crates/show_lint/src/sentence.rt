@@ -234,7 +234,7 @@ fn cause_sentence(reason: NotForwardedCause) -> &'static str {
     }
 }
 
-/// Writes that a stream doesn't leave by a port of its static entry.
+/// Writes that frames of a static entry don't leave by one of its ports, because the port isn't a member of the VLAN.
 fn put_non_member_port<A: Allocator>(said: &mut TextBuilder<A>, outside: &NonMemberPort) {
     let numbers = [
         u64::from(outside.filter),

@@ -83,13 +83,14 @@ fn is_gate_closed<A: Allocator + Copy>(gates: &[(u32, GatePlan<A>)], number: u32
     false
 }
 
-/// Whether all filters of a handle are unprotected and have closed stream gates: they only refuse stray frames. Returns false without a
-/// filter.
+/// Whether all filters of a handle are neither protected nor grouped, and have closed stream gates: they only refuse stray frames. Returns
+/// false without a filter.
 fn are_strays<A: Allocator + Copy>(plan: &Plan<A>, handle: u32) -> bool {
     let mut is_asked = false;
     for filter in plan.filters() {
         if filter.1.handle == Some(handle) {
-            if filter.1.protected || !is_gate_closed(plan.gates(), filter.1.gate) {
+            let is_tested = filter.1.protected || filter.1.group.is_some();
+            if is_tested || !is_gate_closed(plan.gates(), filter.1.gate) {
                 return false;
             }
             is_asked = true;
@@ -98,7 +99,7 @@ fn are_strays<A: Allocator + Copy>(plan: &Plan<A>, handle: u32) -> bool {
     is_asked
 }
 
-/// Adds a warning for each stream whose egress ports include its ingress port, except for stray frames.
+/// Adds a warning for each stream whose static entry names its ingress port, unless its filters only refuse stray frames.
 fn find_streams<A: Allocator + Copy>(
     found: &mut Vec<Warning>,
     plan: &Plan<A>,
@@ -119,7 +120,7 @@ fn find_streams<A: Allocator + Copy>(
     Ok(())
 }
 
-/// Whether a stream gate is closed in all these entries.
+/// Whether a stream gate is closed in all entries of a list.
 fn are_all_closed(entries: &[(GateEntry, u64)]) -> bool {
     entries.iter().all(|entry| !entry.0.lets)
 }
@@ -136,8 +137,8 @@ fn is_always_closed<A: Allocator + Copy>(gate: &GatePlan<A>) -> bool {
     }
 }
 
-/// Returns the time in ns of the schedule change from which a stream gate is always closed. Returns `None` if it opens later or never
-/// opened.
+/// Returns the time in ns of the schedule change that closes a stream gate for ever. Returns `None` without a change, or if the gate opens
+/// after it, or never opened before.
 fn closing_time<A: Allocator + Copy>(gate: &GatePlan<A>) -> Option<u64> {
     match &gate.schedule {
         Schedule::Joined(joined) => {
@@ -176,16 +177,16 @@ fn is_used(filters: &[(u32, FilterPlan)], gate: u32) -> bool
     false
 }
 
-/// Whether no protected or grouped filter uses stream gate `gate`, but another filter does. Such a gate may be closed to refuse stray
-/// frames.
+/// Whether a filter uses stream gate `gate`, but no protected or grouped filter does. A planner may close such a gate to refuse stray
+/// frames, so it gives no warning.
 fn is_decision(filters: &[(u32, FilterPlan)], gate: u32) -> bool
     ensures { result ≡ spec.is_decision gate filters.now }
 {
     is_used(filters, gate) && tested_filter_with_gate(filters, gate).is_none()
 }
 
-/// Adds a warning for each stream gate that is always closed, unless no protected or grouped filter uses it. Adds another for each
-/// such filter's stream gate that a schedule change closes.
+/// Adds a warning for each stream gate that is always closed, except gates that only unprotected filters use. Adds another for each
+/// protected or grouped filter's gate that a schedule change closes.
 fn find_gates<A: Allocator + Copy>(
     found: &mut Vec<Warning>,
     gates: &[(u32, GatePlan<A>)],

@@ -49,7 +49,7 @@ pub enum Warning {
     QueueOverload(QueueOverload),
     /// A protected filter's stream gate passes more frames in an entry than a queue's capacity.
     SmallQueue(SmallQueue),
-    /// No frame of a protected filter leaves until its stream gate has been closed for a while.
+    /// Frames of a protected filter wait longer than their stream gate's entry lasts.
     LongWait(LongWait),
     /// Neither the stream gate's cycle nor the port's cycle is a multiple of the other.
     CycleMismatch(CycleMismatch),
@@ -108,7 +108,7 @@ pub struct ClosedFrom {
 pub struct TakenTogether {
     /// Number of the filter that matches no frame.
     pub filter: u32,
-    /// Filter that matches the frames of each priority, from 0.
+    /// Number of the filter that matches the frames of each priority, from 0.
     pub takers: [u32; 8],
 }
 
@@ -117,7 +117,7 @@ pub struct TakenTogether {
 pub struct HiddenFilter {
     /// Number of the filter that matches no frame.
     pub filter: u32,
-    /// Filter with a lower number that matches them.
+    /// Number of the filter that matches all these frames; it is lower.
     pub lower: u32,
 }
 
@@ -163,10 +163,13 @@ pub struct HiddenTogether {
 /// Class of a port that never opens although frames of an unprotected filter can enter it.
 #[derive(Clone, Copy)]
 pub struct NeverOpen {
+    /// Schedule for which the warning holds.
     pub stage: ScheduleStage,
     /// Number of the first unprotected filter whose frames can enter the queue.
     pub filter: u32,
+    /// Port number, 1 to 16.
     pub port: u8,
+    /// Class that never opens, 0 to 7.
     pub class: u8,
 }
 
@@ -315,7 +318,7 @@ pub struct SmallQueue {
     pub room: u16,
 }
 
-/// Queue that no frame leaves until its stream gate has been closed for a while.
+/// Queue whose frames wait longer than the stream gate's entry lasts: none leaves before the gate closes.
 #[derive(Clone, Copy)]
 pub struct LongWait {
     /// Queue, filter and stream gate.

@@ -5,13 +5,13 @@ use crate::selection::Selection;
 use bridge_filter::Verdict;
 use bridge_port::Refusal;
 use bridge_semantics::{Outcome, StoredOrigin, View};
-use show_svg::{AXIS_LEFT, AXIS_WIDTH, Span};
+use bridge_text::{AXIS_LEFT, AXIS_WIDTH, Span};
 use std::alloc::{Allocator, Global};
 
 /// Number of parts into which a port's time axis is divided. Each part has a share of the frames.
 const TIME_PARTS: usize = 100;
 
-/// Width of a part on the page.
+/// Width of one of these parts on the page, in tenths of a pixel.
 const PART_WIDTH: u64 = AXIS_WIDTH / TIME_PARTS as u64;
 
 /// Frame of a filter at a port: a frame that left, a refused frame, or a dropped copy.
@@ -55,21 +55,27 @@ enum Pass {
     Select(bool),
 }
 
-/// Selected frames of one kind (departures, or refused and dropped frames), with a share for each port's time parts, from port 0.
-/// `is_refused` is set if memory ran out.
+/// Selected frames of one kind: departures, or refused and dropped frames.
 #[derive(Drop)]
 pub(crate) struct DrawnGroup {
+    /// Frames that the picture draws.
     pub frames: Vec<DrawnFrame>,
+    /// Shares of the time parts of each port, from port 0.
     shares: Vec<Share>,
+    /// Whether memory ran out.
     pub is_refused: bool,
 }
 
 /// Contents of a run's picture: its time span, the frames that left, and the marks of refused and dropped frames.
 #[derive(Drop)]
 pub(crate) struct FrameSelection {
+    /// Purpose of the current pass over all frames.
     pass: Pass,
+    /// Time span of the picture.
     pub span: Span,
+    /// Frames that left.
     pub left: DrawnGroup,
+    /// Refused and dropped frames.
     pub marks: DrawnGroup,
 }
 

@@ -9,13 +9,13 @@ use bridge_cycle::{END_OF_TURNS, Egress, Timeline, is_open};
 use bridge_filter::FilterPlan;
 use bridge_gate::Schedule;
 use bridge_ident::StreamEntry;
-use show_svg::{AXIS_LEFT, AXIS_WIDTH, choose_word};
+use bridge_text::{AXIS_LEFT, AXIS_WIDTH, choose_word};
 use std::alloc::Allocator;
 
 /// Largest number of stream gates in a picture.
 pub(crate) const MAX_GATES: usize = 128;
 
-/// Height of the bars in a lane.
+/// Height of the bars in a lane, in tenths of a pixel.
 const BAR_HEIGHT: u64 = 130;
 
 /// Subject of a lane: a port and its class, a port that is always open, or a stream gate's number.
@@ -48,7 +48,7 @@ pub(crate) fn digit_count(number: u32) -> usize {
     number.checked_ilog10().unwrap_or(0) as usize + 1
 }
 
-/// Returns the name of a lane, the number in it, and how many letters fit next to it.
+/// Returns the template of a lane's name, the number in it, and the number of letters that fit next to the name.
 fn lane_name(lane: Lane) -> (&'static str, u64, usize) {
     match lane {
         Lane::Class(_, class) => ("class {0}", u64::from(class), 11),
@@ -114,7 +114,7 @@ fn is_filter_in_lane<A: Allocator + Copy>(plan: &Plan<A>, filter: &FilterPlan, l
 
 impl Picture {
     /// Adds to `gates` the stream gates of selected protected and grouped filters whose streams enter at selected ports. Their lanes follow
-    /// the port's.
+    /// the lanes of the port.
     pub(crate) fn add_gates<A: Allocator + Copy>(&mut self, plan: &Plan<A>, part: &Selection) {
         for port in plan.ports() {
             for (number, it) in plan.filters() {
@@ -165,7 +165,7 @@ impl Picture {
         Window { from, to, open }
     }
 
-    /// Adds an open interval to the windows, or extends the last window by it.
+    /// Adds an open interval to the windows, or extends the last window by it. Ignores a closed interval.
     fn append_window(&mut self, turn: Window) {
         match self.windows.last_mut() {
             _ if turn.open.is_none() => {}

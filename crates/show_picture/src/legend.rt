@@ -1,7 +1,7 @@
 //! Legend of a picture.
 use crate::lane::digit_count;
 use crate::picture::Picture;
-use show_svg::{LegendRow, Sample};
+use bridge_text::{LegendRow, Sample};
 
 /// Styles of the filters' colours, by colour number.
 const COLOURS: [&str; 8] = ["c0", "c1", "c2", "c3", "c4", "c5", "c6", "c7"];

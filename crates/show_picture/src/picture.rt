@@ -3,7 +3,7 @@ ghost use Rattle.std.specs.Prelude.{◌≤◌, IfOk, length, string_bytes};
 
 use crate::lane::Window;
 use bridge_limits::NoMemory;
-use show_svg::{Page, Span};
+use bridge_text::{Page, Span};
 use std::alloc::Global;
 
 /// Styles of all shapes.
@@ -14,19 +14,28 @@ text{font:110px system-ui,sans-serif;fill:#222}.h{font-weight:700;font-size:150p
 .c0{fill:#2a7de1}.c1{fill:#e4572e}.c2{fill:#29a37a}.c3{fill:#a14fc4}.c4{fill:#d9a400}.c5{fill:#16a3b8}.c6{fill:#c2447a}.c7{fill:#7a7f3c}\
 @media(prefers-color-scheme:dark){text{fill:#e6e6e6}.s{fill:#a0a0a0}.page{fill:#16181c}.lane{fill:#22262c}.open{fill:#4a525e}.own{fill:#5c8a49}.gate{fill:#4b6a91}.h0{stroke:#fff}.e{stroke:#fff}}";
 
-/// Picture under construction. `fault` has the port (0 for none) and class at fault, and whether only shared windows are at fault.
-/// `is_refused` is set if memory ran out.
+/// Picture under construction.
 #[derive(Drop)]
 pub(crate) struct Picture {
+    /// Time of the schedule change in ns, if any.
     pub change: Option<u64>,
+    /// Time span that the picture shows.
     pub span: Span,
+    /// Page with all shapes drawn up to now.
     pub page: Page,
+    /// Stream gates that have a lane, each with its port; port 0 in the picture of a whole plan.
     pub gates: Vec<(u8, u32)>,
+    /// Largest number of windows that a lane draws; a lane with more is hatched.
     pub window_limit: usize,
+    /// Number of hatched lanes.
     pub hatched_lanes: u64,
+    /// Port (0 for none) and class at fault, and whether only shared windows are at fault.
     pub fault: (u8, u8, bool),
+    /// Numbers of the filters that the current lane names.
     pub named: Vec<u32>,
+    /// Open intervals of the current lane.
     pub windows: Vec<Window>,
+    /// Whether memory ran out.
     pub is_refused: bool,
 }
 

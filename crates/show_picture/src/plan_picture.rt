@@ -11,8 +11,8 @@ use bridge_check::{Accepted, CheckFault, Refused};
 use bridge_config::Plan;
 use bridge_groups::SharedQueue;
 use bridge_limits::NoMemory;
+use bridge_text::{AXIS_LEFT, Page, choose_word};
 use show_lint::Hypercycle;
-use show_svg::{AXIS_LEFT, Page, choose_word};
 use std::alloc::{Allocator, Global};
 
 /// Note for a requested port or filter that the plan lacks.
@@ -132,8 +132,8 @@ impl Picture {
         self.page.end_text();
     }
 
-    /// Draws the parts below the head: the legend, then for each port its windows, frames and stream gates, and the time axis. `rows` has the
-    /// shared queues of all groups, for the frames of a run.
+    /// Draws the parts below the head: the legend, each port's windows, frames and stream gates, and the time axis. `rows` has the shared
+    /// queues of all groups, for the frames of a run.
     pub(crate) fn put_ports<A: Allocator + Copy>(
         &mut self,
         plan: &Plan<A>,

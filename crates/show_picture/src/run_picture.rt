@@ -11,8 +11,8 @@ use bridge_config::Plan;
 use bridge_groups::{SharedQueue, plan_shared_queues};
 use bridge_limits::NoMemory;
 use bridge_semantics::{Outcome, StoredDeparture, StoredOrigin};
+use bridge_text::{AXIS_LEFT, AXIS_WIDTH, Bar, Element, Mark, Span};
 use show_lint::Hypercycle;
-use show_svg::{AXIS_LEFT, AXIS_WIDTH, Bar, Element, Mark, Span};
 use std::alloc::{Allocator, Global};
 
 /// Note in the head about frames and marks that aren't drawn, because the picture has a limit.

@@ -1,7 +1,7 @@
 //! The time span of a picture.
 
+use bridge_text::Span;
 use show_lint::Hypercycle;
-use show_svg::Span;
 
 /// Longest time in ns that a plan's picture shows before or after a schedule change. A longer hypercycle is cut.
 pub const LONGEST_HYPERCYCLE: u64 = 1_000_000_000;

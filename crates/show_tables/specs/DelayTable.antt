@@ -56,7 +56,7 @@ row_of_port filter v bounds port = row_if_any filter v port (bound_by_port bound
 abbrev pub port_rows : {A : Type 0} → ℕ → View A → List (Option ℕ) → List ℕ
 port_rows filter v bounds = flat_map (row_of_port filter v bounds) (range_with_len 1 16)
 
--- The given rows. If they are empty and the filter has frames, its row without departures.
+-- The given rows of a filter. If they are empty and the filter has frames, its row without departures.
 abbrev pub rows_or_unsent : {A : Type 0} → ℕ → View A → List ℕ → List ℕ
 rows_or_unsent filter v [] = if nat_eq (length v.verdicts.items) 0 then [] else unsent_row filter v
 rows_or_unsent filter v (octet ∷ more) = octet ∷ more

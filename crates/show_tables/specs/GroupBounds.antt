@@ -16,7 +16,7 @@ group_of (Some f) = f.group
 abbrev pub bound_at : ℕ → ℕ → SharedQueue → Option ℕ
 bound_at group q s = if nat_eq s.group group && nat_eq s.port q then Some s.bound else None
 
--- The greater one of a bound and the bound of a shared queue of the group at port `q`.
+-- The greater of an optional bound and the bound of shared queue `s`, if `s` is a queue of the group at port `q`.
 abbrev pub greater_at : ℕ → ℕ → Option ℕ → SharedQueue → Option ℕ
 greater_at group q bound s = greater_bound bound (bound_at group q s)
 

@@ -32,7 +32,7 @@ unfoldable pub gate_fields : List Verdict → List ℕ
 gate_fields vs = field (refused_for reason.GateClosed vs) ++ (field (refused_for reason.ShutByRx vs)
     ++ (field (refused_for reason.ShutByOctets vs) ++ field (refused_for reason.OctetsExceeded vs)))
 
--- The fields of frames that the meter discarded, by reason.
+-- The fields of frames that the meter refused, by reason.
 unfoldable pub meter_fields : List Verdict → List ℕ
 meter_fields vs = field (refused_for reason.Red vs) ++ field (refused_for reason.YellowDropped vs)
 

@@ -13,7 +13,8 @@ greater_bound (Some a) (Some b) = Some (max a b)
 abbrev pub greatest_bound : List (Option ℕ) → Option ℕ
 greatest_bound bounds = fold greater_bound None bounds
 
--- Holds if `b` is the tight bound of class `c` at port `q`. `None` means that no frame of a protected filter `n` can enter the queue.
+-- Holds if `b` is the tight bound of filter `n` for class `c` at port `q`. `None` means that the filter has no delay
+-- bound there.
 abbrev pub IsClassBound : {A : Type 0} → Plan A → ℕ → ℕ → ℕ → Option ℕ → Type 0
 IsClassBound p n q c b = MatchOption b (HasNoBound p n q c) (IsTightBound p n q c)
 

@@ -22,7 +22,7 @@ use std::alloc::Allocator;
 pub const DELAYS_HEADER: &str =
     "filter,port,frames,least,mean,greatest,jitter,bound,blocked,oversize,gate-closed,shut-rx,shut-octets,octets-exceeded,red,yellow-dropped,full,never\n";
 
-/// Writes the field of a bound; an empty field if there is none.
+/// Writes the field of a delay bound in ns; an empty field if the port has none.
 fn put_bound<A: Allocator>(text: &mut TextBuilder<A>, bound: Option<u64>)
     ensures { HasGrown text.old (spec.bound_field bound) text.new }
 {
@@ -32,7 +32,7 @@ fn put_bound<A: Allocator>(text: &mut TextBuilder<A>, bound: Option<u64>)
     }
 }
 
-/// Writes the row of a filter at a port that sent copies.
+/// Writes the row of a filter at a port that sent copies of its frames: number and figures of `delays`, the bound, and losses.
 fn put_port_row<A: Allocator>(
     text: &mut TextBuilder<A>,
     filter: u32,
@@ -72,7 +72,7 @@ fn put_unsent_row<A: Allocator>(text: &mut TextBuilder<A>, filter: u32, view: &V
     );
 }
 
-/// Writes the row of a filter at a port, if `delays` isn't empty.
+/// Writes the row of a filter at a port. Writes nothing if `delays` is empty, because no copy left by this port.
 fn put_row_if_any<A: Allocator>(
     text: &mut TextBuilder<A>,
     filter: u32,
@@ -127,7 +127,8 @@ fn put_port_rows<A: Allocator + Copy>(
     }
 }
 
-/// Writes the rows of a filter by port, or its row without departures.
+/// Writes the rows of a filter by rising port. If no copy of its frames left, writes one row without a port, or nothing if no frame
+/// arrived.
 fn put_filter_rows<A: Allocator + Copy>(
     alloc: A,
     text: &mut TextBuilder<A>,

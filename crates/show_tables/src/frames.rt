@@ -106,8 +106,8 @@ fn put_filter_frames<A: Allocator + Copy>(
     );
 }
 
-/// Returns the table of frames as CSV: a header line, then rows by filter, frame and port. A departure has start, end and delay, a drop has
-/// its reason. A frame without copies has one row.
+/// Returns the table of frames as CSV: a header line, then rows by filter, frame and port. Departures have start, end and delay, drops their
+/// reason. A frame without copies has one row.
 pub fn frame_table<A: Allocator + Copy>(
     alloc: A,
     outcome: &Outcome<A>,

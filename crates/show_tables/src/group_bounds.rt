@@ -1,4 +1,4 @@
-//! Delay bounds of the ports by which a filter's frames can leave, of protected filters and of filters that share queues.
+//! Delay bounds of the ports by which the frames of a protected or grouped filter can leave.
 ghost use Rattle.std.specs.Prelude.{◌≡◌, nat_eq, IfOk};
 ghost use Rattle.std.specs.Map.{lookup};
 ghost use Rattle.bridge_groups.specs.GroupRows.{AreSharedQueues};
@@ -44,7 +44,7 @@ fn group_bound(queues: &[SharedQueue], group: u32, port: u8) -> Option<u64>
     bound
 }
 
-/// Returns the bounds in ns of a group at ports 1 to 16.
+/// Returns the bounds in ns of a group at ports 1 to 16; `None` for a port at which the group shares no queue.
 fn group_bounds<A: Allocator>(
     alloc: A,
     queues: &[SharedQueue],

@@ -3,6 +3,7 @@
 /// Words of a line. Times are in ns.
 #[derive(Clone, Copy, Default)]
 pub struct Line {
+    pub arrives: bool,
     pub is_refusable: bool,
     pub worst: Option<u64>,
     pub best: Option<u64>,
@@ -11,12 +12,32 @@ pub struct Line {
     pub to: Option<u64>,
     pub deadline: Option<u64>,
     pub is_met: bool,
+    pub margin: Option<u64>,
+    pub lacks: Option<u64>,
 }
 
 impl Line {
     /// Whether the line promises that each frame passes.
     pub fn passes(&self) -> bool {
-        self.worst.is_some() && !self.is_refusable
+        self.arrives
+    }
+
+    /// Whether the words agree: `arrives` stands exactly beside `worst` without `refusable`, and `margin` or `lacks` is the distance from the
+    /// deadline.
+    pub fn is_consistent(&self) -> bool {
+        self.arrives == (self.worst.is_some() && !self.is_refusable) && self.has_distance()
+    }
+
+    /// Whether `margin` or `lacks` is the distance from the greatest delay to the deadline. A line without deadline has neither.
+    fn has_distance(&self) -> bool {
+        let (Some(deadline), Some(greatest)) = (self.deadline, self.greatest()) else {
+            return self.margin.is_none() && self.lacks.is_none();
+        };
+        if self.is_met {
+            self.margin.is_some() && self.margin == deadline.checked_sub(greatest)
+        } else {
+            self.lacks.is_some() && self.lacks == greatest.checked_sub(deadline)
+        }
     }
 
     /// Returns the greatest delay in ns that the line allows.
@@ -54,6 +75,8 @@ fn add_word(line: &mut Line, before: &str, word: &str) {
         "best" => line.best = parse_number(word),
         "bound" => line.bound = parse_number(word),
         "deadline" => line.deadline = parse_number(word),
+        "margin" => line.margin = parse_number(word),
+        "lacks" => line.lacks = parse_number(word),
         "phases" => {
             if let Some((from, to)) = word.split_once("..") {
                 line.from = parse_number(from);
@@ -63,6 +86,7 @@ fn add_word(line: &mut Line, before: &str, word: &str) {
         _ => {}
     }
     match word {
+        "arrives" => line.arrives = true,
         "refusable" => line.is_refusable = true,
         "met" => line.is_met = true,
         _ => {}

@@ -217,4 +217,5 @@ fn count_line(line: &Line, seen: &Seen, tally: &mut Tally) {
     tally.delivered = tally.delivered.saturating_add(seen.delivered);
     tally.stray = tally.stray.saturating_add(seen.stray);
     tally.refuted = tally.refuted.saturating_add(seen.refuted);
+    add_if(&mut tally.refuted, !line.is_consistent());
 }

@@ -1,4 +1,4 @@
-use Rattle.std.proofs.Common.{get_or, refl}
+use Rattle.std.proofs.Common.{refl}
 use Rattle.app_networks.proofs.Rows.{in_list, no_streams, streams_all, streams_more}
 use Rattle.app_networks.proofs.Told.{counts_all, counts_more}
 use Rattle.app_networks.proofs.tables.write_both_tables.Goals as goal
@@ -20,17 +20,17 @@ loop-place-preserved g c =
     let settled = c.args.settled.now in
     let streams = c.args.file.now.streams in
     let here = c.streams-stream-items.result.now in
-    let bounds = c.args.bounds.now in
+    let figures = c.args.figures.now in
     let i = c.loop-place.place in
     let s = c.stream-item.result in
     let more = c.in_ok-more.more in
     record {
       counts = counts_more links settled streams here i s s c.loop-place.totals.frames c.loop-place.totals.delivered more.frames more.delivered c.saturating_add.result c.saturating_add-in-loop-place.result
           c.streams-stream-items.ensures.streams c.loop-place-test.true c.stream-item.is c.in_ok-more.ensures.2.count c.saturating_add.ensures c.saturating_add-in-loop-place.ensures c.loop-place.invariant.counts;
-      tables = streams_more links settled c.args.file.now.bridges streams here bounds i s s (get_or bounds i 0) 0 more.frames more.delivered
+      tables = streams_more links settled c.args.file.now.bridges streams here figures i s s _ _ more.frames more.delivered
           (g.V.Write.contents c.args.streams.now) (g.V.Write.contents c.loop-place.streams) (g.V.Write.contents c.put_stream.new.streams)
           (g.W.Write.contents c.args.frames.now) (g.W.Write.contents c.loop-place.frames) (g.W.Write.contents c.put_stream.new.frames)
-          c.streams-stream-items.ensures.streams c.requires.bounds c.loop-place-test.true c.stream-item.is refl c.loop-place.invariant.tables c.in_ok-more.ensures;
+          c.streams-stream-items.ensures.streams c.requires.figures c.loop-place-test.true c.stream-item.is refl c.loop-place.invariant.tables c.in_ok-more.ensures;
     }
 
 pub returns-clause-counts : goal.returns-clause-counts
@@ -40,6 +40,6 @@ returns-clause-counts g c =
 
 pub returns-clause-tables : goal.returns-clause-tables
 returns-clause-tables g c =
-    streams_all c.args.links.now c.args.settled.now c.args.file.now.bridges c.args.file.now.streams c.streams-stream-items.result.now c.args.bounds.now c.loop-place.place
+    streams_all c.args.links.now c.args.settled.now c.args.file.now.bridges c.args.file.now.streams c.streams-stream-items.result.now c.args.figures.now c.loop-place.place
     (g.V.Write.contents c.args.streams.now) (g.V.Write.contents c.loop-place.streams) (g.W.Write.contents c.args.frames.now) (g.W.Write.contents c.loop-place.frames)
-    c.streams-stream-items.ensures.streams c.requires.bounds c.loop-place-test.false c.loop-place.invariant.tables
+    c.streams-stream-items.ensures.streams c.requires.figures c.loop-place-test.false c.loop-place.invariant.tables

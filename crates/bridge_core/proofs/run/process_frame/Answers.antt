@@ -44,31 +44,31 @@ returns-in-Err-clause-devices g c = record {
   holds = c.send_due_frames.ensures.holds;
 }
 
-pub arrive-requires-clause-known : goal.arrive-requires-clause-known
-arrive-requires-clause-known g c = port_known c.args.relay.now c.send_due_frames.new.relay c.args.lanes.now c.take_frame-number.new.lanes c.args.place c.take_frame-number.result c.requires.may c.take_frame-number.ensures.given c.send_due_frames.ensures.same.0
+pub handle_arrival-requires-clause-known : goal.handle_arrival-requires-clause-known
+handle_arrival-requires-clause-known g c = port_known c.args.relay.now c.send_due_frames.new.relay c.args.lanes.now c.take_frame-number.new.lanes c.args.place c.take_frame-number.result c.requires.may c.take_frame-number.ensures.given c.send_due_frames.ensures.same.0
 
-pub arrive-requires-clause-time : goal.arrive-requires-clause-time
-arrive-requires-clause-time g c = let h = c.take_frame-number.ensures.given in (c.send_due_frames.ensures.early, (c.requires.may.each c.args.place h.lane h.there c.take_frame-number.result.1 h.ahead).early)
+pub handle_arrival-requires-clause-time : goal.handle_arrival-requires-clause-time
+handle_arrival-requires-clause-time g c = let h = c.take_frame-number.ensures.given in (c.send_due_frames.ensures.early, (c.requires.may.each c.args.place h.lane h.there c.take_frame-number.result.1 h.ahead).early)
 
-pub arrive-requires-clause-octets : goal.arrive-requires-clause-octets
-arrive-requires-clause-octets g c = let h = c.take_frame-number.ensures.given in let z = c.requires.may.each c.args.place h.lane h.there c.take_frame-number.result.1 h.ahead in (z.small, z.within)
+pub handle_arrival-requires-clause-octets : goal.handle_arrival-requires-clause-octets
+handle_arrival-requires-clause-octets g c = let h = c.take_frame-number.ensures.given in let z = c.requires.may.each c.args.place h.lane h.there c.take_frame-number.result.1 h.ahead in (z.small, z.within)
 
-pub arrive-requires-clause-few : goal.arrive-requires-clause-few
-arrive-requires-clause-few g c =
+pub handle_arrival-requires-clause-few : goal.handle_arrival-requires-clause-few
+handle_arrival-requires-clause-few g c =
     let h = c.take_frame-number.ensures.given in
     subst (λ n. n < 16000000) (sym c.send_due_frames.ensures.same.1) (more_may_come c.args.relay.now c.args.lanes.now c.args.place h.lane c.take_frame-number.result.1 c.requires.may h.there h.ahead)
 
 pub read_next_ahead-requires-clause-reading : goal.read_next_ahead-requires-clause-reading
 read_next_ahead-requires-clause-reading g c = still_reading c.args.lanes.now c.take_frame-number.new.lanes c.args.place c.take_frame-number.result c.requires.may.each c.take_frame-number.ensures.given
 
-pub returns-in-Err-arrive-clause-goes : goal.returns-in-Err-arrive-clause-goes
-returns-in-Err-arrive-clause-goes g c = λ p texts commanded next olds before u rests are.
+pub returns-in-Err-handle_arrival-clause-goes : goal.returns-in-Err-handle_arrival-clause-goes
+returns-in-Err-handle_arrival-clause-goes g c = λ p texts commanded next olds before u rests are.
     let h = c.take_frame-number.ensures.given in
     let first = again c.args.lanes.now c.take_frame-number.new.lanes c.args.place c.take_frame-number.result c.requires.first h in
     let early = before h.lane c.take_frame-number.result.1 h.there h.ahead in
     let d = c.in_default.ensures.departs p (input_events u.inputs) olds u.left u.stands
     (written_so g.R.ByteSource.remaining g.W.ByteSink.contents p texts commanded next olds c.args.relay.now c.args.lanes.now c.args.sources.now c.args.sinks.now u c.requires.sources (written_numbers c.args.lines.now) c.requires.lines) in
-    let same : c.send_due_frames.new.relay ≡ c.arrive.new.self = sym c.in-Err-arrive.ensures.err.0 in
+    let same : c.send_due_frames.new.relay ≡ c.handle_arrival.new.self = sym c.in-Err-handle_arrival.ensures.err in
     let reaches = c.assert_reached.ensures.reaches p (input_events u.inputs) d.0 c.take_frame-number.result.1.time (subst (λ b. RelayStandsFor p b (input_events u.inputs) d.0) same d.1) (subst (λ b. b.earliest ≤ c.take_frame-number.result.1.time) same c.send_due_frames.ensures.early) (subst (λ b. StartsNoEarlier (g.G.Agenda.held b.ports.agenda) c.take_frame-number.result.1.time) same c.in_default.ensures.waits) in
     let late = newest_late (capture_input h.lane.number (packet_frame c.take_frame-number.result.1)) u.inputs (u.follow c.args.place h.lane c.take_frame-number.result.1 h.there h.ahead) in
     subst (λ ns. StopsForMemory p texts rests commanded next g.W.ByteSink.contents ns olds c.send_due_frames.new.sinks) (sym (numbers_given c.args.lanes.now c.take_frame-number.new.lanes c.args.place c.take_frame-number.result h))
@@ -77,8 +77,8 @@ returns-in-Err-arrive-clause-goes g c = λ p texts commanded next olds before u 
     early reaches
     (subst (λ ns. AreWritten g.W.ByteSink.contents ns olds c.send_due_frames.new.sinks d.0) c.requires.lines d.2))
 
-pub returns-in-Err-arrive-clause-same : goal.returns-in-Err-arrive-clause-same
-returns-in-Err-arrive-clause-same g c = (ap (λ b. b.plan) c.in-Err-arrive.ensures.err.0 ∙ c.send_due_frames.ensures.same.0, numbers_given c.args.lanes.now c.take_frame-number.new.lanes c.args.place c.take_frame-number.result c.take_frame-number.ensures.given, c.send_due_frames.ensures.numbers)
+pub returns-in-Err-handle_arrival-clause-same : goal.returns-in-Err-handle_arrival-clause-same
+returns-in-Err-handle_arrival-clause-same g c = (ap (λ b. b.plan) c.in-Err-handle_arrival.ensures.err ∙ c.send_due_frames.ensures.same.0, numbers_given c.args.lanes.now c.take_frame-number.new.lanes c.args.place c.take_frame-number.result c.take_frame-number.ensures.given, c.send_due_frames.ensures.numbers)
 
 pub returns-in-Ok-read_next_ahead-clause-goes : goal.returns-in-Ok-read_next_ahead-clause-goes
 returns-in-Ok-read_next_ahead-clause-goes g c = λ p texts commanded next olds before u.
@@ -89,17 +89,17 @@ returns-in-Ok-read_next_ahead-clause-goes g c = λ p texts commanded next olds b
     let d = c.in_default.ensures.departs p (input_events u.inputs) olds u.left u.stands
     (written_so g.R.ByteSource.remaining g.W.ByteSink.contents p texts commanded next olds c.args.relay.now c.args.lanes.now c.args.sources.now c.args.sinks.now u c.requires.sources (written_numbers c.args.lines.now) c.requires.lines) in
     let packet = c.take_frame-number.result.1 in
-    let stands = subst (λ (n : ℕ). RelayStandsFor p c.arrive.new.self (Arrived (arrival packet.time n packet.octets.items packet.len) ∷ input_events u.inputs) d.0) (sym h.number) (c.in-Ok.ensures.stands p (input_events u.inputs) d.0 d.1) in
+    let stands = subst (λ (n : ℕ). RelayStandsFor p c.handle_arrival.new.self (Arrived (arrival packet.time n packet.octets.items packet.len) ∷ input_events u.inputs) d.0) (sym h.number) (c.in-Ok.ensures.stands p (input_events u.inputs) d.0 d.1) in
     let latest = (c.requires.may.each c.args.place h.lane h.there packet h.ahead).latest in
-    subst (λ ls. IsUnderWay g.R.ByteSource.remaining g.W.ByteSink.contents p texts commanded next olds c.arrive.new.self ls c.read_next_ahead.new.sources c.send_due_frames.new.sinks) (sym r.lanes_are)
-    (subst (λ ss. IsUnderWay g.R.ByteSource.remaining g.W.ByteSink.contents p texts commanded next olds c.arrive.new.self (slice_set c.args.lanes.now c.args.place r.lane) ss c.send_due_frames.new.sinks) (sym r.sources_are)
+    subst (λ ls. IsUnderWay g.R.ByteSource.remaining g.W.ByteSink.contents p texts commanded next olds c.handle_arrival.new.self ls c.read_next_ahead.new.sources c.send_due_frames.new.sinks) (sym r.lanes_are)
+    (subst (λ ss. IsUnderWay g.R.ByteSource.remaining g.W.ByteSink.contents p texts commanded next olds c.handle_arrival.new.self (slice_set c.args.lanes.now c.args.place r.lane) ss c.send_due_frames.new.sinks) (sym r.sources_are)
     (went_on g.R.ByteSource.remaining g.W.ByteSink.contents p texts commanded next olds c.args.relay.now c.args.lanes.now c.args.sources.now c.args.sinks.now u c.requires.sources c.requires.may c.args.place first early
-    r.lane r.left c.arrive.new.self c.send_due_frames.new.sinks d.0 r.number (λ e a. subst (λ (n : ℕ). n ≤ e.time) latest (r.onward e a))
+    r.lane r.left c.handle_arrival.new.self c.send_due_frames.new.sinks d.0 r.number (λ e a. subst (λ (n : ℕ). n ≤ e.time) latest (r.onward e a))
     (r.looks (texts h.lane.number) _ (stood g.R.ByteSource.remaining g.W.ByteSink.contents p texts commanded next olds c.args.relay.now c.args.lanes.now c.args.sources.now c.args.sinks.now u c.requires.sources c.requires.may c.args.place first early r.source r.lent))
     stands (let moved = c.in-Ok.ensures.moved in let at = moved.1 in omega (arith, at)) (subst (λ ns. AreWritten g.W.ByteSink.contents ns olds c.send_due_frames.new.sinks d.0) c.requires.lines d.2)))
 
 pub returns-in-Ok-read_next_ahead-clause-waits : goal.returns-in-Ok-read_next_ahead-clause-waits
-returns-in-Ok-read_next_ahead-clause-waits g c = subst (StartsNoEarlier (g.G.Agenda.held c.arrive.new.self.ports.agenda)) (sym c.in-Ok.ensures.moved.1) c.in-Ok.ensures.waits
+returns-in-Ok-read_next_ahead-clause-waits g c = subst (StartsNoEarlier (g.G.Agenda.held c.handle_arrival.new.self.ports.agenda)) (sym c.in-Ok.ensures.moved.1) c.in-Ok.ensures.waits
 
 pub returns-in-Ok-read_next_ahead-clause-may : goal.returns-in-Ok-read_next_ahead-clause-may
 returns-in-Ok-read_next_ahead-clause-may g c =
@@ -108,8 +108,8 @@ returns-in-Ok-read_next_ahead-clause-may g c =
     let r = renewed g.R.ByteSource.remaining c.args.lanes.now c.take_frame-number.new.lanes c.read_next_ahead.new.lanes c.args.sources.now c.read_next_ahead.new.sources c.args.place c.take_frame-number.result (Ok tt) h c.in-Ok-read_next_ahead.ensures.looked in
     let latest = (c.requires.may.each c.args.place h.lane h.there c.take_frame-number.result.1 h.ahead).latest in
     let moved = c.in-Ok.ensures.moved in
-    subst (CanTakeFrames c.arrive.new.self) (sym r.lanes_are)
-    (may_again c.args.relay.now c.arrive.new.self c.args.lanes.now c.args.place first r.lane c.requires.may (moved.2 ∙ c.send_due_frames.ensures.same.0) (moved.0 ∙ ap (λ n. n + 1) c.send_due_frames.ensures.same.1) moved.1 r.number r.is_lane (λ e a. subst (λ (n : ℕ). n ≤ e.time) latest (r.onward e a)) r.fewer)
+    subst (CanTakeFrames c.handle_arrival.new.self) (sym r.lanes_are)
+    (may_again c.args.relay.now c.handle_arrival.new.self c.args.lanes.now c.args.place first r.lane c.requires.may (moved.2 ∙ c.send_due_frames.ensures.same.0) (moved.0 ∙ ap (λ n. n + 1) c.send_due_frames.ensures.same.1) moved.1 r.number r.is_lane (λ e a. subst (λ (n : ℕ). n ≤ e.time) latest (r.onward e a)) r.fewer)
 
 pub returns-in-Ok-read_next_ahead-clause-fewer : goal.returns-in-Ok-read_next_ahead-clause-fewer
 returns-in-Ok-read_next_ahead-clause-fewer g c =
@@ -134,7 +134,7 @@ returns-in-Err-read_next_ahead-clause-goes g c = λ p texts commanded next olds 
     let d = c.in_default.ensures.departs p (input_events u.inputs) olds u.left u.stands
     (written_so g.R.ByteSource.remaining g.W.ByteSink.contents p texts commanded next olds c.args.relay.now c.args.lanes.now c.args.sources.now c.args.sinks.now u c.requires.sources (written_numbers c.args.lines.now) c.requires.lines) in
     let packet = c.take_frame-number.result.1 in
-    let stands = subst (λ (n : ℕ). RelayStandsFor p c.arrive.new.self (Arrived (arrival packet.time n packet.octets.items packet.len) ∷ input_events u.inputs) d.0) (sym h.number) (c.in-Ok.ensures.stands p (input_events u.inputs) d.0 d.1) in
+    let stands = subst (λ (n : ℕ). RelayStandsFor p c.handle_arrival.new.self (Arrived (arrival packet.time n packet.octets.items packet.len) ∷ input_events u.inputs) d.0) (sym h.number) (c.in-Ok.ensures.stands p (input_events u.inputs) d.0 d.1) in
     let moved = c.in-Ok.ensures.moved in
     let at = moved.1 in
     let reaches = c.assert_reached-in-Err-read_next_ahead.ensures.reaches p (Arrived (arrival packet.time h.lane.number packet.octets.items packet.len) ∷ input_events u.inputs) d.0 packet.time stands (omega (arith, at)) c.in-Ok.ensures.waits in
@@ -174,11 +174,11 @@ send_due_frames-requires-clause-size g c = c.requires.sinks
 pub send_due_frames-requires-clause-waits : goal.send_due_frames-requires-clause-waits
 send_due_frames-requires-clause-waits g c = c.requires.waits
 
-pub arrive-requires-clause-due : goal.arrive-requires-clause-due
-arrive-requires-clause-due g c = c.in_default.ensures.waits
+pub handle_arrival-requires-clause-due : goal.handle_arrival-requires-clause-due
+handle_arrival-requires-clause-due g c = c.in_default.ensures.waits
 
-pub returns-in-Err-arrive-clause-devices : goal.returns-in-Err-arrive-clause-devices
-returns-in-Err-arrive-clause-devices g c = record {
+pub returns-in-Err-handle_arrival-clause-devices : goal.returns-in-Err-handle_arrival-clause-devices
+returns-in-Err-handle_arrival-clause-devices g c = record {
   read = λ port e. absurd (memory_read _ _ e);
   sure = λ sure port e. memory_read _ _ e;
   lasts = λ sure. sure;
@@ -192,7 +192,7 @@ returns-in-Ok-read_next_ahead-clause-moved g c = λ l p there ahead.
     let h = c.take_frame-number.ensures.given in
     let same : h.lane.ahead ≡ l.ahead = ap (λ z. z.ahead) (same_Some h.lane l (sym h.there ∙ there)) in
     let one : c.take_frame-number.result.1 ≡ p = same_Some c.take_frame-number.result.1 p (sym h.ahead ∙ same ∙ ahead) in
-    subst (λ q. c.arrive.new.self.earliest ≡ q.time) one c.in-Ok.ensures.moved.1
+    subst (λ q. c.handle_arrival.new.self.earliest ≡ q.time) one c.in-Ok.ensures.moved.1
 
 pub returns-in-Ok-read_next_ahead-clause-devices : goal.returns-in-Ok-read_next_ahead-clause-devices
 returns-in-Ok-read_next_ahead-clause-devices g c = record {

@@ -1,7 +1,7 @@
 use Rattle.std.proofs.Common.{All, ◌≡◌, ◌+◌, List, drop, subst, sym}
 use Rattle.std.proofs.lemmas.List.Elements.{All-push}
-use Rattle.bridge_work.specs.declared.linear_curve.LinearCurve.{LinearCurve}
-use Rattle.bridge_work.specs.LinearCurves.{IsCountCurve, count_at}
+use Rattle.bridge_groups.specs.declared.linear_curve.LinearCurve.{LinearCurve}
+use Rattle.bridge_groups.specs.LinearCurves.{IsCountCurve, count_at}
 use Rattle.bridge_groups.specs.Curves as spec
 use Rattle.bridge_groups.proofs.MeterCurves.{limit_more}
 use Rattle.bridge_groups.proofs.meter_curves.count_curves.Goals as goal

@@ -1,5 +1,5 @@
 use Rattle.std.proofs.Common.{All, ◌≡◌, ◌+◌, ℕ, drop}
-use Rattle.bridge_work.specs.LinearCurves.{IsCountCurve, count_at}
+use Rattle.bridge_groups.specs.LinearCurves.{IsCountCurve, count_at}
 use Rattle.bridge_groups.specs.Curves as spec
 use Rattle.bridge_groups.proofs.meter_curves.count_curves.Given as goal
 

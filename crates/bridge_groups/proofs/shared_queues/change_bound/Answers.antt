@@ -1,8 +1,8 @@
 use Rattle.std.proofs.Common.{ℕ, ◌+◌, subst, refl}
 use Rattle.bridge_cycle.specs.Cyclic.{Cyclic}
 use Rattle.bridge_port.specs.GateSchedule.{list_opens}
-use Rattle.bridge_work.specs.LinearCurves.{curve_at}
-use Rattle.bridge_work.specs.Work.{IsDelayBound}
+use Rattle.bridge_groups.specs.LinearCurves.{curve_at}
+use Rattle.bridge_groups.specs.Work.{IsDelayBound}
 use Rattle.bridge_groups.proofs.SharedQueues.{same_bound}
 use Rattle.bridge_groups.proofs.shared_queues.change_bound.Goals as goal
 

@@ -1,5 +1,5 @@
 use Rattle.std.proofs.Common.{Some, ap}
-use Rattle.bridge_work.specs.LinearCurves.{curve_at}
+use Rattle.bridge_groups.specs.LinearCurves.{curve_at}
 use Rattle.bridge_groups.proofs.SharedQueues.{change_sum, one_list_bound}
 use Rattle.bridge_groups.proofs.shared_queues.lists_bound.Goals as goal
 

@@ -1,6 +1,6 @@
 use Rattle.std.proofs.Common.{◌≡◌, ℕ, ◌++◌, List, ap, append_assoc, string_bytes, subst, ◌∙◌}
 use Rattle.std.specs.Prelude.{flat_map}
-use Rattle.net_loops.specs.ForwardingLoops.{AreForwardingLoops}
+use Rattle.net_model.specs.ForwardingLoops.{AreForwardingLoops}
 use Rattle.net_check.specs.Telling.{sdu_falls, unlisted_filters, loop_line}
 use Rattle.net_check.proofs.warning_lines.network_warnings.Goals as goal
 

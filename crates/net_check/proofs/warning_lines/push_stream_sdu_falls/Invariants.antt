@@ -1,5 +1,5 @@
 use Rattle.std.proofs.Common.{◌≡◌, ◌++◌, string_bytes}
-use Rattle.net_loops.specs.Steps.{collect_below}
+use Rattle.net_model.specs.LoopSteps.{collect_below}
 use Rattle.net_check.specs.Telling.{sdu_fall_text}
 use Rattle.net_check.proofs.warning_lines.push_stream_sdu_falls.Given as goal
 

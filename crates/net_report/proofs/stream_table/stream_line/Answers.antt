@@ -6,4 +6,5 @@ use Rattle.net_report.proofs.stream_table.stream_line.Goals as goal
 pub returns : goal.returns
 unfolding stream_line
 returns g c = whole_if string_bytes c.finish.result _ _ _ c.new-text.ensures
-    (put_piece _ _ _ _ _ c.put_stream_start.ensures (put_piece _ _ _ _ _ c.put_statistics.ensures (put_count _ _ _ _ (codes ",") _ c.put_wide_with_suffix.ensures (put_piece _ _ _ _ _ c.put_deadline.ensures c.put.ensures)))) c.finish.ensures.text
+    (put_piece _ _ _ _ _ c.put_stream_start.ensures (put_piece _ _ _ _ _ c.put_statistics.ensures (put_count _ _ _ _ (codes ",") _ c.put_wide_with_suffix.ensures (put_piece _ _ _ _ _ c.put_deadline.ensures (put_piece _ _ _ _ _ c.put.ensures
+    (put_piece _ _ _ _ _ c.put_worst.ensures (put_piece _ _ _ _ _ c.put_margin.ensures c.put-2.ensures))))))) c.finish.ensures.text

@@ -1,4 +1,4 @@
-use Rattle.std.proofs.Common.{List, Option, Vec, arith, length, subst, sym, take}
+use Rattle.std.proofs.Common.{List, Option, Vec, arith, subst, take}
 use Rattle.std.proofs.lemmas.List.{take_all}
 use Rattle.net_report.specs.declared.copy_counting.HopRun.{HopRun}
 use Rattle.net_report.specs.declared.sources.SourceFrame.{SourceFrame}

@@ -1,4 +1,4 @@
-use Rattle.std.proofs.Common.{ℕ, List, Option, ap, length, map, string_bytes, subst, sym, ◌∙◌}
+use Rattle.std.proofs.Common.{ℕ, List, Option, ap, map, string_bytes, subst, sym, ◌∙◌}
 use Rattle.std.proofs.Math.ListN.{get_or-map}
 use Rattle.std.proofs.lemmas.List.{length-map}
 use Rattle.net_report.specs.declared.sources.SourceFrame.{SourceFrame}

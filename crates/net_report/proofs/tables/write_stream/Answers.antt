@@ -22,6 +22,6 @@ returns g c =
     let b1 = g.W.Write.contents c.write_hops.new.frames in
     on_ok_weaker c.write_hops.result
     (λ written. stream_written links hops c.args.known.now tallies s delays line a0 a1 a2 b0 b1 c.in_ok-delays.ensures
-    (c.in_ok-line.ensures ∙ ap (λ f. stream_line s.name tallies f s.bound s.deadline) (c.delay_statistics.ensures ∙ ap delay_statistics c.deref.ensures.value))
+    (c.in_ok-line.ensures ∙ ap (λ f. stream_line s.name tallies f s.bound s.deadline s.worst) (c.delay_statistics.ensures ∙ ap delay_statistics c.deref.ensures.value))
     (subst (λ (text : List ℕ). Appends a0 a1 text) c.as_str.ensures.value c.in_ok-put_table.ensures) written)
     c.write_hops.ensures

@@ -16,7 +16,7 @@ returns-then-ports-place g c =
     let size = length-map c.args.taps.now (λ (d : MemoryDevice). d.octets) in
     let within = c.if-place-taps.false in
     let here = text_here c.args.ports.now (sink_octets c.args.taps.now) c.args.port c.loop-place.place 0 c.index-taps-place.result.octets c.loop-place-test.true (omega (arith, size, within)) c.if-ports-place.true in
-    c.octets.ensures ∙ (ap (λ (d : MemoryDevice). d.octets) c.index-taps-place.is ∙ (sym (index_map (λ (d : MemoryDevice). d.octets) c.args.taps.now c.loop-place.place c.index-taps-place.result) ∙ (sym here ∙ c.loop-place.invariant)))
+    ap (λ (d : MemoryDevice). d.octets) c.index-taps-place.is ∙ (sym (index_map (λ (d : MemoryDevice). d.octets) c.args.taps.now c.loop-place.place c.index-taps-place.result) ∙ (sym here ∙ c.loop-place.invariant))
 
 pub loop-place-preserved : goal.loop-place-preserved
 loop-place-preserved g c =

@@ -1,4 +1,4 @@
-use Rattle.std.proofs.Common.{ℕ, List, Some, None, refl, sym, ap, subst, slice_index_or, ◌∙◌}
+use Rattle.std.proofs.Common.{List, None, refl, sym, subst, slice_index_or}
 use Rattle.std.proofs.lemmas.List.{set-get_or}
 use Rattle.std.proofs.lemmas.Option.{slice_get-get_or}
 use Rattle.net_run.specs.Delivery.{IsPortFed}
@@ -24,31 +24,31 @@ set_input-requires-clause-linked g c = (
   c.requires.linked (slice_index_or c.args.stations.now c.args.bridge c.index-stations-bridge.result) (slice_get-get_or c.args.stations.now c.args.bridge c.index-stations-bridge.result c.requires.bridge),
 )
 
-pub returns-then-has_input : goal.returns-then-has_input
-returns-then-has_input g c =
+pub returns-then-is_same : goal.returns-then-is_same
+returns-then-is_same g c =
     let x = slice_index_or c.args.stations.now c.args.bridge c.index-stations-bridge.result in
     let there = slice_get-get_or c.args.stations.now c.args.bridge c.index-stations-bridge.result c.requires.bridge in
-    let came = c.has_input.ensures.same c.if-has_input.true ∙ ap (λ (t : List ℕ). Some t) c.deref.ensures.value in
+    let came = c.in_ok-is_same.ensures.same c.if-is_same.true in
     subst (λ (ss : List (BridgeRunState g.row.A.Denot)). IsPortFed c.args.stations.now ss c.args.bridge c.args.place None) (sym (set-get_or c.args.stations.now c.args.bridge c.index-stations-bridge.result))
     (handed_same c.args.stations.now c.args.bridge c.args.place x there
-    (fed_one c.args.stations.now c.args.bridge c.args.place x x (sender_value c.args.sender) c.in_ok-text.text.items refl (c.requires.linked x there) came c.in_ok-text.ensures))
+    (fed_one c.args.stations.now c.args.bridge c.args.place x x (sender_value c.args.sender) c.in_ok-input.input refl (c.requires.linked x there) came c.in_ok-input.ensures))
 
 pub returns : goal.returns
 returns g c =
     let x = slice_index_or c.args.stations.now c.args.bridge c.index-stations-bridge.result in
     let there = slice_get-get_or c.args.stations.now c.args.bridge c.index-stations-bridge.result c.requires.bridge in
-    let here = c.has_input.ensures.other c.if-has_input.false in
+    let here = c.in_ok-is_same.ensures.other c.if-is_same.false in
     let linked = c.requires.linked x there in
-    handed_other c.args.stations.now c.args.bridge c.args.place c.port-port.result x c.set_input.new.self (sender_value c.args.sender) c.in_ok-text.text.items there c.set_input.ensures.ground c.set_input.ensures.taps c.set_input.ensures.texts linked c.in_ok-text.ensures
+    handed_other c.args.stations.now c.args.bridge c.args.place c.port-port.result x c.set_input.new.self (sender_value c.args.sender) c.in_ok-input.input there c.set_input.ensures.ground c.set_input.ensures.taps c.set_input.ensures.texts linked c.in_ok-input.ensures
     c.port-port.ensures
     (record {
       sender = sender_value c.args.sender;
       linked = linked;
       text = here.0;
       came = here.1;
-      sent = c.in_ok-text.text.items;
-      later = c.in_ok-text.ensures;
-      other = λ same. here.2 (same ∙ sym c.deref.ensures.value);
+      sent = c.in_ok-input.input;
+      later = c.in_ok-input.ensures;
+      other = here.2;
     })
 
 pub bounds-stations-bridge : goal.bounds-stations-bridge

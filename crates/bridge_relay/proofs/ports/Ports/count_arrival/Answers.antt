@@ -4,6 +4,7 @@ use Rattle.bridge_relay.specs.Ports.{PortsState, port_state}
 use Rattle.bridge_relay.specs.PortStates.{count_ingress}
 use Rattle.std.specs.Prelude.{slice_set}
 use Rattle.bridge_relay.proofs.Porting.{below, here, kept_same, not_none, slot_counted, same_slot}
+use Rattle.bridge_relay.proofs.Present.{present_kept}
 use Rattle.bridge_relay.proofs.ports.Ports.count_arrival.Goals as goal
 
 pub index_mut-requires : goal.index_mut-requires
@@ -22,7 +23,7 @@ count_frame-requires g c =
     let at = here slots q c.index_mut.result.now c.in-Some.slot (below slots q there.0 given) c.index_mut.ensures.value c.in-Some.is in
     record {
       few = subst (λ (v : PortState _). v.count.frames < 16000000) (sym (same_slot slots q c.in-Some.slot there.0 at given)) there.2;
-      counted = (c.self.invariant.each q c.in-Some.slot c.requires.from at).came;
+      counted = (c.self.invariant.sound.each q c.in-Some.slot c.requires.from at).came;
     }
 
 pub invariant_of-self : goal.invariant_of-self
@@ -32,7 +33,10 @@ invariant_of-self g c =
     let there = c.requires.there in
     let given = subst (λ (z : PortsState _ _). port_state z q ≡ Some there.0) (sym c.self.view_is) there.1 in
     let at = here slots q c.index_mut.result.now c.in-Some.slot (below slots q there.0 given) c.index_mut.ensures.value c.in-Some.is in
-    kept_same g.G.Agenda.held slots c.self.inside.agenda q c.in-Some.slot c.count_frame.new.self c.self.invariant c.requires.from at (ap (λ (v : PortState _). v.port) c.count_frame.ensures) (slot_counted c.in-Some.slot c.count_frame.new.self c.args.came c.count_frame.ensures (c.self.invariant.each q c.in-Some.slot c.requires.from at))
+    record {
+      sound = kept_same g.G.Agenda.held slots c.self.inside.agenda q c.in-Some.slot c.count_frame.new.self c.self.invariant.sound c.requires.from at (ap (λ (v : PortState _). v.port) c.count_frame.ensures) (slot_counted c.in-Some.slot c.count_frame.new.self c.args.came c.count_frame.ensures (c.self.invariant.sound.each q c.in-Some.slot c.requires.from at));
+      present = present_kept slots c.self.inside.present q c.in-Some.slot c.count_frame.new.self c.self.invariant.present c.requires.from (below slots q there.0 given) at;
+    }
 
 pub returns-clause-slots : goal.returns-clause-slots
 returns-clause-slots g c = λ s is.

@@ -1,28 +1,21 @@
-use Rattle.std.proofs.Common.{◌≡◌, ◌∙◌, ℕ, ◌/◌, ◌^◌, ap, sym}
-use Rattle.std.specs.Prelude.{Bool, if◌then◌else◌}
-use Rattle.bridge_relay.proofs.Outs.{only_count, only_last, only_absent}
+use Rattle.std.proofs.Common.{◌∙◌, ◌<◌, ◌-◌, ℕ, ◌^◌, rules, ap, sym, subst}
+use Rattle.std.specs.Prelude.{bit_and}
+use Rattle.std.specs.Int.Count.{count_leading_zeros}
+use Rattle.bridge_relay.specs.Ports.{PortsState, count_outputs, IsLastOutput}
+use Rattle.bridge_relay.proofs.Outs.{outs_ones, outs_last}
 use Rattle.bridge_relay.proofs.ports.Ports.count_outputs.Goals as goal
 
-pub returns-then-has-clause-count : goal.returns-then-has-clause-count
-returns-then-has-clause-count g c =
-    let n = c.ports_before_first-before.result in
-    let one : c.args.set / 2 ^ n ≡ 1 = ap (λ (m : ℕ). m / 2 ^ n) (sym c.bits-bits.ensures) ∙ c.if-bits-before-ne1.false in
-    sym (only_count c.args.self.now.slots c.args.set n c.has.result c.ports_before_first-before.ensures.none c.if-before-ge16.false one (sym c.has.ensures) ∙ ap (λ (b : Bool). if b then 1 else 0) c.if-has.true)
+pub returns-clause-count : goal.returns-clause-count
+returns-clause-count g c =
+    let slots = c.self.inside.slots.items in
+    let fits : c.bits.result < 2 ^ 16 = search rules in
+    sym (outs_ones slots c.bits.result c.self.inside.present c.self.invariant.present fits)
+    ∙ (ap (λ (n : ℕ). count_outputs slots n 16) c.bits.ensures ∙ ap (λ (p : PortsState _ _). count_outputs p.slots c.args.set 16) c.self.view_is)
 
-pub returns-then-has-clause-last : goal.returns-then-has-clause-last
-returns-then-has-clause-last g c =
-    let n = c.ports_before_first-before.result in
-    let one : c.args.set / 2 ^ n ≡ 1 = ap (λ (m : ℕ). m / 2 ^ n) (sym c.bits-bits.ensures) ∙ c.if-bits-before-ne1.false in
-    only_last c.args.self.now.slots c.args.set n c.ports_before_first-before.ensures.none c.if-before-ge16.false one (sym c.has.ensures ∙ c.if-has.true)
-
-pub returns-else-has-clause-count : goal.returns-else-has-clause-count
-returns-else-has-clause-count g c =
-    let n = c.ports_before_first-before.result in
-    let one : c.args.set / 2 ^ n ≡ 1 = ap (λ (m : ℕ). m / 2 ^ n) (sym c.bits-bits.ensures) ∙ c.if-bits-before-ne1.false in
-    sym (only_count c.args.self.now.slots c.args.set n c.has.result c.ports_before_first-before.ensures.none c.if-before-ge16.false one (sym c.has.ensures) ∙ ap (λ (b : Bool). if b then 1 else 0) c.if-has.false)
-
-pub returns-else-has-clause-last : goal.returns-else-has-clause-last
-returns-else-has-clause-last g c =
-    let n = c.ports_before_first-before.result in
-    let one : c.args.set / 2 ^ n ≡ 1 = ap (λ (m : ℕ). m / 2 ^ n) (sym c.bits-bits.ensures) ∙ c.if-bits-before-ne1.false in
-    only_absent c.args.self.now.slots c.args.set n c.ports_before_first-before.ensures.none c.if-before-ge16.false one (sym c.has.ensures ∙ c.if-has.false)
+pub returns-clause-last : goal.returns-clause-last
+returns-clause-last g c =
+    let slots = c.self.inside.slots.items in
+    let fits : c.bits.result < 2 ^ 16 = search rules in
+    let last = 16 - count_leading_zeros 16 (bit_and c.bits.result c.self.inside.present) in
+    subst (λ (p : PortsState _ _). IsLastOutput p.slots c.args.set last) c.self.view_is
+    (subst (λ (n : ℕ). IsLastOutput slots n last) c.bits.ensures (outs_last slots c.bits.result c.self.inside.present c.self.invariant.present fits))

@@ -16,7 +16,7 @@ push_reserved-requires g c =
     room_left _ c.loop-place.place 16 _ was.few c.loop-place-test.true was.room
 
 pub index-requires : goal.index-requires
-index-requires g c = subst (λ (n : ℕ). c.loop-place.place < n) (sym (c.self.inside.slots.ok.0 ∙ c.self.invariant.size)) c.loop-place-test.true
+index-requires g c = subst (λ (n : ℕ). c.loop-place.place < n) (sym (c.self.inside.slots.ok.0 ∙ c.self.invariant.sound.size)) c.loop-place-test.true
 
 pub returns-clause-counts : goal.returns-clause-counts
 returns-clause-counts g c =
@@ -24,4 +24,4 @@ returns-clause-counts g c =
     c.loop-place.invariant.counts ∙ (ap (port_counts c.self.inside.slots.items) all ∙ ap (λ (p : PortsState _ _). port_counts p.slots 16) c.self.view_is)
 
 pub returns-clause-kept : goal.returns-clause-kept
-returns-clause-kept g c = subst (λ (p : PortsState _ _). ArePortsSound g.G.Agenda.held p.slots p.agenda) c.self.view_is c.self.invariant
+returns-clause-kept g c = subst (λ (p : PortsState _ _). ArePortsSound g.G.Agenda.held p.slots p.agenda) c.self.view_is c.self.invariant.sound

@@ -1,4 +1,6 @@
-use Rattle.std.proofs.Common.{ℕ, subst}
+use Rattle.std.proofs.Common.{ℕ, List, Option, length, subst, ap, ◌∙◌}
+use Rattle.bridge_relay.specs.declared.port_state.PortState.{PortState}
+use Rattle.bridge_relay.specs.Ports.{IsPresentSet}
 use Rattle.bridge_relay.proofs.Making.{AreFirst, first_start, first_next, first_end, kept_first}
 use Rattle.bridge_relay.proofs.Rooms.{few_more, in_octet, is_end, none_few, room_kept, room_left}
 use Rattle.bridge_relay.proofs.ports.Ports.new.Goals as goal
@@ -25,7 +27,10 @@ pub invariant_of-result : goal.invariant_of-result
 invariant_of-result g c =
     let all = is_end c.loop-place.place 16 c.loop-place.auto.place-end c.loop-place-test.false in
     let first = subst (λ (n : ℕ). AreFirst c.args.plan.now.ports c.loop-place.slots.items n) all c.loop-place.invariant.first in
-    kept_first g.G.Agenda.held c.args.plan.now.ports c.loop-place.slots.items c.empty.result c.ports-ports.ensures.rules.ports first c.empty.ensures
+    record {
+      sound = kept_first g.G.Agenda.held c.args.plan.now.ports c.loop-place.slots.items c.empty.result c.ports-ports.ensures.rules.ports first c.empty.ensures;
+      present = subst (λ (l : List (Option (PortState _))). IsPresentSet l c.present_ports-present.result) c.deref.ensures.value c.present_ports-present.ensures;
+    }
 
 pub returns-clause-first : goal.returns-clause-first
 returns-clause-first g c =
@@ -49,3 +54,9 @@ loop-place-init g c =
       few = none_few _ made.len;
       room = made.capacity;
     }
+
+pub present_ports-present-requires : goal.present_ports-present-requires
+present_ports-present-requires g c =
+    let all = is_end c.loop-place.place 16 c.loop-place.auto.place-end c.loop-place-test.false in
+    let first = subst (λ (n : ℕ). AreFirst c.args.plan.now.ports c.loop-place.slots.items n) all c.loop-place.invariant.first in
+    ap length c.deref.ensures.value ∙ first.size

@@ -10,8 +10,8 @@ use Rattle.bridge_relay.specs.RelayedFrames.{leaving_frame}
 use Rattle.bridge_relay.proofs.Offering.{offering_more, left_some, goes_first, awaited_by, and_right, some_there}
 use Rattle.bridge_relay.proofs.relay.Relay.offer_copy.Goals as goal
 
-pub offer_queued_frame-requires : goal.offer_queued_frame-requires
-offer_queued_frame-requires g c =
+pub offer_to_port-requires : goal.offer_to_port-requires
+offer_to_port-requires g c =
     let b = c.requires.along.0 in
     let may = c.requires.along.1 in
     let a = c.requires.along.2 in
@@ -44,5 +44,5 @@ returns g c = record {
       let there = some_there (port_state now.ports k) (and_right (has_port c.args.set k) (is_present (port_state now.ports k)) c.requires.goes) in
       let item : Item (QueuedFrame _) = record { len = c.args.len; load = record { at = c.args.load.at; flow = c.args.load.flow; own = c.args.load.own; recorder = c.args.load.recorder; octets = c.mark_if_eligible-octets.result } } in
       let same : carried_frame item ≡ x = ap (λ (v : List ℕ). record { at = c.args.load.at; flow = c.args.load.flow; own = c.args.load.own; len = c.args.len; octets = v }) c.mark_if_eligible-octets.ensures.marked in
-      offering_more g.G.Agenda.held b now c.offer_queued_frame.new.self c.args.set c.args.priority x k there.0 item a c.requires.from c.requires.to c.requires.goes there.1 same (c.offer_queued_frame.ensures.offered there.0 there.1) c.offer_queued_frame.ensures.sound c.offer_queued_frame.ensures.due;
+      offering_more g.G.Agenda.held b now c.offer_to_port.new.self c.args.set c.args.priority x k there.0 item a c.requires.from c.requires.to c.requires.goes there.1 same (c.offer_to_port.ensures.offered there.0 there.1) c.offer_to_port.ensures.sound c.offer_to_port.ensures.due;
 }

@@ -1,8 +1,8 @@
 use Rattle.std.proofs.Common.{◌≡◌, ◌≤◌, ◌∙◌, ◌++◌, List, ℕ, Option, Some, ap, arith, get_or, length, string_bytes, subst, sym}
 use Rattle.std.specs.Prelude.{slice_get}
 use Rattle.std.proofs.lemmas.Option.{slice_get-get_or}
-use Rattle.net_loops.specs.Steps.{collect_below}
-use Rattle.net_loops.proofs.Stepping.{next_below}
+use Rattle.net_model.specs.LoopSteps.{collect_below}
+use Rattle.net_model.proofs.Stepping.{next_below}
 use Rattle.net_model.specs.declared.links.StreamHop.{StreamHop}
 use Rattle.net_check.specs.Warnings.{place_text}
 use Rattle.net_check.proofs.warnings.Named.push_hops.Goals as goal

@@ -1,6 +1,6 @@
 use Rattle.std.proofs.Common.{◌≡◌, ◌++◌, ℕ, string_bytes}
 use Rattle.std.specs.Prelude.{slice_get}
-use Rattle.net_loops.specs.Steps.{collect_below}
+use Rattle.net_model.specs.LoopSteps.{collect_below}
 use Rattle.net_check.specs.Warnings.{place_text}
 use Rattle.net_check.proofs.warnings.Named.push_hops.Given as goal
 

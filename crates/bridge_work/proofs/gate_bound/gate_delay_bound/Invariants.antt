@@ -1,7 +1,0 @@
-use Rattle.std.proofs.Common.{◌≤◌}
-use Rattle.bridge_work.proofs.gate_bound.gate_delay_bound.Given as goal
-
-abbrev pub invariant-loop-search : goal.invariant-loop-search
-invariant-loop-search g l = record {
-  few : l.carry ≤ 100_000_000_000_000_000;
-}

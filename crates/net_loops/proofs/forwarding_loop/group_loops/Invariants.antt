@@ -1,6 +1,0 @@
-use Rattle.std.proofs.Common.{take}
-use Rattle.net_loops.specs.ForwardingLoops.{AreGroupLoops}
-use Rattle.net_loops.proofs.forwarding_loop.group_loops.Given as goal
-
-abbrev pub invariant-loop-group : goal.invariant-loop-group
-invariant-loop-group g l = AreGroupLoops l.plans l.links (take l.group-index l.groups) l.rows.items

@@ -1,6 +1,0 @@
-use Rattle.std.proofs.Common.{◌≡◌, [], take, fold}
-use Rattle.net_loops.specs.Groups.{with_plan}
-use Rattle.net_loops.proofs.groups.all_groups.Given as goal
-
-abbrev pub invariant-loop-accepted : goal.invariant-loop-accepted
-invariant-loop-accepted g l = l.groups.items ≡ fold with_plan [] (take l.accepted-index l.plans)

@@ -1,5 +1,0 @@
-use Rattle.net_loops.specs.Pruning.{IsPruned}
-use Rattle.net_loops.proofs.pruning.prune_dead_ends.Given as goal
-
-abbrev pub invariant-loop : goal.invariant-loop
-invariant-loop g l = IsPruned l.steps l.kept.items

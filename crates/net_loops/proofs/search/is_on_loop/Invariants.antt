@@ -1,9 +1,0 @@
-use Rattle.std.proofs.Common.{length}
-use Rattle.net_loops.specs.Searching.{IsSearchState}
-use Rattle.net_loops.proofs.search.is_on_loop.Given as goal
-
-abbrev pub invariant-loop-pending : goal.invariant-loop-pending
-invariant-loop-pending g l = IsSearchState l.steps l.start l.reached.items l.pending.items
-
-abbrev pub decreases-loop-pending : goal.decreases-loop-pending
-decreases-loop-pending g l = length l.pending.items

@@ -1,0 +1,14 @@
+-- Input captures of ports: octets, or the capture that the sender sent, with the delay of the link.
+use Rattle.std.specs.Prelude.{ℕ, List, [], Option, Some, None}
+use Rattle.bridge_capture.specs.Memory.{MemoryDevice}
+use Rattle.net_run.specs.DelayedCapture.{delayed_text}
+
+-- The octets of an input capture: the delayed octets that the sender sent, or without a sender its own octets.
+abbrev pub input_octets : List ℕ → Option MemoryDevice → ℕ → List ℕ
+input_octets octets None delay = octets
+input_octets octets (Some sent) delay = delayed_text delay sent.octets
+
+-- The octets of an optional sent capture; empty without one.
+abbrev pub sent_octets : Option MemoryDevice → List ℕ
+sent_octets None = []
+sent_octets (Some sent) = sent.octets
