@@ -1,4 +1,4 @@
-//! Explanations of the streams of an accepted network: why frames may be refused, times at each hop, and changes by which late streams meet
+//! Explanations of an accepted network's streams: why frames may be refused, times at each hop, and changes by which late streams meet
 //! their deadlines.
 ghost use Rattle.std.specs.Prelude.{◌≤◌, All, length};
 ghost use Rattle.std.specs.Option.{ForSome};
@@ -18,8 +18,8 @@ use net_model::Network;
 use std::alloc::Global;
 use std::rt::Files;
 
-/// Explains streams with periodic talkers: why frames may be refused, when frames arrive and leave at each hop, and how to meet deadlines.
-/// Reads all files again. Returns `None` if this fails.
+/// Explains the streams of an accepted network for `net check --explain` (`check_network` of `app_networks`). Reads the network's files
+/// again. Returns `None` if this fails or memory runs out.
 pub fn explain_streams<H: AllocGlobal + Files>(rt: &H, path: &str) -> Option<String> {
     let alloc = rt.alloc();
     let mut files = CommandFiles::new(rt);
@@ -38,7 +38,7 @@ pub fn explain_streams<H: AllocGlobal + Files>(rt: &H, path: &str) -> Option<Str
 }
 
 /// Explains the streams of an accepted network: refusable streams, times at each hop, then changes for late streams. Returns `None` if
-/// memory runs out.
+/// memory runs out. `explain_streams` calls it.
 fn explain_network_streams(
     alloc: Global,
     file: &NetworkFile<Global>,

@@ -1,4 +1,4 @@
-//! Lines with changes by which late streams meet their deadlines.
+//! Lines of `net check --explain` with changes by which late streams meet their deadlines.
 use crate::changes::{Changes, SendShift, changed_phases};
 use crate::deadline_search::port_list;
 use crate::hop_times::{ListShift, shift_of_port};
@@ -10,7 +10,8 @@ use net_file::{BridgeRow, NetworkFile, StreamRow};
 use net_model::Network;
 use std::alloc::Global;
 
-/// Appends the changes by which late streams meet their deadlines, or that the search has found none (`None`).
+/// Appends the changes that `find_changes` returned, after a heading. For `None`, appends that no changes were found, and a remedy.
+/// `explain_network_streams` calls it.
 pub(crate) fn put_changes(
     said: &mut TextBuilder<Global>,
     file: &NetworkFile<Global>,
@@ -29,7 +30,7 @@ pub(crate) fn put_changes(
     put_talkers(said, file.streams(), &changes.sends);
 }
 
-/// Appends a line for each shifted list, by bridge and port.
+/// Appends a line for each shifted list, ordered by bridge and port. `put_changes` calls it.
 fn put_lists(
     said: &mut TextBuilder<Global>,
     bridges: &[BridgeRow<Global>],
@@ -45,7 +46,7 @@ fn put_lists(
     }
 }
 
-/// Appends a line for each shifted list of a bridge.
+/// Appends a line for each shifted list of the bridge of `row`, which has index `bridge`. `put_lists` calls it.
 fn put_lists_of_bridge(
     said: &mut TextBuilder<Global>,
     row: &BridgeRow<Global>,
@@ -63,7 +64,8 @@ fn put_lists_of_bridge(
     }
 }
 
-/// Appends the line of a list that is to begin `earlier` ns earlier: its new base time in ns, less than its cycle time.
+/// Appends the line that proposes to start `list` earlier by `earlier` ns. It names the plan, the port, and the new base time in ns, below
+/// the cycle time. `put_lists_of_bridge` calls it.
 fn put_list(
     said: &mut TextBuilder<Global>,
     row: &BridgeRow<Global>,
@@ -81,7 +83,7 @@ fn put_list(
     );
 }
 
-/// Appends a line for each talker that has new phases.
+/// Appends a line for each talker that has new phases. `put_changes` calls it.
 fn put_talkers(said: &mut TextBuilder<Global>, streams: &[StreamRow<Global>], sends: &[SendShift]) {
     let mut index = 0usize;
     for stream in streams {
@@ -90,7 +92,8 @@ fn put_talkers(said: &mut TextBuilder<Global>, streams: &[StreamRow<Global>], se
     }
 }
 
-/// Appends the line of a talker, if it has new phases.
+/// Appends the new phases of the talker of the stream with index `index`, and by how many ns it sends later. Appends nothing if its phases
+/// stay. `put_talkers` calls it.
 fn put_talker(
     said: &mut TextBuilder<Global>,
     stream: &StreamRow<Global>,

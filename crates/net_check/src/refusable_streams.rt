@@ -1,4 +1,5 @@
-//! Explanations of streams whose frames may be refused: the first such hop, and the condition that fails there.
+//! Explanations of `refusable` streams, whose frames may be refused: the first hop that may refuse them, and the condition that fails
+//! there.
 ghost use Rattle.std.specs.Prelude.{◌≤◌, All, IfSome, length};
 ghost use Rattle.std.specs.Option.{ForSome};
 ghost use Rattle.net_file.specs.Rules.{IsTalker};
@@ -19,8 +20,8 @@ use net_latency::{
 use net_model::{Link, Network, StreamHop};
 use std::alloc::Global;
 
-/// Appends a sentence for each stream whose periodic talker's frames may be refused: the first hop that may refuse them, and the condition
-/// that fails.
+/// Appends a sentence for each periodic talker's stream whose frames may be refused: the first hop that may refuse them, and the failing
+/// condition. `explain_network_streams` calls it.
 pub(crate) fn put_refusable_streams(
     alloc: Global,
     said: &mut TextBuilder<Global>,
@@ -51,7 +52,8 @@ pub(crate) fn put_refusable_streams(
     }
 }
 
-/// Appends a sentence about a stream if its frames may be refused. Finds the hop by computing delays for one hop, two hops, and so on.
+/// Appends a sentence about a stream if its frames may be refused. Finds the hop by computing delays up to hop 1, up to hop 2, and so on.
+/// `put_refusable_streams` calls it.
 fn put_stream(
     alloc: Global,
     said: &mut TextBuilder<Global>,
@@ -89,7 +91,7 @@ fn put_stream(
     }
 }
 
-/// Appends the beginning of a sentence: the stream, and its hop with index `place`.
+/// Appends the beginning of a sentence: the stream, and its hop with index `place`, from 0. `put_stream` calls it.
 fn put_start(
     said: &mut TextBuilder<Global>,
     file: &NetworkFile<Global>,
@@ -107,8 +109,8 @@ fn put_start(
     );
 }
 
-/// Returns the traffic of a talker at hop `place`, from the delays `before` up to the hop before. Returns `None` if its phases lie in two
-/// periods or no link leads to the hop.
+/// Returns a talker's traffic at hop `place`, from the delays `before` up to the hop before it. `None` if phases are unknown or lie in two
+/// periods, or no link joins the hops.
 fn hop_traffic(
     links: &[Link],
     hops: &[StreamHop],
@@ -128,8 +130,8 @@ fn hop_traffic(
     traffic_with_phases(talker, phases.from, phases.to)
 }
 
-/// Returns the phases of arrivals over a link of `delay` ns, from the start of the earliest arrival's period, and the time in ns from the
-/// period of `done` to this period.
+/// Returns the phases of arrivals over a link of `delay` ns, if transmissions end in phases `done`. The second value is the start of the
+/// arrivals' period, in ns. `hop_traffic` and `put_next_arrival` call it.
 pub(crate) fn phases_after_link(done: Phases, delay: u64, period: u64) -> (Phases, u128) {
     let start = u128::from(done.from).saturating_add(u128::from(delay));
     let end = u128::from(done.to).saturating_add(u128::from(delay));
@@ -142,7 +144,8 @@ pub(crate) fn phases_after_link(done: Phases, delay: u64, period: u64) -> (Phase
     (phases, whole)
 }
 
-/// Returns the traffic of a talker with the phases `from` to `to`, or `None` if they don't lie in one period.
+/// Returns the traffic of a talker if its frames arrive in the phases `from` to `to`. Returns `None` if the phases don't lie in one period.
+/// `hop_traffic` and `times_in_queue` call it.
 pub(crate) fn traffic_with_phases(talker: &Talker, from: u64, to: u64) -> Option<Traffic>
     requires { IsTalker talker.now }
     ensures { IfSome result IsTraffic }
@@ -159,8 +162,8 @@ pub(crate) fn traffic_with_phases(talker: &Talker, from: u64, to: u64) -> Option
     })
 }
 
-/// Returns the delay in ns of the first link between the bridges of hop `place` and the hop before. Returns `None` if there is no such
-/// link.
+/// Returns the delay in ns of the first link between the bridges of hop `place` and of the hop before it. Returns `None` without such a
+/// link. `hop_traffic` and `is_chain` call it.
 fn link_delay(links: &[Link], hops: &[StreamHop], place: usize) -> Option<u64> {
     let hop = hops.get(place)?.bridge;
     let before = hops.get(place.checked_sub(1)?)?.bridge;
@@ -173,8 +176,8 @@ fn link_delay(links: &[Link], hops: &[StreamHop], place: usize) -> Option<u64> {
     None
 }
 
-/// Whether each hop up to `place` has a link to the hop before it. Only then do the delays up to a hop determine the phases at the next
-/// one.
+/// Returns whether each hop up to index `place` has a link to the hop before it. Only then do delays determine the phases at the next hop.
+/// `put_hop` calls it.
 fn is_chain(links: &[Link], hops: &[StreamHop], place: usize) -> bool {
     for next in 1..=place {
         if link_delay(links, hops, next).is_none() {
@@ -184,7 +187,7 @@ fn is_chain(links: &[Link], hops: &[StreamHop], place: usize) -> bool {
     true
 }
 
-/// Whether a hop before index `place` is at this bridge. Delays are unknown if a stream crosses a bridge twice.
+/// Returns whether a hop before index `place` is at this bridge. Delays are unknown if a stream crosses a bridge twice. `put_hop` calls it.
 fn has_earlier_hop(hops: &[StreamHop], place: usize, bridge: u16) -> bool {
     for (k, hop) in hops.iter().enumerate() {
         if k < place && hop.bridge == bridge {
@@ -194,7 +197,7 @@ fn has_earlier_hop(hops: &[StreamHop], place: usize, bridge: u16) -> bool {
     false
 }
 
-/// Appends why frames may be refused at hop `place`: the first reason that applies, in the order of this function.
+/// Appends why frames may be refused at hop `place`: the first reason that applies, in the order of the tests below. `put_stream` calls it.
 fn put_hop(
     said: &mut TextBuilder<Global>,
     network: &Network<Global>,
@@ -239,8 +242,8 @@ fn put_hop(
     }
 }
 
-/// Appends the first condition that fails for this traffic at a hop. If delays up to it are known (`has_figures`) and its filter passes the
-/// traffic, it may miss frames of the hop before.
+/// Appends the first condition that fails for this traffic at a hop with class `class`. If the filter passes it and delays are known
+/// (`has_figures`), the filter may refuse frames of the hop before.
 fn put_condition(
     said: &mut TextBuilder<Global>,
     plan: &Plan<Global>,
@@ -259,7 +262,8 @@ fn put_condition(
     put_reason(said, plan, filter, traffic, class);
 }
 
-/// Returns the number of the first port of a hop's bridge on which frames of other devices may get the hop's handle, or `None`.
+/// Returns the first port of a hop's bridge on which frames of other devices may get the hop's handle, or `None`. `is_first` is true for
+/// the stream's first hop. `put_hop` calls it.
 fn port_of_others(
     links: &[Link],
     is_first: bool,
@@ -274,7 +278,7 @@ fn port_of_others(
     None
 }
 
-/// Returns the class of the first queue that the frames of a hop can enter, or `None` if they can enter none.
+/// Returns the class of the first queue that the frames of a hop can enter, or `None` if they can enter none. `put_hop` calls it.
 fn first_queue_class(bounds: &[Vec<QueueBound>], hop: StreamHop) -> Option<u8> {
     for row in bounds_of_bridge(bounds, hop.bridge) {
         if row.filter == hop.filter {

@@ -17,7 +17,7 @@ use crate::traffic_row::row_key;
 use bridge_schema::{NUMBER, NumberRange, has_only};
 use toml::Table;
 
-/// Limit of the frames that a talker sends.
+/// Limit of the frames that a talker sends: a burst and a rate, or a number of frames in any period.
 #[derive(Clone, Copy)]
 pub enum FrameLimit {
     /// In any w ns, at most the metered octets of the burst and those that the rate allows in w ns.
@@ -36,7 +36,7 @@ pub enum FrameLimit {
     },
 }
 
-/// A row of a traffic file with a limit of its frames. Its filter must belong to a group of the plan.
+/// A row of a traffic file with a limit of its filter's frames. The filter must belong to a group of the plan.
 #[derive(Clone, Copy)]
 pub struct LimitedRow {
     /// Number of the filter whose frames the row describes.
@@ -51,14 +51,16 @@ pub struct LimitedRow {
     pub deadline: Option<u64>,
 }
 
-/// Whether a row's table has a key that limits the frames (`LIMIT_KEYS`). Otherwise the row has periodic traffic.
+/// Returns whether a row's table has a key that limits the frames (`LIMIT_KEYS`). Otherwise `read_talker_row` reads a row with periodic
+/// traffic.
 pub(crate) fn is_limited(table: &Table) -> bool
     ensures { result ≡ spec.is_limited (table_view table.now) }
 {
     has_any_key(table, &LIMIT_KEYS)
 }
 
-/// Whether a row with a limit has only keys that suit the limit. A burst or a rate excludes `frames` and `period`.
+/// Returns whether a row with a limit has only keys that suit the limit. A burst or a rate excludes `frames` and `period`.
+/// `read_limited_row` calls it.
 fn has_limited_keys(table: &Table) -> bool
     ensures { result ≡ spec.has_limited_keys (table_view table.now) }
 {
@@ -69,7 +71,7 @@ fn has_limited_keys(table: &Table) -> bool
     }
 }
 
-/// Reads the burst and the rate of row `index`.
+/// Reads the burst and the rate of row `index`. `read_limit` calls it.
 #[tactic(auto, unfolding(crate::specs::LimitedRows::read_rate))]
 fn read_rate(index: u32, table: &Table) -> Result<FrameLimit, NetFault>
     ensures reads { Gives result (spec.read_rate index (table_view table.now)) }
@@ -81,7 +83,7 @@ fn read_rate(index: u32, table: &Table) -> Result<FrameLimit, NetFault>
     Ok(FrameLimit::Rate { burst, rate })
 }
 
-/// Reads the number of frames and the period of row `index`.
+/// Reads the number of frames and the period of row `index`. `read_limit` calls it.
 #[tactic(auto, unfolding(crate::specs::LimitedRows::read_count))]
 fn read_count(index: u32, table: &Table) -> Result<FrameLimit, NetFault>
     ensures reads { Gives result (spec.read_count index (table_view table.now)) }
@@ -93,7 +95,8 @@ fn read_count(index: u32, table: &Table) -> Result<FrameLimit, NetFault>
     Ok(FrameLimit::Count { frames, period })
 }
 
-/// Reads the limit of row `index`: a burst and a rate if the table has one of these keys, otherwise a number of frames in any period.
+/// Reads the limit of row `index`: burst and rate if the table has one of these keys, otherwise a number of frames in any period.
+/// `read_limited_row` calls it.
 fn read_limit(index: u32, table: &Table) -> Result<FrameLimit, NetFault>
     ensures reads { Gives result (spec.read_limit index (table_view table.now)) }
     ensures limit { IfOk result IsFrameLimit }
@@ -106,8 +109,8 @@ fn read_limit(index: u32, table: &Table) -> Result<FrameLimit, NetFault>
     }
 }
 
-/// Returns the captured length in octets of the longest frame that keeps a limit. A burst has room for the frame and its frame check
-/// sequence.
+/// Returns the captured length in octets of the longest frame that keeps a limit. The burst must contain the frame and its frame check
+/// sequence of 4 octets. `read_limited_row` calls it.
 fn limit_longest(limit: FrameLimit) -> u64
     requires limit { IsFrameLimit limit }
     ensures { result ≡ spec.limit_longest limit }
@@ -118,7 +121,7 @@ fn limit_longest(limit: FrameLimit) -> u64
     }
 }
 
-/// Reads row `index`, from 1, with a limit from its table, or returns its first fault.
+/// Reads row `index`, from 1, with a limit of its frames from its table, or returns its first fault. `read_talker_row` calls it.
 #[tactic(auto, unfolding(crate::specs::LimitedRows::read_limited_row))]
 pub(crate) fn read_limited_row(index: u32, table: &Table) -> Result<LimitedRow, NetFault>
     ensures reads { Gives result (spec.read_limited_row index (table_view table.now)) }

@@ -1,4 +1,4 @@
-//! Links of a network file.
+//! Links of a network file: the section `link`. `parse_network` reads it.
 ghost use Rattle.std.specs.Prelude.{◌≡◌, ◌<◌, ◌≤◌, All, IfErr, IfOk, length};
 ghost use Rattle.toml.specs.View.{table_view};
 ghost use Rattle.net_file.specs.declared.fault.NetFault.TheVariants.{NoMemory};
@@ -16,7 +16,7 @@ use bridge_schema::{Flaw, SectionReader, ValueKind, has_only};
 use std::alloc::Allocator;
 use toml::{Table, Value};
 
-/// A link of a network file, with its bridge names replaced by indexes.
+/// A link of a network file. Each end names its bridge by the bridge's index.
 #[derive(Clone, Copy)]
 pub struct LinkRow {
     /// Port at one end: the index of its bridge from 0, and its number.
@@ -58,7 +58,7 @@ impl<'a, A: Allocator + Copy> ValueKind for PortName<'a, A> {
     }
 }
 
-/// Returns the location of a key of link `index`, from 1, for a fault.
+/// Returns the location of a key of link `index`, from 1, for a fault. `read_link` calls it.
 fn link_key(index: u32, field: NetField) -> NetKeyLocation
     ensures { result ≡ record { section = the_section.Link; index = index; field = field } }
 {
@@ -70,6 +70,7 @@ fn link_key(index: u32, field: NetField) -> NetKeyLocation
 }
 
 /// Reads link `index`, from 1, from its table, or returns its first fault. The ends must be ports of `bridges`; `delay` may be absent.
+/// `read` calls it.
 #[tactic(auto, unfolding(crate::specs::Sections::read_link))]
 fn read_link<A: Allocator + Copy>(
     bridges: &[BridgeRow<A>],

@@ -1,4 +1,4 @@
-//! Names of bridges, and names of a bridge's port or filter.
+//! Names of bridges, and names of a bridge's port or filter, such as `left.3`.
 ghost use Rattle.std.specs.Prelude.{◌≡◌, ◌<◌, ◌≤◌, IfOk, length, option_map};
 ghost use Rattle.std.specs.List.{list_all};
 ghost use Rattle.net_file.specs.Names as spec;
@@ -8,21 +8,21 @@ use crate::keys::LONGEST_NAME;
 use bridge_schema::Flaw;
 use std::alloc::Allocator;
 
-/// Whether a name may contain the character: a letter, a digit, a hyphen or an underscore.
+/// Returns whether a name may contain the character: a letter, a digit, a hyphen or an underscore. `are_name_characters` calls it.
 fn is_name_character(c: u8) -> bool
     ensures { result ≡ spec.is_name_character c }
 {
     c.is_ascii_alphanumeric() || c == b'-' || c == b'_'
 }
 
-/// Whether a name may contain each of these octets.
+/// Returns whether a name may contain each of these octets. `is_valid_name` calls it.
 fn are_name_characters(octets: &[u8]) -> bool
     ensures { result ≡ list_all spec.is_name_character octets.now }
 {
     octets.iter().all(|c| is_name_character(*c))
 }
 
-/// Whether a text is a name: 1 to 32 letters, digits, `-` and `_`.
+/// Returns whether a text is a name of a bridge or stream: 1 to 32 letters, digits, `-` and `_`. `name_value` refuses other texts.
 pub(crate) fn is_valid_name(text: &str) -> bool
     ensures { result ≡ spec.is_valid_name text.now }
 {
@@ -30,8 +30,8 @@ pub(crate) fn is_valid_name(text: &str) -> bool
     1 <= octets.len() && octets.len() <= LONGEST_NAME && are_name_characters(octets)
 }
 
-/// Returns the number that a text of decimal digits stands for. Returns `None` for other texts, for a plus sign, and for numbers outside
-/// `low` to `high`.
+/// Returns the number from `low` to `high` that a text of decimal digits stands for. Returns `None` for other texts and other numbers.
+/// `split_numbered_name` calls it.
 #[tactic(auto, using(crate::proofs::Numerals::numeral_from, crate::proofs::Numerals::numeral_to))]
 fn parse_number(text: &str, low: u32, high: u32) -> Option<u32>
     ensures { result ≡ spec.parse_number low high text.now }
@@ -46,6 +46,7 @@ fn parse_number(text: &str, low: u32, high: u32) -> Option<u32>
 }
 
 /// Returns the text before the first dot and the number after it. Returns `None` without a dot, or without a number from `low` to `high`.
+/// `is_numbered_name` and `resolve_numbered_name` call it.
 fn split_numbered_name(text: &str, low: u32, high: u32) -> Option<(&str, u32)>
     ensures { option_map (λ x. record { name = x.0.now; number = x.1 }) result
         ≡ spec.split_numbered_name low high text.now }
@@ -55,14 +56,15 @@ fn split_numbered_name(text: &str, low: u32, high: u32) -> Option<(&str, u32)>
     Some((name, number))
 }
 
-/// Whether a text has the form of a bridge's port or filter: a text, a dot, and a number from `low` to `high`.
+/// Returns whether a text has the form of a bridge's port or filter: a text, a dot, and a number from `low` to `high`. The bridge may be
+/// missing. `are_numbered_names` calls it.
 pub fn is_numbered_name(text: &str, low: u32, high: u32) -> bool
     ensures { result ≡ spec.is_numbered_name low high text.now }
 {
     split_numbered_name(text, low, high).is_some()
 }
 
-/// Returns the index of the bridge with this name, from 0. Returns `None` if no bridge has it.
+/// Returns the index of the bridge with this name, from 0. Returns `None` if no bridge has it. `resolve_numbered_name` calls it.
 fn bridge_index<A: Allocator + Copy>(bridges: &[BridgeRow<A>], name: &str) -> Option<u16>
     requires { length bridges.now ≤ 64 }
     ensures place { result ≡ spec.bridge_index bridges.now name.now }
@@ -76,8 +78,8 @@ fn bridge_index<A: Allocator + Copy>(bridges: &[BridgeRow<A>], name: &str) -> Op
     None
 }
 
-/// Returns the bridge's index and the number that a text such as `left.3` names: a port or a filter. Another form is `OutOfRange`, a
-/// missing bridge `Unresolved`.
+/// Returns the bridge's index and the number, `low` to `high`, that a text such as `left.3` names. Another form is `OutOfRange`, a missing
+/// bridge `Unresolved`. Links and hops are read by it.
 pub(crate) fn resolve_numbered_name<A: Allocator + Copy>(
     bridges: &[BridgeRow<A>],
     low: u32,

@@ -1,4 +1,4 @@
-//! Reading of network files.
+//! Reading of network files: `parse_network`, and the type that it returns.
 ghost use Rattle.std.specs.Prelude.{◌≡◌, IfErr, IfOk};
 ghost use Rattle.toml.specs.View.{table_view};
 ghost use Rattle.net_file.specs.declared.fault.NetFault.TheVariants.{NoMemory};
@@ -16,7 +16,7 @@ use std::alloc::{Allocator, Global};
 use std::marker::Model;
 use toml::{Table, Value};
 
-/// A network file that obeys the rules of networks. Only `parse_network` creates a value.
+/// Network file without fault: its bridges, links and streams. Only `parse_network` creates a value.
 #[derive(Drop)]
 pub struct NetworkFile<A: Allocator + Copy> {
     bridges: Vec<BridgeRow<A>, A>,
@@ -73,7 +73,8 @@ struct SectionArrays<'a> {
     streams: &'a [Value],
 }
 
-/// Returns the arrays of a network's three sections, or the first fault of the top. Allocates no memory.
+/// Returns the arrays of a network's three sections, or the first fault at the top of the file. Allocates no memory. `parse_network` calls
+/// it.
 #[tactic(auto, unfolding(crate::specs::Document::read_arrays))]
 fn read_arrays<'a>(table: &'a Table) -> Result<SectionArrays<'a>, NetFault>
     ensures reads { GivesAs items_of_arrays result (doc.read_arrays (table_view table.now)) }
@@ -110,7 +111,8 @@ fn read_arrays<'a>(table: &'a Table) -> Result<SectionArrays<'a>, NetFault>
     })
 }
 
-/// Reads the bridges, then the links, then the streams, because links and hops name bridges. Returns the first fault.
+/// Reads the bridges, then the links, then the streams, because links and hops name bridges. Returns the first fault. `parse_network` calls
+/// it.
 #[tactic(auto, unfolding(crate::specs::Document::read_sections))]
 fn read_sections<A: Allocator + Copy>(
     alloc: A,
@@ -129,7 +131,8 @@ fn read_sections<A: Allocator + Copy>(
     })
 }
 
-/// Reads the TOML document of a text into `heap`. `TooLong` is a text above 1,048,576 octets; `Syntax` is a text that isn't TOML in UTF-8.
+/// Reads the TOML document of a network or traffic file into `heap`. `TooLong` is a text above 1,048,576 octets, `Syntax` a text that isn't
+/// TOML in UTF-8.
 #[tactic(auto, unfolding(crate::specs::Document::read_document))]
 pub fn read_document(heap: Global, text: &[u8]) -> Result<Table, NetFault>
     ensures { GivesAs table_view result (doc.read_document text.now) }
@@ -138,7 +141,7 @@ pub fn read_document(heap: Global, text: &[u8]) -> Result<Table, NetFault>
 }
 
 /// Reads a network from a TOML text, or returns its first fault: syntax first, then sections in the order bridge, link, stream. `heap`
-/// holds the document, `alloc` the network.
+/// holds the document, `alloc` the network. Commands for networks call it.
 pub fn parse_network<A: Allocator + Copy>(
     alloc: A,
     heap: Global,

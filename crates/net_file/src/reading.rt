@@ -1,4 +1,4 @@
-//! Reading of required and optional keys.
+//! Reading of required and optional keys from the tables of network and traffic files.
 ghost use Rattle.std.specs.Prelude.{◌≡◌, IfErr, IfOk, option_map, true};
 ghost use Rattle.std.specs.Option.{ForSome};
 ghost use Rattle.toml.specs.View.{view, table_view};
@@ -13,7 +13,7 @@ use bridge_schema::{ValueKind, get_value, optional_value, required_value, value_
 use toml::{Table, Value};
 
 /// Reads the value of the required key at `place` from its table. `kind` defines the allowed values. Returns the fault `Missing` if the key
-/// is absent. Allocates no memory.
+/// is absent. Allocates no memory. Sections are read by it.
 #[tactic(auto, unfolding(crate::specs::Keys::read_required))]
 pub fn read_required<K: ValueKind>(
     table: &Table,
@@ -28,7 +28,7 @@ pub fn read_required<K: ValueKind>(
 }
 
 /// Reads the value of the optional key at `place` from its table. `kind` defines the allowed values. Returns `None` if the key is absent.
-/// Allocates no memory.
+/// Allocates no memory. Sections are read by it.
 #[tactic(auto, unfolding(crate::specs::Keys::read_optional))]
 pub fn read_optional<K: ValueKind>(
     table: &Table,
@@ -42,7 +42,8 @@ pub fn read_optional<K: ValueKind>(
     optional_value(place, kind, get_value(table, place.field.key()))
 }
 
-/// Reads the value of a key, or returns `default` if the key is absent. Allocates no memory.
+/// Reads the value of the optional key at `place` from its table. `kind` defines the allowed values. Returns `default` if the key is
+/// absent. Allocates no memory. `read_link` calls it.
 #[tactic(auto, unfolding(crate::specs::Keys::read_or_default))]
 pub(crate) fn read_or_default<K: ValueKind>(
     default: K::Out,
@@ -61,8 +62,8 @@ where
 }
 
 #[tactic(auto, unfolding(crate::specs::Keys::any_text))]
-/// Returns the text that is the value of a required key. The fault is `Missing` without a value, and `WrongKind` for a value of another
-/// kind.
+/// Returns the text `value` of the required key at `place`. The fault is `Missing` without a value, and `WrongKind` for a value of another
+/// kind. `read_text` calls it.
 fn text_value<'a>(place: NetKeyLocation, value: Option<&'a Value>) -> Result<&'a str, NetFault>
     ensures reads { GivesAs (λ x. x.now) result (spec.required_value place spec.any_text
         (option_map (λ v. view v.now) value.entry)) }
@@ -75,7 +76,8 @@ fn text_value<'a>(place: NetKeyLocation, value: Option<&'a Value>) -> Result<&'a
     }
 }
 
-/// Reads the text of a required key. The result borrows from the table, so no memory is allocated.
+/// Reads the text of the required key at `place` from its table. The result borrows from the table, so no memory is allocated.
+/// `read_bridge` calls it.
 #[tactic(auto, unfolding(crate::specs::Keys::read_required))]
 pub(crate) fn read_text<'a>(table: &'a Table, place: NetKeyLocation) -> Result<&'a str, NetFault>
     ensures reads { GivesAs (λ x. x.now) result (spec.read_required place spec.any_text (table_view table.now)) }
@@ -85,8 +87,8 @@ pub(crate) fn read_text<'a>(table: &'a Table, place: NetKeyLocation) -> Result<&
 }
 
 #[tactic(auto, unfolding(crate::specs::Keys::name_text))]
-/// Returns the name that is the value of a required key. The fault is `Missing` without a value, `OutOfRange` for another text, and
-/// `WrongKind` for another kind.
+/// Returns the name `value` of the required key at `place`. The fault is `Missing` without a value, `OutOfRange` for another text, and
+/// `WrongKind` for another kind. `read_name` calls it.
 fn name_value<'a>(place: NetKeyLocation, value: Option<&'a Value>) -> Result<&'a str, NetFault>
     ensures reads { GivesAs (λ x. x.now) result (spec.required_value place spec.name_text
         (option_map (λ v. view v.now) value.entry)) }
@@ -107,7 +109,8 @@ fn name_value<'a>(place: NetKeyLocation, value: Option<&'a Value>) -> Result<&'a
     }
 }
 
-/// Reads a required key whose value must be a name: 1 to 32 letters, digits, `-` and `_`. The result borrows from the table.
+/// Reads the required key at `place`, whose value must be a name: 1 to 32 letters, digits, `-` and `_`. The result borrows from the table.
+/// `read_bridge` and `read_stream` call it.
 #[tactic(auto, unfolding(crate::specs::Keys::read_required))]
 pub(crate) fn read_name<'a>(table: &'a Table, place: NetKeyLocation) -> Result<&'a str, NetFault>
     ensures reads { GivesAs (λ x. x.now) result (spec.read_required place spec.name_text (table_view table.now)) }

@@ -8,11 +8,11 @@ use Rattle.bridge_groups.specs.GroupRows.{AreSharedQueues}
 use Rattle.net_latency.specs.Bounds.{AreTightBounds}
 use Rattle.net_latency.specs.SharedLines.{shared_text}
 
--- The mark ` coarse` of a bound that allows for any arrival time, or nothing.
+-- The mark ` coarse` of a bound that allows for any arrival time; empty for other bounds.
 abbrev pub coarse_mark : Bool → List ℕ
 coarse_mark coarse = if coarse then codes " coarse" else []
 
--- The bound for frames of at least 60 octets, such as ` padded 1283`, or nothing.
+-- The bound for frames of at least 60 octets, such as ` padded 1283`; empty without this bound.
 abbrev pub padded_figure : Option ℕ → List ℕ
 padded_figure None = []
 padded_figure (Some b) = codes " padded " ++ decimal b
@@ -25,7 +25,7 @@ bound_line r = codes "filter " ++ (decimal r.filter ++ (codes " port " ++ (decim
 abbrev pub bounds_text : List TightBound → List ℕ
 bounds_text rows = flat_map bound_line rows
 
--- Holds if `lines` has the lines of all tight bounds of a plan, then those of all queues that groups share.
+-- Holds if `lines` has the lines of all tight bounds of a plan, then the lines of all queues that groups share.
 abbrev pub AreBoundLines : {A : Type 0} → Plan A → List ℕ → Type 0
 AreBoundLines p lines = (rows : List TightBound) × (shared : List SharedQueue) × AreTightBounds p rows × AreSharedQueues p shared × (lines ≡ bounds_text rows ++ shared_text shared)
 

@@ -7,12 +7,12 @@ abbrev pub is_lossy : Option ℕ → ℕ → Bool
 is_lossy None capacity = true
 is_lossy (Some room) capacity = nat_lt capacity room
 
--- The mark of a shared queue: ` unmetered` if only its capacity bounds it, ` lossy` if it may drop copies as full, or
+-- The mark of a shared queue: ` unmetered` if only its capacity bounds the delay. Otherwise ` lossy` if it may drop copies as full, or
 -- nothing.
 abbrev pub shared_mark : SharedQueue → List ℕ
 shared_mark s = if s.is_metered then (if is_lossy s.room s.capacity then codes " lossy" else []) else codes " unmetered"
 
--- The capacity that suffices, `none` if none is known, and the queue's own capacity.
+-- The words for the capacity that suffices (`none` if none is known), and for the queue's own capacity.
 abbrev pub room_words : Option ℕ → ℕ → List ℕ
 room_words None capacity = codes " room none of " ++ decimal capacity
 room_words (Some room) capacity = codes " room " ++ (decimal room ++ (codes " of " ++ decimal capacity))

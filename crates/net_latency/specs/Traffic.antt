@@ -64,7 +64,8 @@ suits_port period (Some out) = suits_lists period out.list
 abbrev pub has_misfit_at_port : {A : Type 0} → Plan A → FilterPlan → ℕ → ℕ → Bool
 has_misfit_at_port p f period q = some_number_passes 8 (λ c. reaches_queue p f q c) && not (suits_port period (find_port p.ports q))
 
--- True if a period is a multiple of each cycle time on a filter's route. The route has its stream gate and each port with a reachable queue.
+-- True if a period is a multiple of each cycle time on a filter's route. The route is its stream gate, and each port at which it has a
+-- reachable queue.
 abbrev pub suits : {A : Type 0} → Plan A → FilterPlan → ℕ → Bool
 suits p f period =
     suits_gate period (lookup (nat_eq f.gate) p.gates)
@@ -76,7 +77,8 @@ suits p f period =
 abbrev pub row_key : ℕ → NetField → NetKeyLocation
 row_key index key = record { section = section.Traffic; index = index; field = key }
 
--- The fault of a row compared with the plan: the filter is missing or unprotected, or the period doesn't suit.
+-- The fault of row `r` compared with the plan, or `None`. Its optional filter is missing or unprotected, or its period doesn't suit a cycle
+-- time.
 abbrev pub filter_fault : {A : Type 0} → Plan A → ℕ → TrafficRow → Option FilterPlan → Option TrafficFault
 filter_fault p index r None = Some (fault.Text (net.Unresolved (row_key index field.Filter)))
 filter_fault p index r (Some f) =
@@ -84,7 +86,7 @@ filter_fault p index r (Some f) =
     else if not (suits p f r.traffic.period) then Some (fault.Text (net.OutOfRange (row_key index field.Period)))
     else None
 
--- The fault of a row with periodic traffic compared with the plan, or `None`.
+-- The fault of row `index`, with periodic traffic, compared with the plan, or `None`.
 abbrev pub row_fault : {A : Type 0} → Plan A → ℕ → TrafficRow → Option TrafficFault
 row_fault p index r = filter_fault p index r (lookup (nat_eq r.filter) p.filters)
 
@@ -131,7 +133,7 @@ abbrev pub IfElse : Bool → Type 0 → Type 0 → Type 0
 IfElse true A B = A
 IfElse false A B = B
 
--- Holds if `xs` has the delays of a row, one for each queue of its filter, in order.
+-- Holds if `xs` has the delays of row `r`, one item for each bound of its filter's queues, in order.
 abbrev pub AreRowTimings : {A : Type 0} → Plan A → ℕ → TrafficRow → List QueueBound → List QueueTiming → Type 0
 AreRowTimings p index r [] xs = xs ≡ []
 AreRowTimings p index r (b ∷ bs) xs =

@@ -34,13 +34,13 @@ pub record IsRouteHop {A : Type 0} (n : Network A) (lists : ℕ → ℕ → List
   pub started : leg.copy.fate ≡ Started leg.start
   pub bound : IsQueueBound leg.plan leg.filter leg.port leg.copy.class leg.bound
 
--- Holds if the frame arrives at the next hop over a link, `delay` ns after its end of transmission at `leg`.
+-- Holds if the copy of `next` arrives over a link, `delay` ns after the end of transmission of the copy of `leg`.
 pub record IsNextHop {A : Type 0} (n : Network A) (leg next : RouteHop A) (delay : ℕ) : Type 0 where
   pub port : ℕ
   pub linked : sender n.links next.bridge port ≡ Some (record { from = record { bridge = leg.bridge; port = leg.port }; delay = delay })
   pub comes : next.copy.at ≡ hop_end leg + delay
 
--- Holds if the first hop and the later hops, each with the delay of the link before it, are a route.
+-- Holds if hop `leg` and the later hops in the list are a route of the network. Each later hop has the delay of the link before it.
 abbrev pub IsRoute : {A : Type 0} → Network A → (ℕ → ℕ → List (Copy CarriedFrame)) → RouteHop A → List (ℕ × RouteHop A) → Type 0
 IsRoute n lists leg [] = IsRouteHop n lists leg
 IsRoute n lists leg (x ∷ more) = IsRouteHop n lists leg × IsNextHop n leg x.1 x.0 × IsRoute n lists x.1 more

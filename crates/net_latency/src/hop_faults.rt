@@ -10,21 +10,21 @@ use net_file::{BridgeRow, NetField, NetSection};
 use net_model::{Link, NetworkFault, RefusedNetwork, StreamHop};
 use std::alloc::Global;
 
-/// A refused hop, with its numbers in the fault line.
+/// A refused hop, with its numbers in the fault line. `explain_hop_fault` looks it up.
 #[derive(Clone, Copy)]
 struct RefusedHop<'a> {
     /// Number of the hop's stream in the network file, from 1.
     stream: usize,
     /// Number of the hop in the stream, from 1.
     place: usize,
-    /// The hop.
+    /// Hop that is refused.
     hop: StreamHop,
     /// Bridge of the hop.
     bridge: &'a BridgeRow<Global>,
 }
 
-/// Explains why `refused` has a fault at a hop: hop `place` of stream `stream`, both counted from 1. Returns `None` if the hop is missing
-/// or memory runs out.
+/// Explains the fault of `refused` at hop `place` of stream `stream`, both from 1. `explain_refusal` of net_check calls it. `None` if the
+/// hop is missing or memory runs out.
 pub fn explain_hop_fault(
     alloc: Global,
     asked: NetworkText<'_>,
@@ -54,12 +54,12 @@ pub fn explain_hop_fault(
     said.finish().ok()
 }
 
-/// Returns the plan of the bridge with index `bridge`, from 0, or `None` if the network lacks the bridge.
+/// Returns the plan of the bridge with index `bridge`, from 0, or `None` if the network lacks the bridge. `explain_hop_fault` calls it.
 fn bridge_plan(refused: &RefusedNetwork<Global>, bridge: u16) -> Option<&Accepted<Global>> {
     refused.plans.get(bridge as usize)
 }
 
-/// Returns the name of stream `stream`, counted from 1, or an empty text if the file lacks the stream.
+/// Returns the name of stream `stream`, from 1, or an empty text if the file lacks the stream. `put_hop` and `put_twice` call it.
 fn stream_name<'a>(asked: NetworkText<'a>, stream: usize) -> &'a str {
     match asked.file.streams().get(stream.wrapping_sub(1)) {
         Some(row) => row.name(),
@@ -68,7 +68,7 @@ fn stream_name<'a>(asked: NetworkText<'a>, stream: usize) -> &'a str {
 }
 
 /// Appends the position of the stream's key `hops`, the refused hop's number, and the hop as the file writes it. All explanations of hops
-/// begin like this.
+/// begin like this. `explain_hop_fault` calls it.
 fn put_hop(said: &mut TextBuilder<Global>, asked: NetworkText<'_>, found: RefusedHop<'_>) {
     let key = NetField::Hops.key();
     asked.put_place(said, NetSection::Stream, found.stream, Some(key));
@@ -79,7 +79,8 @@ fn put_hop(said: &mut TextBuilder<Global>, asked: NetworkText<'_>, found: Refuse
     );
 }
 
-/// Appends that the hop's filter is missing or unprotected in the plan of its bridge, then the protected filters of this plan and a remedy.
+/// Appends that the hop's filter is missing or unprotected in the plan of its bridge. Then appends the protected filters of this plan and a
+/// remedy. `explain_hop_fault` calls it.
 fn put_filters(
     alloc: Global,
     said: &mut TextBuilder<Global>,
@@ -106,7 +107,7 @@ fn put_filters(
 }
 
 /// Appends a sentence with the numbers of a plan's protected filters, from which the reader can choose. Discards the whole explanation if
-/// memory runs out.
+/// memory runs out. `explain_unusable_filter` and `put_filters` call it.
 pub(crate) fn put_protected(
     alloc: Global,
     said: &mut TextBuilder<Global>,
@@ -127,7 +128,7 @@ pub(crate) fn put_protected(
 }
 
 /// Appends a sentence with the numbers of a plan's grouped filters, from which the reader can choose. Discards the whole explanation if
-/// memory runs out.
+/// memory runs out. `explain_limited_row` calls it.
 pub(crate) fn put_grouped(
     alloc: Global,
     said: &mut TextBuilder<Global>,
@@ -147,7 +148,7 @@ pub(crate) fn put_grouped(
     said.put(".\n");
 }
 
-/// Returns the number, from 1, of the first hop in `hops` that equals `hop`, or 0 if none does.
+/// Returns the number, from 1, of the first hop in `hops` with the bridge and filter of `hop`, or 0 if there is none. `put_twice` calls it.
 fn hop_index(hops: &[StreamHop], hop: StreamHop) -> u64 {
     let mut place = 0u64;
     for other in hops {
@@ -159,7 +160,8 @@ fn hop_index(hops: &[StreamHop], hop: StreamHop) -> u64 {
     0
 }
 
-/// Appends which earlier hop has the refused hop's bridge and filter: its number, and the name of its stream. Then appends a remedy.
+/// Appends which earlier hop has the refused hop's bridge and filter: its number and its stream. Then appends a remedy. `explain_hop_fault`
+/// calls it.
 fn put_twice(
     said: &mut TextBuilder<Global>,
     asked: NetworkText<'_>,
@@ -186,7 +188,8 @@ fn put_twice(
     );
 }
 
-/// Appends that no open port of the bridge has a stream entry with the handle of the first hop's filter, so no talker's frame can reach it.
+/// Appends that no open port of the bridge has a stream entry with the first hop's handle, so no talker's frame can reach the hop.
+/// `explain_hop_fault` calls it.
 fn put_no_entry(
     said: &mut TextBuilder<Global>,
     accepted: &Accepted<Global>,
@@ -203,7 +206,7 @@ fn put_no_entry(
     );
 }
 
-/// Whether a link joins a bridge to the bridge of one of these hops.
+/// Returns whether a link joins a bridge to the bridge of one of these hops. `put_unfed` calls it.
 fn is_joined(links: &[Link], hops: &[StreamHop], bridge: u16) -> bool {
     for link in links {
         let (one, other) = (link.one.bridge, link.other.bridge);
@@ -216,8 +219,8 @@ fn is_joined(links: &[Link], hops: &[StreamHop], bridge: u16) -> bool {
     false
 }
 
-/// Appends why no frame of another hop in `hops` can reach the refused hop: no link joins their bridges, or the refused hop's filter
-/// accepts no such frame.
+/// Appends why no frame of another hop in `hops` can reach the refused hop. No link joins their bridges, or its filter accepts no such
+/// frame. `explain_hop_fault` calls it.
 fn put_unfed(
     said: &mut TextBuilder<Global>,
     links: &[Link],

@@ -1,4 +1,4 @@
-//! Conversion of a stream's hops from the form of network files to the form of `net_model`.
+//! Conversion of a stream's hops from the form of network files to the form of `net_model`, for checks and delays.
 ghost use Rattle.std.specs.Prelude.{◌≡◌, map, IfOk};
 ghost use Rattle.net_latency.specs.Streams.{stream_hop_value};
 
@@ -6,7 +6,8 @@ use bridge_limits::NoMemory;
 use net_model::StreamHop;
 use std::alloc::Allocator;
 
-/// Converts the hops of a network file to the hops of `net_model`: pairs become values of `StreamHop`.
+/// Returns the hops of a network file's stream as hops of `net_model`: pairs become values of `StreamHop`. Checks and computations of
+/// delays need this form.
 pub fn stream_hops<A: Allocator + Copy>(
     alloc: A,
     rows: &[(u16, u32)],

@@ -1,4 +1,4 @@
-//! Warnings about queues that groups share: queues that may drop copies as full, and queues that only their capacity bounds.
+//! Warnings of `bounds` about queues that groups share: queues that may drop copies as full, and queues that only their capacity bounds.
 ghost use Rattle.std.specs.Prelude.{◌≡◌, ◌++◌, IfOk, OnOk, string_bytes};
 ghost use Rattle.net_latency.specs.SharedWarnings.{AreSharedWarnings, lossy_warning, shared_warning, shared_warnings, unmetered_warning};
 
@@ -8,8 +8,8 @@ use bridge_groups::{SharedQueue, plan_shared_queues};
 use bridge_limits::NoMemory;
 use std::alloc::{AllocError, Allocator};
 
-/// Appends the warning for a queue whose delay only its capacity bounds, because a filter of its group has no meter, or the meters pass
-/// more than the windows carry.
+/// Appends the warning for a queue whose delay only its capacity bounds. A filter of its group has no meter, or the meters pass more than
+/// the windows carry. `push_shared_warning` calls it.
 #[tactic(auto, unfolding(crate::specs::SharedWarnings::unmetered_warning))]
 fn push_unmetered_warning<A: Allocator + Copy>(
     text: &mut String<A>,
@@ -29,7 +29,8 @@ fn push_unmetered_warning<A: Allocator + Copy>(
     )
 }
 
-/// Appends the warning for a queue that may be full and drop copies, because its capacity isn't known to suffice.
+/// Appends the warning for a queue that may be full and drop copies, because its capacity isn't known to suffice. `push_shared_warning`
+/// calls it.
 #[tactic(auto, unfolding(crate::specs::SharedWarnings::lossy_words))]
 fn push_lossy_warning<A: Allocator + Copy>(
     text: &mut String<A>,
@@ -56,7 +57,7 @@ fn push_lossy_warning<A: Allocator + Copy>(
     }
 }
 
-/// Appends the warning of a shared queue. Appends nothing for a queue without a mark.
+/// Appends the warning about a shared queue, at most one. Appends nothing for a queue without a mark. `rows_warnings` calls it.
 fn push_shared_warning<A: Allocator + Copy>(
     text: &mut String<A>,
     row: &SharedQueue,
@@ -72,7 +73,7 @@ fn push_shared_warning<A: Allocator + Copy>(
     Ok(())
 }
 
-/// Returns one warning for each queue of `rows` with the mark `unmetered` or `lossy`, in the order of `rows`.
+/// Returns one warning for each queue of `rows` with the mark `unmetered` or `lossy`, in the order of `rows`. `shared_warnings` calls it.
 fn rows_warnings<A: Allocator + Copy>(alloc: A, rows: &[SharedQueue]) -> Result<String<A>, NoMemory>
     ensures { IfOk result (λ text. string_bytes text ≡ shared_warnings rows.now) }
 {
@@ -85,8 +86,8 @@ fn rows_warnings<A: Allocator + Copy>(alloc: A, rows: &[SharedQueue]) -> Result<
     Ok(text)
 }
 
-/// Returns one warning for each shared queue of an accepted plan that may drop copies as full, or that only its capacity bounds. Returns
-/// the empty text if there is none.
+/// Returns one warning for each shared queue of an accepted plan that may drop copies as full, or that only its capacity bounds. Empty
+/// without such a queue.
 pub fn shared_warnings<A: Allocator + Copy>(
     alloc: A,
     accepted: &Accepted<A>,

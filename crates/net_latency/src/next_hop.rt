@@ -1,4 +1,4 @@
-//! Search for the other end of a port's link, and for the hop of a stream there.
+//! Search for the other end of a port's link, and for the hop of a stream there. Delays follow a stream's route by it.
 ghost use Rattle.std.specs.Prelude.{◌≡◌, map, option_map};
 ghost use Rattle.net_model.specs.Networks.{sender};
 ghost use Rattle.net_model.specs.NetworkParts.{link_value};
@@ -15,7 +15,7 @@ pub(crate) struct FarEnd {
     pub delay: u64,
 }
 
-/// Next hop on a frame's route, and the delay of the link that leads there.
+/// Next hop on the route of a stream's frames, and the delay of the link that leads there.
 #[derive(Clone, Copy)]
 pub(crate) struct NextHop {
     /// Hop of the stream.
@@ -24,7 +24,8 @@ pub(crate) struct NextHop {
     pub delay: u64,
 }
 
-/// Returns the other end of the port's first link. Returns `None` for an open port.
+/// Returns the port at the other end of the link of a port, with the link's delay. `bridge` is the index of the port's bridge, from 0.
+/// Returns `None` for an open port.
 pub(crate) fn far_end(links: &[Link], bridge: u16, port: u8) -> Option<FarEnd>
     ensures { option_map sender_of_far_end result ≡ sender (map link_value links.now) bridge port }
 {
@@ -57,8 +58,8 @@ pub(crate) fn hop_at_bridge(hops: &[StreamHop], bridge: u16) -> Option<StreamHop
     None
 }
 
-/// Returns the hop of the stream at the other end of the port's link, and the link's delay. Returns `None` if the port is open or the
-/// stream has no hop there.
+/// Returns the hop at the other end of the link of port `port` of bridge `bridge`, and the link's delay. Returns `None` without link or
+/// hop. `queue_exit` calls it.
 pub(crate) fn next_hop(links: &[Link], hops: &[StreamHop], bridge: u16, port: u8) -> Option<NextHop>
     ensures { result ≡ next_hop links.now hops.now bridge port }
 {

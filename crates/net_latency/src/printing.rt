@@ -12,14 +12,14 @@ use bridge_limits::NoMemory;
 use std::alloc::{AllocError, Allocator, Global};
 use std::io::Read;
 
-/// Returns ` coarse` for a coarse bound (`TightBound::coarse`), otherwise an empty text.
+/// Returns ` coarse` for a coarse bound (`TightBound::coarse`), otherwise an empty text. `push_bound_line` calls it.
 fn coarse_mark(coarse: bool) -> &'static str
     ensures { result.now ≡ coarse_mark coarse }
 {
     if coarse { " coarse" } else { "" }
 }
 
-/// Appends the bound for frames of at least 60 octets, or nothing.
+/// Appends the bound `padded`, for frames of at least 60 octets, if there is one. `push_bound_line` calls it.
 fn push_padded_figure<A: Allocator + Copy>(
     text: &mut String<A>,
     padded: Option<u64>,
@@ -32,7 +32,7 @@ fn push_padded_figure<A: Allocator + Copy>(
     }
 }
 
-/// Appends the line of a queue's delay bound, such as `filter 1 port 2 class 7 bound 12336`.
+/// Appends the line of a queue's delay bound, such as `filter 1 port 2 class 7 bound 12336`. `bounds_text` calls it.
 #[tactic(auto, unfolding(crate::specs::Printing::bound_line))]
 fn push_bound_line<A: Allocator + Copy>(
     text: &mut String<A>,
@@ -57,7 +57,7 @@ fn push_bound_line<A: Allocator + Copy>(
     text.push_str("\n")
 }
 
-/// Returns one line for each delay bound, in the order of `rows`.
+/// Returns one line for each delay bound, in the order of `rows`. `bound_lines` calls it.
 pub fn bounds_text<A: Allocator + Copy>(
     alloc: A,
     rows: &[TightBound],
@@ -96,8 +96,8 @@ pub(crate) fn bound_lines<A: Allocator + Copy>(
     Ok(text)
 }
 
-/// Returns the output of `bounds` for a plan: a line for each reachable queue of protected filters, and for each shared queue. Reads at
-/// most 1,048,577 octets. Faults are the faults of a plan's check.
+/// Returns the output of `bounds`: a line for each reachable queue of protected filters, and for each shared queue. Its faults are the
+/// faults of `check`.
 pub fn bounds_job<R: Read + Drop, A: Allocator + Copy>(
     alloc: A,
     heap: Global,

@@ -1,4 +1,4 @@
-//! What follows a queue of a hop: the end of the route, or the arrival at the next hop.
+//! The step that follows a queue of a hop: the end of the route, or the arrival at the next hop. `latency` follows routes by it.
 ghost use Rattle.std.specs.Prelude.{◌≡◌, ◌+◌, ◌↔◌, IfSome, option_map, slice_get, true, ℕ};
 ghost use Rattle.bridge_bounds.specs.Traffic.{IsTraffic};
 ghost use Rattle.net_latency.specs.StreamLatency as spec;
@@ -12,7 +12,8 @@ use bridge_check::Accepted;
 use net_model::{Link, StreamHop};
 use std::alloc::Allocator;
 
-/// Everything that the delays of one stream depend on: plans and links, its hops, their reachable queues, and its talker's first phase.
+/// Everything that the delays of one stream depend on: plans, links, hops, reachable queues (`queues`), and the talker's first phase in ns
+/// (`from`).
 #[derive(Clone, Copy)]
 pub(crate) struct StreamContext<'a, A: Allocator + Copy> {
     pub plans: &'a [Accepted<A>],
@@ -37,16 +38,16 @@ pub struct HopArrival {
     pub passes: bool,
 }
 
-/// Next step of frames that have left a queue. The phases of their arrival decide how long they wait at the next hop.
+/// Next step of frames that have left a queue of a hop: the route ends there, or leads over a link to the next hop.
 #[derive(Clone, Copy)]
 pub(crate) enum QueueExit {
-    /// The queue's port leads to no hop of the stream: the delays of the whole route.
+    /// The queue's port leads to no hop of the stream, so the route ends: the delays of the whole route.
     Last(StreamLatency),
     /// The next hop, and the arrival of the frames there.
     Next(StreamHop, HopArrival),
 }
 
-/// Returns the plan of the bridge with index `bridge`, or `None` if the bridge is missing.
+/// Returns the plan of the bridge with index `bridge`, or `None` if the bridge is missing. `hop_passes` and `queue_exit` call it.
 fn accepted_plan<'a, A: Allocator + Copy>(
     plans: &'a [Accepted<A>],
     bridge: u16,
@@ -56,7 +57,8 @@ fn accepted_plan<'a, A: Allocator + Copy>(
     plans.get(bridge as usize)
 }
 
-/// Whether each frame of the traffic passes the filter of a hop. Returns false if the bridge or the filter is missing.
+/// Returns whether each frame of the traffic passes the filter of a hop. Returns false if the bridge or the filter is missing.
+/// `hop_latency` calls it.
 pub(crate) fn hop_passes<A: Allocator + Copy>(
     plans: &[Accepted<A>],
     hop: StreamHop,
@@ -75,8 +77,8 @@ pub(crate) fn hop_passes<A: Allocator + Copy>(
     }
 }
 
-/// Returns the delays of a route that ends at a queue. Worst: the lesser of summed worst delays and time from the talker's first phase
-/// `from` to the last of `done`. Best: summed best delays.
+/// Returns the delays of a route that ends at a queue with delays `x`. `worst` is the lesser of two limits: summed worst delays, and time
+/// from phase `from` to the last of `done`.
 fn latency_at_last_queue(
     from: u64,
     came: &HopArrival,
@@ -96,7 +98,8 @@ fn latency_at_last_queue(
     }
 }
 
-/// Returns the arrival at the next hop, over a link with a delay of `delay` ns. Returns `None` if the phases of arrival lie in two periods.
+/// Returns the arrival at the next hop over a link of `delay` ns. `x` and `done` are the queue's delays and phases. `None` if phases of
+/// arrival lie in two periods. `exit_over_link` calls it.
 fn next_hop_arrival(
     came: &HopArrival,
     x: &Timing,
@@ -134,8 +137,8 @@ fn next_hop_arrival(
     })
 }
 
-/// Returns the next step of frames that leave a queue between the phases `done`. If `onward` is `None`, the route ends at this queue.
-/// Returns `None` if the phases of arrival lie in two periods.
+/// Returns the next step of frames that leave a queue in the phases `done`, to hop `onward` or, for `None`, to the route's end. `None` if
+/// phases lie in two periods. `queue_exit` calls it.
 fn exit_over_link(
     from: u64,
     came: &HopArrival,
@@ -158,8 +161,8 @@ fn exit_over_link(
     }
 }
 
-/// Returns the next step of frames with arrival `came` at the queue's hop. Returns `None` if the bridge is missing, or phases are unknown
-/// or lie in two periods.
+/// Returns the next step of frames that leave `queue`; `came` is their arrival at its hop. `None` if phases are unknown or lie in two
+/// periods, or the bridge is missing. `queue_latency` calls it.
 pub(crate) fn queue_exit<A: Allocator + Copy>(
     case: &StreamContext<'_, A>,
     queue: &HopQueue,

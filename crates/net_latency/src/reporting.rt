@@ -1,4 +1,4 @@
-//! The command `bounds --traffic`: a plan and the traffic of its talkers.
+//! The command `bounds --traffic`: delay bounds of a plan, and the delays of its talkers.
 ghost use Rattle.std.specs.Prelude.{◌≡◌, ◌⊎◌, ◌≤◌, All, IfErr, IfOk, List, Ok, Some, length, string_bytes, take, ℕ, None};
 ghost use Rattle.app_failure.specs.Reading.{IsFileFault};
 ghost use Rattle.net_file.specs.TrafficRows.{IsTalkerRow};
@@ -28,7 +28,8 @@ pub struct TrafficReport<A: Allocator + Copy> {
     pub kept: bool,
 }
 
-/// Returns the program's fault for refused traffic. Returns the fault `no memory` if memory runs out for the fault line.
+/// Returns the program's fault for refused traffic, with the fault line of `fault`. Returns `NoMemory` if memory runs out for the line.
+/// `check_and_report` and `parse_rows` call it.
 fn traffic_refusal(heap: Global, fault: &TrafficFault) -> Failure
     ensures { IsTrafficFailure fault.now result }
 {
@@ -38,7 +39,8 @@ fn traffic_refusal(heap: Global, fault: &TrafficFault) -> Failure
     }
 }
 
-/// Returns the rows of a traffic file with the contents `text`. For refused contents, returns the program's fault with the fault line.
+/// Returns the rows of a traffic file with the contents `text`. For refused contents, returns the program's fault with the fault line, or
+/// `NoMemory`. `read_rows` calls it.
 fn parse_rows<A: Allocator + Copy>(
     alloc: A,
     heap: Global,
@@ -58,7 +60,7 @@ fn parse_rows<A: Allocator + Copy>(
     }
 }
 
-/// Reads the rows of a traffic file from a reader. `path` names the file in faults.
+/// Reads the rows of a traffic file from a reader. `path` names the file in faults. `explain_refusable` and `traffic_job` call it.
 pub(crate) fn read_rows<R: Read + Drop, A: Allocator + Copy>(
     alloc: A,
     heap: Global,
@@ -80,6 +82,7 @@ pub(crate) fn read_rows<R: Read + Drop, A: Allocator + Copy>(
 }
 
 /// Returns the output for an accepted plan and rows without a fault (`traffic_fault`): lines of bounds, then lines of traffic.
+/// `check_and_report` calls it.
 fn report_traffic<A: Allocator + Copy>(
     alloc: A,
     accepted: &Accepted<A>,
@@ -105,7 +108,7 @@ fn report_traffic<A: Allocator + Copy>(
 }
 
 /// Returns the output for an accepted plan and traffic rows: lines of bounds, then lines of traffic. Returns the program's fault if a row
-/// doesn't suit the plan.
+/// doesn't suit the plan. `traffic_job` calls it.
 fn check_and_report<A: Allocator + Copy>(
     alloc: A,
     heap: Global,
@@ -126,8 +129,8 @@ fn check_and_report<A: Allocator + Copy>(
     }
 }
 
-/// Returns the output of `bounds --traffic`: lines of bounds, then a line for each queue of each row. Faults come in this order: plan,
-/// traffic file, rows compared with the plan.
+/// Returns the output of `bounds --traffic`: lines of bounds, then a line for each queue of each row. Faults: plan, then traffic file, then
+/// rows compared with the plan.
 pub fn traffic_job<R: Read + Drop, S: Read + Drop, A: Allocator + Copy>(
     alloc: A,
     heap: Global,

@@ -18,8 +18,8 @@ use net_file::{
 };
 use std::alloc::Allocator;
 
-/// Whether a period is a multiple of each cycle time of a stream gate: of the old and of the new list. Returns true for a fixed gate, which
-/// has no cycle.
+/// Returns whether a period is a multiple of each cycle time of a stream gate: of the old and of the new list. Returns true for a fixed
+/// gate, which has no cycle.
 fn suits_schedule<A: Allocator + Copy>(period: u64, schedule: &Schedule<A>) -> bool
     ensures { result ≡ spec.suits_schedule period schedule.now }
 {
@@ -33,7 +33,8 @@ fn suits_schedule<A: Allocator + Copy>(period: u64, schedule: &Schedule<A>) -> b
     }
 }
 
-/// Whether a period is a multiple of each cycle time of a port: of the old and of the new gate control list. Returns true without a list.
+/// Returns whether a period is a multiple of each cycle time of a port: of the old and of the new gate control list. Returns true without a
+/// list. `suits_port` calls it.
 fn suits_lists<A: Allocator + Copy>(period: u64, lists: &Option<Egress<A>>) -> bool
     ensures { result ≡ spec.suits_lists period lists.now }
 {
@@ -47,7 +48,8 @@ fn suits_lists<A: Allocator + Copy>(period: u64, lists: &Option<Egress<A>>) -> b
     }
 }
 
-/// Whether a period is a multiple of the cycle times of the stream gate with this number. Returns true if the gate is missing.
+/// Returns whether a period is a multiple of the cycle times of the stream gate with this number. Returns true if the gate is missing.
+/// `suits` calls it.
 fn suits_gate<A: Allocator + Copy>(plan: &Plan<A>, gate: u32, period: u64) -> bool
     ensures { result ≡ spec.suits_gate period (lookup (nat_eq gate) plan.now.gates) }
 {
@@ -57,14 +59,15 @@ fn suits_gate<A: Allocator + Copy>(plan: &Plan<A>, gate: u32, period: u64) -> bo
     }
 }
 
-/// Whether at least one of two values is true. `can_wait_at_port` and `has_misfit` fold the results of their loops by it.
+/// Returns whether `a` or `b` is true. The loops of `can_wait_at_port` and `has_misfit` combine their results by it.
 fn either(a: bool, b: bool) -> bool
     ensures { result ≡ (a || b) }
 {
     a || b
 }
 
-/// Whether the filter has a reachable queue at a port, in any class. `reach` is the filter's reach.
+/// Returns whether the filter has a reachable queue at a port, in any class. `reach` is the filter's reach. `has_misfit_at_port` and
+/// `put_ports` call it.
 pub(crate) fn can_wait_at_port<A: Allocator + Copy>(
     plan: &Plan<A>,
     filter: &FilterPlan,
@@ -84,7 +87,7 @@ pub(crate) fn can_wait_at_port<A: Allocator + Copy>(
     found
 }
 
-/// Whether a period is a multiple of the cycle times of a port. Returns true if the port is missing.
+/// Returns whether a period is a multiple of the cycle times of a port. Returns true if the port is missing. `has_misfit_at_port` calls it.
 fn suits_port<A: Allocator + Copy>(period: u64, port: Option<&PortPlan<A>>) -> bool
     ensures { result ≡ spec.suits_port period (option_map (λ p. p.now) port.entry) }
 {
@@ -94,7 +97,8 @@ fn suits_port<A: Allocator + Copy>(period: u64, port: Option<&PortPlan<A>>) -> b
     }
 }
 
-/// Whether the filter has a reachable queue at `port`, and the period isn't a multiple of this port's cycle times.
+/// Returns whether the filter has a reachable queue at `port`, and the period isn't a multiple of this port's cycle times. `has_misfit`
+/// calls it.
 fn has_misfit_at_port<A: Allocator + Copy>(
     plan: &Plan<A>,
     filter: &FilterPlan,
@@ -112,7 +116,8 @@ fn has_misfit_at_port<A: Allocator + Copy>(
     comes && !suits
 }
 
-/// Whether the filter has a reachable queue at some port, and the period isn't a multiple of this port's cycle times.
+/// Returns whether the filter has a reachable queue at some port, and the period isn't a multiple of this port's cycle times. `suits` calls
+/// it.
 fn has_misfit<A: Allocator + Copy>(
     plan: &Plan<A>,
     filter: &FilterPlan,
@@ -130,7 +135,7 @@ fn has_misfit<A: Allocator + Copy>(
     found
 }
 
-/// Whether a period is a multiple of each cycle time on the route of a filter's frames: of its stream gate, and of each port with a
+/// Returns whether a period is a multiple of each cycle time on a filter's route. The route has its stream gate, and each port with a
 /// reachable queue.
 pub(crate) fn suits<A: Allocator + Copy>(plan: &Plan<A>, filter: &FilterPlan, period: u64) -> bool
     ensures { result ≡ spec.suits plan.now filter.now period }
@@ -142,8 +147,8 @@ pub(crate) fn suits<A: Allocator + Copy>(plan: &Plan<A>, filter: &FilterPlan, pe
     !has_misfit(plan, filter, &reach, period)
 }
 
-/// Returns the fault of row `index` with periodic traffic, or `None`. Its filter is missing or unprotected, or its period isn't a multiple
-/// of each cycle on the route.
+/// Returns the fault of row `index`, with periodic traffic, or `None`. Its filter is missing or unprotected, or its period doesn't suit a
+/// cycle time on the route. `talker_row_fault` calls it.
 pub(crate) fn row_fault<A: Allocator + Copy>(
     plan: &Plan<A>,
     index: u32,
@@ -172,6 +177,7 @@ pub(crate) fn row_fault<A: Allocator + Copy>(
 }
 
 /// Returns the fault of row `index` with a limit of its frames, or `None`. The filter is missing, or belongs to no group.
+/// `talker_row_fault` calls it.
 fn group_fault<A: Allocator + Copy>(plan: &Plan<A>, index: u32, filter: u32) -> Option<TrafficFault>
     ensures { result ≡ kinds.group_fault index (lookup (nat_eq filter) plan.now.filters) }
 {
@@ -188,7 +194,8 @@ fn group_fault<A: Allocator + Copy>(plan: &Plan<A>, index: u32, filter: u32) -> 
     }
 }
 
-/// Returns the fault of row `index` compared with the plan, or `None`.
+/// Returns the fault of row `index`, from 1, compared with the plan, or `None`. Explanations find the row by it. `explain_rows` and
+/// `traffic_fault` call it.
 pub(crate) fn talker_row_fault<A: Allocator + Copy>(
     plan: &Plan<A>,
     index: u32,
@@ -203,7 +210,7 @@ pub(crate) fn talker_row_fault<A: Allocator + Copy>(
 }
 
 /// Returns the first fault of the rows compared with the plan, or `None`. A filter is missing, unprotected or in no group, or a period
-/// doesn't suit the cycles.
+/// doesn't suit a cycle time. `check_and_report` calls it.
 pub fn traffic_fault<A: Allocator + Copy>(
     plan: &Plan<A>,
     rows: &[TalkerRow],

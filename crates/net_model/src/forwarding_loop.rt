@@ -15,14 +15,14 @@ use bridge_check::Accepted;
 use bridge_limits::NoMemory;
 use std::alloc::Allocator;
 
-/// Group of frames that may loop, and a port at which they can arrive again and again. `net check` warns of each.
+/// A group of frames that may loop, and a port at which they can arrive again and again. `net check` prints a warning for each.
 #[derive(Clone, Copy)]
 pub struct ForwardingLoop {
     pub group: FrameGroup,
     pub at: BridgePort,
 }
 
-/// Returns a port at which frames of the group can arrive again and again, or `None` if they can't loop.
+/// Returns a port at which frames of the group can arrive again and again, or `None` if they can't loop. `add_group_loop` calls it.
 fn group_loop_port<A: Allocator + Copy>(
     alloc: A,
     plans: &[Accepted<A>],
@@ -37,7 +37,7 @@ fn group_loop_port<A: Allocator + Copy>(
     find_loop_port(alloc, &steps)
 }
 
-/// Appends the group's loop to `rows` if its frames may loop.
+/// Appends the loop of group `group` to `rows` if the group's frames may loop. `group_loops` calls it.
 fn add_group_loop<A: Allocator + Copy>(
     alloc: A,
     plans: &[Accepted<A>],
@@ -57,7 +57,7 @@ fn add_group_loop<A: Allocator + Copy>(
     }
 }
 
-/// Returns a loop for each of these groups whose frames may loop, in the order of `groups`.
+/// Returns a loop for each of these groups whose frames may loop, in the order of `groups`. `find_forwarding_loops` calls it.
 fn group_loops<A: Allocator + Copy>(
     alloc: A,
     plans: &[Accepted<A>],
@@ -75,9 +75,8 @@ fn group_loops<A: Allocator + Copy>(
     Ok(rows)
 }
 
-/// Returns each group whose frames may loop, once, with a port on the loop. A stream gate or a meter may still refuse the frames.
-///
-/// Returns `NoMemory` if an allocation fails.
+/// Returns each group whose frames may loop, once, with a port on the loop; `NoMemory` if memory runs out. Gates and meters aren't
+/// considered. Warnings and the limit of rounds of `net` need it.
 pub fn find_forwarding_loops<A: Allocator + Copy>(
     alloc: A,
     plans: &[Accepted<A>],

@@ -10,8 +10,8 @@ use crate::step::Step;
 use bridge_limits::NoMemory;
 use std::alloc::Allocator;
 
-/// Returns a port from which steps lead back to itself, or `None`. It searches from the start of each step, so `find_loop_port` first
-/// removes steps that can't lie on a loop (`prune_dead_ends`).
+/// Returns a port from which steps lead back to itself, or `None`. It searches from each step's start, so `find_loop_port` first removes
+/// steps on no loop.
 fn first_loop_port<A: Allocator + Copy>(
     alloc: A,
     steps: &[Step],
@@ -27,9 +27,8 @@ fn first_loop_port<A: Allocator + Copy>(
     Ok(None)
 }
 
-/// Returns a port from which steps lead back to itself. Returns `None` if and only if no walk returns to its start.
-///
-/// Returns `NoMemory` if an allocation fails.
+/// Returns a port from which steps lead back to itself. Returns `None` if and only if no walk returns to its start. `find_forwarding_loops`
+/// needs it for each group.
 pub fn find_loop_port<A: Allocator + Copy>(
     alloc: A,
     steps: &[Step],

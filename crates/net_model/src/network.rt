@@ -45,14 +45,14 @@ impl<A: Allocator + Copy> Network<A> {
         self.plans.as_slice()
     }
 
-    /// Returns the links between the bridges' ports. No port has two links.
+    /// Returns the links between the bridges' ports. No port has two links. Runs, tables and delays of networks depend on them.
     pub fn links(&self) -> &[Link]
         ensures { result.now ≡ self.now.links }
     {
         self.links.as_slice()
     }
 
-    /// Returns the streams, each as a list of hops.
+    /// Returns the streams, each as a list of hops. Runs, tables and delays of networks depend on them.
     pub fn streams(&self) -> &[Vec<StreamHop, A>]
         ensures streams { result.now ≡ self.now.streams }
         ensures closed { AreClosed self.now }
@@ -61,20 +61,20 @@ impl<A: Allocator + Copy> Network<A> {
     }
 }
 
-/// A refused network, and its first fault. The unchanged parts let the caller write the fault line without reading the files again.
+/// A refused network: its unchanged parts and its first fault. `--explain` needs the parts to explain the fault.
 #[derive(Drop)]
 pub struct RefusedNetwork<A: Allocator + Copy> {
-    /// The plans, unchanged.
+    /// Plans of the bridges, unchanged.
     pub plans: Vec<Accepted<A>, A>,
-    /// The links, unchanged.
+    /// Links between the bridges' ports, unchanged.
     pub links: Vec<Link, A>,
-    /// The streams, unchanged.
+    /// Streams, each as a list of hops, unchanged.
     pub streams: Vec<Vec<StreamHop, A>, A>,
-    /// The first fault.
+    /// First fault, in the order of the tests.
     pub fault: NetworkFault,
 }
 
-/// Does nothing at run time: each call of `plan` gives the prover the fact that the plan is accepted.
+/// Does nothing at run time: each call of `plan` gives the prover the fact that the plan is accepted, for `first_fault`.
 fn assert_accepted<A: Allocator + Copy>(plans: &[Accepted<A>])
     ensures { All IsAccepted plans.now }
 {
@@ -102,8 +102,8 @@ fn first_fault<A: Allocator + Copy>(
     case.fault()
 }
 
-/// Accepts a network that passes all tests of its links and streams; otherwise returns the first fault and the unchanged parts. Allocates
-/// no memory.
+/// Accepts a network that passes all tests of its links and streams. Otherwise returns the first fault and the unchanged parts. Allocates
+/// no memory. `check_network_file` calls it.
 pub fn check_network<A: Allocator + Copy>(
     plans: Vec<Accepted<A>, A>,
     links: Vec<Link, A>,

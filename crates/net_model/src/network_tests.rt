@@ -1,4 +1,4 @@
-//! The tests that a network must pass to be accepted: three for links, then four for hops.
+//! The tests that a network must pass to be accepted: three for links, then four for hops. `check_network` runs them.
 ghost use Rattle.std.specs.Prelude.{◌≡◌, ◌+◌, ◌<◌, Some, IfSome, length, option_map, slice_get};
 ghost use Rattle.bridge_config.specs.Rules.{IsPlan};
 ghost use Rattle.bridge_check.specs.Faults.{first_option};
@@ -19,18 +19,18 @@ use bridge_filter::FilterPlan;
 use bridge_frame::Speed;
 use std::alloc::Allocator;
 
-/// Tests of a link, in the order of the tests. Each test runs over all links before the next one.
+/// Tests of a link, in the order in which they run. Each test runs over all links before the next test.
 #[derive(Clone, Copy)]
 pub(crate) enum LinkTest {
     /// The ports at both ends exist.
     PortsExist,
-    /// Neither port has an earlier link, and the link doesn't join a port to itself.
+    /// The ports have no earlier link, and the link joins two different ports.
     SingleLink,
     /// Both ports have one speed.
     SameSpeed,
 }
 
-/// Tests of a hop, in the order of the tests. Each test runs over all hops before the next one.
+/// Tests of a hop, in the order in which they run. Each test runs over all hops before the next test.
 #[derive(Clone, Copy)]
 pub(crate) enum HopTest {
     /// The hop's bridge exists and has a protected filter with the hop's number.
@@ -67,7 +67,8 @@ pub fn find_plan<'a, A: Allocator + Copy>(
     }
 }
 
-/// Returns the port that `end` names, or `None` if its bridge or port is missing.
+/// Returns the plan of the port that `end` names, or `None` if its bridge or port is missing. `has_one_speed` and `link_test_fault` call
+/// it.
 fn end_port<'a, A: Allocator + Copy>(
     plans: &'a [Accepted<A>],
     end: BridgePort,
@@ -80,14 +81,15 @@ fn end_port<'a, A: Allocator + Copy>(
     }
 }
 
-/// Whether the port that `end` names has a link. A port without one is open.
+/// Returns whether the port that `end` names has a link. A port without one is open. `doubly_linked_end` and `is_entry_port` call it.
 fn is_linked(links: &[Link], end: BridgePort) -> bool
     ensures { result ≡ spec.is_linked links.now end }
 {
     peer_port(links, end.bridge, end.port).is_some()
 }
 
-/// Returns the first end of `link` whose port has an earlier link, or `None`. If the link joins a port to itself, its end `other` counts.
+/// Returns the first end of `link` whose port has a link in `before`, or `None`. If the link joins a port to itself, its end `other`
+/// counts.
 fn doubly_linked_end(before: &[Link], link: &Link) -> Option<BridgePort>
     ensures { result ≡ spec.doubly_linked_end before.now link.now }
 {
@@ -100,7 +102,7 @@ fn doubly_linked_end(before: &[Link], link: &Link) -> Option<BridgePort>
     None
 }
 
-/// Returns a speed in Mb/s, so that two speeds can be compared as numbers.
+/// Returns a speed in Mb/s, so that two speeds can be compared as numbers. `has_one_speed` calls it.
 fn speed_mbps(speed: Speed) -> u32
     ensures { result ≡ spec.speed_mbps speed }
 {
@@ -113,7 +115,8 @@ fn speed_mbps(speed: Speed) -> u32
     }
 }
 
-/// Whether both ports of a link have one speed. Returns true if a port is missing, because the test `PortsExist` reports this.
+/// Returns whether both ports of a link have one speed. Returns true if a port is missing, because the test `PortsExist` reports this.
+/// `link_test_fault` calls it.
 fn has_one_speed<A: Allocator + Copy>(plans: &[Accepted<A>], link: &Link) -> bool
     ensures { result ≡ spec.is_one_speed (spec.end_port plans.now link.now.one)
         (spec.end_port plans.now link.now.other) }
@@ -124,7 +127,7 @@ fn has_one_speed<A: Allocator + Copy>(plans: &[Accepted<A>], link: &Link) -> boo
     }
 }
 
-/// Whether a plan has a protected filter with this number.
+/// Returns whether a plan has a protected filter with this number. `is_protected_hop` calls it.
 fn is_protected<A: Allocator + Copy>(plan: &Plan<A>, number: u32) -> bool
     ensures { result ≡ is_protected plan.now number }
 {
@@ -133,7 +136,7 @@ fn is_protected<A: Allocator + Copy>(plan: &Plan<A>, number: u32) -> bool
         .any(|f| f.0 == number && f.1.protected)
 }
 
-/// Whether `hop` is a protected filter of its bridge.
+/// Returns whether `hop` is a protected filter of its bridge. `hop_test_fault` calls it.
 fn is_protected_hop<A: Allocator + Copy>(plans: &[Accepted<A>], hop: &StreamHop) -> bool
     ensures { result ≡ spec.is_protected_hop (slice_get plans.now hop.now.bridge) hop.now.filter }
 {
@@ -143,7 +146,8 @@ fn is_protected_hop<A: Allocator + Copy>(plans: &[Accepted<A>], hop: &StreamHop)
     }
 }
 
-/// Whether `hop` is a hop of one of the earlier `streams`, or one of the earlier `hops` of its own stream.
+/// Returns whether `hop` is a hop of one of the earlier `streams`, or one of the earlier `hops` of its own stream. `hop_test_fault` calls
+/// it.
 fn is_repeated_hop<A: Allocator + Copy>(
     streams: &[Vec<StreamHop, A>],
     hops: &[StreamHop],
@@ -159,7 +163,7 @@ fn is_repeated_hop<A: Allocator + Copy>(
     has_hop(hops, hop.bridge, hop.filter)
 }
 
-/// Returns the stream handle of the protected filter with this number. Returns `None` if the filter is missing, unprotected or names no
+/// Returns the stream handle of the protected filter with number `number`. Returns `None` if the filter is missing, unprotected or names no
 /// handle.
 pub fn protected_handle(filters: &[(u32, FilterPlan)], number: u32) -> Option<u32>
     ensures { result ≡ spec.protected_handle filters.now number }
@@ -172,7 +176,7 @@ pub fn protected_handle(filters: &[(u32, FilterPlan)], number: u32) -> Option<u3
     None
 }
 
-/// Whether the plan has a stream entry with this handle on this port. Without such an entry, no frame gets the handle there.
+/// Returns whether the plan has a stream entry with handle `handle` on port `port`. Without such an entry, no frame gets the handle there.
 pub fn has_entry<A: Allocator + Copy>(plan: &Plan<A>, port: u8, handle: u32) -> bool
     ensures { result ≡ spec.has_entry plan.now port handle }
 {
@@ -188,7 +192,7 @@ pub(crate) struct TestedHop<'a, A: Allocator + Copy> {
     pub case: TestedNetwork<'a, A>,
     /// Stream of the hop.
     pub stream: &'a [StreamHop],
-    /// The hop.
+    /// Hop under test.
     pub hop: StreamHop,
     /// Plan of the hop's bridge.
     pub next: &'a Plan<A>,
@@ -199,7 +203,8 @@ pub(crate) struct TestedHop<'a, A: Allocator + Copy> {
 }
 
 impl<'a, A: Allocator + Copy> TestedHop<'a, A> {
-    /// Whether an entry gives the handle at port `j` + 1.
+    /// Returns whether a stream entry gives the hop's handle to frames on port `j` + 1 of the hop's bridge. `first_or_frame_on_port` skips
+    /// other ports.
     fn is_entry_index(&self, j: u8) -> bool
         requires case { IsTestedHop self.now }
         requires index { j < 16 }
@@ -290,8 +295,8 @@ impl<'a, A: Allocator + Copy> TestedHop<'a, A> {
         }
     }
 
-    /// Returns `before` if it has frames, otherwise an example of frames at port `j` + 1. It skips ports without an entry of the hop's
-    /// handle, because the hop gets no frames there.
+    /// Returns `before` if it has frames, otherwise an example of frames at port `j` + 1. The port needs an entry of the hop's handle: the
+    /// hop gets no frames at other ports.
     fn first_or_frame_on_port(
         &self,
         before: Option<(u8, FoundFrames)>,
@@ -328,7 +333,8 @@ impl<'a, A: Allocator + Copy> TestedHop<'a, A> {
         first
     }
 
-    /// Whether `on` has no link and has an entry with the filter's handle.
+    /// Returns whether `on` is an open port of the hop's bridge and has a stream entry with the hop's handle. `has_entry_port` calls it for
+    /// each port.
     fn is_entry_port(&self, on: &PortPlan<A>) -> bool
         ensures { result ≡ spec.is_entry_port self.now.case.links.now self.now.hop.bridge self.now.next.now
             self.now.handle
@@ -342,7 +348,8 @@ impl<'a, A: Allocator + Copy> TestedHop<'a, A> {
         has_entry(self.next, port, self.handle)
     }
 
-    /// Whether an open port has an entry with the filter's handle, so that frames from outside can feed the hop.
+    /// Returns whether an open port has a stream entry with the hop's handle, so that frames from outside can feed the hop. `is_reached`
+    /// calls it.
     fn has_entry_port(&self) -> bool
         ensures { result ≡ spec.has_entry_port self.now.case.links.now self.now.hop.bridge self.now.next.now
             self.now.handle }
@@ -355,8 +362,8 @@ impl<'a, A: Allocator + Copy> TestedHop<'a, A> {
         false
     }
 
-    /// Whether frames of the stream can reach the hop with index `place` in its stream: on an open port if the index is 0, otherwise over a
-    /// link.
+    /// Returns whether frames of the stream can reach its hop with index `place`. They arrive on an open port if the index is 0, otherwise
+    /// over a link. `frames_test_fault` calls it.
     fn is_reached(&self, place: usize) -> bool
         requires { IsTestedHop self.now }
         ensures { result ≡ spec.is_reached (tested_parts self.now.case) self.now.stream.now place self.now.hop
@@ -370,7 +377,7 @@ impl<'a, A: Allocator + Copy> TestedHop<'a, A> {
     }
 
     /// Returns the fault of the test `Closed` or `Fed` for hop `k` of stream `i`, or `None`. Both are indexes from 0; the fault counts from
-    /// 1.
+    /// 1. `hop_test_fault_in_plan` calls it.
     fn frames_test_fault(&self, test: HopTest, i: usize, k: usize) -> Option<NetworkFault>
         requires case { IsTestedHop self.now }
         requires stream { i < 18446744073709551615 }
@@ -407,6 +414,7 @@ impl<'a, A: Allocator + Copy> TestedHop<'a, A> {
 
 impl<'a, A: Allocator + Copy> TestedNetwork<'a, A> {
     /// Returns the fault of `test` for the link with index `i`, or `None` if the link passes. The fault counts links from 1.
+    /// `first_or_link_test_fault` calls it.
     fn link_test_fault(&self, test: LinkTest, i: usize, link: &Link) -> Option<NetworkFault>
         requires { i < length self.now.links.now }
         ensures { result ≡ spec.link_test_fault (tested_parts self.now) test i link.now }
@@ -433,7 +441,7 @@ impl<'a, A: Allocator + Copy> TestedNetwork<'a, A> {
         }
     }
 
-    /// Returns `before` if it is a fault, otherwise the fault of the link with index `i`. One step of the loop in `link_fault`.
+    /// Returns `before` if it is a fault, otherwise the fault of the link with index `i`. It is one step of the loop in `link_fault`.
     #[tactic(auto, using(crate::proofs::Firsts::item_at))]
     fn first_or_link_test_fault(
         &self,
@@ -451,7 +459,7 @@ impl<'a, A: Allocator + Copy> TestedNetwork<'a, A> {
         self.link_test_fault(test, i, &self.links[i])
     }
 
-    /// Returns the fault of the first link that fails `test`, or `None` if all links pass.
+    /// Returns the fault of the first link that fails `test`, or `None` if all links pass. `fault` calls it.
     #[tactic(auto, using(bridge_check::proofs::Told::first_none, bridge_check::proofs::Told::first_more))]
     fn link_fault(&self, test: LinkTest) -> Option<NetworkFault>
         ensures { result ≡ spec.link_fault (tested_parts self.now) test }
@@ -465,8 +473,8 @@ impl<'a, A: Allocator + Copy> TestedNetwork<'a, A> {
 }
 
 impl<'a, A: Allocator + Copy> TestedNetwork<'a, A> {
-    /// Returns the fault of the test `Closed` or `Fed` for a hop of the bridge with plan `next`. Returns `None` if the hop passes or its
-    /// filter names no handle.
+    /// Returns the fault of `test` (`Closed` or `Fed`) for hop `k` of stream `i`, at the bridge with plan `next`. Returns `None` if the hop
+    /// passes or its filter names no handle.
     fn hop_test_fault_in_plan(
         &self,
         test: HopTest,
@@ -498,8 +506,8 @@ impl<'a, A: Allocator + Copy> TestedNetwork<'a, A> {
         }
     }
 
-    /// Returns the fault of the test `Closed` or `Fed` for a hop. Returns `None` if the hop's bridge is missing or its filter names no
-    /// handle.
+    /// Returns the fault of `test` (`Closed` or `Fed`) for hop `k` of stream `i`. Returns `None` if the hop passes, its bridge is missing
+    /// or its filter names no handle. `hop_test_fault` calls it.
     fn hop_test_fault_by_handle(
         &self,
         test: HopTest,
@@ -520,6 +528,7 @@ impl<'a, A: Allocator + Copy> TestedNetwork<'a, A> {
     }
 
     /// Returns the fault of `test` for hop `k` of stream `i`, both indexes from 0, or `None` if the hop passes. The fault counts from 1.
+    /// `first_or_hop_test_fault` calls it.
     fn hop_test_fault(
         &self,
         test: HopTest,
@@ -556,7 +565,7 @@ impl<'a, A: Allocator + Copy> TestedNetwork<'a, A> {
         }
     }
 
-    /// Returns `before` if it is a fault, otherwise the fault of hop `k` of the stream. One step of the loop in `stream_test_fault`.
+    /// Returns `before` if it is a fault, otherwise the fault of hop `k` of stream `i`. It is one step of the loop in `stream_test_fault`.
     #[tactic(auto, using(crate::proofs::Firsts::item_at))]
     fn first_or_hop_test_fault(
         &self,
@@ -578,7 +587,7 @@ impl<'a, A: Allocator + Copy> TestedNetwork<'a, A> {
         self.hop_test_fault(test, i, stream, k, stream[k])
     }
 
-    /// Returns the first fault of `test` among the hops of stream `i`, or `None` if all pass.
+    /// Returns the first fault of `test` among the hops of stream `i`, or `None` if all pass. `first_or_stream_test_fault` calls it.
     #[tactic(auto, using(bridge_check::proofs::Told::first_none, bridge_check::proofs::Told::first_more))]
     fn stream_test_fault(
         &self,
@@ -596,7 +605,7 @@ impl<'a, A: Allocator + Copy> TestedNetwork<'a, A> {
         first
     }
 
-    /// Returns `before` if it is a fault, otherwise the first fault of stream `i`. One step of the loop in `hop_fault`.
+    /// Returns `before` if it is a fault, otherwise the first fault of stream `i`. It is one step of the loop in `hop_fault`.
     #[tactic(auto, using(crate::proofs::Firsts::item_at))]
     fn first_or_stream_test_fault(
         &self,
@@ -615,7 +624,7 @@ impl<'a, A: Allocator + Copy> TestedNetwork<'a, A> {
         self.stream_test_fault(test, i, self.streams[i].as_slice())
     }
 
-    /// Returns the first fault of `test` among all hops, by stream and then by hop.
+    /// Returns the first fault of `test` among all hops, by stream and then by hop, or `None` if all hops pass. `first_hop_fault` calls it.
     #[tactic(auto, using(bridge_check::proofs::Told::first_none, bridge_check::proofs::Told::first_more))]
     fn hop_fault(&self, test: HopTest) -> Option<NetworkFault>
         ensures { result ≡ spec.hop_fault (tested_parts self.now) test }
@@ -627,7 +636,7 @@ impl<'a, A: Allocator + Copy> TestedNetwork<'a, A> {
         first
     }
 
-    /// Returns the first fault of a hop. Finishes each test for all hops before the next test.
+    /// Returns the first fault of a hop, or `None`. Finishes each test for all hops before the next test. `fault` calls it.
     fn first_hop_fault(&self) -> Option<NetworkFault>
         ensures { result ≡ spec.first_hop_fault (tested_parts self.now) }
     {
@@ -646,7 +655,8 @@ impl<'a, A: Allocator + Copy> TestedNetwork<'a, A> {
         self.hop_fault(HopTest::Fed)
     }
 
-    /// Returns the first fault of the network: tests of links come before tests of hops.
+    /// Returns the first fault of the network, or `None`: tests of links come before tests of hops. `first_fault` calls it for
+    /// `check_network`.
     pub(crate) fn fault(&self) -> Option<NetworkFault>
         ensures { result ≡ spec.first_fault (tested_parts self.now) }
     {

@@ -1,4 +1,4 @@
-//! The table of frames: the fate of each frame of a stream at each hop.
+//! The table `frames.csv` of a network run: the fate of each frame of a stream at each hop. `write_stream` writes its rows.
 ghost use Rattle.std.specs.Prelude.{◌≡◌, ◌++◌, IfOk, codes, string_bytes};
 ghost use Rattle.bridge_text.specs.Growth.{HasGrown};
 ghost use Rattle.net_report.specs.FrameTable as spec;
@@ -22,7 +22,8 @@ use std::alloc::Allocator;
 /// arrival time at this hop. Times and delays are in ns.
 pub const FRAMES_HEADER: &str = "stream,hop,frame,came,at,fate,port,start,done,delay\n";
 
-/// Writes the number of the source frame and its arrival time at the first hop in ns, or two empty fields if the source is unknown.
+/// Writes the source frame's number and its arrival time at the first hop in ns, or two empty fields if the source is unknown.
+/// `put_line_start` calls it.
 fn put_source_frame<A: Allocator>(text: &mut TextBuilder<A>, root: Option<SourceFrame>)
     ensures { HasGrown text.old (spec.source_frame_words root) text.new }
 {
@@ -35,7 +36,7 @@ fn put_source_frame<A: Allocator>(text: &mut TextBuilder<A>, root: Option<Source
     }
 }
 
-/// Writes the beginning of a row of `frames.csv`, up to the column `at`: stream, hop, source frame and arrival time at this hop.
+/// Writes the beginning of a row of `frames.csv`: stream, hop, source frame, and the arrival time at this hop in ns.
 fn put_line_start<A: Allocator>(
     text: &mut TextBuilder<A>,
     stream: &str,
@@ -53,7 +54,8 @@ fn put_line_start<A: Allocator>(
     put_number_with_suffix(text, at, ",");
 }
 
-/// Writes the `frames.csv` row of a refused frame, with the verdict as its fate.
+/// Writes the `frames.csv` row of a refused frame, with the verdict as its fate. `at` is the arrival time at this hop in ns. `put_verdict`
+/// calls it.
 fn put_refused<A: Allocator>(
     text: &mut TextBuilder<A>,
     stream: &str,
@@ -69,7 +71,8 @@ fn put_refused<A: Allocator>(
     text.put(",,,,\n");
 }
 
-/// Writes the `frames.csv` row of a dropped copy, with the reason of the drop as its fate.
+/// Writes the `frames.csv` row of a dropped copy, with the reason of the drop as its fate. `at` is the frame's arrival time at this hop in
+/// ns. `put_drops` calls it.
 fn put_drop<A: Allocator>(
     text: &mut TextBuilder<A>,
     stream: &str,
@@ -86,8 +89,8 @@ fn put_drop<A: Allocator>(
     put_number_with_suffix(text, dropped.port as u64, ",,,\n");
 }
 
-/// Writes the delay of a copy since its arrival at the first hop, and the end of the row. The field is empty if the source frame is
-/// unknown.
+/// Writes the delay in ns of a copy from its frame's arrival at the first hop to `done`, and ends the row. The field is empty if the source
+/// is unknown. `put_departure` calls it.
 fn put_delay<A: Allocator>(text: &mut TextBuilder<A>, done: u64, root: Option<SourceFrame>)
     ensures { HasGrown text.old (spec.delay_word done root ++ codes "\n") text.new }
 {
@@ -97,14 +100,16 @@ fn put_delay<A: Allocator>(text: &mut TextBuilder<A>, done: u64, root: Option<So
     }
 }
 
-/// Returns the fate of a copy that left: `sent` if its port leads to a hop (`on`), otherwise `delivered`.
+/// Returns the word for the fate of a copy that left: `sent` if its port leads to a hop (`on`), otherwise `delivered`. `put_departure`
+/// calls it.
 fn departure_word(on: bool) -> &'static str
     ensures { result.now ≡ spec.departure_word on }
 {
     if on { "sent" } else { "delivered" }
 }
 
-/// Writes the `frames.csv` row of a copy that left. `on` is true if its port leads to a hop.
+/// Writes the `frames.csv` row of a copy that left. `on` is true if its port leads to a hop; `at` is the frame's arrival time at this hop.
+/// `put_departures` calls it.
 fn put_departure<A: Allocator>(
     text: &mut TextBuilder<A>,
     stream: &str,
@@ -125,7 +130,8 @@ fn put_departure<A: Allocator>(
     put_delay(text, departure.done, root);
 }
 
-/// Writes the `frames.csv` row of a frame if it was refused.
+/// Writes the `frames.csv` row of a frame that arrived at time `at`, if it was refused. Passed frames get rows by their copies.
+/// `put_verdicts` calls it.
 fn put_verdict<A: Allocator>(
     text: &mut TextBuilder<A>,
     stream: &str,
@@ -142,7 +148,7 @@ fn put_verdict<A: Allocator>(
 }
 
 /// Writes the rows of the frames that a hop refused. `roots` and `origins` have source and arrival of each frame of the hop, in order of
-/// their numbers from 1.
+/// their numbers from 1. `put_hop_lines` calls it.
 fn put_verdicts<A: Allocator>(
     text: &mut TextBuilder<A>,
     stream: &str,
@@ -169,7 +175,8 @@ fn put_verdicts<A: Allocator>(
     }
 }
 
-/// Writes the rows of the copies that a hop dropped.
+/// Writes the `frames.csv` rows of the copies that a hop dropped. `roots` and `origins` have source and arrival of each frame of the hop.
+/// `put_hop_lines` calls it.
 fn put_drops<A: Allocator>(
     text: &mut TextBuilder<A>,
     stream: &str,
@@ -192,7 +199,8 @@ fn put_drops<A: Allocator>(
     }
 }
 
-/// Writes the rows of the copies that left a hop. `ways` has for ports 1 to 16 whether the port leads to a hop.
+/// Writes the `frames.csv` rows of the copies that left a hop. `ways` has for ports 1 to 16 whether the port leads to a hop.
+/// `put_hop_lines` calls it.
 fn put_departures<A: Allocator>(
     text: &mut TextBuilder<A>,
     stream: &str,
@@ -218,7 +226,8 @@ fn put_departures<A: Allocator>(
     }
 }
 
-/// Writes the rows of a hop's record to `frames.csv`: refused frames, dropped copies, then copies that left.
+/// Writes the `frames.csv` rows of a hop's record `view`: refused frames, dropped copies, then copies that left. `ways` has whether each
+/// port leads to a hop. `rows_of_hop` calls it.
 pub(crate) fn put_hop_lines<A: Allocator + Copy>(
     text: &mut TextBuilder<A>,
     stream: &str,
@@ -242,7 +251,7 @@ pub(crate) fn put_hop_lines<A: Allocator + Copy>(
     );
 }
 
-/// Returns the rows of a hop: refused frames, dropped copies, then copies that left, each in the order of the run.
+/// Returns the `frames.csv` rows of hop `run`: refused frames, dropped copies, then copies that left, each in the order of the run.
 pub fn frame_lines<A: Allocator + Copy>(
     alloc: A,
     links: &[Link],

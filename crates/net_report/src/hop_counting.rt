@@ -1,4 +1,4 @@
-//! Counts of frames and copies at one hop of a stream, and delays of its copies.
+//! Counts of frames and copies at one hop of a stream, and delays of its copies, for `streams.csv` and the lines about lost frames.
 ghost use Rattle.std.specs.Prelude.{◌≡◌, ◌++◌, Bool, List, count_by, IfOk, OnOk};
 ghost use Rattle.net_report.specs.Hops.{AreOnwardPorts};
 ghost use Rattle.net_report.specs.HopCounts as spec;
@@ -16,7 +16,7 @@ use bridge_semantics::{
 use net_model::Link;
 use std::alloc::Allocator;
 
-/// Whether a verdict is `Pass`: the filter accepted the frame.
+/// Returns whether a verdict is `Pass`: the filter passed the frame. Counts, tables and pictures tell refused frames by it.
 pub(crate) fn is_pass(verdict: Verdict) -> bool
     ensures { result ≡ spec.is_pass verdict }
 {
@@ -40,84 +40,88 @@ pub struct HopCounts {
     pub never: u64,
 }
 
-/// Whether a frame was refused as `Blocked`. Each of the next functions tests another cause of a refusal.
+/// Returns whether a frame was refused as `Blocked`: an earlier oversize frame had blocked the filter. `count_blocked` calls it.
 fn is_blocked(verdict: &Verdict) -> bool
     ensures { result ≡ spec.is_blocked verdict.now }
 {
     matches!(*verdict, Verdict::Blocked)
 }
 
-/// Whether a frame was refused as `Oversize`.
+/// Returns whether a frame was refused as `Oversize`: its SDU was above the filter's maximum. `count_oversize` calls it.
 fn is_oversize(verdict: &Verdict) -> bool
     ensures { result ≡ spec.is_oversize verdict.now }
 {
     matches!(*verdict, Verdict::Oversize)
 }
 
-/// Whether a frame was refused as `GateClosed`.
+/// Returns whether a frame was refused as `GateClosed`: the stream gate was closed when it arrived. `count_gate_closed` calls it.
 fn is_gate_closed(verdict: &Verdict) -> bool
     ensures { result ≡ spec.is_gate_closed verdict.now }
 {
     matches!(*verdict, Verdict::GateClosed)
 }
 
-/// Whether a frame was refused as `ShutByRx`.
+/// Returns whether a frame was refused as `ShutByRx`: an earlier frame, which arrived while the stream gate was closed, had shut the gate.
+/// `count_shut_rx` calls it.
 fn is_shut_rx(verdict: &Verdict) -> bool
     ensures { result ≡ spec.is_shut_rx verdict.now }
 {
     matches!(*verdict, Verdict::ShutByRx)
 }
 
-/// Whether a frame was refused as `ShutByOctets`.
+/// Returns whether a frame was refused as `ShutByOctets`: an earlier frame with too many octets had shut the stream gate.
+/// `count_shut_octets` calls it.
 fn is_shut_octets(verdict: &Verdict) -> bool
     ensures { result ≡ spec.is_shut_octets verdict.now }
 {
     matches!(*verdict, Verdict::ShutByOctets)
 }
 
-/// Whether a frame was refused as `OctetsExceeded`.
+/// Returns whether a frame was refused as `OctetsExceeded`: it had more octets than were left in the stream gate's interval.
+/// `count_octets_exceeded` calls it.
 fn is_octets_exceeded(verdict: &Verdict) -> bool
     ensures { result ≡ spec.is_octets_exceeded verdict.now }
 {
     matches!(*verdict, Verdict::OctetsExceeded)
 }
 
-/// Whether a frame was refused as `Red`.
+/// Returns whether a frame was refused as `Red`: the meter coloured it red. `count_red` calls it.
 fn is_red(verdict: &Verdict) -> bool
     ensures { result ≡ spec.is_red verdict.now }
 {
     matches!(*verdict, Verdict::Red)
 }
 
-/// Whether a frame was refused as `YellowDropped`.
+/// Returns whether a frame was refused as `YellowDropped`: the meter coloured it yellow, and drops yellow frames. `count_yellow_dropped`
+/// calls it.
 fn is_yellow_dropped(verdict: &Verdict) -> bool
     ensures { result ≡ spec.is_yellow_dropped verdict.now }
 {
     matches!(*verdict, Verdict::YellowDropped)
 }
 
-/// Whether a copy was dropped because its queue was full; the next function tests the other cause.
+/// Returns whether a copy was dropped because its queue was full. `count_full` and `never_fits` call it.
 fn is_full(dropped: &Dropped) -> bool
     ensures { result ≡ spec.is_full dropped.now }
 {
     matches!(dropped.refusal, Refusal::Full)
 }
 
-/// Whether a copy was dropped because it fits at no time.
+/// Returns whether a copy was dropped because it fits at no time (`NeverFits`). `count_never_fits` calls it.
 fn never_fits(dropped: &Dropped) -> bool
     ensures { result ≡ spec.never_fits dropped.now }
 {
     !is_full(dropped)
 }
 
-/// Returns the number of frames refused as `Blocked`: an oversize frame before had blocked the filter.
+/// Returns the number of frames refused as `Blocked`: an earlier oversize frame had blocked the filter. `counts_by_ports` calls it.
 fn count_blocked(verdicts: &[StoredVerdict]) -> usize
     ensures { result ≡ count_by spec.is_blocked verdicts.now }
 {
     verdicts.iter().filter(|v| is_blocked(&v.verdict())).count()
 }
 
-/// Returns the number of frames refused because their SDU was above the filter's maximum.
+/// Returns the number of frames refused as `Oversize`: their SDU was above the filter's maximum. `counts_by_ports` calls it.
 fn count_oversize(verdicts: &[StoredVerdict]) -> usize
     ensures { result ≡ count_by spec.is_oversize verdicts.now }
 {
@@ -127,7 +131,7 @@ fn count_oversize(verdicts: &[StoredVerdict]) -> usize
         .count()
 }
 
-/// Returns the number of frames that were refused because the stream gate was closed when they arrived.
+/// Returns the number of frames refused as `GateClosed`: the stream gate was closed when they arrived. `counts_by_ports` calls it.
 fn count_gate_closed(verdicts: &[StoredVerdict]) -> usize
     ensures { result ≡ count_by spec.is_gate_closed verdicts.now }
 {
@@ -137,14 +141,16 @@ fn count_gate_closed(verdicts: &[StoredVerdict]) -> usize
         .count()
 }
 
-/// Returns the number of frames that arrived after a frame had shut the stream gate (`ShutByRx`).
+/// Returns the number of frames refused as `ShutByRx`: an earlier frame, which arrived while the stream gate was closed, had shut the gate.
+/// `counts_by_ports` calls it.
 fn count_shut_rx(verdicts: &[StoredVerdict]) -> usize
     ensures { result ≡ count_by spec.is_shut_rx verdicts.now }
 {
     verdicts.iter().filter(|v| is_shut_rx(&v.verdict())).count()
 }
 
-/// Returns the number of frames that arrived after octets had shut the stream gate (`ShutByOctets`).
+/// Returns the number of frames refused as `ShutByOctets`: an earlier frame with too many octets had shut the stream gate.
+/// `counts_by_ports` calls it.
 fn count_shut_octets(verdicts: &[StoredVerdict]) -> usize
     ensures { result ≡ count_by spec.is_shut_octets verdicts.now }
 {
@@ -154,7 +160,8 @@ fn count_shut_octets(verdicts: &[StoredVerdict]) -> usize
         .count()
 }
 
-/// Returns the number of frames that were refused because they exceeded the octets of a stream gate's interval.
+/// Returns the number of frames refused as `OctetsExceeded`: they had more octets than were left in the stream gate's interval.
+/// `counts_by_ports` calls it.
 fn count_octets_exceeded(verdicts: &[StoredVerdict]) -> usize
     ensures { result ≡ count_by spec.is_octets_exceeded verdicts.now }
 {
@@ -164,14 +171,15 @@ fn count_octets_exceeded(verdicts: &[StoredVerdict]) -> usize
         .count()
 }
 
-/// Returns the number of frames refused because the meter coloured them red.
+/// Returns the number of frames refused as `Red`: the meter coloured them red. `counts_by_ports` calls it.
 fn count_red(verdicts: &[StoredVerdict]) -> usize
     ensures { result ≡ count_by spec.is_red verdicts.now }
 {
     verdicts.iter().filter(|v| is_red(&v.verdict())).count()
 }
 
-/// Returns the number of frames that were refused because the meter coloured them yellow and drops yellow frames.
+/// Returns the number of frames refused as `YellowDropped`: the meter coloured them yellow, and drops yellow frames. `counts_by_ports`
+/// calls it.
 fn count_yellow_dropped(verdicts: &[StoredVerdict]) -> usize
     ensures { result ≡ count_by spec.is_yellow_dropped verdicts.now }
 {
@@ -181,14 +189,14 @@ fn count_yellow_dropped(verdicts: &[StoredVerdict]) -> usize
         .count()
 }
 
-/// Returns the number of copies that a hop dropped because their queue was full.
+/// Returns the number of copies that a hop dropped because their queue was full. `counts_by_ports` calls it.
 fn count_full(drops: &[StoredDrop]) -> usize
     ensures { result ≡ count_by spec.is_full drops.now }
 {
     drops.iter().filter(|d| is_full(&d.dropped_copy())).count()
 }
 
-/// Returns the number of copies dropped because they fit at no time.
+/// Returns the number of copies that a hop dropped because they fit at no time (`NeverFits`). `counts_by_ports` calls it.
 fn count_never_fits(drops: &[StoredDrop]) -> usize
     ensures { result ≡ count_by spec.never_fits drops.now }
 {
@@ -199,7 +207,7 @@ fn count_never_fits(drops: &[StoredDrop]) -> usize
 }
 
 /// Returns the number of delivered copies of a hop: they left by ports without next hop. `ways` has for ports 1 to 16 whether the port
-/// leads to a hop.
+/// leads to a hop. `counts_by_ports` calls it.
 fn count_delivered(ways: &[bool], departures: &[StoredDeparture]) -> usize
     ensures { result ≡ count_by (spec.is_delivery ways.now) departures.now }
 {
@@ -209,8 +217,8 @@ fn count_delivered(ways: &[bool], departures: &[StoredDeparture]) -> usize
         .count()
 }
 
-/// Returns the counts of a hop from its record `view`. `ways` has for ports 1 to 16 whether the port leads to a hop. Callers that have
-/// computed `ways` use this.
+/// Returns the counts of a hop from its record `view`. `ways` has for ports 1 to 16 whether the port leads to a hop. `rows_of_hop` and
+/// `hop_counts` call it.
 pub(crate) fn counts_by_ports<A: Allocator>(ways: &[bool], view: &View<A>) -> HopCounts
     ensures { result ≡ spec.counts_by_ports ways.now view.now }
 {
@@ -233,7 +241,8 @@ pub(crate) fn counts_by_ports<A: Allocator>(ways: &[bool], view: &View<A>) -> Ho
     }
 }
 
-/// Returns the counts of a hop of the stream with these hops. The links decide which ports lead to a next hop.
+/// Returns the counts of hop `hop` of the stream with hops `hops`, for the lines about lost frames. The links decide which ports lead to a
+/// hop.
 pub fn hop_counts<A: Allocator + Copy>(
     alloc: A,
     links: &[Link],
@@ -247,7 +256,7 @@ pub fn hop_counts<A: Allocator + Copy>(
     Ok(counts_by_ports(&ways, hop.view))
 }
 
-/// Appends the delay of a copy to `delays` if it was delivered and its source frame is known.
+/// Appends the delay of a copy to `delays` if it was delivered (by `ways`) and its source frame is known. `departure_delays` calls it.
 fn push_delay<A: Allocator>(
     delays: &mut Vec<u64, A>,
     ways: &[bool],
@@ -265,8 +274,8 @@ fn push_delay<A: Allocator>(
     Ok(())
 }
 
-/// Returns the delays in ns of the copies that a hop delivered, from arrival at the first hop, in the order of leaving. Copies with unknown
-/// source have none.
+/// Returns the delays in ns of the copies that a hop delivered (by `ways`), from arrival at the first hop, in the order of leaving. Leaves
+/// out copies with unknown source.
 pub(crate) fn departure_delays<A: Allocator + Copy>(
     alloc: A,
     ways: &[bool],
@@ -282,7 +291,8 @@ pub(crate) fn departure_delays<A: Allocator + Copy>(
     Ok(delays)
 }
 
-/// Returns the delay of a copy at its hop in ns: from the frame's arrival there to the end of the copy's transmission.
+/// Returns the delay of a copy at its hop in ns: from the frame's arrival there to the end of the copy's transmission. `delays_at_hop`
+/// calls it.
 fn delay_at_hop(origins: &[StoredOrigin], departure: &Departure) -> u64
     ensures { result ≡ spec.delay_at_hop origins.now departure.now }
 {
@@ -291,7 +301,8 @@ fn delay_at_hop(origins: &[StoredOrigin], departure: &Departure) -> u64
         .saturating_sub(arrival_time(origins, departure.own))
 }
 
-/// Returns the delays at a hop in ns of all copies that left it, in the order of leaving.
+/// Returns the delays in ns of all copies that left a hop, from arrival at this hop, in the order of leaving. `rows_of_hop` uses their
+/// least and greatest.
 pub(crate) fn delays_at_hop<A: Allocator + Copy>(
     alloc: A,
     origins: &[StoredOrigin],

@@ -1,4 +1,4 @@
-//! Rows of the picture of a run: copies that left a hop, copies that it dropped, and frames that it refused.
+//! Rows of the picture of a run: copies that left a hop, copies that it dropped, and frames that it refused. `run_picture` arranges them.
 use crate::copy_counting::HopRun;
 use crate::hop_counting::is_pass;
 use crate::run_picture::{
@@ -13,13 +13,13 @@ use std::alloc::Allocator;
 /// Half of the width and height of a triangle for a refused frame or a dropped copy, in pixels.
 const HALF: u64 = 6;
 
-/// Title of a copy that left.
+/// Title of a copy that left, which browsers show as a hint.
 const LEFT_WORDS: &str = "frame {0} arrived {1}, started {2}, ended {3} ns, port {4}";
 
-/// Title of a refused frame.
+/// Title of a refused frame, which browsers show as a hint.
 const REFUSED_WORDS: &str = "frame {0}, arrived at {1} ns: refused ({a})";
 
-/// Title of a dropped copy.
+/// Title of a dropped copy, which browsers show as a hint.
 const DROPPED_WORDS: &str = "frame {0}, arrived at {1} ns: dropped at port {2} ({a})";
 
 /// Returns the arrival time in ns of a hop's frame with number `own`, from 1, or `other` if the frame is missing.
@@ -33,13 +33,14 @@ fn arrival_time_or(origins: &[StoredOrigin], own: u64, other: u64) -> u64 {
     }
 }
 
-/// Draws the line of a copy that crosses a link, from its end of transmission to its arrival at the next hop.
+/// Draws the line of a copy that crosses a link, from its end of transmission to its arrival at the next hop. `put_link` calls it.
 fn put_line(picture: &mut RunPicture, from: Point, to: Point) {
     picture.shapes.draw("link", Element::Line(from, to));
     picture.shapes.end_shape();
 }
 
-/// Whether a frame of a hop's record arrived on `port` at time `at`. Uses a binary search, because the frames are in order of arrival.
+/// Returns whether a frame of a hop's record arrived on `port` at time `at`. Binary search: the frames are in order of arrival.
+/// `hop_reached` calls it.
 fn has_come<A: Allocator>(view: &View<A>, port: u8, at: u64) -> bool {
     let first = view
         .origins
@@ -56,7 +57,8 @@ fn has_come<A: Allocator>(view: &View<A>, port: u8, at: u64) -> bool {
     false
 }
 
-/// Returns the index of the first hop at `bridge` with a frame that arrived on `port` at time `at`. Returns `None` if there is none.
+/// Returns the index of the first hop at `bridge` whose record has a frame that arrived on `port` at time `at`. Returns `None` without such
+/// a hop. `put_link` calls it.
 fn hop_reached<A: Allocator>(
     hops: &[HopRun<'_, A>],
     bridge: usize,
@@ -71,8 +73,8 @@ fn hop_reached<A: Allocator>(
     None
 }
 
-/// Draws the line of a copy over a link to the row of the hop that accepted it. `y` is the height of the sender's row. Draws nothing if no
-/// hop accepted it.
+/// Draws the line of a copy from bridge `bridge` over its link, from the row at height `y` to the accepting hop's row. Draws it only if a
+/// hop accepted the copy. `put_hop` calls it.
 fn put_link<A: Allocator>(
     picture: &mut RunPicture,
     links: &[Link],
@@ -94,7 +96,7 @@ fn put_link<A: Allocator>(
     put_line(picture, from, to);
 }
 
-/// Draws a copy that left a hop: a bar for its waiting time and a bar for its transmission time.
+/// Draws a copy that left a hop, in the row at height `y`. One bar shows its waiting time, one its transmission time. `put_hop` calls it.
 fn put_departure(
     picture: &mut RunPicture,
     origins: &[StoredOrigin],
@@ -116,7 +118,8 @@ fn put_departure(
     put_titled(picture, "out", sends, LEFT_WORDS, &numbers, "");
 }
 
-/// Returns a triangle at a time in a row. The tip is up for a refused frame and down for a dropped copy.
+/// Returns a triangle at time `at` in the row at height `y`. The tip is up for a refused frame (`is_refused`), and down for a dropped copy.
+/// `put_dropped` and `put_refused` call it.
 fn time_mark(picture: &RunPicture, at: u64, y: u64, is_refused: bool) -> Element {
     let x = time_x(picture, at);
     let (above, below) = (y.saturating_sub(HALF), y.saturating_add(HALF));
@@ -134,7 +137,7 @@ fn time_mark(picture: &RunPicture, at: u64, y: u64, is_refused: bool) -> Element
     })
 }
 
-/// Draws a mark at the arrival time of each frame that the filter of a hop refused.
+/// Draws a triangle at the arrival time of each frame that the filter of a hop refused, in the row at height `y`. `put_hop` calls it.
 fn put_refused<A: Allocator>(picture: &mut RunPicture, view: &View<A>, y: u64) {
     let mut own = 0u64;
     for stored in &view.verdicts {
@@ -149,7 +152,7 @@ fn put_refused<A: Allocator>(picture: &mut RunPicture, view: &View<A>, y: u64) {
     }
 }
 
-/// Draws a mark at the frame's arrival time for each copy that a port of a hop dropped.
+/// Draws a triangle at the frame's arrival time for each copy that a port of a hop dropped, in the row at height `y`. `put_hop` calls it.
 fn put_dropped<A: Allocator>(picture: &mut RunPicture, view: &View<A>, y: u64) {
     for stored in &view.drops {
         let dropped = stored.dropped_copy();
@@ -161,7 +164,8 @@ fn put_dropped<A: Allocator>(picture: &mut RunPicture, view: &View<A>, y: u64) {
     }
 }
 
-/// Draws the row of a hop: its name, departures with lines to the next hops, drops and refused frames.
+/// Draws the row of a hop at height `y`: its name, copies that left with lines to the next hops, dropped copies and refused frames.
+/// `put_stream` of `RunPicture` calls it.
 pub(crate) fn put_hop<A: Allocator>(
     picture: &mut RunPicture,
     links: &[Link],

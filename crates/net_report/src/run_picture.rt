@@ -1,4 +1,4 @@
-//! The picture of a network run: one row for each hop of each stream, with its frames over time.
+//! The picture of a network run that `net --picture` draws: one row for each hop of each stream, with its frames over time.
 ghost use Rattle.std.specs.Prelude.{◌≤◌, IfOk, length, string_bytes};
 
 use crate::copy_counting::HopRun;
@@ -43,7 +43,7 @@ const WINDOWS_LEFT_OUT: &str = "; windows drawn: {0} of {1} (hatched: not drawn)
 /// Note in the legend about shapes that don't fit into the picture.
 const LEFT_OUT: &str = "; not drawn: {0} shapes";
 
-/// A picture under construction: the time that it shows, its rows, the number of windows in all and of drawn windows, and its shapes.
+/// Picture of a network run under construction: time span, number of rows drawn, numbers of all and of drawn windows, and shapes.
 #[derive(Drop)]
 pub struct RunPicture {
     pub(crate) span: Span,
@@ -53,7 +53,7 @@ pub struct RunPicture {
     pub(crate) shapes: Shapes,
 }
 
-/// Returns the span widened to all times of these hops. The time axis then shows each of their frames.
+/// Returns the span widened to all times of these hops. The time axis then shows each of their frames. `include_stream` calls it.
 fn widen_span<A: Allocator>(hops: &[HopRun<'_, A>], span: Span) -> Span {
     let mut span = span;
     for hop in hops {
@@ -62,7 +62,7 @@ fn widen_span<A: Allocator>(hops: &[HopRun<'_, A>], span: Span) -> Span {
     span
 }
 
-/// Returns the span widened to all times of a hop's record.
+/// Returns the span widened to all times of a hop's record. `widen_span` calls it.
 fn widen_span_by_record<A: Allocator>(view: &View<A>, span: Span) -> Span {
     let Span { mut from, mut to } = span;
     for stored in &view.origins {
@@ -82,7 +82,7 @@ pub(crate) fn time_x(picture: &RunPicture, moment: u64) -> u64 {
 }
 
 /// Draws an element with a title, which browsers show when the pointer rests on it. The title is `words` with `numbers` and `word` at its
-/// marks.
+/// marks. Rows and windows are drawn by it.
 pub(crate) fn put_titled(
     picture: &mut RunPicture,
     style: &str,
@@ -103,7 +103,7 @@ pub(crate) fn row_y(row: u64) -> u64 {
     row.saturating_mul(ROW_HEIGHT).saturating_add(TOP_MARGIN)
 }
 
-/// Returns a bar between two times, `y` pixels from the top and `height` pixels high.
+/// Returns a bar from time `from` to time `to`, `y` pixels from the top and `height` pixels high. Rows and windows are drawn by it.
 pub(crate) fn bar_x_and_width(
     picture: &RunPicture,
     from: u64,
@@ -135,13 +135,13 @@ impl RunPicture {
         }
     }
 
-    /// Widens the time axis to the times of a stream's hops. Callers include all streams before they draw the first one.
+    /// Widens the time axis to the times of a stream's hops. `app_networks` calls it for all streams before it draws the first one.
     pub fn include_stream<A: Allocator>(&mut self, hops: &[HopRun<'_, A>]) {
         self.span = widen_span(hops, self.span);
     }
 
-    /// Draws the windows of a class at a port in the row of hop `place` of the next stream. A port without list is always open. Call this
-    /// before `put_stream`, which draws over the windows.
+    /// Draws the windows of a class at a port in the row of hop `place` of the next stream. A port without list is always open.
+    /// `put_stream` draws over the windows. `app_networks` calls it.
     pub fn put_open_windows<A: Allocator + Copy>(
         &mut self,
         place: usize,
@@ -163,7 +163,8 @@ impl RunPicture {
         }
     }
 
-    /// Draws the rows of a stream, one for each hop, with the hops' names.
+    /// Draws the rows of a stream, one for each hop, below the rows drawn before. `names` has the hops' names. `app_networks` calls it for
+    /// each stream.
     pub fn put_stream<A: Allocator>(
         &mut self,
         links: &[Link],
@@ -180,7 +181,8 @@ impl RunPicture {
         self.rows = self.rows.saturating_add(hops.len() as u64);
     }
 
-    /// Returns the legend, with notes on windows and shapes that aren't drawn.
+    /// Returns the text above the rows: the time span and the meaning of colours, with notes on windows and shapes that aren't drawn.
+    /// `finish` calls it.
     fn legend(&self, alloc: Global) -> Result<String, NoMemory> {
         let mut legend = TextBuilder::new(alloc);
         let Span { from, to } = self.span;

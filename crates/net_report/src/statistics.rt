@@ -4,7 +4,7 @@ ghost use Rattle.net_report.specs.Statistics as spec;
 
 use bridge_report::{greatest_delay, least_delay, total_delay};
 
-/// Statistics of delays in ns: least, mean (rounded down), greatest, and jitter.
+/// Statistics of delays in ns: least, mean (rounded down), greatest, and jitter. Rows of `streams.csv` show them.
 #[derive(Clone, Copy)]
 pub struct DelayStatistics {
     pub least: u64,
@@ -13,7 +13,7 @@ pub struct DelayStatistics {
     pub jitter: u64,
 }
 
-/// Returns the statistics of these delays, or `None` without a delay.
+/// Returns the statistics of these delays, or `None` without a delay. Rows of `streams.csv` need them.
 pub fn delay_statistics(delays: &[u64]) -> Option<DelayStatistics>
     ensures { result ≡ spec.delay_statistics delays.now }
 {

@@ -9,7 +9,7 @@ use std::alloc::Allocator;
 /// schedule change.
 const MAX_TURNS: usize = 8 * MAX_ENTRIES;
 
-/// Whether the gate control lists open a class at time `at`.
+/// Returns whether the gate control lists open a class at time `at`.
 pub(crate) fn is_class_open<A: Allocator + Copy>(list: &Egress<A>, class: u8, at: u64) -> bool
     requires class { class < 8 }
     requires soon { at < END_OF_TURNS }
@@ -17,7 +17,8 @@ pub(crate) fn is_class_open<A: Allocator + Copy>(list: &Egress<A>, class: u8, at
     is_open(list.turn(at).state, class)
 }
 
-/// Returns the cycle time in ns of the list in force at time `at`, and the time at which this list ends.
+/// Returns the cycle time in ns of the list in force at time `at`, and the time at which this list ends. `count_windows` and
+/// `next_gate_change` call it.
 fn active_list<A: Allocator + Copy>(list: &Egress<A>, at: u64) -> (u64, u64)
     ensures cycle { 1 ≤ result.0 }
     ensures until { result.1 ≤ END_OF_TURNS }
@@ -63,7 +64,7 @@ fn count_openings<A: Allocator + Copy>(list: &Egress<A>, class: u8, after: u64, 
 }
 
 /// Returns the number of times that a class opens after time `after` and up to time `to`, while one list is in force. It counts one cycle
-/// and multiplies.
+/// and multiplies. `count_windows` calls it.
 fn count_list_openings<A: Allocator + Copy>(
     list: &Egress<A>,
     class: u8,
@@ -86,7 +87,8 @@ fn count_list_openings<A: Allocator + Copy>(
         .saturating_add(count_openings(list, class, rest, to))
 }
 
-/// Returns the number of windows of a class in a span of time. The cost doesn't depend on the length of the span.
+/// Returns the number of windows of a class in a time span; a window that begins before the span counts. The cost doesn't depend on the
+/// span's length. `put_windows` calls it.
 pub(crate) fn count_windows<A: Allocator + Copy>(list: &Egress<A>, class: u8, span: Span) -> u64
     requires { class < 8 }
 {
@@ -109,8 +111,8 @@ pub(crate) fn count_windows<A: Allocator + Copy>(list: &Egress<A>, class: u8, sp
     count
 }
 
-/// Returns the first time after `from` at which a class opens or closes, but at most `end`. If nothing changes for a cycle, the search
-/// skips to the next list.
+/// Returns the first time after `from` at which a class opens or closes, but at most `end`. If nothing changes for a cycle, continues with
+/// the next list. `put_windows` calls it.
 pub(crate) fn next_gate_change<A: Allocator + Copy>(
     list: &Egress<A>,
     class: u8,

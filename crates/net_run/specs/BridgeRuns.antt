@@ -38,13 +38,14 @@ pub record RunsBridge {A : Type 0} (p : Plan A) (ports : List ℕ) (commands : L
   pub ends : EndsRun p (input_events inputs) left o
   pub written : (i q : ℕ) (tap : List ℕ) → slice_get ports i ≡ Some q → slice_get taps i ≡ Some tap → IsCaptureOfFrames (left q) tap
 
--- The text with the index of port `q` in a list of ports; empty if the port is missing.
+-- The text of port `q`: it has the index that `q` has in the list of ports. Empty if the list lacks the port.
 abbrev pub text_of_port : List ℕ → List (List ℕ) → ℕ → List ℕ
 text_of_port [] texts q = []
 text_of_port (p ∷ ports) [] q = []
 text_of_port (p ∷ ports) (t ∷ texts) q = if nat_eq p q then t else text_of_port ports texts q
 
--- Holds if a run over captures in memory stops with this fault. A capture is refused for another cause than a failed read, or memory runs out.
+-- Holds if a run over captures of `ports` in memory stops with this fault. A capture is refused for another cause than a failed read, or
+-- memory runs out.
 abbrev pub StopsBridge : {A : Type 0} → Plan A → List ℕ → List Command → List (List ℕ) → RunFault → Type 0
 StopsBridge p ports commands texts (run.Capture port fault) =
     (fault ≢ faults.Read) × (rests : ℕ → Option (List ℕ)) × (olds : List MemoryDevice) × (news : List MemoryDevice)
@@ -139,7 +140,7 @@ pub record IsInitialRun {A : Type 0} (p : Plan A) (links : List Link) (b : ℕ) 
 
 -- ARRIVALS OVER LINKS
 
--- Holds if `text` is the capture that a link delivers of the sent frames in `tap`.
+-- Holds if `text` has the frames of the sent capture `tap`, each `delay` ns later, but at most at the end of time.
 abbrev pub IsDelayedCapture : ℕ → List ℕ → List ℕ → Type 0
 IsDelayedCapture delay tap text = (frames : List CapturedFrame) → IsCaptureOfFrames frames tap → text ≡ written_text (map (delayed delay) frames)
 
@@ -161,7 +162,7 @@ IsBridgeUpToDate {A} xs b = (i : ℕ) (x : BridgeRunState A) → slice_get xs b 
 abbrev pub AreUpToDate : {A : Type 0} → List (BridgeRunState A) → Type 0
 AreUpToDate {A} xs = (b : ℕ) → IsBridgeUpToDate xs b
 
--- Holds if a bridge has run over its inputs.
+-- Holds if a bridge has a result: it has run over its inputs.
 abbrev pub HasRun : {A : Type 0} → BridgeRunState A → Type 0
 HasRun {A} x = (o : Outcome A) × (x.outcome ≡ Some o)
 
@@ -175,7 +176,7 @@ run_texts x = x.texts
 abbrev pub run_captures : {A : Type 0} → BridgeRunState A → List (List ℕ)
 run_captures x = x.taps
 
--- Holds if each bridge has run over its inputs, with its plan, ports and commands.
+-- Holds if the bridges `after` are the bridges `before` after they ran: each has a result. Plans, commands, ports and inputs are unchanged.
 pub record HaveRun {A : Type 0} (before after : List (BridgeRunState A)) : Type 0 where
   pub same : map constant_part after ≡ map constant_part before
   pub texts : map run_texts after ≡ map run_texts before
@@ -188,8 +189,7 @@ pub record AreGiven {A : Type 0} (ran given : List (BridgeRunState A)) : Type 0 
   pub same : map constant_part given ≡ map constant_part ran
   pub each : (b i : ℕ) (x : BridgeRunState A) → slice_get given b ≡ Some x → i < length x.ports → IsPortUpToDate ran x i
 
--- Holds if delivery has reached port index `i` of bridge `b`: all earlier bridges, and the earlier ports of `b`, have
--- the frames sent to them.
+-- Holds if delivery has reached port index `i` of bridge `b`: earlier bridges, and earlier ports of `b`, have the frames sent to them.
 pub record AreGivenBeforePort {A : Type 0} (ran given : List (BridgeRunState A)) (b i : ℕ) : Type 0 where
   pub same : map constant_part given ≡ map constant_part ran
   pub taps : map run_captures given ≡ map run_captures ran
@@ -206,7 +206,7 @@ pub record IsPortOutdated {A : Type 0} (xs : List (BridgeRunState A)) (x : Bridg
   pub later : IsDelayedCapture sender.delay (sent_capture (slice_get xs sender.from.bridge) sender.from.port) sent
   pub other : text ≢ sent
 
--- Holds if port `q` is the first outdated port of bridge `b`.
+-- Holds if port `q` is the first outdated port of bridge `b`: all earlier ports are up to date.
 pub record IsFirstOutdatedPort {A : Type 0} (xs : List (BridgeRunState A)) (b q : ℕ) : Type 0 where
   pub bridge : BridgeRunState A
   pub there : slice_get xs b ≡ Some bridge

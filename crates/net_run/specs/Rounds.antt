@@ -29,7 +29,7 @@ pub record AreBridgeInputs {A : Type 0} (plans : List (Plan A)) (came : List (Br
   pub many : length came ≡ length plans
   pub each : (b : ℕ) (p : Plan A) (c : BridgeInput A) → slice_get plans b ≡ Some p → slice_get came b ≡ Some c → IsBridgeInput p c
 
--- Holds if `xs` has the bridges of a network before the first round.
+-- Holds if `xs` has the bridges of network `n` before the first round, with the inputs `came` from outside.
 pub record AreInitialRuns {A : Type 0} (n : NetworkParts A) (came : List (BridgeInput A)) (xs : List (BridgeRunState A)) : Type 0 where
   pub many : length xs ≡ length n.plans
   pub each : (b : ℕ) (p : Plan A) (c : BridgeInput A) (x : BridgeRunState A) → slice_get n.plans b ≡ Some p → slice_get came b ≡ Some c → slice_get xs b ≡ Some x → IsInitialRun p n.links b c x
@@ -75,8 +75,7 @@ OthersChangeNothing {A} n came settled =
     → lookup (nat_eq h.number) (o h.bridge).filters.items ≡ Some u → lookup (nat_eq h.number) (r h.bridge).filters.items ≡ Some v
     → AreSameViews u v
 
--- Holds if the results `settled` are those of the bridges `xs`: each has its bridge's outcome, and the captures of the
--- frames that the bridge sent.
+-- Holds if `settled` has the results of the bridges `xs`: each bridge's outcome, and the captures of the frames that the bridge sent.
 pub record AreBridgeResults {A : Type 0} (xs : List (BridgeRunState A)) (settled : List (BridgeResult A)) : Type 0 where
   pub outcomes : map (λ (s : BridgeResult A). Some s.outcome) settled ≡ map (λ x. x.outcome) xs
   pub taps : map (λ (s : BridgeResult A). sink_octets s.taps.items) settled ≡ map (λ x. x.taps) xs

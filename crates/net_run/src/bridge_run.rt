@@ -21,7 +21,8 @@ use net_model::{Link, Sender, find_sender};
 use std::alloc::Allocator;
 use std::marker::Model;
 
-/// Returns one source for each capture in `texts`, in the same order, because `bridge_core` reads captures from sources.
+/// Returns one source for each capture in `texts`, in the same order, because `simulate` (bridge_core) reads captures from sources.
+/// `run_bridge` calls it.
 fn capture_sources<'a, A: Allocator + Copy>(
     alloc: A,
     texts: &'a [Vec<u8, A>],
@@ -36,7 +37,7 @@ fn capture_sources<'a, A: Allocator + Copy>(
     Ok(sources)
 }
 
-/// Returns `count` empty sinks in memory, one for each port's sent frames.
+/// Returns `count` empty sinks in memory, one for each port's sent frames. `simulate` writes into them.
 fn empty_sinks<A: Allocator + Copy>(alloc: A, count: usize) -> Result<Vec<VecSink<A>, A>, NoMemory>
     ensures many { IfOk result (λ sinks. length sinks.items ≡ count) }
     ensures empty { IfOk result (λ sinks. All (λ d. d.octets ≡ []) sinks.items) }
@@ -49,7 +50,7 @@ fn empty_sinks<A: Allocator + Copy>(alloc: A, count: usize) -> Result<Vec<VecSin
     Ok(sinks)
 }
 
-/// Everything that a bridge's run yields: its result, and the captures of the frames that its ports sent, by rising port number.
+/// Everything that a bridge's run yields: its result, and the captures (`taps`) of the frames that its ports sent, by rising port number.
 #[derive(Drop)]
 pub(crate) struct RunOutput<A: Allocator + Copy> {
     outcome: Outcome<A>,
@@ -57,6 +58,7 @@ pub(crate) struct RunOutput<A: Allocator + Copy> {
 }
 
 /// Runs the bridge of an accepted plan over these commands and input captures. `texts` has one capture for each port in `ports`.
+/// `run_over_inputs` calls it.
 pub(crate) fn run_bridge<A: Allocator + Copy>(
     alloc: A,
     accepted: &Accepted<A>,
@@ -93,7 +95,8 @@ pub(crate) fn run_bridge<A: Allocator + Copy>(
     }
 }
 
-/// Returns `NoMemory` for a write fault: a sink in memory fails only if memory runs out. Returns every other fault unchanged.
+/// Returns `NoMemory` for a write fault: a sink in memory fails only if memory runs out. Returns every other fault unchanged. `run_bridge`
+/// calls it.
 fn as_memory_fault(fault: RunFault) -> RunFault
     ensures { result ≡ as_memory_fault fault }
 {
@@ -103,8 +106,8 @@ fn as_memory_fault(fault: RunFault) -> RunFault
     }
 }
 
-/// Runs a bridge over copies of its input captures, one for each port by rising number. Returns its result, and the captures of the frames
-/// that each port sent.
+/// Runs a bridge over copies of its input captures, one for each port in `ports`. Returns its result, and the captures of the frames that
+/// each port sent. `run` calls it.
 fn run_over_inputs<A: Allocator + Copy>(
     alloc: A,
     accepted: &Accepted<A>,
@@ -136,7 +139,8 @@ fn run_over_inputs<A: Allocator + Copy>(
     Ok((outcome, taps))
 }
 
-/// Returns the capture in `taps` of the frames that port `port` sent. Returns `None` if the port is missing or the bridge hasn't run.
+/// Returns the capture in `taps` of the frames that port `port` of `ports` sent. Returns `None` if the port is missing, or if the bridge
+/// hasn't run. `delivered_capture` calls it.
 fn find_port_capture<'a, A: Allocator + Copy>(
     ports: &[u8],
     taps: &'a [SharedCapture<A>],
@@ -164,14 +168,14 @@ pub struct BridgeInput<A: Allocator> {
     pub captures: Vec<Vec<u8, A>, A>,
 }
 
-/// Whether a port of the bridge with index `bridge`, from 0, has a link.
+/// Returns whether a port of the bridge with index `bridge`, from 0, has a link. `app_networks` reads captures only for other ports.
 pub fn is_linked(links: &[Link], bridge: usize, port: u8) -> bool
     ensures { result ≡ is_some (networks.sender (map link_value links.now) bridge port) }
 {
     find_sender(links, bridge, port).is_some()
 }
 
-/// Returns for each port of a bridge the port that sends to it over a link, or `None` for an open port.
+/// Returns for each port in `ports` of a bridge the port that sends to it over a link, or `None` for an open port. `begin` calls it.
 fn port_senders<A: Allocator + Copy>(
     alloc: A,
     links: &[Link],
@@ -194,7 +198,7 @@ const EMPTY_CAPTURE: [u8; 24] = [
 ];
 
 /// Replaces the capture in `texts` of the port with index `place` by one without frames if the port has a link. Before the first round, no
-/// frame has arrived over a link.
+/// frame has arrived over a link. `clear_linked_ports` calls it.
 fn clear_linked_port<A: Allocator + Copy>(
     alloc: A,
     senders: &[Option<Sender>],
@@ -217,7 +221,7 @@ fn clear_linked_port<A: Allocator + Copy>(
     Ok(texts)
 }
 
-/// Replaces the captures in `texts` of all linked ports by captures without frames. `senders` has `None` for open ports.
+/// Replaces the captures in `texts` of all linked ports by captures without frames. `senders` has `None` for open ports. `begin` calls it.
 fn clear_linked_ports<A: Allocator + Copy>(
     alloc: A,
     senders: &[Option<Sender>],
@@ -236,8 +240,8 @@ fn clear_linked_ports<A: Allocator + Copy>(
     Ok(texts)
 }
 
-/// A bridge in a network run: its inputs (captures by port and commands), the captures of its sent frames, and its result. The result is
-/// `None` after an input has changed.
+/// A bridge in a network run: its inputs by port, its commands, the captures of its sent frames, and its result. The result is `None` after
+/// an input has changed.
 #[derive(Drop)]
 pub(crate) struct BridgeRun<'a, A: Allocator + Copy> {
     accepted: &'a Accepted<A>,
@@ -277,7 +281,7 @@ impl<'a, A: Allocator + Copy> Model for BridgeRun<'a, A> {
 
 impl<'a, A: Allocator + Copy> BridgeRun<'a, A> {
     /// Returns the bridge with index `bridge` before the first round, with its inputs `came` from outside. No frame has arrived over a
-    /// link.
+    /// link. `initial_bridge_runs` calls it.
     pub(crate) fn begin(
         alloc: A,
         accepted: &'a Accepted<A>,
@@ -304,7 +308,8 @@ impl<'a, A: Allocator + Copy> BridgeRun<'a, A> {
         })
     }
 
-    /// Returns the result of the run, and the captures of the frames that the ports sent. The bridge must have a result.
+    /// Returns the result of the run, and the captures of the frames that the ports sent. Called after the last round, when each bridge has
+    /// a result. `ended_runs` calls it.
     pub(crate) fn finish(self) -> (Outcome<A>, Vec<SharedCapture<A>, A>)
         requires { HasRun self }
         ensures { (self.entry.outcome ≡ Some result.0) × (self.entry.taps ≡ sink_octets result.1.items) }
@@ -316,12 +321,13 @@ impl<'a, A: Allocator + Copy> BridgeRun<'a, A> {
         }
     }
 
-    /// Whether the bridge has run over its current inputs. If not, it runs in the next round.
+    /// Returns whether the bridge has run over its current inputs. If not, it runs in the next round. `announce_start` asks it.
     pub(crate) fn has_run(&self) -> bool {
         self.outcome.is_some()
     }
 
-    /// Returns the number of the bridge's ports. Methods with a parameter `place` accept only indexes below it.
+    /// Returns the number of the bridge's ports. Methods with a parameter `place` accept only indexes below it. `feed_bridge` visits each
+    /// port.
     pub(crate) fn port_count(&self) -> usize
         ensures size { result ≡ length self.now.ports }
         ensures kept { IsBridgeRun self.now }
@@ -337,7 +343,7 @@ impl<'a, A: Allocator + Copy> BridgeRun<'a, A> {
         self.ports[place]
     }
 
-    /// Returns the sender of the port with index `place`, or `None` for an open port.
+    /// Returns the sender of the port with index `place`: the port at the other end of its link. Returns `None` for an open port.
     pub(crate) fn sender(&self, place: usize) -> Option<Sender>
         requires { place < length self.now.ports }
         ensures { slice_get self.now.senders place ≡ Some (option_map sender_value result) }
@@ -345,7 +351,7 @@ impl<'a, A: Allocator + Copy> BridgeRun<'a, A> {
         self.senders[place]
     }
 
-    /// Returns the input capture of the port with index `place`.
+    /// Returns the input capture of the port with index `place`. `has_input` calls it.
     pub(crate) fn input_capture(&self, place: usize) -> &InputCapture<A>
         requires { place < length self.now.ports }
         ensures { slice_get self.now.texts place ≡ Some result.now }
@@ -354,7 +360,7 @@ impl<'a, A: Allocator + Copy> BridgeRun<'a, A> {
     }
 
     /// Returns the input capture for the port at the other end of a link: the frames that `port` sent, `delay` ns later. The capture is
-    /// empty if the port is missing.
+    /// empty if the port is missing. `capture_over_link` calls it.
     pub(crate) fn delivered_capture(
         &self,
         alloc: A,
@@ -370,7 +376,7 @@ impl<'a, A: Allocator + Copy> BridgeRun<'a, A> {
     }
 
     /// Sets the input capture of the linked port with index `place`. Drops the result of the bridge's last run, so that the bridge runs
-    /// again in the next round.
+    /// again in the next round. `deliver_capture` calls it.
     pub(crate) fn set_input(&mut self, place: usize, input: InputCapture<A>)
         requires place { place < length self.old.ports }
         requires linked { (s : networks.Sender) × (slice_get self.old.senders place ≡ Some (Some s)) }
@@ -382,8 +388,8 @@ impl<'a, A: Allocator + Copy> BridgeRun<'a, A> {
         self.texts[place] = input;
     }
 
-    /// Whether the input capture of the port with index `place` has the octets of `input`. If so, the frames from the port's sender haven't
-    /// changed.
+    /// Returns whether the input capture of the port with index `place` has the octets of `input`. If so, the frames from the port's sender
+    /// haven't changed. `deliver_capture` calls it.
     pub(crate) fn has_input(
         &self,
         alloc: A,
@@ -398,7 +404,8 @@ impl<'a, A: Allocator + Copy> BridgeRun<'a, A> {
         self.input_capture(place).has_same_octets(alloc, input)
     }
 
-    /// Runs the bridge over its inputs, unless it has a result for them. Returns whether it ran.
+    /// Runs the bridge over its inputs, and stores its result and sent captures, unless it has a result for these inputs. Returns whether
+    /// it ran. `run_bridges` calls it in each round.
     pub(crate) fn run(&mut self, alloc: A) -> Result<bool, RunFault>
         ensures same { OnOk result ((constant_part self.new ≡ constant_part self.old)
             × (self.new.texts ≡ self.old.texts)) }

@@ -1,5 +1,4 @@
-//! Captures of a port's sent frames, converted to the input of the port at the other end of the link: each frame arrives one link delay
-//! later.
+//! Conversion of a port's sent frames to the input of the port at the link's other end: each frame arrives one link delay later.
 ghost use Rattle.std.specs.Prelude.{◌≡◌, ℕ, ◌≤◌, ◌<◌, ◌+◌, ◌*◌, ◌^◌, ◌++◌, All, List, Some, None, flat_map, length, map, option_map, IfOk, OnOk};
 ghost use Rattle.std.specs.Int.{to_le_bytes};
 ghost use Rattle.bridge_capture.specs.Grammar.{CapturedFrame};
@@ -16,7 +15,7 @@ const HEADER_LENGTH: usize = 24;
 /// Length of a record's header in octets.
 const RECORD_HEADER_LENGTH: usize = 16;
 
-/// Returns the little-endian word of four octets at position `at`.
+/// Returns the little-endian word of the four octets from index `at` on. `append_delayed_record` calls it.
 fn read_word(octets: &[u8], at: usize) -> u64
     requires { at + 4 ≤ length octets.now }
     ensures word { IsWord octets.now at result }
@@ -25,14 +24,16 @@ fn read_word(octets: &[u8], at: usize) -> u64
     u32::from_le_bytes([octets[at], octets[at + 1], octets[at + 2], octets[at + 3]]) as u64
 }
 
-/// Returns `moment` plus `delay` in ns, but at most `END_OF_TIME`, because captures have no later times.
+/// Returns the time `moment` plus `delay`, in ns, but at most `END_OF_TIME`, because captures have no later times. `append_delayed_record`
+/// calls it.
 fn delayed_time(moment: u64, delay: u64) -> u64
     ensures { result ≡ delayed_time moment delay }
 {
     moment.saturating_add(delay).min(END_OF_TIME)
 }
 
-/// Returns the eight octets of a record's time: four octets of seconds, then four of nanoseconds, both little-endian.
+/// Returns the eight octets of the time `moment` in a record: four octets of seconds, then four of nanoseconds within the second, both
+/// little-endian. `append_delayed_record` calls it.
 #[tactic(auto, unfolding(crate::specs::DelayedCapture::time_words))]
 fn time_words(moment: u64) -> [u8; 8]
     requires { moment < 2 ^ 32 * 10 ^ 9 }
@@ -52,8 +53,8 @@ fn time_words(moment: u64) -> [u8; 8]
     ]
 }
 
-/// Appends to `text` the first record of `octets`, with its time `delay` ns later. Returns the octets after this record. Returns `None` if
-/// `octets` doesn't begin with a whole record.
+/// Appends to `text` the first record of `octets`, with its time `delay` ns later. Returns the octets after this record, or `None` if no
+/// whole record is left. `append_delayed_records` calls it.
 fn append_delayed_record<'a, A: Allocator>(
     octets: &'a [u8],
     delay: u64,
@@ -80,7 +81,8 @@ fn append_delayed_record<'a, A: Allocator>(
     Ok(Some(&octets[end..]))
 }
 
-/// Appends to `text` each record of `octets`, with its time `delay` ns later.
+/// Appends to `text` each record of `octets`, with its time `delay` ns later. Stops where no whole record is left. `delay_capture` calls
+/// it.
 fn append_delayed_records<A: Allocator>(
     octets: &[u8],
     delay: u64,
@@ -99,8 +101,8 @@ fn append_delayed_records<A: Allocator>(
     Ok(())
 }
 
-/// Returns a capture with each frame delayed by `delay` ns, at most to the end of time. The contract holds only for captures that this
-/// program wrote.
+/// Returns the capture `text` with each frame delayed by `delay` ns, at most to the end of time. The result is empty if `text` lacks a
+/// whole header. `copy_octets` calls it.
 pub fn delay_capture<A: Allocator>(
     alloc: A,
     text: &[u8],

@@ -1,4 +1,4 @@
-//! Complete runs of networks in rounds.
+//! Complete runs of networks in rounds: `run_network`, its result and its fault.
 ghost use Rattle.std.specs.Prelude.{◌≡◌, ◌<◌, ℕ, All, Some, None, false, true, length, map, option_map, slice_get, IfOk, IfErr, OnErr, OnOk, Ok, Err};
 ghost use Rattle.net_model.specs.Checked.{AreClosed};
 ghost use Rattle.net_model.specs.Networks.{IsNetwork};
@@ -16,9 +16,10 @@ use bridge_semantics::Outcome;
 use net_model::{Network, Sender};
 use std::alloc::Allocator;
 
-/// Observer of a network run's progress.
+/// Observer of a network run's progress. `app_networks` implements it to show progress on a terminal.
 pub trait RoundObserver {
-    /// Reports that `bridge` begins to run in `round`. Both are counted from 0. `net` shows the progress of a long run by these reports.
+    /// Reports that bridge `bridge` begins to run in round `round`. Both are counted from 0. `announce_start` calls it before the bridge
+    /// runs.
     fn bridge_starts(&mut self, round: u32, bridge: usize);
 }
 
@@ -30,19 +31,20 @@ impl RoundObserver for NoObserver {
     fn bridge_starts(&mut self, _round: u32, _bridge: usize) {}
 }
 
-/// Why a network run ends without result.
+/// Why a network run ends without result. `run_network` returns it.
 #[derive(Clone, Copy, Debug, PartialEq, Eq)]
 pub enum RoundsFault {
-    /// A bridge refuses a capture: the first bridge of the round with a fault, by its index from 0. The fault is neither `Write` nor the
-    /// fault `Read` of a capture.
+    /// Bridge `bridge`, an index from 0, refuses a capture: it is the first bridge of the round with a fault. `fault` is never a failed
+    /// read or write, because all captures are in memory.
     Bridge { bridge: usize, fault: RunFault },
-    /// In the last allowed round, this linked port still received other frames than in the round before. It is the first such port.
+    /// In the last allowed round, this linked port still received other frames than in the round before. It is the first such port. With 0
+    /// rounds, both numbers are 0.
     NotSettled { bridge: usize, port: u8 },
     /// Memory ran out.
     NoMemory,
 }
 
-/// Result of one bridge of a network, and the captures of the frames that its ports sent.
+/// Result of one bridge of a network, and the captures of the frames that its ports sent. `SettledNetwork` has one for each bridge.
 #[derive(Drop)]
 pub struct BridgeResult<A: Allocator + Copy> {
     /// Everything that the bridge's run reports.
@@ -61,7 +63,7 @@ pub struct SettledNetwork<A: Allocator + Copy> {
 }
 
 /// Returns the input capture that a link delivers from `sender`: its sent frames, later by the link's delay. The capture is empty if the
-/// sending bridge is missing.
+/// sending bridge is missing. `deliver_capture` calls it.
 fn capture_over_link<A: Allocator + Copy>(
     alloc: A,
     stations: &[BridgeRun<'_, A>],
@@ -76,8 +78,8 @@ fn capture_over_link<A: Allocator + Copy>(
     station.delivered_capture(alloc, sender.from.port, sender.delay)
 }
 
-/// Whether `bridge` skipped this round, because its inputs hadn't changed. `ran` has for each bridge whether it ran. Returns false for a
-/// missing bridge.
+/// Returns whether `bridge` skipped this round, because its inputs hadn't changed. `ran` has for each bridge whether it ran. Returns false
+/// for a missing bridge. `feed_port` calls it.
 fn has_skipped_round(ran: &[bool], bridge: u16) -> bool
     ensures { result ≡ true → slice_get ran.now bridge ≡ Some false }
 {
@@ -87,8 +89,8 @@ fn has_skipped_round(ran: &[bool], bridge: u16) -> bool
     }
 }
 
-/// Delivers to the linked port with index `place` the frames that its sender sent. Returns the port's number if its input changed,
-/// otherwise `None`.
+/// Delivers to the linked port with index `place` of bridge `bridge` the frames that its sender sent. Returns the port's number if its
+/// input changed, otherwise `None`. `feed_port` calls it.
 fn deliver_capture<A: Allocator + Copy>(
     alloc: A,
     stations: &mut [BridgeRun<'_, A>],
@@ -113,8 +115,8 @@ fn deliver_capture<A: Allocator + Copy>(
     Ok(Some(port))
 }
 
-/// Delivers to the port with index `place` the frames sent to it, if its sender ran in this round. Returns the port's number if its input
-/// changed, otherwise `None`.
+/// Delivers to port index `place` of bridge `bridge` the frames sent to it, if its sender ran in this round (`ran`). Returns the port's
+/// number if its input changed. `feed_bridge` calls it.
 fn feed_port<A: Allocator + Copy>(
     alloc: A,
     stations: &mut [BridgeRun<'_, A>],
@@ -136,7 +138,8 @@ fn feed_port<A: Allocator + Copy>(
     deliver_capture(alloc, stations, bridge, place, sender)
 }
 
-/// Delivers to each linked port of a bridge the frames sent to it. Returns the number of the first port whose input changed, or `None`.
+/// Delivers to each linked port of bridge `bridge` the frames that senders sent in this round (`ran`). Returns the first port whose input
+/// changed, or `None`. `feed_bridges` calls it.
 fn feed_bridge<A: Allocator + Copy>(
     alloc: A,
     stations: &mut [BridgeRun<'_, A>],
@@ -155,7 +158,7 @@ fn feed_bridge<A: Allocator + Copy>(
     Ok(first)
 }
 
-/// Returns the pair of the bridge's index and the port, or `None` without a port. The fault `NotSettled` names both.
+/// Returns bridge index and port as a pair, or `None` without a port. `feed_bridges` returns the pair, and the fault `NotSettled` names it.
 fn with_bridge(bridge: usize, port: Option<u8>) -> Option<(usize, u8)>
     ensures { result ≡ option_map (λ q. (bridge, q)) port }
 {
@@ -165,8 +168,8 @@ fn with_bridge(bridge: usize, port: Option<u8>) -> Option<(usize, u8)>
     }
 }
 
-/// Delivers to every linked port the frames sent to it in this round. Returns the first bridge and port whose input changed, or `None` if
-/// none changed.
+/// Delivers to every linked port the frames sent to it in this round (`ran`). Returns the first bridge and port whose input changed, or
+/// `None` if none changed. `run_round` calls it.
 fn feed_bridges<A: Allocator + Copy>(
     alloc: A,
     stations: &mut [BridgeRun<'_, A>],
@@ -184,7 +187,7 @@ fn feed_bridges<A: Allocator + Copy>(
 }
 
 /// Reports to the observer `watch` that a bridge begins to run in round `turn`. Reports nothing if the bridge has a result, because it then
-/// skips the round.
+/// skips the round. `run_bridges` calls it.
 fn announce_start<A: Allocator + Copy, W: RoundObserver>(
     stations: &[BridgeRun<'_, A>],
     bridge: usize,
@@ -198,7 +201,8 @@ fn announce_start<A: Allocator + Copy, W: RoundObserver>(
     }
 }
 
-/// Returns the fault of a network run in which `bridge` stopped with `fault`: the bridge with this fault, or `NoMemory` if memory ran out.
+/// Returns the fault of a network run in which bridge `bridge` stopped with `fault`: `Bridge` with both, or `NoMemory` if memory ran out.
+/// `run_bridges` calls it.
 fn bridge_fault(bridge: usize, fault: RunFault) -> RoundsFault
     ensures { IsFaultAt bridge fault result }
 {
@@ -208,7 +212,8 @@ fn bridge_fault(bridge: usize, fault: RunFault) -> RoundsFault
     }
 }
 
-/// Runs each bridge that has no result for its inputs. Returns for each bridge whether it ran. Stops at the first bridge with a fault.
+/// Runs each bridge of `stations` that has no result for its inputs, in round `turn`. Returns for each bridge whether it ran. Stops at the
+/// first bridge with a fault. `run_round` calls it.
 fn run_bridges<A: Allocator + Copy, W: RoundObserver>(
     alloc: A,
     stations: &mut [BridgeRun<'_, A>],
@@ -237,14 +242,16 @@ fn run_bridges<A: Allocator + Copy, W: RoundObserver>(
     Ok(all)
 }
 
-/// Result of a bridge, and the captures of the frames that its ports sent. When all bridges have ended, no input shares these captures.
+/// Result of a bridge that has ended, and the captures of the frames that its ports sent. When all bridges have ended, no input shares
+/// these captures.
 #[derive(Drop)]
 struct EndedRun<A: Allocator + Copy> {
     outcome: Outcome<A>,
     taps: Vec<SharedCapture<A>, A>,
 }
 
-/// Returns the results and sent captures of bridges that have run, in the order of the network. Drops their inputs.
+/// Returns the results and sent captures of bridges that have run, in the order of the network. Drops their inputs. `bridge_results` calls
+/// it.
 fn ended_runs<A: Allocator + Copy>(
     alloc: A,
     stations: Vec<BridgeRun<'_, A>, A>,
@@ -260,7 +267,7 @@ fn ended_runs<A: Allocator + Copy>(
     Ok(all)
 }
 
-/// Converts the ended runs of bridges to their results, in order: each sent capture becomes a sink.
+/// Converts the ended runs of bridges to their results, in order: each sent capture becomes a sink. `bridge_results` calls it.
 fn results_of_runs<A: Allocator + Copy>(
     alloc: A,
     ended: Vec<EndedRun<A>, A>,
@@ -276,7 +283,7 @@ fn results_of_runs<A: Allocator + Copy>(
     Ok(all)
 }
 
-/// Returns the results and sent captures of bridges that have run, in the order of the network.
+/// Returns the results and sent captures of bridges that have run, in the order of the network. `finish_bridges` calls it.
 fn bridge_results<A: Allocator + Copy>(
     alloc: A,
     stations: Vec<BridgeRun<'_, A>, A>,
@@ -289,7 +296,8 @@ fn bridge_results<A: Allocator + Copy>(
     Ok(results)
 }
 
-/// Returns the bridges of a network before the first round. No frame has arrived over a link.
+/// Returns the bridges of a network before the first round. `incoming` has their inputs from outside; no frame has arrived over a link.
+/// `run_network` calls it.
 fn initial_bridge_runs<'a, A: Allocator + Copy>(
     alloc: A,
     network: &'a Network<A>,
@@ -314,7 +322,7 @@ fn initial_bridge_runs<'a, A: Allocator + Copy>(
     Ok(stations)
 }
 
-/// Does nothing at run time: each call of `port_count` gives the prover the properties of a bridge.
+/// Does nothing at run time: each call of `port_count` gives the prover the properties of a bridge. `run_round` calls it.
 fn assert_bridge_runs<A: Allocator + Copy>(stations: &[BridgeRun<'_, A>])
     ensures { All IsBridgeRun stations.now }
 {
@@ -323,8 +331,8 @@ fn assert_bridge_runs<A: Allocator + Copy>(stations: &[BridgeRun<'_, A>])
     }
 }
 
-/// Runs one round: each bridge with changed inputs runs, and each linked port gets the frames sent to it. Returns the first bridge and port
-/// whose input changed, or `None` if the run ends.
+/// Runs round `turn`: each bridge with changed inputs runs, and each linked port gets the frames sent to it. Returns the first bridge and
+/// port whose input changed, if any. `run_network` calls it.
 fn run_round<A: Allocator + Copy, W: RoundObserver>(
     alloc: A,
     stations: &mut [BridgeRun<'_, A>],
@@ -346,7 +354,7 @@ fn run_round<A: Allocator + Copy, W: RoundObserver>(
     }
 }
 
-/// Does nothing at run time: the calls give the prover the properties of an accepted network.
+/// Does nothing at run time: the calls give the prover the properties of an accepted network. `run_network` calls it.
 fn assert_network<A: Allocator + Copy>(network: &Network<A>)
     ensures network { IsNetwork (network_value network.now) }
     ensures closed { AreClosed network.now }
@@ -355,8 +363,8 @@ fn assert_network<A: Allocator + Copy>(network: &Network<A>)
     let _streams = network.streams();
 }
 
-/// Runs a network in at most `rounds` rounds, until each link delivers exactly the frames that its sender sent. Bridges with unchanged
-/// inputs don't run again. `watch` gets a report before each bridge's run.
+/// Runs a network in at most `rounds` rounds, until each link delivers exactly the frames that its sender sent. `watch` gets a report
+/// before each bridge's run. `net` runs networks by it.
 pub fn run_network<A: Allocator + Copy, W: RoundObserver>(
     alloc: A,
     network: &Network<A>,
@@ -393,7 +401,7 @@ pub fn run_network<A: Allocator + Copy, W: RoundObserver>(
     Err(RoundsFault::NotSettled { bridge, port })
 }
 
-/// Returns the results of the bridges after the last round, with the number of rounds.
+/// Returns the results of the bridges after the last round, with the number of rounds. `run_network` calls it.
 fn finish_bridges<A: Allocator + Copy>(
     alloc: A,
     stations: Vec<BridgeRun<'_, A>, A>,

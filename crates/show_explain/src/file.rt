@@ -1,4 +1,4 @@
-//! Explains why a file can't be opened, created, read or written.
+//! Explains why a file can't be opened, created, read or written, for `--explain`.
 ghost use Rattle.std.specs.Prelude.{IfOk, string_bytes};
 ghost use Rattle.bridge_text.specs.PathPrefix.{StartsWithName};
 
@@ -11,7 +11,8 @@ use std::alloc::{Allocator, Global};
 const EMPTY_PATH: &str =
     "A path is empty. Name the file or the folder, for example . for the current folder.\n";
 
-/// Explains why a file can't be opened, created, read or written. The explanation begins with `path`.
+/// Explains why a file can't be opened, created, read or written, with a remedy. The explanation begins with `path`. It answers
+/// `--explain`.
 pub fn explain_file(alloc: Global, path: &str, cause: Cause) -> Result<String, NoMemory>
     ensures { IfOk result (λ said. StartsWithName path.now (string_bytes said)) }
 {
@@ -24,7 +25,7 @@ pub fn explain_file(alloc: Global, path: &str, cause: Cause) -> Result<String, N
     finish_with_path(alloc, path, said)
 }
 
-/// Returns the sentence for a cause, about the file at the path `{a}`.
+/// Returns the sentence for a cause, about the file at the path `{a}`. `explain_file` calls it.
 fn cause_sentence(cause: Cause) -> &'static str {
     match cause {
         Cause::NotFound => ": no such file. Check the spelling and the current folder.\n",
@@ -49,7 +50,8 @@ fn cause_sentence(cause: Cause) -> &'static str {
     }
 }
 
-/// Writes a warning that a capture isn't read because the plan lacks its port.
+/// Writes a warning that the run doesn't read a capture in its folder, because the plan lacks port `port`. `warn_if_capture_unread` calls
+/// it.
 pub fn warn_unread_capture<A: Allocator>(said: &mut TextBuilder<A>, path: &str, port: u8) {
     said.put_template(
         "Warning: {a} is not read: the plan has no port {0}.\n",

@@ -1,4 +1,4 @@
-//! Explains keys that aren't allowed in their tables.
+//! Explains keys that aren't allowed in their tables: unknown keys, and keys that conflict with others.
 
 use crate::document::{SourceText, instance_table, put_instance_position, section_items};
 use bridge_schema::{
@@ -11,7 +11,7 @@ use bridge_text::{
 use std::alloc::Global;
 use toml::{Table, Value};
 
-/// Returns the rule of the key with this spelling, or `None` if the table has no such key.
+/// Returns the rule in `keys` of the key with spelling `name`, or `None` if the table has no such key.
 pub(crate) fn find_key(keys: &'static [KeyRule], name: &str) -> Option<&'static KeyRule> {
     for key in keys {
         if key.0.key() == name {
@@ -21,7 +21,8 @@ pub(crate) fn find_key(keys: &'static [KeyRule], name: &str) -> Option<&'static 
     None
 }
 
-/// Writes the key in `keys` that is nearest to `word`, or all keys if none is near.
+/// Writes the key in `keys` that is nearest to `word`, or all keys if none is near. `put_misplaced_entry_key` and `put_misplaced_table_key`
+/// call it.
 fn put_nearest_key(alloc: Global, said: &mut Said, word: &str, keys: &'static [KeyRule]) {
     let (mut names, mut is_refused) = (Vec::new(alloc), false);
     for key in keys {
@@ -33,7 +34,7 @@ fn put_nearest_key(alloc: Global, said: &mut Said, word: &str, keys: &'static [K
     put_nearest(alloc, said, word, &names, KEYS);
 }
 
-/// Writes which key at the top level of the file is unknown, and the nearest section.
+/// Writes which key at the top of a plan or of commands is unknown, and the nearest section. Both functions `put_fault` call it.
 pub(crate) fn put_top_key(alloc: Global, said: &mut Said, source: SourceText<'_>) {
     let sections: &'static [Section] = if source.is_commands {
         &COMMAND_SECTIONS
@@ -51,6 +52,7 @@ pub(crate) fn put_top_key(alloc: Global, said: &mut Said, source: SourceText<'_>
 }
 
 /// Returns the first key of a table that is unknown or conflicts with another key. `has_change` is true if the plan has a schedule change.
+/// `first_misplaced_entry_key` and `put_misplaced_key` call it.
 fn first_misplaced_key<'a>(
     keys: &'static [KeyRule],
     table: &'a Table,
@@ -69,7 +71,7 @@ fn first_misplaced_key<'a>(
 }
 
 /// Returns the position, from 1, of the first entry with a key that isn't allowed there, and the key. Returns `None` if all entries are
-/// sound.
+/// sound. `put_misplaced_entry_key` calls it.
 fn first_misplaced_entry_key<'a>(
     keys: &'static [KeyRule],
     table: &'a Table,
@@ -87,7 +89,8 @@ fn first_misplaced_entry_key<'a>(
     None
 }
 
-/// Writes which key of an instance is unknown and the nearest key, or why a known key isn't allowed there.
+/// Writes which key of instance `index` is unknown, with the nearest key, or why a known key isn't allowed there. Looks at the entries of
+/// its lists last. `put_fault` calls it.
 pub(crate) fn put_misplaced_key(
     alloc: Global,
     said: &mut Said,
@@ -106,7 +109,7 @@ pub(crate) fn put_misplaced_key(
     put_misplaced_entry_key(alloc, said, source, section, index, table);
 }
 
-/// Writes which key of an entry of an instance's list is unknown, and the nearest key.
+/// Writes which key of an entry of a list of instance `index`, from 1, is unknown, and the nearest key. `put_misplaced_key` calls it.
 fn put_misplaced_entry_key(
     alloc: Global,
     said: &mut Said,
@@ -129,7 +132,7 @@ fn put_misplaced_entry_key(
     put_instance_position(said, source, section, index, None);
 }
 
-/// Writes that a key isn't a key of its section and the nearest key, or why it isn't allowed there.
+/// Writes that a key isn't a key of its section and the nearest key, or why it isn't allowed there. `put_misplaced_key` calls it.
 fn put_misplaced_table_key(
     alloc: Global,
     said: &mut Said,

@@ -1,4 +1,4 @@
-//! Explains names of bridges in a network's links and hops.
+//! Explains the names of ports and filters in a network's links and hops.
 
 use crate::net_keys::{example_bridge, net_instance};
 use bridge_schema::NUMBER;
@@ -10,12 +10,12 @@ use net_file::{MAX_HOPS, NetField, NetKeyLocation, NetSection, is_numbered_name}
 use std::alloc::Global;
 use toml::Value;
 
-/// Whether a value is a text, such as the name of a hop.
+/// Returns whether a value is a text, which each hop of a stream must be. `put_hops` calls it.
 fn is_text(value: &Value) -> bool {
     matches!(value, Value::String(_))
 }
 
-/// Whether a value is a text, a dot and a filter number.
+/// Returns whether a value is a text that ends in a dot and a filter number, such as `left.10`. `put_hops` calls it.
 fn is_hop(value: &Value) -> bool {
     match value {
         Value::String(text) => is_numbered_name(text.as_str(), 0, u32::MAX),
@@ -23,7 +23,8 @@ fn is_hop(value: &Value) -> bool {
     }
 }
 
-/// Writes why an array of hops is refused: an item that isn't a text, its length, or an item that names no filter.
+/// Writes why an array of hops is refused: an item that isn't a text, its length, or an item that names no filter. `put_key_explanation`
+/// calls it.
 pub(crate) fn put_hops(said: &mut Said, document: Document<'_>, items: &[Value]) {
     let are_texts = items.iter().all(|item| is_text(item));
     let count = items.len();
@@ -43,7 +44,7 @@ pub(crate) fn put_hops(said: &mut Said, document: Document<'_>, items: &[Value])
     }
 }
 
-/// Writes an item of an array of hops that isn't a hop, and its required form.
+/// Writes item `number`, from 1, of an array of hops, which isn't a hop, and the form of a hop. `put_hops` calls it.
 fn put_hop(said: &mut Said, document: Document<'_>, number: u64, item: &Value) {
     let key = NetField::Hops.key();
     put_value_sentence(said, "Item {0} of `{a}` is ", number, key, Some(item), "");
@@ -54,7 +55,7 @@ fn put_hop(said: &mut Said, document: Document<'_>, number: u64, item: &Value) {
     );
 }
 
-/// Returns the names of a network's bridges. If memory runs out, the explanation is discarded.
+/// Returns the names of a network's bridges. If memory runs out, the explanation is discarded. `put_unknown_bridge` calls it.
 fn bridge_names<'a>(alloc: Global, said: &mut Said, document: Document<'a>) -> Vec<&'a str> {
     let mut names = Vec::new(alloc);
     for bridge in section_instances(document.table, NetSection::Bridge.name()) {
@@ -67,7 +68,7 @@ fn bridge_names<'a>(alloc: Global, said: &mut Said, document: Document<'a>) -> V
     names
 }
 
-/// Returns the name of a bridge in a text: the part before its first dot.
+/// Returns the name of a bridge in a text: the part before its first dot. `put_unknown` and `put_unknown_bridge` call it.
 fn bridge_part(text: &str) -> &str {
     match text.split_once('.') {
         Some((name, _)) => name,
@@ -75,7 +76,7 @@ fn bridge_part(text: &str) -> &str {
     }
 }
 
-/// Writes which bridge an instance's key names although the network lacks it, the nearest bridge, and what to do.
+/// Writes which bridge an instance's key names although the network lacks it, the nearest bridge, and what to do. `put_fault` calls it.
 pub(crate) fn put_unknown_bridge(
     alloc: Global,
     said: &mut Said,
@@ -102,7 +103,7 @@ pub(crate) fn put_unknown_bridge(
     }
 }
 
-/// Writes a text that names an unknown bridge, the nearest name, and what to do.
+/// Writes that the file has no bridge with the name in `text`, then the nearest of `names`, and a remedy. `put_unknown_bridge` calls it.
 fn put_unknown(alloc: Global, said: &mut Said, text: &str, names: &[&str]) {
     let name = bridge_part(text);
     put_text(said, text);

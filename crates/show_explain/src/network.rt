@@ -1,4 +1,4 @@
-//! Explains why a text isn't a network or traffic.
+//! Explains why a network file or a traffic file is refused, for `--explain`.
 ghost use Rattle.std.specs.Prelude.{IfOk, string_bytes};
 ghost use Rattle.bridge_text.specs.PathPrefix.{StartsWithName};
 
@@ -20,8 +20,8 @@ use net_file::{
 use std::alloc::Global;
 use toml::{Table, Value};
 
-/// Explains why a file isn't a network: the position of the fault, the value there, the allowed values, and what to change. The explanation
-/// begins with `path`.
+/// Explains why a network file is refused: position of the fault, value there, allowed values, and what to change. The explanation begins
+/// with `path`. `explain_refused_network` calls it.
 pub fn explain_network_text(
     alloc: Global,
     path: &str,
@@ -37,8 +37,8 @@ pub fn explain_network_text(
     )
 }
 
-/// Explains why a file isn't traffic: the position of the fault, the value there, the allowed values, and what to change. The explanation
-/// begins with `path`.
+/// Explains why a traffic file is refused: position of the fault, value there, allowed values, and what to change. The explanation begins
+/// with `path`. `explain_refused_traffic` calls it.
 pub fn explain_traffic_text(
     alloc: Global,
     path: &str,
@@ -54,7 +54,7 @@ pub fn explain_traffic_text(
     )
 }
 
-/// Returns the explanation of a file's fault, without the path that precedes it.
+/// Returns the explanation of a file's fault, without the path that precedes it. `explain_network_text` and `explain_traffic_text` call it.
 fn file_explanation(
     alloc: Global,
     path: &str,
@@ -85,7 +85,8 @@ fn file_explanation(
     said
 }
 
-/// Writes the explanation of a fault by the function for its kind, after the path.
+/// Writes the explanation of a network or traffic file's fault, to follow the path. Calls the function for its kind. `file_explanation`
+/// calls it.
 fn put_fault(
     alloc: Global,
     said: &mut Said,
@@ -129,7 +130,7 @@ fn put_fault(
     }
 }
 
-/// Writes which key at the top level is unknown, and the nearest section of this kind of file.
+/// Writes which key at the top level is unknown, and the nearest section of this kind of file. `put_fault` calls it.
 fn put_top_key(alloc: Global, said: &mut Said, document: Document<'_>, kind: FileKind) {
     let (bridge, link, stream) = (
         NetSection::Bridge.name(),
@@ -147,7 +148,7 @@ fn put_top_key(alloc: Global, said: &mut Said, document: Document<'_>, kind: Fil
     }
 }
 
-/// Whether a word is the spelling of one of these keys.
+/// Returns whether a word is the spelling of one of these keys. `excluded_key` and `put_stray_key` call it.
 fn is_known(keys: &[NetField], word: &str) -> bool {
     for key in keys {
         if key.key() == word {
@@ -157,7 +158,8 @@ fn is_known(keys: &[NetField], word: &str) -> bool {
     false
 }
 
-/// Writes which key of an instance is unknown, and the nearest key.
+/// Writes which key of instance `index` is unknown, and the nearest key. If all keys are known, writes which key another one excludes.
+/// `put_fault` calls it.
 fn put_stray_key(
     alloc: Global,
     said: &mut Said,
@@ -181,7 +183,7 @@ fn put_stray_key(
     put_excluded_key(said, document, section, index, table);
 }
 
-/// Writes which key of a row of traffic another key excludes. The row has only known keys.
+/// Writes which key of traffic row `index`, from 1, another key excludes. `put_stray_key` calls it if the row has only known keys.
 fn put_excluded_key(
     said: &mut Said,
     document: Document<'_>,
@@ -202,8 +204,8 @@ fn put_excluded_key(
     );
 }
 
-/// Returns the first key in a row of traffic that the row's limit (burst or frames) excludes, and the first key of this limit. Returns
-/// `None` if the limit excludes no key.
+/// Returns the first key of a traffic row that its limit (burst or frames) excludes, and the first key of this limit. `None` if no key is
+/// excluded. `put_excluded_key` calls it.
 fn excluded_key(table: &Table) -> Option<(NetField, NetField)> {
     let limit = first_present(table, &LIMIT_KEYS)?;
     let allowed: &[NetField] = if let NetField::Frames = limit {
@@ -219,7 +221,7 @@ fn excluded_key(table: &Table) -> Option<(NetField, NetField)> {
     None
 }
 
-/// Returns the first of these keys that a table has, or `None`.
+/// Returns the first of these keys that a table has, or `None`. `excluded_key` calls it.
 fn first_present(table: &Table, keys: &[NetField]) -> Option<NetField> {
     for key in keys {
         if get_value(table, key.key()).is_some() {
@@ -229,7 +231,7 @@ fn first_present(table: &Table, keys: &[NetField]) -> Option<NetField> {
     None
 }
 
-/// Writes the key in `keys` that is nearest to `word`, or all keys if none is near.
+/// Writes the key in `keys` that is nearest to `word`, or all keys if none is near. `put_stray_key` calls it.
 fn put_nearest_key(alloc: Global, said: &mut Said, word: &str, keys: &[NetField]) {
     let (mut names, mut is_refused) = (Vec::new(alloc), false);
     for key in keys {
@@ -241,7 +243,8 @@ fn put_nearest_key(alloc: Global, said: &mut Said, word: &str, keys: &[NetField]
     put_nearest(alloc, said, word, &names, KEYS);
 }
 
-/// Writes the value of an instance's key, and the allowed values or the wrong hop.
+/// Writes the position and value of an instance's key with the allowed values. For an array of hops, writes its first wrong hop.
+/// `put_fault` calls it.
 fn put_key_explanation(said: &mut Said, document: Document<'_>, place: NetKeyLocation) {
     let key = place.field.key();
     put_net_place(said, document, place.section, place.index, Some(key));
@@ -252,7 +255,7 @@ fn put_key_explanation(said: &mut Said, document: Document<'_>, place: NetKeyLoc
     }
 }
 
-/// Writes which earlier instance of a section an instance repeats.
+/// Writes which earlier instance of the section has the name or filter of instance `index`. `put_fault` calls it.
 fn put_duplicate(said: &mut Said, document: Document<'_>, section: NetSection, index: u32) {
     let key = match section {
         NetSection::Traffic => NetField::Filter.key(),

@@ -1,4 +1,4 @@
-//! Explains why a text isn't a plan.
+//! Explains why a file isn't a plan, or has no commands for a plan's bridge, for `--explain`.
 ghost use Rattle.std.specs.Prelude.{IfOk, string_bytes};
 ghost use Rattle.bridge_text.specs.PathPrefix.{StartsWithName};
 
@@ -10,7 +10,8 @@ use bridge_schema::PlanFault;
 use bridge_text::{FileKind, Said, TextBuilder, finish_with_path, put_other_kind};
 use std::alloc::Global;
 
-/// Explains why a file isn't a plan: the position of the fault, the value there and the allowed values. The explanation begins with `path`.
+/// Explains why a file isn't a plan: position of the fault, value there, allowed values. The explanation begins with `path`. `--explain`
+/// prints it.
 pub fn explain_plan(
     alloc: Global,
     path: &str,
@@ -26,7 +27,8 @@ pub fn explain_plan(
     )
 }
 
-/// Explains why a file has no commands for the bridge of a plan, by the fault and the plan's text. The explanation begins with `path`.
+/// Explains why the file at `path` has no commands for the bridge of a plan. `text` has the commands, `plan` is the plan's text.
+/// `app_commands` and `app_networks` call it.
 pub fn explain_commands(
     alloc: Global,
     path: &str,
@@ -44,6 +46,7 @@ pub fn explain_commands(
 }
 
 /// Returns the explanation of a file's fault, without the path that precedes it. `plan` is the plan's text, if the file has commands.
+/// `explain_commands` and `explain_plan` call it.
 fn explanation_body(
     alloc: Global,
     path: &str,
@@ -67,7 +70,8 @@ fn explanation_body(
     said
 }
 
-/// Writes the explanation of a fault. Reads the document again, because faults have locations but no values.
+/// Writes the explanation of a fault of the text `octets`. Reads its document again, because faults have locations but no values.
+/// `explanation_body` calls it.
 fn put_document_fault(
     alloc: Global,
     said: &mut Said,

@@ -4,7 +4,7 @@ use Rattle.bridge_filter.specs.declared.FilterPlan.{FilterPlan}
 use Rattle.bridge_filter.specs.Verdicts.{is_priority_match}
 use Rattle.bridge_check.specs.Faults.{is_tested}
 
--- True if a key of filter `one` matches every frame that the key of filter `other` matches: it is absent, or both are equal.
+-- True if an optional key `one` (handle or priority) matches every frame that key `other` matches: `one` is absent, or both are equal.
 abbrev pub covers : Option ℕ → Option ℕ → Bool
 covers None other = true
 covers (Some one) None = false
@@ -66,11 +66,11 @@ abbrev pub is_used : ℕ → List (ℕ × FilterPlan) → Bool
 is_used gate [] = false
 is_used gate (f ∷ fs) = nat_eq f.1.gate gate || is_used gate fs
 
--- True if some filter uses stream gate `gate`, and no protected or grouped filter does.
+-- True if some filter uses stream gate `gate`, but no protected or grouped filter uses it.
 abbrev pub is_decision : ℕ → List (ℕ × FilterPlan) → Bool
 is_decision gate fs = is_used gate fs && not (is_number (tested_with gate fs))
 
--- True if a filter is protected or grouped.
+-- True if at least one filter is protected or grouped.
 abbrev pub has_tested : List (ℕ × FilterPlan) → Bool
 has_tested [] = false
 has_tested (f ∷ fs) = is_tested f.1 || has_tested fs

@@ -1,4 +1,4 @@
-//! Explains which tests a refused plan fails, and what to change.
+//! Explains which tests a refused plan fails, and what to change, for `check --explain`.
 ghost use Rattle.std.specs.Prelude.{◌≡◌, ◌<◌, IfOk, nat_eq, string_bytes};
 ghost use Rattle.show_lint.specs.Filters as spec;
 ghost use Rattle.bridge_text.specs.PathPrefix.{StartsWithName};
@@ -54,8 +54,8 @@ const NO_WINDOW: &str =
 const TOO_LONG: &str =
     "Filter {0}'s longest frame doesn't fit. It has {1} octets (`max_sdu` {2} and 16 octets of header; no frame exceeds {3}) and needs {5} ns at port {4}.\nClass {6} there is ";
 
-/// Explains why a plan doesn't isolate its protected filters and groups: `fault`, then every other failed test, and what to change. Each finding
-/// begins with `path` and the filter's line, if known.
+/// Explains why a plan isn't accepted: `fault`, then every other failed test, and what to change. Each finding begins with `path` and the
+/// filter's line, if known. `check --explain` prints it.
 pub fn explain_check(
     alloc: Global,
     path: &str,
@@ -78,7 +78,7 @@ pub fn explain_check(
     finish_with_path(alloc, path, said)
 }
 
-/// Writes the findings of all failed tests except `first`, which `explain_check` has written.
+/// Writes the findings of all failed tests except `first`, which `explain_check` has written. Each begins with `path`.
 fn put_other_findings<A: Allocator + Copy>(
     said: &mut LintText,
     path: &str,
@@ -95,7 +95,8 @@ fn put_other_findings<A: Allocator + Copy>(
     }
 }
 
-/// Returns the position of filter `number` in the text of its plan. Returns `None` if the text has no such table.
+/// Returns the position of filter `number` in the text of its plan. Returns `None` if the plan lacks the filter, or the text lacks its
+/// table. `put_finding` calls it.
 fn filter_position(text: &[u8], filters: &[(u32, FilterPlan)], number: u32) -> Option<Position> {
     let mut index = 0u32;
     for filter in filters {
@@ -108,7 +109,8 @@ fn filter_position(text: &[u8], filters: &[(u32, FilterPlan)], number: u32) -> O
     None
 }
 
-/// Writes the finding of a failed test, to stand after the path of the plan: the filter's position and the explanation.
+/// Writes the finding of a failed test, which follows the path of the plan: the filter's position and the explanation. Without the filter,
+/// writes only its position. `explain_check` and `put_other_findings` call it.
 fn put_finding<A: Allocator + Copy>(
     said: &mut LintText,
     text: &[u8],
@@ -122,7 +124,8 @@ fn put_finding<A: Allocator + Copy>(
     }
 }
 
-/// Writes the explanation of a test that a protected or grouped filter fails, by the function for this test.
+/// Writes the explanation of a test that filter `number`, protected or grouped, fails. Calls the function for this test. `put_finding`
+/// calls it.
 fn put_check<A: Allocator + Copy>(
     said: &mut LintText,
     text: &[u8],
@@ -173,8 +176,8 @@ fn put_check<A: Allocator + Copy>(
     }
 }
 
-/// Explains that frames without a matching filter would pass unfiltered: a catch-all filter is missing. `number` is the number of the
-/// filter that fails the test.
+/// Explains that frames without a matching filter would pass unfiltered: a catch-all filter is missing. Filter `number` fails the test.
+/// `put_check` calls it.
 fn put_no_catch_all(said: &mut LintText, filters: &[(u32, FilterPlan)], number: u32) {
     let greatest = greatest_filter_number(filters);
     put_shared_part(said, filters, NO_CATCH_ALL, number, greatest, 0);
@@ -193,7 +196,7 @@ fn other_with_gate(filters: &[(u32, FilterPlan)], number: u32, gate: u32) -> Opt
     None
 }
 
-/// Whether a filter uses meter `meter`; false without a meter.
+/// Returns whether a filter uses meter `meter`; false without a meter. `other_with_meter` calls it.
 fn has_meter(filter: &FilterPlan, meter: u32) -> bool
     ensures { result ≡ spec.has_meter meter filter.now }
 {
@@ -215,7 +218,7 @@ fn other_with_meter(filters: &[(u32, FilterPlan)], number: u32, meter: u32) -> O
     None
 }
 
-/// Returns the greatest filter number, or 0 without filters: a catch-all filter needs a greater one.
+/// Returns the greatest filter number, or 0 without filters. `put_no_catch_all` asks for a catch-all filter with a greater number.
 fn greatest_filter_number(filters: &[(u32, FilterPlan)]) -> u32 {
     let mut last = 0u32;
     for filter in filters {
@@ -235,7 +238,7 @@ fn kind_word(filter: &FilterPlan) -> &'static str {
     }
 }
 
-/// Returns the key that makes `check` test a filter: `protected` or `group`. Explanations advise to remove it.
+/// Returns the key that makes `check` test a filter: `protected` or `group`. Explanations advise to remove it. `put_check` calls it.
 fn kind_key(filter: &FilterPlan) -> &'static str {
     if filter.protected {
         "protected"
@@ -244,7 +247,7 @@ fn kind_key(filter: &FilterPlan) -> &'static str {
     }
 }
 
-/// Returns the word for the kind of filter `number`; `unprotected` if the plan lacks it.
+/// Returns the word for the kind of filter `number`; `unprotected` if the plan lacks it. `put_shared_part` and `put_shared_queue` call it.
 fn kind_of_number(filters: &[(u32, FilterPlan)], number: u32) -> &'static str {
     match find_filter(filters, number) {
         Some(filter) => kind_word(&filter),
@@ -253,7 +256,7 @@ fn kind_of_number(filters: &[(u32, FilterPlan)], number: u32) -> &'static str {
 }
 
 /// Writes the sentence of `template` about filters `number` and `other`, with their kinds. `own` is the stream gate or meter that both use,
-/// or 0.
+/// or 0 for none.
 fn put_shared_part(
     said: &mut LintText,
     filters: &[(u32, FilterPlan)],
@@ -270,13 +273,13 @@ fn put_shared_part(
     said.put_template(template, &numbers, &kinds);
 }
 
-/// Writes the explanation of a stream gate that two filters share.
+/// Writes the explanation of stream gate `gate`, which filter `number` shares with another filter. `put_check` calls it.
 fn put_shared_gate(said: &mut LintText, filters: &[(u32, FilterPlan)], number: u32, gate: u32) {
     let other = other_with_gate(filters, number, gate).unwrap_or(0);
     put_shared_part(said, filters, GATE_SHARED, number, other, gate);
 }
 
-/// Writes the explanation of a meter that two filters share.
+/// Writes the explanation of meter `meter`, which filter `number` shares with another filter. `put_check` calls it.
 fn put_shared_meter(
     said: &mut LintText,
     filters: &[(u32, FilterPlan)],
@@ -288,7 +291,8 @@ fn put_shared_meter(
     put_shared_part(said, filters, METER_SHARED, number, other, meter);
 }
 
-/// Writes the explanation of a queue that two filters share, and why each filter's frames can reach the port.
+/// Writes the explanation of the queue of class `class` that filters `number` and `other` share: why both filters' frames can reach the
+/// port, and remedies. `put_check` calls it.
 fn put_shared_queue<A: Allocator + Copy>(
     said: &mut LintText,
     plan: &Plan<A>,
@@ -317,7 +321,7 @@ fn put_shared_queue<A: Allocator + Copy>(
     said.put(SEPARATE_QUEUES);
 }
 
-/// Writes the numbers of the classes that are open in a state of a port's transmission gates.
+/// Writes the numbers of the classes that are open in a state of a port's transmission gates. `put_window` calls it.
 fn put_open_classes(said: &mut LintText, state: u8) {
     let mut is_first = true;
     for class in 0..8u8 {
@@ -329,7 +333,8 @@ fn put_open_classes(said: &mut LintText, state: u8) {
     }
 }
 
-/// Returns the state of the entry with offset `at` in ns, if it opens class `class` and another class, otherwise `None`.
+/// Returns the state of the entry that begins at offset `at` in ns, if it opens class `class` and another class. Otherwise returns `None`.
+/// `shared_state` calls it.
 fn shared_entry_state(entries: &[(u8, u64)], class: u8, at: u64) -> Option<u8>
     requires { class < 8 }
 {
@@ -343,8 +348,8 @@ fn shared_entry_state(entries: &[(u8, u64)], class: u8, at: u64) -> Option<u8>
     None
 }
 
-/// Returns the gate state at offset `at` in ns that opens `class` and another class, or `None`. The flag is true if only the port's new
-/// list has this state.
+/// Returns the state at offset `at` in ns that opens `class` and another class, or `None`. The flag is true if only the port's new list has
+/// it. `shared_state_of_port` calls it.
 fn shared_state<A: Allocator + Copy>(port: &PortPlan<A>, class: u8, at: u64) -> Option<(u8, bool)>
     requires { class < 8 }
 {
@@ -361,7 +366,8 @@ fn shared_state<A: Allocator + Copy>(port: &PortPlan<A>, class: u8, at: u64) -> 
     }
 }
 
-/// Returns the result of `shared_state` for port `port` of the plan. Returns `None` if the plan lacks the port, or if `class` is above 7.
+/// Returns the result of `shared_state` at offset `at` for port `port` of the plan. Returns `None` if the plan lacks the port, or if
+/// `class` is above 7. `put_window` calls it.
 fn shared_state_of_port<A: Allocator + Copy>(
     plan: &Plan<A>,
     port: u8,
@@ -374,7 +380,8 @@ fn shared_state_of_port<A: Allocator + Copy>(
     }
 }
 
-/// Returns the line, from 1, of key `key` of port `number` in the text of its plan, or `None` if the text lacks it.
+/// Returns the line, from 1, of key `key` of port `number` in the text of its plan, or `None` if the text lacks it. `put_shared_window`
+/// calls it.
 fn port_key_line<A: Allocator + Copy>(
     text: &[u8],
     ports: &[PortPlan<A>],
@@ -393,7 +400,8 @@ fn port_key_line<A: Allocator + Copy>(
     None
 }
 
-/// Writes that a port opens a class together with others from an offset, in its new list (`is_next`) or its first list.
+/// Writes that a port opens a class together with others from an offset on. The list is the port's new list (`is_next`), or its first list.
+/// `put_window` calls it.
 fn put_shared_window<A: Allocator + Copy>(
     said: &mut LintText,
     text: &[u8],
@@ -423,7 +431,7 @@ fn put_shared_window<A: Allocator + Copy>(
     said.put_template(template, &numbers, &[]);
 }
 
-/// The window at fault: a class of a port that a filter needs alone. From the offset `at` in ns, another class is open too.
+/// The window at fault: a class of a port that a filter needs for itself. From offset `at` in ns on, another class is open too.
 #[derive(Clone, Copy)]
 struct Window {
     filter: u32,
@@ -432,7 +440,8 @@ struct Window {
     at: u64,
 }
 
-/// Writes the explanation of a window that two classes share: where, why the filter reaches the port, and remedies.
+/// Writes the explanation of a window that two classes share: port and offset, why the filter's frames reach the port, and remedies.
+/// `put_check` calls it.
 fn put_window<A: Allocator + Copy>(
     said: &mut LintText,
     text: &[u8],
@@ -461,8 +470,8 @@ fn put_window<A: Allocator + Copy>(
     said.put_template(window_remedy(state.is_some(), is_other), &numbers, &[]);
 }
 
-/// Returns the remedy for a shared window: class `{2}` of port `{1}` gets a window of its own. `has_list` is true if the port has a list,
-/// `is_second` if another remedy precedes.
+/// Returns the remedy for a shared window: class `{2}` of port `{1}` gets its own window. `has_list`: the port has a list. `is_second`:
+/// another remedy precedes. `put_window` calls it.
 fn window_remedy(has_list: bool, is_second: bool) -> &'static str {
     match (has_list, is_second) {
         (true, false) =>
@@ -476,7 +485,8 @@ fn window_remedy(has_list: bool, is_second: bool) -> &'static str {
     }
 }
 
-/// Writes the explanation of a longest frame that never fits: its transmission time, the class's windows, and what to change.
+/// Writes the explanation of a longest frame of filter `number` that never fits: its transmission time, the class's windows, and what to
+/// change. `put_check` calls it.
 fn put_unfit_length<A: Allocator + Copy>(
     said: &mut LintText,
     plan: &Plan<A>,
@@ -492,7 +502,8 @@ fn put_unfit_length<A: Allocator + Copy>(
     }
 }
 
-/// Writes the transmission time of a filter's longest frame, and the windows of a class.
+/// Writes the transmission time of filter `number`'s longest frame, which has `sdu` SDU octets, and the windows of class `class`.
+/// `put_unfit_length` calls it.
 fn put_too_long<A: Allocator + Copy>(
     said: &mut LintText,
     port: &PortPlan<A>,
@@ -517,7 +528,8 @@ fn put_too_long<A: Allocator + Copy>(
     said.put(".\n");
 }
 
-/// Writes what to change if a filter's frames don't fit the windows of a class.
+/// Writes what to change if a filter's longest frame doesn't fit the windows of a class: open, lengthen or shorten. `put_unfit_length`
+/// calls it.
 fn put_remedy<A: Allocator + Copy>(said: &mut LintText, port: &PortPlan<A>, class: u8)
     requires { class < 8 }
 {

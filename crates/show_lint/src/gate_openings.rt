@@ -1,5 +1,5 @@
-//! Finds the lists of stream gates and ports before and after a schedule change. Counts the frames that the entries of a stream gate can
-//! pass.
+//! Lists of stream gates and ports before and after a schedule change, and the frames that a stream gate's entries can pass. Searches for
+//! warnings about meters and queues use them.
 
 use crate::warning::ScheduleStage;
 use bridge_config::{Plan, PortPlan};
@@ -10,7 +10,7 @@ use bridge_limits::LONGEST_FRAME;
 use std::alloc::{AllocError, Allocator, Global};
 
 /// Returns the list that a stream gate has at `stage`: before a schedule change, after it, or always. Returns `None` for a gate with a
-/// fixed state.
+/// fixed state. Searches for warnings call it.
 pub(crate) fn gate_list<A: Allocator + Copy>(
     schedule: &Schedule<A>,
     stage: ScheduleStage,
@@ -29,7 +29,7 @@ pub(crate) fn gate_list<A: Allocator + Copy>(
 }
 
 /// Returns the gate control list that a port has at `stage`: before a schedule change, after it, or always. Returns `None` if the port has
-/// no list: it is always open.
+/// no list: it is always open. Warnings need it.
 pub(crate) fn port_list<A: Allocator + Copy>(
     port: &PortPlan<A>,
     stage: ScheduleStage,
@@ -47,17 +47,20 @@ pub(crate) fn port_list<A: Allocator + Copy>(
     }
 }
 
-/// Whether a stream gate has a schedule change.
+/// Returns whether a stream gate has a schedule change. If so, searches for warnings look at both lists. `find_port_warnings` and
+/// `find_rates` call it.
 pub(crate) fn has_gate_change<A: Allocator + Copy>(schedule: &Schedule<A>) -> bool {
     matches!(schedule, Schedule::Joined(_))
 }
 
-/// Whether a port has a schedule change.
+/// Returns whether a port has a schedule change. If so, searches for warnings look at both lists. `find_class` and `find_port_warnings`
+/// call it.
 pub(crate) fn has_port_change<A: Allocator + Copy>(port: &PortPlan<A>) -> bool {
     matches!(&port.list, Some(Egress::Joined(_)))
 }
 
-/// Returns the stages for which callers look for warnings: `Always` without a schedule change, otherwise before and after the change.
+/// Returns the stages for which callers look for warnings: before and after the schedule change if `is_changed` is true, otherwise
+/// `Always`.
 pub(crate) fn change_stages(is_changed: bool) -> &'static [ScheduleStage] {
     if is_changed {
         &[ScheduleStage::BeforeChange, ScheduleStage::AfterChange]
@@ -66,7 +69,7 @@ pub(crate) fn change_stages(is_changed: bool) -> &'static [ScheduleStage] {
     }
 }
 
-/// Greatest load of a filter: its longest frames, back to back.
+/// Greatest load of a filter: its longest frames, back to back on each link by which its streams enter.
 #[derive(Clone, Copy)]
 pub(crate) struct OfferedLoad {
     /// SDU octets of a longest frame.
@@ -77,12 +80,14 @@ pub(crate) struct OfferedLoad {
     pub times: [u64; 16],
 }
 
-/// Returns the length in octets of the longest frame with `sdu` SDU octets.
+/// Returns the length in octets of the longest frame with `sdu` SDU octets: 16 octets of header more, but at most 9,216 octets.
+/// `find_meter_warnings` and `offered_load` call it.
 pub(crate) fn longest_length(sdu: u32) -> u32 {
     sdu.saturating_add(16).min(LONGEST_FRAME)
 }
 
-/// Returns the greatest load of frames with handle `handle` and `sdu` SDU octets.
+/// Returns the greatest load of a filter with handle `handle` and a largest SDU of `sdu` octets. Searches for warnings about meters and
+/// queues call it.
 pub(crate) fn offered_load<A: Allocator + Copy>(
     plan: &Plan<A>,
     handle: u32,
@@ -108,8 +113,8 @@ fn set_port_time(times: &mut [u64; 16], port: u8, time: u64) {
     }
 }
 
-/// An open entry's duration and its cycle in ns. `is_alone` is true if no other entry opens the stream gate, so that frames may begin
-/// before the entry.
+/// Duration of an open entry and its cycle time in ns. `is_alone`: no other entry opens the stream gate, so frames may begin before the
+/// entry.
 #[derive(Clone, Copy)]
 struct OpeningSpan {
     duration: u64,
@@ -132,7 +137,7 @@ impl OpeningSpan {
 }
 
 impl OfferedLoad {
-    /// Returns how many longest frames can arrive on all links during the entry of one cycle.
+    /// Returns how many longest frames can arrive on all links during the entry of one cycle. `limited_count` calls it.
     fn frames_on_all_links(&self, span: OpeningSpan) -> u64 {
         let mut count = 0u64;
         for time in &self.times {
@@ -143,7 +148,8 @@ impl OfferedLoad {
         count
     }
 
-    /// Returns how many frames pass during the entry: the octet limit and the links bound this number. Returns 0 without an octet limit.
+    /// Returns how many longest frames pass during the entry: its octet limit `limit` and the links bound this number. Returns 0 without an
+    /// octet limit. `gate_openings` calls it.
     fn limited_count(&self, limit: Option<u32>, span: OpeningSpan) -> u64 {
         match limit {
             Some(octets) if self.sdu > 0 => {
@@ -155,7 +161,7 @@ impl OfferedLoad {
     }
 }
 
-/// Entry in which a stream gate is open. Queues get its frames in a burst.
+/// Entry in which a stream gate is open: its place in the cycle, and the frames that queues receive from it in a burst.
 #[derive(Clone, Copy)]
 pub(crate) struct GateOpening {
     /// Offset of the entry from the cycle's start in ns.
@@ -164,12 +170,12 @@ pub(crate) struct GateOpening {
     pub lasting: u64,
     /// Internal priority value that the entry gives to frames.
     pub ipv: Option<u8>,
-    /// Number of longest frames that the entry's limit passes; 0 without a limit.
+    /// Number of longest frames that can pass in the entry, by its octet limit and the links; 0 without an octet limit.
     pub count: u64,
 }
 
-/// Returns the open entries of a stream gate's list, each with the number of frames of load `feed` that it passes. The last entry lasts to
-/// the end of the cycle.
+/// Returns the open entries of a stream gate's list, with the number of frames of load `feed` that each passes. The last entry lasts to the
+/// cycle's end. `low_rate` and `find_queue_stage_warnings` call it.
 pub(crate) fn gate_openings<A: Allocator + Copy>(
     alloc: Global,
     list: &CyclicList<GateEntry, A>,
@@ -209,7 +215,7 @@ pub(crate) fn gate_openings<A: Allocator + Copy>(
     Ok(openings)
 }
 
-/// Returns the number of frames that all openings of a stream gate's cycle pass together.
+/// Returns the number of longest frames that all openings of a stream gate's cycle pass together. `low_rate` and `find_overload` call it.
 pub(crate) fn total_count(openings: &[GateOpening]) -> u64 {
     let mut count = 0u64;
     for opening in openings {

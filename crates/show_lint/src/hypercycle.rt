@@ -1,4 +1,4 @@
-//! Computes the time after which cycles begin together again.
+//! Computes the hypercycle: the time after which all cycles of a plan begin together again. Warnings and pictures use it.
 
 use bridge_config::Plan;
 use bridge_cycle::{Egress, Joined, Timeline};
@@ -6,6 +6,7 @@ use bridge_gate::Schedule;
 use std::alloc::Allocator;
 
 /// Returns the greatest common divisor of two times in ns. One of them is a cycle of at most 10^9 ns, so 64 steps suffice.
+/// `cycles_until_aligned` and `include_cycle` call it.
 fn greatest_common_divisor(one: u64, other: u64) -> u64 {
     let mut larger = one;
     let mut smaller = other;
@@ -20,13 +21,15 @@ fn greatest_common_divisor(one: u64, other: u64) -> u64 {
     larger
 }
 
-/// Returns the number of cycles of `cycle` ns after which cycles of `round` and `cycle` ns begin together again; 0 if both are 0.
+/// Returns after how many cycles of `cycle` ns such a cycle and a cycle of `round` ns begin together again. Returns 0 if both are 0.
+/// `aligned_period` and `waits_by_cycle` call it.
 pub(crate) fn cycles_until_aligned(round: u64, cycle: u64) -> u64 {
     let divisor = greatest_common_divisor(round, cycle);
     if divisor == 0 { 0 } else { round / divisor }
 }
 
-/// Returns the time in ns after which both cycles begin together again; `None` if one cycle is a multiple of the other.
+/// Returns the time in ns after which cycles of `cycle` and `round` ns begin together again. Returns `None` if one cycle is a multiple of
+/// the other, or 0. `find_cycles` calls it.
 pub(crate) fn aligned_period(cycle: u64, round: u64) -> Option<u64> {
     if cycle == 0 || round == 0 || cycle % round == 0 || round % cycle == 0 {
         return None;
@@ -34,8 +37,8 @@ pub(crate) fn aligned_period(cycle: u64, round: u64) -> Option<u64> {
     Some(cycles_until_aligned(round, cycle).saturating_mul(cycle))
 }
 
-/// Time in ns after which all lists of a plan begin together again: 0 without lists, at most the greatest number of 64 bits. `change` is
-/// the time of the schedule change, if any.
+/// Time `length` in ns after which all lists of a plan begin together again: 0 without lists, at most 2^64 - 1. `change` is the time of the
+/// schedule change.
 #[derive(Clone, Copy)]
 pub struct Hypercycle {
     pub length: u64,
@@ -66,7 +69,8 @@ impl Hypercycle {
         times
     }
 
-    /// Includes a list with cycle `cycle`: the length becomes the least common multiple.
+    /// Includes a list with cycle time `cycle` in ns: the length becomes the least common multiple, or stays at its greatest value.
+    /// `from_plan` and `include_changing` call it.
     fn include_cycle(&mut self, cycle: u64) {
         self.length = match self.length {
             0 | u64::MAX => self.length.max(cycle),
@@ -74,7 +78,7 @@ impl Hypercycle {
         };
     }
 
-    /// Includes the old and the new list of a schedule change.
+    /// Includes the old and the new list of a schedule change. `from_plan` calls it.
     fn include_changing<S: Copy, A: Allocator + Copy>(&mut self, lists: &Joined<S, A>) {
         let (old, new) = lists.lists();
         self.include_cycle(old.cycle());

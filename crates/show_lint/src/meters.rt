@@ -1,4 +1,4 @@
-//! Finds meters that refuse frames of a protected or grouped filter.
+//! Finds meters that refuse frames of a protected or grouped filter, for the warnings `SmallBurst` and `LowRate`.
 use crate::gate_openings::{
     OfferedLoad, change_stages, gate_list, gate_openings, has_gate_change, longest_length,
     offered_load, total_count,
@@ -15,11 +15,12 @@ use bridge_meter::MeterPlan;
 use std::alloc::{AllocError, Allocator, Global};
 
 /// Returns the octets that a meter counts for a frame of `length` octets: padded to at least 60, plus 4 for the frame check sequence.
+/// `find_meter_warnings` and `low_rate` call it.
 fn metered_octets(length: u32) -> u32 {
     length.max(60).saturating_add(4)
 }
 
-/// Returns the meter with number `number`, or `None`.
+/// Returns the meter with number `number`, or `None`. `add` and `find_meter_warnings` call it.
 pub(crate) fn find_meter(meters: &[(u32, MeterPlan)], number: u32) -> Option<MeterPlan> {
     for meter in meters {
         if meter.0 == number {
@@ -29,7 +30,8 @@ pub(crate) fn find_meter(meters: &[(u32, MeterPlan)], number: u32) -> Option<Met
     None
 }
 
-/// Adds warnings about the meter of a protected or grouped filter: buckets too small, or a rate too low. Does nothing without a meter.
+/// Adds warnings about the meter of filter `number`, protected or grouped: buckets too small, or a rate too low. Does nothing without a
+/// meter or a largest SDU. `find_plan_warnings` calls it.
 pub(crate) fn find_meter_warnings<A: Allocator + Copy>(
     alloc: Global,
     found: &mut Vec<Warning>,
@@ -53,14 +55,15 @@ pub(crate) fn find_meter_warnings<A: Allocator + Copy>(
     find_rates(alloc, found, plan, number, filter, &limits)
 }
 
-/// Whether all buckets that a frame may use are smaller than `octets`. Then the meter refuses each frame of this length.
+/// Returns whether all buckets that a frame may use are smaller than `octets`. Then the meter refuses each frame of this length.
+/// `find_burst` calls it.
 fn has_small_buckets(limits: &MeterPlan, octets: u32) -> bool {
     let octets = u64::from(octets);
     limits.cbs < octets && (limits.drop_yellow || limits.ebs < octets)
 }
 
-/// Adds a warning if a meter's buckets are smaller than the filter's longest frame. If they are smaller than the shortest frame, another
-/// warning covers the meter.
+/// Adds a warning if the buckets of filter `filter`'s meter are smaller than its longest frame, which has `octets` metered octets. Smaller
+/// than the shortest frame is warning `NoToken`.
 fn find_burst(
     found: &mut Vec<Warning>,
     filter: u32,
@@ -85,7 +88,8 @@ fn find_burst(
     push_warning(found, Warning::SmallBurst(burst))
 }
 
-/// Returns the octets for which a meter gets tokens in `cycle` ns.
+/// Returns the octets for which a meter gets tokens in `cycle` ns. Tokens of the excess bucket don't count if the meter drops yellow
+/// frames. `low_rate` calls it.
 fn tokens_per_cycle(limits: &MeterPlan, cycle: u64) -> u64 {
     let excess = if limits.drop_yellow { 0 } else { limits.eir };
     let rate = u128::from(limits.cir.saturating_add(excess));
@@ -93,7 +97,8 @@ fn tokens_per_cycle(limits: &MeterPlan, cycle: u64) -> u64 {
     octets.min(u128::from(u64::MAX)) as u64
 }
 
-/// Adds a warning for each stage at which the meter gets fewer tokens in a cycle of the stream gate than this gate passes.
+/// Adds a warning if a cycle of filter `number`'s stream gate can pass more octets than the meter gets tokens. With a schedule change,
+/// tests both lists. `find_meter_warnings` calls it.
 fn find_rates<A: Allocator + Copy>(
     alloc: Global,
     found: &mut Vec<Warning>,
@@ -119,7 +124,8 @@ fn find_rates<A: Allocator + Copy>(
     Ok(())
 }
 
-/// Returns a warning if the meter gets fewer tokens in a cycle of `list` than the stream gate passes, otherwise `None`.
+/// Returns the warning `LowRate` about filter `number` if its meter gets fewer tokens in a cycle of `list` than the gate passes octets,
+/// otherwise `None`. `find_rates` calls it.
 fn low_rate<A: Allocator + Copy>(
     alloc: Global,
     stage: ScheduleStage,

@@ -14,7 +14,7 @@ use std::alloc::{AllocError, Allocator};
 /// First five octets of the addresses that no bridge forwards; the last octet is at most 15.
 const RESERVED: [u8; 5] = [0x01, 0x80, 0xC2, 0x00, 0x00];
 
-/// Whether frames to the stream's address, from its port and VLAN, have no egress port. `stream_cause` then looks for the reason.
+/// Returns whether frames to the stream's address, from its port and VLAN, have no egress port. `stream_cause` then looks for the reason.
 pub fn is_not_forwarded<A: Allocator + Copy>(plan: &Plan<A>, stream: &StreamEntry) -> bool
     requires from { 1 ≤ stream.now.port }
     requires to { stream.now.port ≤ 16 }
@@ -24,7 +24,7 @@ pub fn is_not_forwarded<A: Allocator + Copy>(plan: &Plan<A>, stream: &StreamEntr
         .is_empty()
 }
 
-/// Returns the ports of the static entry for a VLAN and an address, or `None` without such an entry.
+/// Returns the ports of the static entry for VLAN `vid` and an address, or `None` without such an entry.
 fn static_ports(statics: &[StaticEntry], vid: u16, address: [u8; 6]) -> Option<PortSet>
     ensures { result ≡ static_ports statics.now vid address }
 {
@@ -36,7 +36,7 @@ fn static_ports(statics: &[StaticEntry], vid: u16, address: [u8; 6]) -> Option<P
     None
 }
 
-/// Whether no bridge forwards frames to this address.
+/// Returns whether no bridge forwards frames to this address: 01-80-C2-00-00-00 to 01-80-C2-00-00-0F. `not_forwarded_cause` calls it.
 fn is_reserved(address: [u8; 6]) -> bool {
     let [a, b, c, d, e, last] = address;
     [a, b, c, d, e] == RESERVED && last <= 15
@@ -52,8 +52,8 @@ fn other_port(set: PortSet, own: u8) -> Option<u8> {
     None
 }
 
-/// Returns why a stream isn't forwarded, if its VLAN is the cause: the VLAN, its ingress port or a second port is missing. Otherwise
-/// returns `None`.
+/// Returns why a stream with ingress port `port` isn't forwarded, if its VLAN is the cause. The VLAN, this port or a second member may be
+/// missing. `not_forwarded_cause` and `stream_cause` call it.
 fn vlan_cause(members: Option<PortSet>, port: u8) -> Option<NotForwardedCause>
     requires from { 1 ≤ port }
     requires to { port ≤ 16 }
@@ -68,7 +68,8 @@ fn vlan_cause(members: Option<PortSet>, port: u8) -> Option<NotForwardedCause>
     }
 }
 
-/// Returns why a stream isn't forwarded, by its static entry, if its VLAN has other ports.
+/// Returns why a stream with ingress port `port` isn't forwarded, by the ports of its static entry, if its VLAN has other members.
+/// `not_forwarded_cause` calls it.
 fn static_entry_cause(entry: Option<PortSet>, port: u8) -> NotForwardedCause {
     match entry {
         None => NotForwardedCause::Alone,
@@ -80,7 +81,8 @@ fn static_entry_cause(entry: Option<PortSet>, port: u8) -> NotForwardedCause {
     }
 }
 
-/// Returns why a stream isn't forwarded. The stream must have no egress port.
+/// Returns why a stream isn't forwarded: reserved address, VLAN or static entry. The stream must have no egress port. `stream_cause` calls
+/// it.
 fn not_forwarded_cause<A: Allocator + Copy>(
     plan: &Plan<A>,
     stream: &StreamEntry,
@@ -101,7 +103,7 @@ fn not_forwarded_cause<A: Allocator + Copy>(
 }
 
 /// Returns why a stream isn't forwarded, or `None` if it is. For identification by source, only the VLAN counts, because the destination is
-/// unknown.
+/// unknown. `find_stream_warnings` calls it.
 fn stream_cause<A: Allocator + Copy>(
     plan: &Plan<A>,
     stream: &StreamEntry,
@@ -121,7 +123,8 @@ fn stream_cause<A: Allocator + Copy>(
     }
 }
 
-/// Adds a warning for each port of the stream's static entry that isn't a member of its VLAN.
+/// Adds a warning about filter `filter` for each port of the stream's static entry that isn't a member of its VLAN. `place` is the stream's
+/// position, from 1. `find_ways` calls it.
 fn find_non_member_ports<A: Allocator + Copy>(
     found: &mut Vec<Warning>,
     plan: &Plan<A>,
@@ -148,7 +151,8 @@ fn find_non_member_ports<A: Allocator + Copy>(
     Ok(())
 }
 
-/// Whether a set has at least two ports. A stream that leaves by several ports without static entry floods its VLAN.
+/// Returns whether a set has at least two ports. A stream that leaves by several ports without static entry floods its VLAN. `find_flooded`
+/// calls it.
 fn are_several(set: PortSet) -> bool {
     match other_port(set, 0) {
         Some(first) => other_port(set, first).is_some(),
@@ -156,7 +160,8 @@ fn are_several(set: PortSet) -> bool {
     }
 }
 
-/// Adds a warning if frames of the stream leave by several ports because no static entry has their address.
+/// Adds a warning about filter `filter` if the stream's frames leave by several ports because no static entry has their address. `place` is
+/// the stream's position, from 1. `find_ways` calls it.
 fn find_flooded<A: Allocator + Copy>(
     found: &mut Vec<Warning>,
     plan: &Plan<A>,
@@ -177,8 +182,8 @@ fn find_flooded<A: Allocator + Copy>(
     push_warning(found, Warning::Flooded(Flooded { filter, place, vid }))
 }
 
-/// Adds warnings about the egress ports of a forwarded stream: missing members of the VLAN, and flooding. `place` is the stream's position,
-/// from 1.
+/// Adds warnings about egress ports of a forwarded stream of filter `filter`: ports that its VLAN lacks, and flooding. `place` is the
+/// stream's position, from 1. `find_stream_warnings` calls it.
 fn find_ways<A: Allocator + Copy>(
     found: &mut Vec<Warning>,
     plan: &Plan<A>,
@@ -194,6 +199,7 @@ fn find_ways<A: Allocator + Copy>(
 }
 
 /// Adds warnings about a stream of a protected filter: it isn't forwarded, or has doubtful egress ports. `place` is its position, from 1.
+/// `find_not_forwarded` calls it.
 fn find_stream_warnings<A: Allocator + Copy>(
     found: &mut Vec<Warning>,
     plan: &Plan<A>,
@@ -221,7 +227,8 @@ fn find_stream_warnings<A: Allocator + Copy>(
     }
 }
 
-/// Adds the warnings about each stream whose handle a protected filter names. Does nothing for a filter without handle.
+/// Adds the warnings about each stream whose handle protected filter `number` names. Does nothing for a filter without handle.
+/// `find_plan_warnings` calls it.
 pub(crate) fn find_not_forwarded<A: Allocator + Copy>(
     found: &mut Vec<Warning>,
     plan: &Plan<A>,

@@ -1,4 +1,4 @@
-//! Finds warnings about the queues of protected filters.
+//! Finds warnings about the queues of protected filters: overload, small capacity, long waits and cycles that don't match.
 ghost use Rattle.std.specs.Prelude.{◌<◌, ◌≤◌};
 
 use crate::gate_openings::{
@@ -27,7 +27,8 @@ struct ProtectedFilter<'a, A: Allocator + Copy> {
     feed: OfferedLoad,
 }
 
-/// Adds warnings about each queue of a protected filter. Does nothing if the filter names no handle or has no largest SDU.
+/// Adds warnings about each queue of protected filter `number`. Does nothing if the filter lacks a handle, a largest SDU or a stream gate.
+/// `find_plan_warnings` calls it.
 pub(crate) fn find_queues<A: Allocator + Copy>(
     alloc: Global,
     found: &mut Vec<Warning>,
@@ -57,7 +58,8 @@ pub(crate) fn find_queues<A: Allocator + Copy>(
     Ok(())
 }
 
-/// Adds warnings about each queue of a protected filter at port `number`; none if the port is missing.
+/// Adds warnings about each queue of a protected filter at port `number`, then about cycles; none if the port is missing. `find_queues`
+/// calls it.
 fn find_port_warnings<A: Allocator + Copy>(
     alloc: Global,
     found: &mut Vec<Warning>,
@@ -88,8 +90,8 @@ fn find_port_warnings<A: Allocator + Copy>(
     Ok(())
 }
 
-/// Adds a warning if neither the stream gate's cycle nor the port's cycle is a multiple of the other at `stage`. Then waits differ from
-/// cycle to cycle.
+/// Adds a warning if, at `stage`, neither the stream gate's cycle nor the port's cycle is a multiple of the other. Then waits differ from
+/// cycle to cycle. `find_port_warnings` calls it.
 fn find_cycles<A: Allocator + Copy>(
     found: &mut Vec<Warning>,
     case: &ProtectedFilter<'_, A>,
@@ -119,7 +121,8 @@ fn find_cycles<A: Allocator + Copy>(
     push_warning(found, Warning::CycleMismatch(cycles))
 }
 
-/// Adds warnings about a queue of a protected filter at `stage`. Does nothing if the stream gate or the port has no list.
+/// Adds warnings about the queue of class `class` of a protected filter at `stage`. Does nothing if the stream gate or the port lacks a
+/// list. `find_port_warnings` calls it.
 fn find_queue_stage_warnings<A: Allocator + Copy>(
     alloc: Global,
     found: &mut Vec<Warning>,
@@ -156,7 +159,8 @@ fn find_queue_stage_warnings<A: Allocator + Copy>(
     find_opening_warnings(found, &queue, &openings)
 }
 
-/// Adds warnings about a queue by the stream gate's entries that pass its frames: overload, small capacity, long waits.
+/// Adds warnings about a queue by the stream gate's entries `openings`, whose frames enter it: overload, small capacity, long waits.
+/// `find_queue_stage_warnings` calls it.
 fn find_opening_warnings<A: Allocator + Copy>(
     found: &mut Vec<Warning>,
     queue: &ScheduledQueue<'_, A>,
@@ -169,7 +173,8 @@ fn find_opening_warnings<A: Allocator + Copy>(
     find_long_wait(found, queue, openings)
 }
 
-/// Whether all frames that an entry passes enter class `class`, by the entry's internal priority value or the filter's priority.
+/// Returns whether all frames that an entry passes enter class `class`: by the entry's internal priority value or, without one, the
+/// filter's priority. `class_openings` calls it.
 fn is_opening_for_class(
     opening: &GateOpening,
     priority: Option<u8>,
@@ -185,7 +190,8 @@ fn is_opening_for_class(
     }
 }
 
-/// Returns the openings whose frames all enter class `class`: only they load this queue for certain.
+/// Returns the openings whose frames all enter class `class`, for a filter of priority `priority`. Only these certainly load the queue.
+/// `find_queue_stage_warnings` calls it.
 fn class_openings(
     alloc: Global,
     openings: &[GateOpening],

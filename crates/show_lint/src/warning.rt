@@ -1,11 +1,11 @@
-//! Warnings about accepted plans.
+//! Warnings about accepted plans: the values that the searches find and `put_warning` writes.
 
 /// Warning about an accepted plan: a likely mistake. Lengths and limits are in octets, times in ns.
 #[derive(Clone, Copy)]
 pub enum Warning {
     /// A schedule change stands in line `line`, from 1, but no port or stream gate has a new list.
     IdleChange { line: usize },
-    /// No filter is protected.
+    /// No filter is protected or grouped.
     NoneProtected,
     /// A stream asks for untagged frames in a VLAN other than its port's VLAN.
     OtherVlan(OtherVlan),
@@ -13,7 +13,7 @@ pub enum Warning {
     OwnPort(StaticToIngress),
     /// A stream gate is always closed.
     ClosedGate { gate: u32 },
-    /// A protected filter's stream gate is closed from the schedule change on.
+    /// The stream gate of a protected or grouped filter is closed from the schedule change on.
     ClosedFrom(ClosedFrom),
     /// A meter never has enough tokens for the shortest frame.
     NoToken { meter: u32 },
@@ -41,9 +41,9 @@ pub enum Warning {
     NotForwarded(NotForwarded),
     /// A protected stream doesn't leave by a port of its static entry, because the port isn't a member of its VLAN.
     NonMemberPort(NonMemberPort),
-    /// The longest frames of a protected filter are always red.
+    /// The longest frames of a protected or grouped filter are always red.
     SmallBurst(SmallBurst),
-    /// A meter gets fewer tokens in a cycle of the stream gate than this gate passes.
+    /// The meter of a protected or grouped filter gets fewer tokens in a cycle of the stream gate than the gate passes octets.
     LowRate(LowRate),
     /// A protected filter's stream gate passes more frames in a cycle than a queue has time for.
     QueueOverload(QueueOverload),
@@ -51,7 +51,7 @@ pub enum Warning {
     SmallQueue(SmallQueue),
     /// Frames of a protected filter wait longer than their stream gate's entry lasts.
     LongWait(LongWait),
-    /// Neither the stream gate's cycle nor the port's cycle is a multiple of the other.
+    /// The stream gate's cycle and the port's cycle aren't multiples of each other.
     CycleMismatch(CycleMismatch),
 }
 
@@ -66,7 +66,7 @@ pub enum ScheduleStage {
     AfterChange,
 }
 
-/// Stream whose static entry names its ingress port.
+/// Stream whose static entry names its ingress port. A bridge never sends a frame back to its ingress port.
 #[derive(Clone, Copy)]
 pub struct StaticToIngress {
     /// Position of the stream in the file, from 1.
@@ -92,12 +92,12 @@ pub struct OtherVlan {
     pub vid: u16,
 }
 
-/// Gate of a protected filter that never opens after the schedule change.
+/// Stream gate of a protected or grouped filter that never opens from the schedule change on.
 #[derive(Clone, Copy)]
 pub struct ClosedFrom {
     /// Number of the stream gate.
     pub gate: u32,
-    /// Number of the protected filter that uses the stream gate.
+    /// Number of the first protected or grouped filter that uses the stream gate.
     pub filter: u32,
     /// Time of the change in ns.
     pub at: u64,
@@ -187,19 +187,19 @@ pub struct Flooded {
 /// Why a stream isn't forwarded.
 #[derive(Clone, Copy)]
 pub enum NotForwardedCause {
-    /// No bridge forwards its address.
+    /// No bridge forwards the stream's address.
     Reserved,
-    /// The plan lacks its VLAN.
+    /// The plan lacks the stream's VLAN.
     NoVlan,
-    /// Its ingress port isn't a member of the VLAN.
+    /// The stream's ingress port isn't a member of its VLAN.
     Ingress,
-    /// Its static entry names no port.
+    /// The stream's static entry names no port.
     NoPorts,
-    /// Its static entry names only the ingress port.
+    /// The stream's static entry names only its ingress port.
     OwnPort,
-    /// Its static entry names a port that isn't a member of the VLAN, and no other egress port.
+    /// The stream's static entry names a port that isn't a member of the VLAN, and no other egress port.
     Egress { port: u8 },
-    /// The ingress port is the only member of the VLAN.
+    /// The stream's ingress port is the only member of its VLAN.
     Alone,
 }
 
@@ -231,7 +231,7 @@ pub struct NonMemberPort {
     pub vid: u16,
 }
 
-/// Meter whose buckets are smaller than a protected filter's longest frame.
+/// Meter whose buckets are smaller than the longest frame of a protected or grouped filter.
 #[derive(Clone, Copy)]
 pub struct SmallBurst {
     /// Number of the protected filter.
@@ -248,7 +248,7 @@ pub struct SmallBurst {
     pub octets: u32,
 }
 
-/// Meter that gets fewer tokens in a cycle of the stream gate than this gate passes.
+/// Meter of a protected or grouped filter that gets fewer tokens in a cycle of the stream gate than the gate passes octets.
 #[derive(Clone, Copy)]
 pub struct LowRate {
     /// Schedule to which the stream gate's cycle belongs.
@@ -335,7 +335,7 @@ pub struct LongWait {
     pub wait: u64,
 }
 
-/// Cycles of a stream gate and of a port. Neither is a multiple of the other.
+/// Cycles of a stream gate and of a port that aren't multiples of each other.
 #[derive(Clone, Copy)]
 pub struct CycleMismatch {
     /// Schedule to which both cycles belong.

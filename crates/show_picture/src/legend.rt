@@ -1,4 +1,4 @@
-//! Legend of a picture.
+//! Legend of a picture of a plan or run: what lanes, colours and marks mean.
 use crate::lane::digit_count;
 use crate::picture::Picture;
 use bridge_text::{LegendRow, Sample};
@@ -6,7 +6,7 @@ use bridge_text::{LegendRow, Sample};
 /// Styles of the filters' colours, by colour number.
 const COLOURS: [&str; 8] = ["c0", "c1", "c2", "c3", "c4", "c5", "c6", "c7"];
 
-/// The colours with an edge, for protected filters.
+/// Styles of the filters' colours with an edge, for protected filters, by colour number.
 const EDGED: [&str; 8] = [
     "c0 e", "c1 e", "c2 e", "c3 e", "c4 e", "c5 e", "c6 e", "c7 e",
 ];
@@ -49,7 +49,7 @@ const GROUP_LANES: &[LegendRow] = &[
     ),
 ];
 
-/// Legend rows of a plan's picture: stream gates.
+/// Legend rows of stream gates in a plan's picture.
 pub(crate) const GATES: &[LegendRow] = &[
     (
         Sample::Bar,
@@ -59,7 +59,7 @@ pub(crate) const GATES: &[LegendRow] = &[
     (Sample::Nothing, "", "number at a gate: its filter"),
 ];
 
-/// Legend rows of a run's picture: frames and marks.
+/// Legend rows of a run's picture: frames, marks and stream gates.
 pub(crate) const RUN: &[LegendRow] = &[
     (Sample::Waits, "grey", "arrival and wait"),
     (Sample::Due, "grey", "latest end by the bound"),
@@ -72,7 +72,7 @@ pub(crate) const RUN: &[LegendRow] = &[
     ),
 ];
 
-/// Legend rows of the picture of a run under a plan with groups.
+/// Legend rows of the picture of a run under a plan with groups: frames, marks and stream gates.
 pub(crate) const GROUP_RUN: &[LegendRow] = &[
     (Sample::Waits, "grey", "arrival and wait"),
     (Sample::Due, "grey", "latest end by the bound"),
@@ -86,7 +86,8 @@ pub(crate) const GROUP_RUN: &[LegendRow] = &[
 ];
 
 impl Picture {
-    /// Draws the legend row of a filter: a sample of its colour, its number, and whether it is protected or grouped.
+    /// Draws the legend row of a filter: a sample of its colour, its number, and whether it is protected (`is_protected`) or grouped
+    /// (`is_grouped`). `put_shown_filters` calls it.
     pub(crate) fn put_filter_legend(
         &mut self,
         filter: u32,
@@ -105,7 +106,8 @@ impl Picture {
             .put_legend_row((Sample::Bar, style, words), letters, u64::from(filter));
     }
 
-    /// Writes the legend: lanes, `rows`, and if present the schedule change and the fault. `has_groups` says whether the plan has groups.
+    /// Writes the legend: lanes, `rows`, and if present the schedule change and the fault. `has_groups` is true if the plan has a grouped
+    /// filter. `put_ports` calls it.
     pub(crate) fn put_legend(&mut self, rows: &[LegendRow], has_groups: bool) {
         self.page.begin_legend();
         let lanes = if has_groups { GROUP_LANES } else { LANES };

@@ -1,4 +1,4 @@
-//! Draws a plan, and the parts that pictures of plans and runs share.
+//! Draws a plan (`draw_plan`), and the parts that pictures of plans and runs share.
 ghost use Rattle.std.specs.Prelude.{◌≤◌, IfOk, length, string_bytes};
 
 use crate::frame_selection::FrameSelection;
@@ -48,7 +48,8 @@ fn fault_template(fault: CheckFault) -> (&'static str, u32, u8, u8) {
     }
 }
 
-/// Writes how much of the hypercycle the picture shows. For a selected part, writes only the hypercycle's length.
+/// Writes how much of the hypercycle the picture shows. If the arguments select a part of the time (`is_part`), writes only the
+/// hypercycle's length. `put_title` calls it.
 fn put_hypercycle(page: &mut Page, times: Hypercycle, is_part: bool) {
     if times.length == 0 {
         return page.add_words("no gate control list");
@@ -65,20 +66,22 @@ fn put_hypercycle(page: &mut Page, times: Hypercycle, is_part: bool) {
 }
 
 impl Picture {
-    /// Begins the head of a picture with its name.
+    /// Begins the head of a picture with the word `name`: `plan` or `run`. The caller ends the line.
     pub(crate) fn begin_head(&mut self, name: &str) {
         self.page.put_text("h", 100, 220, name, &[]);
         self.page.begin_text_line("t", 220);
     }
 
-    /// Writes one port or filter of the selection: `only port 3` first, `, filter 10` later. Adds a note if the plan lacks the number.
+    /// Writes one port or filter of the selection: `only port 3` for the first (`is_first`), `, filter 10` later. Adds a note if the plan
+    /// lacks it (`is_there` is false). `put_selection` calls it.
     fn put_selected(&mut self, form: &str, number: u32, is_first: bool, is_there: bool) {
         let lead = choose_word(is_first, "only ", ", ");
         self.page.add_piece(form, &[u64::from(number)], lead);
         self.page.add_words(choose_word(is_there, "", NOT_IN_PLAN));
     }
 
-    /// Writes which ports and filters the picture shows, unless it shows all, and which of them the plan lacks.
+    /// Writes which ports and filters the picture shows, unless it shows all, and which of them the plan lacks. `draw_plan` and `draw_run`
+    /// call it.
     pub(crate) fn put_selection<A: Allocator + Copy>(&mut self, plan: &Plan<A>, part: &Selection) {
         if part.ports.is_empty() && part.filters.is_empty() {
             return;
@@ -101,7 +104,8 @@ impl Picture {
         self.page.end_text();
     }
 
-    /// Writes the head of a plan's picture: how much of the hypercycle it shows, the schedule change, and the time span.
+    /// Writes the head of a plan's picture: how much of the hypercycle it shows, the schedule change, and the time span. `is_part`:
+    /// arguments select a part of the time. `draw_plan` calls it.
     fn put_title(&mut self, times: Hypercycle, is_part: bool) {
         let span = self.span;
         self.begin_head("plan");
@@ -117,7 +121,8 @@ impl Picture {
         page.end_text();
     }
 
-    /// Writes why a plan is refused in the head, and stores the port and class at fault, whose lane is drawn in another colour.
+    /// Writes in the head why a plan is refused. Stores the port and class at fault, whose windows are drawn in another colour. `draw_plan`
+    /// calls it.
     fn put_fault(&mut self, alloc: Global, fault: CheckFault) {
         let (template, other, class, port) = fault_template(fault);
         let is_beside = matches!(fault, CheckFault::WindowShared { .. });
@@ -171,7 +176,8 @@ impl Picture {
         self.finish_ports(top);
     }
 
-    /// Draws the time axis below the lanes, and writes above them how many lanes are hatched.
+    /// Draws the time axis below the lanes, and writes above them how many lanes are hatched. `top` is the upper edge of the lanes.
+    /// `put_ports` calls it.
     fn finish_ports(&mut self, top: u64) {
         self.page.put_axis(self.span, top, self.change);
         if self.hatched_lanes > 0 {
@@ -184,10 +190,8 @@ impl Picture {
     }
 }
 
-/// Returns the picture of a plan as SVG text of at most 2,000,000 octets: each port's windows and open stream gates. It shows one
-/// hypercycle, or one on each side of a schedule change.
-///
-/// The head of a refused plan explains the fault. Lanes with too many windows are hatched.
+/// Returns a plan's picture as SVG text of at most 2,000,000 octets: windows and open stream gates, by default over one hypercycle. A
+/// refused plan's fault is in the head. Hatches windows beyond a limit.
 pub fn draw_plan<A: Allocator + Copy>(
     alloc: Global,
     checked: &Result<Accepted<A>, Refused<A>>,

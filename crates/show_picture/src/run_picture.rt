@@ -1,4 +1,4 @@
-//! Draws a run.
+//! Draws a run (`draw_run`): each port's windows, the frames that left, and marks of refused and dropped frames.
 ghost use Rattle.std.specs.Prelude.{◌≤◌, IfOk, length, string_bytes};
 
 use crate::frame_selection::{DrawnFrame, FrameSelection, select_frames};
@@ -25,8 +25,8 @@ const FRAME: &str = "filter {0} frame {1}, sent {2} to {3} ns, arrived at {4} ns
 /// Title of a refused or dropped frame.
 const MARK: &str = "filter {0} frame {1}, arrived at {2} ns: {a}";
 
-/// Returns the longest delay bound in ns of a protected or grouped filter at `port`, over all queues. `rows` has the shared queues of all
-/// groups. Returns `None` for other filters and unreachable ports.
+/// Returns the longest delay bound in ns of a filter's queues at `port`, for the latest ends that `put_frame` draws. `rows` has the shared
+/// queues of all groups. Returns `None` without a bound.
 fn longest_delay<A: Allocator + Copy>(
     accepted: &Accepted<A>,
     rows: &[SharedQueue],
@@ -45,7 +45,8 @@ fn longest_delay<A: Allocator + Copy>(
     }
 }
 
-/// Returns the longest delay bound in ns of a group's queues at `port`. Returns `None` without a group or a queue.
+/// Returns the longest delay bound in ns of a group's queues at `port`. Returns `None` without a group or a queue. `longest_delay` calls
+/// it.
 fn longest_group_delay(rows: &[SharedQueue], group: Option<u32>, port: u8) -> Option<u64> {
     let mut longest = None;
     for row in rows {
@@ -56,7 +57,8 @@ fn longest_group_delay(rows: &[SharedQueue], group: Option<u32>, port: u8) -> Op
     longest
 }
 
-/// Whether the picture draws at least one frame of a filter, an arrival or a departure. Only then the legend has the filter.
+/// Returns whether the span and ports of the picture show an arrival or a frame that left of a filter. Only then the legend has the filter.
+/// `put_shown_filters` calls it.
 fn is_drawn(
     span: Span,
     part: &Selection,
@@ -79,7 +81,7 @@ fn is_drawn(
 }
 
 impl Picture {
-    /// Draws the arrival of a protected or grouped frame, its wait, and its latest end `by` in ns.
+    /// Draws the arrival of a frame with a delay bound, its wait, and its latest end `by` in ns. `put_frame` calls it.
     fn put_wait(&mut self, frame: &DrawnFrame, by: u64) {
         let (came, colour) = (frame.arrival, frame.colour);
         let (x, due) = self.span.page_extent(came, by);
@@ -92,8 +94,8 @@ impl Picture {
         self.page.put_bar(style, x, 225, waited, 14);
     }
 
-    /// Draws a frame that left, higher for a protected filter. If the delay bound `longest` is known, draws the latest end too. The bar
-    /// stays wide enough to be visible.
+    /// Draws a frame that left, higher for a protected filter, wide enough to be visible. If the delay bound `longest` is known, draws the
+    /// latest end too. `put_port_link` calls it.
     fn put_frame(&mut self, frame: &DrawnFrame, longest: Option<u64>) {
         let (filter, own, came) = (u64::from(frame.filter), frame.own, frame.arrival);
         let (colour, start, done) = (frame.colour, frame.start, frame.done);
@@ -124,8 +126,8 @@ impl Picture {
         self.page.end_titled(bar);
     }
 
-    /// Draws the mark of a refused or dropped frame, larger and with an edge for a protected filter. The tip is above for a refused frame,
-    /// below for a dropped one.
+    /// Draws the mark of a refused or dropped frame, larger and with an edge for a protected filter. Its tip is up for a refused frame,
+    /// down for a dropped one. `put_port_link` calls it.
     fn put_mark(&mut self, frame: &DrawnFrame) {
         let is_stopped = frame.is_stopped;
         let high = if frame.is_protected { 120 } else { 80 };
@@ -146,8 +148,8 @@ impl Picture {
         self.page.end_titled(mark);
     }
 
-    /// Draws the link of a port with the frames that left, and below it the refused and dropped frames. Hatches parts with omitted frames.
-    /// `rows` has the shared queues of all groups.
+    /// Draws the link of a port with the frames that left, and below it the refused and dropped frames. Hatches time parts with omitted
+    /// frames. `put_ports` calls it.
     pub(crate) fn put_port_link<A: Allocator + Copy>(
         &mut self,
         accepted: &Accepted<A>,
@@ -179,7 +181,8 @@ impl Picture {
         self.page.skip_height(170);
     }
 
-    /// Writes how many frames and marks aren't drawn, if any, and a legend row for each filter with drawn frames.
+    /// Writes how many frames and marks aren't drawn, if any, and a legend row for each filter with frames in the picture. `draw_run` calls
+    /// it.
     fn put_shown_filters<A: Allocator + Copy, B: Allocator>(
         &mut self,
         plan: &Plan<A>,
@@ -212,11 +215,8 @@ impl Picture {
     }
 }
 
-/// Returns the picture of a run as SVG text of at most 2,000,000 octets: each port's windows and departures, its refused and dropped
-/// frames, and its stream gates.
-///
-/// Frames without a filter aren't drawn. If there are too many frames, each port and each part of the time has a share, and omitted frames
-/// are hatched.
+/// Returns a run's picture as SVG text of at most 2,000,000 octets: windows, stream gates, frames that left, and marks of refused and
+/// dropped ones. Omits unfiltered frames, and hatches frames beyond a limit.
 pub fn draw_run<B: Allocator>(
     alloc: Global,
     accepted: &Accepted<Global>,

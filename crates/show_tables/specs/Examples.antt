@@ -14,7 +14,7 @@ use Rattle.show_tables.specs.GroupBounds.{group_bound}
 use Rattle.bridge_groups.specs.declared.shared_queues.SharedQueue.{SharedQueue}
 use Rattle.show_tables.specs.DelayTable.{port_delays, figure_fields, port_row, unsent_row}
 
--- The origin of frames of 64 octets that arrived at port 1 at 1,000 Mb/s, by arrival time.
+-- The origin of a frame that arrived on port 1 at time `at`.
 abbrev came : ℕ → Origin
 came at = record { port = 1; at = at }
 
@@ -45,10 +45,11 @@ pub one_refused : frame_rows (make_frame 10 4 (came 160000) verdict.GateClosed) 
 unfolding row_start lone_row digits
 one_refused = refl
 
--- The delays of a port, and their figures.
+-- The delays of the two copies that left by port 3.
 pub delays : port_delays (came 100000 ∷ came 190000 ∷ []) 3 left ≡ 10672 ∷ 200672 ∷ []
 delays = refl
 
+-- The figures of three delays: least, mean, greatest and jitter.
 pub figures : figure_fields (672 ∷ 700 ∷ 675 ∷ []) ≡ codes "672,682,700,28,"
 unfolding digits
 figures = refl
@@ -61,7 +62,7 @@ greatest = refl
 pub shared : group_bound (queue 1 5 300 ∷ queue 2 5 900 ∷ queue 1 4 800 ∷ queue 1 5 700 ∷ []) 1 5 ≡ Some 700
 shared = refl
 
--- The row of a filter with two frames, one of which left by port 3.
+-- The row of a filter with two frames: one left by port 3, and the stream gate refused the other.
 pub one_left : {A : Type 0} (v : View A) → v.verdicts.items ≡ verdict.Pass None false ∷ verdict.GateClosed ∷ [] → v.drops.items ≡ []
     → port_row 10 v 3 (Some 525918) (672 ∷ []) ≡ codes "10,3,1,672,672,672,0,525918,0,0,1,0,0,0,0,0,0,0\n"
 unfolding port_row loss_fields filter_fields gate_fields meter_fields digits

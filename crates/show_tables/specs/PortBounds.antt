@@ -18,11 +18,11 @@ greatest_bound bounds = fold greater_bound None bounds
 abbrev pub IsClassBound : {A : Type 0} → Plan A → ℕ → ℕ → ℕ → Option ℕ → Type 0
 IsClassBound p n q c b = MatchOption b (HasNoBound p n q c) (IsTightBound p n q c)
 
--- Holds if the list has the tight bound of each class, from 0.
+-- Holds if the list has the tight bound of filter `n` at port `q` for each class, from 0.
 abbrev pub AreBoundsByClass : {A : Type 0} → Plan A → ℕ → ℕ → List (Option ℕ) → Type 0
 AreBoundsByClass p n q bounds = (c : ℕ) (b : Option ℕ) → slice_get bounds c ≡ Some b → IsClassBound p n q c b
 
--- Holds if the list has the tight bounds of the first `classes` classes of port `q`.
+-- Holds if the list has the tight bounds of filter `n` for the first `classes` classes of port `q`.
 pub record AreClassBounds {A : Type 0} (p : Plan A) (n q classes : ℕ) (bounds : List (Option ℕ)) : Type 0 where
   pub many : length bounds ≡ classes
   pub each : AreBoundsByClass p n q bounds
@@ -33,11 +33,12 @@ pub record IsGreatestBound {A : Type 0} (p : Plan A) (n q classes : ℕ) (bound 
   pub are : AreClassBounds p n q classes bounds
   pub is : bound ≡ greatest_bound bounds
 
--- Holds if `bound` is the port's delay bound: the greatest tight bound of its eight classes. Each copy has left within this time of its frame's arrival.
+-- Holds if `bound` is the delay bound of filter `n` at port `q`: the greatest tight bound of its eight classes. Each copy has left within
+-- this time of its frame's arrival.
 abbrev pub IsPortBound : {A : Type 0} → Plan A → ℕ → ℕ → Option ℕ → Type 0
 IsPortBound p n q bound = IsGreatestBound p n q 8 bound
 
--- Holds if the list has the delay bound of each port, from 1.
+-- Holds if the list has the delay bound for filter `n` of each port, from 1.
 abbrev pub AreBoundsByPort : {A : Type 0} → Plan A → ℕ → List (Option ℕ) → Type 0
 AreBoundsByPort p n bounds = (i : ℕ) (b : Option ℕ) → slice_get bounds i ≡ Some b → IsPortBound p n (i + 1) b
 
@@ -46,7 +47,7 @@ pub record ArePortBounds {A : Type 0} (p : Plan A) (n : ℕ) (bounds : List (Opt
   pub many : length bounds ≡ 16
   pub all : AreBoundsByPort p n bounds
 
--- The bound if an optional entry is present and has one, otherwise `None`.
+-- The bound in a nested option; `None` if either level is missing.
 abbrev pub flatten_bound : Option (Option ℕ) → Option ℕ
 flatten_bound None = None
 flatten_bound (Some b) = b

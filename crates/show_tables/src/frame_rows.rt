@@ -1,4 +1,4 @@
-//! Rows of the table of frames.
+//! Rows of the table of `run --frames`, which `frames` puts together.
 ghost use Rattle.std.specs.Prelude.{◌++◌, codes, decimal};
 ghost use Rattle.bridge_text.specs.Growth.{HasGrown};
 ghost use Rattle.show_tables.specs.FrameTable as spec;
@@ -14,7 +14,7 @@ use std::alloc::Allocator;
 pub const FRAMES_HEADER: &str =
     "filter,frame,ingress,arrival,verdict,port,start,done,delay,refusal\n";
 
-/// Frame of a filter: its number from 1, its origin and its verdict.
+/// Frame of a filter, as a row shows it: filter, frame number from 1, origin and verdict.
 #[derive(Clone, Copy)]
 pub(crate) struct FilterFrame {
     pub filter: u32,
@@ -31,7 +31,7 @@ pub(crate) fn put_field<A: Allocator>(text: &mut TextBuilder<A>, number: u64)
     text.put(",");
 }
 
-/// Writes the last field of a row: a number and a line feed.
+/// Writes the last field of a row: a number and a line feed. `put_losses` calls it.
 pub(crate) fn put_last_field<A: Allocator>(text: &mut TextBuilder<A>, number: u64)
     ensures { HasGrown text.old (decimal number ++ codes "\n") text.new }
 {
@@ -51,7 +51,7 @@ fn put_row_start<A: Allocator>(text: &mut TextBuilder<A>, frame: &FilterFrame)
     text.put(",");
 }
 
-/// Writes the row of a frame without copies: its fields of a copy are empty.
+/// Writes the row of a frame without copies: the fields of a copy are empty. `put_frame` calls it.
 pub(crate) fn put_lone_row<A: Allocator>(text: &mut TextBuilder<A>, frame: &FilterFrame)
     ensures { HasGrown text.old (spec.lone_row frame.now) text.new }
 {
@@ -59,7 +59,8 @@ pub(crate) fn put_lone_row<A: Allocator>(text: &mut TextBuilder<A>, frame: &Filt
     text.put(",,,,\n");
 }
 
-/// Writes the row of a copy that left: egress port, start, end and delay.
+/// Writes the row of a copy that left: egress port, start and end of its transmission, and delay since the frame's arrival, in ns.
+/// `put_port_departure` calls it.
 fn put_departure_row<A: Allocator>(
     text: &mut TextBuilder<A>,
     frame: &FilterFrame,
@@ -81,7 +82,7 @@ fn put_departure_row<A: Allocator>(
     text.put("\n");
 }
 
-/// Writes the row of a dropped copy: the port that dropped it, and the reason.
+/// Writes the row of a dropped copy: the port that dropped it, and the reason. `put_port_drop` calls it.
 fn put_drop_row<A: Allocator>(text: &mut TextBuilder<A>, frame: &FilterFrame, dropped: &Dropped)
     ensures { HasGrown text.old (spec.drop_row frame.now dropped.now) text.new }
 {
@@ -92,7 +93,7 @@ fn put_drop_row<A: Allocator>(text: &mut TextBuilder<A>, frame: &FilterFrame, dr
     text.put("\n");
 }
 
-/// Writes the row of a departure, if the copy left by `port`.
+/// Writes the row of a copy that left, if it left by `port`. `put_departure_rows` calls it.
 fn put_port_departure<A: Allocator>(
     text: &mut TextBuilder<A>,
     frame: &FilterFrame,
@@ -106,7 +107,7 @@ fn put_port_departure<A: Allocator>(
     }
 }
 
-/// Writes the row of a drop, if `port` dropped the copy.
+/// Writes the row of a dropped copy, if `port` dropped it. `put_drop_rows` calls it.
 fn put_port_drop<A: Allocator>(
     text: &mut TextBuilder<A>,
     frame: &FilterFrame,
@@ -120,7 +121,7 @@ fn put_port_drop<A: Allocator>(
     }
 }
 
-/// Writes the rows of the copies that left by `port`.
+/// Writes the rows of those copies in `departures` that left by `port`. All belong to the frame `frame`. `put_port_copies` calls it.
 fn put_departure_rows<A: Allocator>(
     text: &mut TextBuilder<A>,
     frame: &FilterFrame,
@@ -134,7 +135,7 @@ fn put_departure_rows<A: Allocator>(
     }
 }
 
-/// Writes the rows of the copies that `port` dropped.
+/// Writes the rows of those copies in `drops` that `port` dropped. All belong to the frame `frame`. `put_port_copies` calls it.
 fn put_drop_rows<A: Allocator>(
     text: &mut TextBuilder<A>,
     frame: &FilterFrame,
@@ -148,7 +149,7 @@ fn put_drop_rows<A: Allocator>(
     }
 }
 
-/// Writes the rows of the copies that left by `port`, then of the copies that it dropped.
+/// Writes the rows of the copies that left by `port`, then of the copies that it dropped. `put_copies` calls it.
 fn put_port_copies<A: Allocator>(
     text: &mut TextBuilder<A>,
     frame: &FilterFrame,
@@ -162,7 +163,7 @@ fn put_port_copies<A: Allocator>(
     put_drop_rows(text, frame, port, drops);
 }
 
-/// Writes the rows of a frame's copies, by rising port.
+/// Writes the rows of a frame's copies, by rising port. `departures` and `drops` are the frame's own. `put_frame` calls it.
 pub(crate) fn put_copies<A: Allocator>(
     text: &mut TextBuilder<A>,
     frame: &FilterFrame,

@@ -1,4 +1,4 @@
-//! Counts a filter's refused frames and dropped copies, and writes their fields.
+//! Counts a filter's refused frames and dropped copies, and writes their fields in the table of delays.
 ghost use Rattle.std.specs.Prelude.{◌≡◌};
 ghost use Rattle.bridge_text.specs.Growth.{HasGrown};
 ghost use Rattle.bridge_report.specs.Losses.{refused_for};
@@ -12,7 +12,7 @@ use bridge_semantics::{StoredDrop, StoredVerdict};
 use bridge_text::TextBuilder;
 use std::alloc::Allocator;
 
-/// Returns how many copies `port` dropped because their queues were full.
+/// Returns the number of copies that `port` dropped because their queues were full. `put_port_row` calls it.
 pub(crate) fn count_full_on_port(port: u8, drops: &[StoredDrop]) -> usize
     ensures { result ≡ spec.count_full_on_port port drops.now }
 {
@@ -23,7 +23,7 @@ pub(crate) fn count_full_on_port(port: u8, drops: &[StoredDrop]) -> usize
         .count()
 }
 
-/// Returns how many copies `port` dropped because they fit no window.
+/// Returns the number of copies that `port` dropped because they fit no window. `put_port_row` calls it.
 pub(crate) fn count_never_on_port(port: u8, drops: &[StoredDrop]) -> usize
     ensures { result ≡ spec.count_never_on_port port drops.now }
 {
@@ -45,7 +45,7 @@ fn put_refused_count<A: Allocator>(
     put_field(text, count_refused(reason, verdicts));
 }
 
-/// Writes the fields of frames that the filter itself refused: blocked, and oversize.
+/// Writes the fields of frames that the filter itself refused: blocked, and oversize. `put_losses` calls it.
 fn put_filter_losses<A: Allocator>(text: &mut TextBuilder<A>, verdicts: &[StoredVerdict])
     ensures { HasGrown text.old (spec.filter_fields verdicts.now) text.new }
 {
@@ -53,7 +53,7 @@ fn put_filter_losses<A: Allocator>(text: &mut TextBuilder<A>, verdicts: &[Stored
     put_refused_count(text, Reason::Oversize, verdicts);
 }
 
-/// Writes the fields of frames that the stream gate refused, one field for each of four reasons.
+/// Writes the fields of frames that the stream gate refused, one field for each of four reasons. `put_losses` calls it.
 fn put_gate_losses<A: Allocator>(text: &mut TextBuilder<A>, verdicts: &[StoredVerdict])
     ensures { HasGrown text.old (spec.gate_fields verdicts.now) text.new }
 {
@@ -63,7 +63,7 @@ fn put_gate_losses<A: Allocator>(text: &mut TextBuilder<A>, verdicts: &[StoredVe
     put_refused_count(text, Reason::OctetsExceeded, verdicts);
 }
 
-/// Writes the fields of frames that the meter refused: red, and yellow if it drops yellow frames.
+/// Writes the fields of frames that the meter refused: red, and yellow if it drops yellow frames. `put_losses` calls it.
 fn put_meter_losses<A: Allocator>(text: &mut TextBuilder<A>, verdicts: &[StoredVerdict])
     ensures { HasGrown text.old (spec.meter_fields verdicts.now) text.new }
 {
@@ -71,7 +71,8 @@ fn put_meter_losses<A: Allocator>(text: &mut TextBuilder<A>, verdicts: &[StoredV
     put_refused_count(text, Reason::YellowDropped, verdicts);
 }
 
-/// Writes the end of a row: fields of refused frames and dropped copies.
+/// Writes the end of a row: numbers of refused frames by reason. The last fields are `full` and `never`: copies dropped by full queues, and
+/// copies that fit no window. `put_port_row` and `put_unsent_row` call it.
 pub(crate) fn put_losses<A: Allocator>(
     text: &mut TextBuilder<A>,
     verdicts: &[StoredVerdict],
