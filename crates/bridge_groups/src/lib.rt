@@ -24,7 +24,6 @@ mod span_search;
 
 pub use admission::{admits_talker, committed_tokens, is_open_gate};
 pub use delay_bound::list_delay_bound;
-pub use gate_bounds::gate_work_bound;
 pub use group_rows::plan_shared_queues;
 pub use least_bounds::{least_bound, least_queue_bound, padded_bound};
 pub use linear_curve::{LARGEST_BURST, LinearCurve};
