@@ -127,5 +127,8 @@ pub fn least_queue_bounds<A: Allocator + Copy>(
     let Ok(bounds) = queue_bounds(alloc, accepted) else {
         return Err(NoMemory);
     };
-    lower_bounds(alloc, accepted, &bounds)
+    match lower_bounds(alloc, accepted, &bounds) {
+        Ok(rows) => Ok(rows),
+        Err(NoMemory) => Err(NoMemory),
+    }
 }
