@@ -27,10 +27,12 @@ use Rattle.net_model.specs.Networks.{IsNetwork, Sender, sender}
 use Rattle.net_model.specs.Faults.{first_fault}
 use Rattle.net_model.specs.NetworkParts.{NetworkParts, link_value, network_value}
 use Rattle.net_model.specs.declared.links.Link.{Link}
-use Rattle.net_latency.specs.Bounds.{AreBounds, queue_bound}
+use Rattle.bridge_groups.specs.GateBounds.{IsLeastBound}
+use Rattle.net_latency.specs.Bounds.{AreLeastBounds, queue_bound}
 use Rattle.net_check.specs.Networks.{IsNetworkOfFile, link_row_value}
 use Rattle.net_latency.specs.Streams.{AreQueueBoundsOfPlans, filter_bound, greater_bound, greater_delay, hop_bound, hop_delay, has_hop_at_bridge, is_joining_link, link_delay, bounds_if_any, stream_bound}
 use Rattle.net_latency.specs.declared.bounds.QueueBound.{QueueBound}
+use Rattle.net_latency.proofs.Lowered.{least_at}
 use Rattle.net_run.specs.Rounds.{AreOutcomes, RunsNetwork, commands_of_bridge}
 use Rattle.net_run.specs.declared.rounds.BridgeResult.{BridgeResult}
 use Rattle.net_run.specs.declared.bridge_run.BridgeInput.{BridgeInput}
@@ -40,17 +42,18 @@ use Rattle.net_report.specs.Hops.{is_onward}
 use Rattle.net_report.specs.HopCounts.{delay_if_known, delay_of, departure_delays, if_delivered}
 use Rattle.net_report.specs.SourceFrames.{HaveSources, source_frame}
 use Rattle.net_report.proofs.Traced.{root_there}
-use Rattle.app_networks.specs.InTime.{AreHopRuns, AreHopsBounded, GoOnce, GoesOnce, HasSourceOverRoute, IsHopBounded, route_hops, route_time}
+use Rattle.app_networks.specs.InTime.{AreHopRuns, GoOnce, GoesOnce, HasSourceOverRoute, route_hops, route_time}
 use Rattle.app_networks.proofs.Accepted.{IsOfPlan, hop_protected}
-use Rattle.app_networks.proofs.Measured.{in_time, over_legs}
+use Rattle.app_networks.proofs.Measured.{IsBoundedBy, in_time, over_legs}
+use Rattle.app_networks.proofs.NetworkBounds.{leaves_by_octets}
 use Rattle.app_networks.proofs.Sums.{reaches as folded, total, total_at, total_map, value, value_behind, value_map, within_total}
 
 -- THE BOUNDS OF A HOP
 
-rows_at : {A : Type 0} (ps : List (Plan A)) (vs : List (Vec QueueBound A)) (b : ℕ) (p : Plan A) → AreQueueBoundsOfPlans ps vs → slice_get ps b ≡ Some p → (v : Vec QueueBound A) × (slice_get vs b ≡ Some v) × AreBounds p v.items
+rows_at : {A : Type 0} (ps : List (Plan A)) (vs : List (Vec QueueBound A)) (b : ℕ) (p : Plan A) → AreQueueBoundsOfPlans ps vs → slice_get ps b ≡ Some p → (v : Vec QueueBound A) × (slice_get vs b ≡ Some v) × AreLeastBounds p v.items
 rows_at [] vs b p are e = absurd (cc)
 rows_at (q ∷ ps) [] b p are e = absurd are
-rows_at {A} (q ∷ ps) (v ∷ vs) zero p are e = (v, refl, subst (λ (z : Plan A). AreBounds z v.items) (same_Some q p e) are.0)
+rows_at {A} (q ∷ ps) (v ∷ vs) zero p are e = (v, refl, subst (λ (z : Plan A). AreLeastBounds z v.items) (same_Some q p e) are.0)
 rows_at (q ∷ ps) (v ∷ vs) (suc b) p are e = rows_at ps vs b p are.1 e
 
 bound_rises : (m a : ℕ) (r : QueueBound) → a ≤ greater_bound m a r
@@ -66,8 +69,9 @@ port_there : {A : Type 0} (p : Plan A) (f : FilterPlan) (q c : ℕ) (o : Option 
 port_there p f q c None e reach = absurd (not_reached p f q c e reach)
 port_there p f q c (Some out) e reach = (out, e)
 
--- Each queue of a hop has a bound of at most the hop's bound.
-within_bound : {A : Type 0} (n : NetworkParts A) (bounds : List (Vec QueueBound A)) (x : ℕ × ℕ) → IsNetwork (network_value n) → AreQueueBoundsOfPlans n.plans bounds → IsOfPlan n.plans x.0 x.1 → IsHopBounded (network_value n) x (hop_bound bounds x)
+-- Each queue of a hop has a least bound of at most the hop's bound.
+within_bound : {A : Type 0} (n : NetworkParts A) (bounds : List (Vec QueueBound A)) (x : ℕ × ℕ) → IsNetwork (network_value n) → AreQueueBoundsOfPlans n.plans bounds → IsOfPlan n.plans x.0 x.1
+    → IsBoundedBy (λ (p : Plan A) (m q c b : ℕ). IsLeastBound p m q c b) (network_value n) x (hop_bound bounds x)
 within_bound {A} n bounds x network are of_plan =
     let p = of_plan.plan in
     let f = of_plan.filter in
@@ -83,9 +87,9 @@ within_bound {A} n bounds x network are of_plan =
       bounds = λ q c reach.
           let (out, at) = port_there p f q c (find_port p.ports q) refl reach in
           let (from, to) = number_is p.ports q out plan.ports at in
-          let (b, listed) = is.all x.1 q c f found of_plan.protected from to (class_few p f q c out plan at reach) reach in
+          let (b, listed, least) = least_at p v.items x.1 q c f is found of_plan.protected from to (class_few p f q c out plan at reach) reach in
           let upto : b ≤ filter_bound x.1 v.items = row_within x.1 (queue_bound x.1 q c b) v.items (eq-eqb x.1 x.1 refl) listed in
-          (b, is.each (queue_bound x.1 q c b) listed, subst (λ (o : Option (Vec QueueBound A)). b ≤ filter_bound x.1 (bounds_if_any o)) (sym there) upto);
+          (b, least, subst (λ (o : Option (Vec QueueBound A)). b ≤ filter_bound x.1 (bounds_if_any o)) (sym there) upto);
     }
 
 -- THE DELAY OF A LINK
@@ -223,13 +227,14 @@ module _ {A : Type 0} (f : file.Network) (plans : List (Plan A)) (n : NetworkPar
 
   module _ (network : IsNetwork (network_value n)) (none : first_fault n ≡ None) (came : List (BridgeInput A)) (settled : List (BridgeResult A))
       (ran : RunsNetwork n came settled) (outcomes : AreOutcomes settled o) (are : AreQueueBoundsOfPlans n.plans bounds) (listed_stream : IsMember s f.streams) where
-    all_within : AreHopsBounded (network_value n) s.hops most_at
-    all_within i x there = subst (IsHopBounded (network_value n) x) (sym (value_map (hop_bound bounds) s.hops i x there)) (within_bound n bounds x network are (hop_protected f plans n s i x made none listed_stream there))
+    all_within : (i : ℕ) (x : ℕ × ℕ) → slice_get s.hops i ≡ Some x → IsBoundedBy (λ (p : Plan A) (m q c b : ℕ). IsLeastBound p m q c b) (network_value n) x (most_at i)
+    all_within i x there = subst (IsBoundedBy (λ (p : Plan A) (m q c b : ℕ). IsLeastBound p m q c b) (network_value n) x) (sym (value_map (hop_bound bounds) s.hops i x there)) (within_bound n bounds x network are (hop_protected f plans n s i x made none listed_stream there))
 
     pub copy_within : (r : SourceFrame) (legs : List (ℕ × ℕ)) (i : ℕ) (h : HopRun A) (d : Departure) → slice_get hops i ≡ Some h → IsMember d h.view.now.departures.items → HasSourceOverRoute n.links hops r legs i (d.own - 1)
         → GoesOnce i legs → d.done ≤ r.came + stream_bound bounds f.links s.hops
     copy_within r legs i h d there listed over once =
-        let done = in_time (network_value n) (commands_of_bridge came) ran.frames o network (ran.run o outcomes) s.hops n.links hops most_at told all_within r legs i h d there listed over in
+        let done = in_time (network_value n) (commands_of_bridge came) ran.frames o network (ran.run o outcomes) (λ (p : Plan A) (m q c b : ℕ). IsLeastBound p m q c b) (leaves_by_octets n came settled o network ran outcomes)
+        s.hops n.links hops most_at told all_within r legs i h d there listed over in
         let most = took_within r legs i (d.own - 1) over once in
         omega (arith, done, most)
 

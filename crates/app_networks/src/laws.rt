@@ -23,7 +23,7 @@ ghost use Rattle.net_model.specs.Faults.{first_fault};
 ghost use Rattle.net_model.specs.NetworkParts.{NetworkParts, network_value};
 ghost use Rattle.net_model.specs.declared.links.Link.{Link};
 ghost use Rattle.net_check.specs.Networks.{IsNetworkOfFile};
-ghost use Rattle.net_latency.specs.Bounds.{IsLeastBound, IsPaddedBound};
+ghost use Rattle.bridge_groups.specs.GateBounds.{IsLeastBound, IsPaddedBound};
 ghost use Rattle.net_latency.specs.Streams.{AreQueueBoundsOfPlans, stream_bound};
 ghost use Rattle.net_latency.specs.declared.bounds.QueueBound.{QueueBound};
 ghost use Rattle.net_run.specs.Rounds.{AreOutcomes, RunsNetwork};

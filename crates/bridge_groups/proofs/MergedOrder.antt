@@ -13,7 +13,7 @@ use Rattle.bridge_semantics.proofs.Views.{after_all}
 use Rattle.bridge_groups.specs.Curves.{AreArrivalsInOrder, last_arrival_time}
 
 -- Holds if the arrival time of the input's frame is the input's time.
-abbrev HasInputTime : Input → Type 0
+abbrev pub HasInputTime : Input → Type 0
 HasInputTime x = (a : Arrival) → x.event ≡ Arrived a → a.at ≡ x.at
 
 same_arrival : (a b : Arrival) → Arrived a ≡ Arrived b → a ≡ b
@@ -29,14 +29,14 @@ in_rank x (y ∷ xs) (inr i) = by_bool (nat_eq y.rank x.rank) (λ k. rw k (inr (
 frame_timed : (q : ℕ) (c : CapturedFrame) → HasInputTime (capture_input q c)
 frame_timed q c a is = ap (λ (z : Arrival). z.at) (sym (same_arrival (arrival c.time q c.octets c.len) a is))
 
-inputs_timed : (q : ℕ) (cs : List CapturedFrame) (x : Input) → IsMember x (capture_inputs q cs) → HasInputTime x
+pub inputs_timed : (q : ℕ) (cs : List CapturedFrame) (x : Input) → IsMember x (capture_inputs q cs) → HasInputTime x
 inputs_timed q [] x i = absurd i
 inputs_timed q (c ∷ cs) x i = elim (in_either x (capture_inputs q cs) (capture_input q c ∷ []) i) [
   | inl before ↦ inputs_timed q cs x before
   | inr last ↦ elim last [ inl same ↦ subst HasInputTime (sym same) (frame_timed q c) | inr none ↦ absurd none ]
 ]
 
-commands_timed : (cs : List Command) (x : Input) → IsMember x (commands_of cs) → HasInputTime x
+pub commands_timed : (cs : List Command) (x : Input) → IsMember x (commands_of cs) → HasInputTime x
 commands_timed [] x i = absurd i
 commands_timed (c ∷ cs) x i = elim (in_either x (commands_of cs) (command_as_input c ∷ []) i) [
   | inl before ↦ commands_timed cs x before
@@ -68,7 +68,7 @@ with_event : (x : Input) (xs : List Input) (e : Event) → x.event ≡ e → Has
 with_event x xs (Arrived a) is timed upto rest = let own = timed a is in (omega (arith, own, upto), rest)
 with_event x xs (Cleared c n) is timed upto rest = rest
 
-in_order : (xs : List Input) → ((x : Input) → IsMember x xs → HasInputTime x) → IsOrdered FollowsInput xs → AreArrivalsInOrder (input_events xs)
+pub in_order : (xs : List Input) → ((x : Input) → IsMember x xs → HasInputTime x) → IsOrdered FollowsInput xs → AreArrivalsInOrder (input_events xs)
 in_order [] timed rising = tt
 in_order (x ∷ xs) timed rising =
     let upto = last_upto x.at xs (λ y i. timed y (inr i)) (λ y i. no_later x y (after_all FollowsInput x y xs rising.0 i)) in

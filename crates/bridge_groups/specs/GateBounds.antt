@@ -1,5 +1,5 @@
 -- Delay bounds of a protected filter's queues, by the openings and octet limits of its stream gate.
-use Rattle.std.specs.Prelude.{◌≡◌, ◌≤◌, ℕ, Bool, true, ◌||◌, not, is_some, Some, List, [], ◌∷◌, Ok, nat_eq}
+use Rattle.std.specs.Prelude.{◌≡◌, ◌⊎◌, ◌<◌, ◌≤◌, ℕ, Bool, true, ◌||◌, not, is_some, Some, List, [], ◌∷◌, Ok, nat_eq}
 use Rattle.std.specs.List.{list_all}
 use Rattle.std.specs.Map.{lookup}
 use Rattle.bridge_cycle.specs.Cyclic as cyclic
@@ -18,6 +18,7 @@ use Rattle.bridge_config.specs.Rules.{find_port}
 use Rattle.bridge_check.specs.Reach.{reaches_queue}
 use Rattle.bridge_check.specs.Windows.{longest_frame}
 use Rattle.bridge_semantics.specs.Events.{Arrived, Cleared, Event}
+use Rattle.bridge_bounds.specs.Bounds.{IsTightBound}
 use Rattle.bridge_groups.specs.GateIntervals.{gate_opens, last_opening, opening_work}
 use Rattle.bridge_groups.specs.IntervalWork.{IsIntervalBound}
 
@@ -54,3 +55,13 @@ pub record IsGateWorkBound {A : Type 0} (p : Plan A) (n q c k b : ℕ) : Type 0 
   pub reach : reaches_queue p filter q c ≡ true
   pub gated : lookup (nat_eq filter.gate) p.gates ≡ Some gate
   pub is : IsScheduleBound gate.schedule out c max_sdu k b
+
+-- Holds if `b` ns is the tight bound, or a lesser bound by the octets that the stream gate passes. SDUs have at least
+-- the two octets of an EtherType.
+abbrev pub IsLeastBound : {A : Type 0} → Plan A → ℕ → ℕ → ℕ → ℕ → Type 0
+IsLeastBound p n q c b = (a : ℕ) × IsTightBound p n q c a × ((b ≡ a) ⊎ (IsGateWorkBound p n q c 2 b × (b < a)))
+
+-- Holds if `b` ns is a bound below `a` for frames of at least 60 octets, by the octets that the stream gate passes.
+-- Their SDUs have at least 44 octets.
+abbrev pub IsPaddedBound : {A : Type 0} → Plan A → ℕ → ℕ → ℕ → ℕ → ℕ → Type 0
+IsPaddedBound p n q c a b = IsGateWorkBound p n q c 44 b × (b < a)

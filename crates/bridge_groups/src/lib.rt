@@ -10,6 +10,7 @@ mod fit_runs;
 mod gate_bounds;
 mod group_rows;
 pub mod laws;
+mod least_bounds;
 mod leave_times;
 mod linear_curve;
 mod meter_curves;
@@ -23,8 +24,8 @@ mod span_search;
 
 pub use admission::{admits_talker, committed_tokens, is_open_gate};
 pub use delay_bound::list_delay_bound;
-pub use gate_bounds::{CAPTURED_SDU, PADDED_SDU, gate_work_bound};
 pub use group_rows::plan_shared_queues;
+pub use least_bounds::{least_bound, least_queue_bound, padded_bound};
 pub use linear_curve::{LARGEST_BURST, LinearCurve};
 pub use opening_bound::gate_delay_bound;
 pub use room::sufficient_room;

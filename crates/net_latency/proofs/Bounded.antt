@@ -19,7 +19,7 @@ use Rattle.bridge_check.specs.Reach.{reaches_queue}
 use Rattle.bridge_bounds.specs.Bounds.{HasNoBound, IsQueueBound}
 use Rattle.net_latency.specs.declared.bounds.QueueBound.{QueueBound}
 use Rattle.net_latency.specs.Streams.{AreQueueBoundsOfPlans}
-use Rattle.net_latency.specs.Bounds.{AreBounds, AreBoundsSoFar, PrecedesQueue, IsHandledQueue, queue_index, queue_bound}
+use Rattle.net_latency.specs.Bounds.{AreBounds, AreBoundsSoFar, AreLeastBounds, PrecedesQueue, IsHandledQueue, queue_index, queue_bound}
 
 some_same : {X : Type 0} (a b : X) → Some a ≡ Some b → a ≡ b
 some_same a b e = cc
@@ -229,7 +229,7 @@ found_own p order at d within rises found =
     sym (found x.0) ∙ found_at order at x.0 x.1 rises (slice_get-get_or order at d within)
 
 -- The bounds of one plan more.
-pub more_bounds : {A : Type 0} (ps : List (Plan A)) (vs : List (Vec QueueBound A)) (p : Plan A) (v : Vec QueueBound A) → AreQueueBoundsOfPlans ps vs → AreBounds p v.items → AreQueueBoundsOfPlans (ps ++ p ∷ []) (vs ++ v ∷ [])
+pub more_bounds : {A : Type 0} (ps : List (Plan A)) (vs : List (Vec QueueBound A)) (p : Plan A) (v : Vec QueueBound A) → AreQueueBoundsOfPlans ps vs → AreLeastBounds p v.items → AreQueueBoundsOfPlans (ps ++ p ∷ []) (vs ++ v ∷ [])
 more_bounds [] [] p v are is = (is, tt)
 more_bounds [] (y ∷ ys) p v are is = absurd are
 more_bounds (x ∷ xs) [] p v are is = absurd are

@@ -15,7 +15,6 @@ use Rattle.bridge_groups.specs.declared.shared_queues.SharedQueue.{SharedQueue}
 use Rattle.net_file.specs.declared.traffic_row.TalkerRow.{TalkerRow}
 use Rattle.net_file.specs.declared.traffic_row.TrafficRow.{TrafficRow}
 use Rattle.net_file.specs.TrafficRows.{row_filter}
-use Rattle.net_latency.specs.Bounds.{HasValidPort}
 use Rattle.net_latency.specs.declared.bounds.QueueBound.{QueueBound}
 use Rattle.net_latency.specs.declared.timings.QueueTiming.{QueueTiming}
 use Rattle.net_latency.specs.declared.timings.TrafficFigures.{TrafficFigures}
@@ -113,12 +112,6 @@ pub placed : {A : Type 0} (p : Plan A) (n q c b : ℕ) → IsPlan p → IsQueueB
 placed p n q c b plan bound =
     let (from, to) = number_is p.ports q bound.out plan.ports bound.at in
     record { from = from; to = to; class = class_few p bound.filter q c bound.out plan bound.at bound.reach }
-
--- A row of a bound has a valid port and class.
-pub valid_port : {A : Type 0} (p : Plan A) (r : QueueBound) → IsPlan p → IsQueueBound p r.filter r.port r.class r.bound → HasValidPort r
-valid_port p r plan bound =
-    let at = placed p r.filter r.port r.class r.bound plan bound in
-    record { from = at.from; to = at.to; class = at.class }
 
 -- A queue with a bound isn't a queue without bound.
 pub not_without : {A : Type 0} (p : Plan A) (n q c b : ℕ) → HasNoBound p n q c → IsQueueBound p n q c b → ⊥

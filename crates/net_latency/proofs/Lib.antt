@@ -11,6 +11,7 @@ pub mod Phased
 pub mod Placed
 pub mod Queued
 pub mod Tightened
+pub mod Lowered
 pub mod Timed
 pub mod WaysOf
 pub mod Linked

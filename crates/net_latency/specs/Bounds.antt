@@ -7,8 +7,8 @@ use Rattle.bridge_config.specs.Model.{Plan}
 use Rattle.bridge_check.specs.declared.reach.Reach.{Reach}
 use Rattle.bridge_check.specs.Reach.{reaches_queue}
 use Rattle.bridge_check.specs.ReachTables.{filter_reach}
-use Rattle.bridge_bounds.specs.Bounds.{IsCoarse, IsQueueBound, IsTightBound}
-use Rattle.bridge_groups.specs.GateBounds.{IsGateWorkBound}
+use Rattle.bridge_bounds.specs.Bounds.{IsCoarse, IsQueueBound}
+use Rattle.bridge_groups.specs.GateBounds.{IsLeastBound, IsPaddedBound}
 use Rattle.net_latency.specs.declared.bounds.QueueBound.{QueueBound}
 use Rattle.net_latency.specs.declared.tight.TightBound.{TightBound}
 
@@ -31,15 +31,23 @@ pub record AreBounds {A : Type 0} (p : Plan A) (rows : List QueueBound) : Type 0
   pub all : (n q c : ℕ) (f : FilterPlan) → lookup (nat_eq n) p.filters ≡ Some f → f.protected ≡ true → 1 ≤ q → q ≤ 16 → c < 8 → reaches_queue p f q c ≡ true
       → (b : ℕ) × IsMember (queue_bound n q c b) rows
 
--- Holds if `b` ns is the tight bound, or a lesser bound by the octets that the stream gate passes. SDUs have at least
--- the two octets of an EtherType.
-abbrev pub IsLeastBound : {A : Type 0} → Plan A → ℕ → ℕ → ℕ → ℕ → Type 0
-IsLeastBound p n q c b = (a : ℕ) × IsTightBound p n q c a × ((b ≡ a) ⊎ (IsGateWorkBound p n q c 2 b × (b < a)))
+-- Holds if row `t` has the queue of row `r`, with a bound for frames with at most as many captured octets as their
+-- length.
+pub record HasLeastBound {A : Type 0} (p : Plan A) (r t : QueueBound) : Type 0 where
+  pub filter : t.filter ≡ r.filter
+  pub port : t.port ≡ r.port
+  pub class : t.class ≡ r.class
+  pub bound : IsLeastBound p r.filter r.port r.class t.bound
 
--- Holds if `b` ns is a bound below `a` for frames of at least 60 octets, by the octets that the stream gate passes.
--- Their SDUs have at least 44 octets.
-abbrev pub IsPaddedBound : {A : Type 0} → Plan A → ℕ → ℕ → ℕ → ℕ → ℕ → Type 0
-IsPaddedBound p n q c a b = IsGateWorkBound p n q c 44 b × (b < a)
+-- Holds if the second list has the queues of the first, row by row, with their least bounds.
+abbrev pub AreLowered : {A : Type 0} → Plan A → List QueueBound → List QueueBound → Type 0
+AreLowered p [] [] = Unit {0}
+AreLowered p (r ∷ rs) (t ∷ ts) = HasLeastBound p r t × AreLowered p rs ts
+AreLowered p rs ts = ⊥
+
+-- Holds if `least` has the least bounds of all reachable queues of a plan, each once and in order.
+abbrev pub AreLeastBounds : {A : Type 0} → Plan A → List QueueBound → Type 0
+AreLeastBounds p least = (rows : List QueueBound) × AreBounds p rows × AreLowered p rows least
 
 -- Holds if row `t` has the queue of row `r` and its bounds, and is marked exactly if the bound by capacity is coarse.
 pub record HasTightBound {A : Type 0} (p : Plan A) (r : QueueBound) (t : TightBound) : Type 0 where

@@ -8,7 +8,7 @@ use Rattle.net_file.specs.declared.talker.Talker.{Talker}
 use Rattle.net_file.specs.Model.{Stream}
 use Rattle.net_model.specs.declared.links.StreamHop.{StreamHop}
 use Rattle.net_latency.specs.declared.bounds.QueueBound.{QueueBound}
-use Rattle.net_latency.specs.Bounds.{AreBounds}
+use Rattle.net_latency.specs.Bounds.{AreLeastBounds}
 use Rattle.net_latency.specs.Traffic.{is_met}
 use Rattle.net_latency.specs.TrafficText.{deadline_words, delay_words}
 
@@ -109,8 +109,8 @@ is_in_time bounds links r = is_passing r.0.talker r.1 && is_met r.0.deadline (wo
 abbrev pub are_in_time : {A : Type 0} → List (Vec QueueBound A) → List LinkRow → List (Stream × Option StreamLatency) → Bool
 are_in_time bounds links rows = list_all (is_in_time bounds links) rows
 
--- Holds if `bounds` has the delay bounds of each plan.
+-- Holds if `bounds` has the least delay bounds of each plan.
 abbrev pub AreQueueBoundsOfPlans : {A : Type 0} → List (Plan A) → List (Vec QueueBound A) → Type 0
 AreQueueBoundsOfPlans [] [] = Unit {0}
-AreQueueBoundsOfPlans (p ∷ ps) (v ∷ vs) = AreBounds p v.items × AreQueueBoundsOfPlans ps vs
+AreQueueBoundsOfPlans (p ∷ ps) (v ∷ vs) = AreLeastBounds p v.items × AreQueueBoundsOfPlans ps vs
 AreQueueBoundsOfPlans plans bounds = ⊥

@@ -10,10 +10,11 @@ ghost use Rattle.net_latency.specs.Streams.{AreQueueBoundsOfPlans, filter_bound,
 ghost use Rattle.net_latency.specs.Talkers.{AreStreamLines};
 ghost use Rattle.net_latency.specs.Traffic.{is_met};
 
-use crate::bounds::{QueueBound, queue_bounds};
+use crate::bounds::QueueBound;
 use crate::latency::StreamLatency;
 use crate::talkers::talker_latency;
 use crate::timings;
+use crate::tight::least_queue_bounds;
 use crate::timings::{put_deadline, put_delays};
 use bridge_check::Accepted;
 use bridge_limits::NoMemory;
@@ -22,7 +23,8 @@ use net_file::{LinkRow, StreamRow, Talker};
 use net_model::Network;
 use std::alloc::Allocator;
 
-/// Returns for each plan the delay bounds of its reachable queues, in the order of `plans`. `net check` computes them once for all streams.
+/// Returns for each plan the least delay bounds of its reachable queues, in the order of `plans`. `net check` computes them once for all
+/// streams.
 pub fn all_queue_bounds<A: Allocator + Copy>(
     alloc: A,
     plans: &[Accepted<A>],
@@ -32,7 +34,7 @@ pub fn all_queue_bounds<A: Allocator + Copy>(
 {
     let mut bounds = Vec::new(alloc);
     for accepted in plans {
-        let Ok(rows) = queue_bounds(alloc, accepted) else {
+        let Ok(rows) = least_queue_bounds(alloc, accepted) else {
             return Err(NoMemory);
         };
         let Ok(()) = bounds.push(rows) else {

@@ -1,12 +1,12 @@
 //! Tight delay bounds of all queues of a plan: octet limits of stream gates may lower the bounds.
-ghost use Rattle.std.specs.Prelude.{IfSome, ◌++◌, ◌∷◌, [], IfOk, List, OnOk};
-ghost use Rattle.bridge_bounds.specs.Bounds.{IsQueueBound, IsTightBound};
-ghost use Rattle.net_latency.specs.Bounds.{AreBounds, AreTightBounds, AreTightened, HasValidPort, IsLeastBound, IsPaddedBound};
+ghost use Rattle.std.specs.Prelude.{All, ◌++◌, ◌∷◌, [], IfOk, List, OnOk};
+ghost use Rattle.bridge_bounds.specs.Bounds.{IsQueueBound};
+ghost use Rattle.net_latency.specs.Bounds.{AreBounds, AreLeastBounds, AreLowered, AreTightBounds, AreTightened, HasLeastBound, HasValidPort};
 
 use crate::bounds::{QueueBound, queue_bounds};
 use bridge_bounds::{is_coarse, tight_queue_bound};
 use bridge_check::Accepted;
-use bridge_groups::{CAPTURED_SDU, PADDED_SDU, gate_work_bound};
+use bridge_groups::{least_bound, least_queue_bound, padded_bound};
 use bridge_limits::NoMemory;
 use std::alloc::Allocator;
 
@@ -27,57 +27,6 @@ pub struct TightBound {
     pub padded: Option<u64>,
 }
 
-/// Returns the lesser of two bounds of a queue in ns: `tight`, and the bound by the octets that the filter's stream gate passes.
-///
-/// Returns `tight` if the lists of stream gate and port have no common cycle (`coarse`), because the search for the other bound would take
-/// too long.
-fn least_bound<A: Allocator + Copy>(
-    accepted: &Accepted<A>,
-    queue: &QueueBound,
-    tight: u64,
-    coarse: bool,
-) -> u64
-    requires valid { HasValidPort queue.now }
-    requires tight { IsTightBound accepted.now queue.now.filter queue.now.port queue.now.class tight }
-    ensures { IsLeastBound accepted.now queue.now.filter queue.now.port queue.now.class result }
-{
-    if coarse {
-        return tight;
-    }
-    match gate_work_bound(
-        accepted,
-        queue.filter,
-        queue.port,
-        queue.class,
-        CAPTURED_SDU,
-    ) {
-        Some(bound) if bound < tight => bound,
-        _ => tight,
-    }
-}
-
-/// Returns a queue's bound in ns for frames of at least 60 octets, by the octets that the filter's stream gate passes.
-///
-/// Returns `None` if it isn't below `bound`, if no frame of this length passes, or if the lists of stream gate and port have no common
-/// cycle (`coarse`).
-fn padded_bound<A: Allocator + Copy>(
-    accepted: &Accepted<A>,
-    queue: &QueueBound,
-    bound: u64,
-    coarse: bool,
-) -> Option<u64>
-    requires valid { HasValidPort queue.now }
-    ensures { IfSome result (IsPaddedBound accepted.now queue.now.filter queue.now.port queue.now.class bound) }
-{
-    if coarse {
-        return None;
-    }
-    match gate_work_bound(accepted, queue.filter, queue.port, queue.class, PADDED_SDU) {
-        Some(padded) if 0 < padded && padded < bound => Some(padded),
-        _ => None,
-    }
-}
-
 /// Appends to `made` the tight bounds of the queue of `bound`, for all frames and for frames of at least 60 octets.
 fn put_tight_bound<A: Allocator + Copy>(
     accepted: &Accepted<A>,
@@ -91,14 +40,14 @@ fn put_tight_bound<A: Allocator + Copy>(
     let _ = accepted.plan();
     if let Some(tight) = tight_queue_bound(accepted, bound.filter, bound.port, bound.class) {
         let coarse = is_coarse(accepted, bound.filter, bound.port);
-        let least = least_bound(accepted, bound, tight, coarse);
+        let least = least_bound(accepted, bound.filter, bound.port, bound.class, tight, coarse);
         made.push(TightBound {
             filter: bound.filter,
             port: bound.port,
             class: bound.class,
             coarse,
             bound: least,
-            padded: padded_bound(accepted, bound, least, coarse),
+            padded: padded_bound(accepted, bound.filter, bound.port, bound.class, least, coarse),
         })?;
     }
     Ok(())
@@ -133,4 +82,53 @@ pub fn tight_queue_bounds<A: Allocator + Copy>(
         return Err(NoMemory);
     };
     tighten_bounds(alloc, accepted, &bounds)
+}
+
+/// Returns the row of a queue with its least bound for any capture. `lower_bounds` calls it for each queue.
+fn lower_bound<A: Allocator + Copy>(accepted: &Accepted<A>, queue: &QueueBound) -> QueueBound
+    requires bound { IsQueueBound accepted.now queue.now.filter queue.now.port queue.now.class queue.now.bound }
+    ensures { HasLeastBound accepted.now queue.now result }
+{
+    let _ = accepted.plan();
+    match least_queue_bound(accepted, queue.filter, queue.port, queue.class) {
+        Some(bound) => QueueBound { bound, ..*queue },
+        None => *queue,
+    }
+}
+
+/// Returns the queues of `bounds`, in the same order, with their least bounds.
+fn lower_bounds<A: Allocator + Copy>(
+    alloc: A,
+    accepted: &Accepted<A>,
+    bounds: &[QueueBound],
+) -> Result<Vec<QueueBound, A>, NoMemory>
+    requires bounds { AreBounds accepted.now bounds.now }
+    ensures { IfOk result (λ rows. AreLowered accepted.now bounds.now rows.items) }
+{
+    let mut made = Vec::new(alloc);
+    for queue in bounds {
+        let row = lower_bound(accepted, queue);
+        let Ok(()) = made.push(row) else {
+            return Err(NoMemory);
+        };
+    }
+    Ok(made)
+}
+
+/// Returns the least delay bounds of all reachable queues of protected filters, by rising filter, port and class. They hold for any capture.
+/// Networks add them up over the hops of a stream.
+pub fn least_queue_bounds<A: Allocator + Copy>(
+    alloc: A,
+    accepted: &Accepted<A>,
+) -> Result<Vec<QueueBound, A>, NoMemory>
+    ensures bounds { IfOk result (λ rows. AreLeastBounds accepted.now rows.items) }
+    ensures placed { IfOk result (λ rows. All HasValidPort rows.items) }
+{
+    let Ok(bounds) = queue_bounds(alloc, accepted) else {
+        return Err(NoMemory);
+    };
+    match lower_bounds(alloc, accepted, &bounds) {
+        Ok(rows) => Ok(rows),
+        Err(NoMemory) => Err(NoMemory),
+    }
 }

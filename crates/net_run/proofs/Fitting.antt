@@ -4,7 +4,7 @@ use Rattle.std.specs.Prelude.{All, slice_get, if◌then◌else◌}
 use Rattle.std.proofs.lemmas.Bool.Decides.{nat_tests}
 use Rattle.std.proofs.lemmas.List.Elements.{All-cons, All-head, All-nil, All-tail}
 use Rattle.std.proofs.lemmas.Option.{slice_get-map, slice_get_within, same_Some}
-use Rattle.bridge_limits.specs.Members.{IsOrdered}
+use Rattle.bridge_limits.specs.Members.{IsMember, IsOrdered}
 use Rattle.bridge_limits.specs.declared.TheConstants.{END_OF_TIME}
 use Rattle.bridge_limits.proofs.Lists.{there_is}
 use Rattle.bridge_capture.specs.Grammar.{CapturedFrame, IsCapture, AtEnd}
@@ -25,7 +25,9 @@ use Rattle.bridge_config.proofs.Sorted.{rising_numbers}
 use Rattle.net_model.specs.Networks.{IsNetwork, IsNetworkRun, Network, Sender, inputs_over_link, port_inputs, delayed_frame, external_inputs, sender}
 use Rattle.net_run.specs.DelayedCapture.{delayed}
 use Rattle.net_run.specs.BridgeRuns.{AreUpToDate, IsBridgeRun, IsCaptureOfFrames, RunsBridge, BridgeRunState, sent_capture}
+use Rattle.net_run.specs.Rounds.{IsWithinLength}
 use Rattle.net_run.proofs.Back.{IsEarly, read_back}
+use Rattle.net_run.proofs.CapturedLengths.{each_within}
 use Rattle.net_run.proofs.Over.{text_at}
 
 -- DELAYED FRAMES
@@ -235,6 +237,24 @@ module _ {A : Type 0} (n : Network A) (commands : ℕ → List Input) (xs : List
   tap_read b i q x tap is at tap_is =
       let r = ran_at xs all b x is in
       (r.ran.runs.written i q tap at tap_is).is ∙ ap (λ (f : ℕ → List CapturedFrame). written_text (f q)) (sym r.left)
+
+  -- No frame that a bridge received is longer in its capture than on the link.
+  pub lengths_there : (o : ℕ → Outcome A) (told : (b : ℕ) (x : BridgeRunState A) → slice_get xs b ≡ Some x → x.outcome ≡ Some (o b)) (b : ℕ) (p : Plan A) (y : Input) → slice_get n.bridges b ≡ Some p → IsMember y ((network_run o told).inputs b) → IsWithinLength y.event
+  unfolding network_run
+  lengths_there o told b p y plan listed =
+      let at = station_of n xs b p are.plans plan in
+      let x = at.0 in
+      let station = are.kept b x at.1 in
+      let r = ran_at xs all b x at.1 in
+      let runs = r.ran.runs in
+      each_within x.plan x.commands runs.frames runs.inputs
+      (λ q out is.
+      let place = covered x.plan x.ports q out station.numbers is in
+      let within = slice_get_within x.ports place.0 q place.1 in
+      let many = station.texts in
+      let text = there_is x.texts place.0 (omega (arith, within, many)) in
+      (text.0, runs.reads place.0 q text.0 place.1 text.1))
+      runs.others runs.merged y (subst (IsMember y) r.inputs listed)
 
   -- The frames that left a port in the network run.
   pub left_there : (o : ℕ → Outcome A) (told : (b : ℕ) (x : BridgeRunState A) → slice_get xs b ≡ Some x → x.outcome ≡ Some (o b)) (b q : ℕ) → (network_run o told).left b q ≡ left_in xs all b q

@@ -1,6 +1,7 @@
 pub mod Later
 pub mod Back
 pub mod Over
+pub mod CapturedLengths
 pub mod Fitting
 pub mod Turns
 pub mod Begun

@@ -25,7 +25,7 @@ use Rattle.net_run.specs.declared.rounds.BridgeResult.{BridgeResult}
 use Rattle.net_run.specs.declared.bridge_run.BridgeInput.{BridgeInput}
 use Rattle.net_run.specs.BridgeRuns.{AreUpToDate, ConstantPart, HasRun, IsInitialRun, IsBridgeRun, BridgeRunState, constant_part, open_texts, sink_octets, text_octets}
 use Rattle.net_run.specs.Rounds.{AreInitialRuns, AreBridgeInputs, AreOutcomes, AreBridgeResults, HaveTaps, IsolatesStreams, OthersChangeNothing, RunsNetwork, commands_of_bridge}
-use Rattle.net_run.proofs.Fitting.{AllRan, AreOf, frames_in, left_there, network_run, none_read, open_read, tap_read}
+use Rattle.net_run.proofs.Fitting.{AllRan, AreOf, frames_in, left_there, lengths_there, network_run, none_read, open_read, tap_read}
 use Rattle.net_run.proofs.Turns.{ground_kept}
 
 -- A property of each item.
@@ -174,6 +174,7 @@ module _ {A : Type 0} (n : NetworkParts A) (came : List (BridgeInput A)) (begun 
         open_read (network_value n) (commands_of_bridge came) xs are requested all fed network b i q x.0 text.items x.1 here (text_at b i q x.0 c text x.1 here open_port own at_text);
     others = λ b q p plan none. none_read (network_value n) (commands_of_bridge came) xs are requested all fed network b q p plan none;
     run = λ o outcomes. network_run (network_value n) (commands_of_bridge came) xs are requested all fed network o (told_at o outcomes);
+    lengths = λ o outcomes b p x plan listed. lengths_there (network_value n) (commands_of_bridge came) xs are requested all fed network o (told_at o outcomes) b p x plan listed;
     taps = λ o outcomes b i q p ports s tap plan numbers at told_is tap_is.
         let x = station b p plan in
         let order : x.0.ports ≡ ports = one_order p x.0.ports ports (subst (λ (z : Plan A). ArePortNumbers z x.0.ports) x.2 (kept b x.0 x.1).numbers) numbers in

@@ -1,5 +1,5 @@
 -- Complete runs of networks in rounds.
-use Rattle.std.specs.Prelude.{◌≡◌, ◌≢◌, ◌<◌, ℕ, zero, suc, Some, None, List, [], ◌∷◌, length, map, slice_get, Vec, nat_eq}
+use Rattle.std.specs.Prelude.{◌≡◌, ◌≢◌, ◌<◌, ◌≤◌, ℕ, zero, suc, Some, None, List, [], ◌∷◌, length, map, slice_get, Vec, nat_eq}
 use Rattle.std.specs.Map.{lookup}
 use Rattle.bridge_limits.specs.Members.{IsMember}
 use Rattle.bridge_capture.specs.Grammar.{CapturedFrame, IsCapture, AtEnd}
@@ -9,6 +9,7 @@ use Rattle.bridge_config.specs.Model.{Plan}
 use Rattle.bridge_config.specs.Rules.{find_port}
 use Rattle.bridge_semantics.specs.declared.outcome.Outcome.{Outcome}
 use Rattle.bridge_semantics.specs.declared.outcome.View.{View}
+use Rattle.bridge_semantics.specs.Events.{Arrived, Cleared, Event}
 use Rattle.bridge_semantics.specs.Merge.{Input, commands_of}
 use Rattle.bridge_semantics.specs.Runs.{AreSameViews}
 use Rattle.bridge_core.specs.WholeRuns.{ArePortNumbers}
@@ -44,8 +45,13 @@ commands_of_bridge (c ∷ came) (suc b) = commands_of_bridge came b
 abbrev pub AreOutcomes : {A : Type 0} → List (BridgeResult A) → (ℕ → Outcome A) → Type 0
 AreOutcomes {A} settled o = (b : ℕ) (s : BridgeResult A) → slice_get settled b ≡ Some s → o b ≡ s.outcome
 
+-- Holds if a received frame has at most as many captured octets as its length.
+abbrev pub IsWithinLength : Event → Type 0
+IsWithinLength (Arrived a) = length a.octets ≤ a.len
+IsWithinLength (Cleared clear n) = Unit {0}
+
 -- Holds if `settled` is the result of a complete run, open ports read their captures in `came` to the end, and all
--- outputs are written. Field `frames` has the captured frames by bridge and port.
+-- outputs are written. No received frame is longer in its capture than on the link. Field `frames` has the captured frames by bridge and port.
 pub record RunsNetwork {A : Type 0} (n : NetworkParts A) (came : List (BridgeInput A)) (settled : List (BridgeResult A)) : Type 0 where
   pub many : length settled ≡ length n.plans
   pub frames : ℕ → ℕ → List CapturedFrame
@@ -53,6 +59,7 @@ pub record RunsNetwork {A : Type 0} (n : NetworkParts A) (came : List (BridgeInp
       → sender (map link_value n.links) b q ≡ None → slice_get came b ≡ Some c → slice_get c.captures.items i ≡ Some text → IsCapture text.items (frames b q) AtEnd
   pub others : (b q : ℕ) (p : Plan A) → slice_get n.plans b ≡ Some p → find_port p.ports q ≡ None → frames b q ≡ []
   pub run : (o : ℕ → Outcome A) → AreOutcomes settled o → IsNetworkRun (network_value n) (commands_of_bridge came) frames o
+  pub lengths : (o : ℕ → Outcome A) (are : AreOutcomes settled o) (b : ℕ) (p : Plan A) (x : Input) → slice_get n.plans b ≡ Some p → IsMember x ((run o are).inputs b) → IsWithinLength x.event
   pub taps : (o : ℕ → Outcome A) (are : AreOutcomes settled o) (b i q : ℕ) (p : Plan A) (ports : List ℕ) (s : BridgeResult A) (tap : MemoryDevice) → slice_get n.plans b ≡ Some p → ArePortNumbers p ports → slice_get ports i ≡ Some q
       → slice_get settled b ≡ Some s → slice_get s.taps.items i ≡ Some tap → tap.octets ≡ written_text ((run o are).left b q)
 

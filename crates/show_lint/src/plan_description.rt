@@ -6,12 +6,12 @@ use crate::lint::find_warnings;
 use crate::sentence::{LintText, put_warning};
 use crate::warning::Warning;
 use crate::windows::{longest_frame_of_class, put_open_windows};
-use bridge_bounds::{is_coarse, queue_bound, tight_queue_bound};
+use bridge_bounds::{is_coarse, queue_bound};
 use bridge_check::{Accepted, can_wait};
 use bridge_config::PortPlan;
 use bridge_filter::FilterPlan;
 use bridge_frame::occupation;
-use bridge_groups::{CAPTURED_SDU, PADDED_SDU, SharedQueue, gate_work_bound};
+use bridge_groups::{SharedQueue, least_queue_bound, padded_bound};
 use bridge_limits::{LONGEST_FRAME, NoMemory};
 use bridge_text::TextBuilder;
 use std::alloc::{Allocator, Global};
@@ -123,8 +123,7 @@ fn put_classes<A: Allocator + Copy>(
             put_queue(said, port, found, class);
             if let Some(bound) = queue_bound(accepted, number, port, class) {
                 put_bound(said, filter, found, class, bound);
-                let tight = tight_queue_bound(accepted, number, port, class).unwrap_or(bound);
-                put_gate_bounds(said, accepted, number, port, class, tight, bound);
+                put_gate_bounds(said, accepted, number, port, class, bound);
             }
         }
     }
@@ -175,32 +174,28 @@ fn put_bound<A: Allocator + Copy>(
     }
 }
 
-/// Writes a queue's bounds by octet limits below `bound`, its bound by capacity: for any capture, and for frames of at least 60 octets.
-/// `tight` is its `tight_queue_bound`. `put_classes` calls it.
+/// Writes the bounds by octet limits that are below `bound`, the bound by capacity: one for any capture, one for frames of at least 60
+/// octets. `put_classes` calls it for each reachable queue.
 fn put_gate_bounds<A: Allocator + Copy>(
     said: &mut LintText,
     accepted: &Accepted<A>,
     number: u32,
     port: u8,
     class: u8,
-    tight: u64,
     bound: u64,
 )
     requires from { 1 ≤ port }
     requires to { port ≤ 16 }
     requires class { class < 8 }
 {
-    let (mut least, mut padded) = (tight.min(bound), None);
-    if !is_coarse(accepted, number, port) {
-        let captured = gate_work_bound(accepted, number, port, class, CAPTURED_SDU);
-        least = least.min(captured.unwrap_or(least));
-        padded = gate_work_bound(accepted, number, port, class, PADDED_SDU);
-    }
+    let Some(least) = least_queue_bound(accepted, number, port, class) else {
+        return;
+    };
     if least < bound {
         said.put_template(TIGHT, &[least], &[]);
     }
-    match padded {
-        Some(padded) if 0 < padded && padded < least => said.put_template(PADDED, &[padded], &[]),
-        _ => {}
+    let coarse = is_coarse(accepted, number, port);
+    if let Some(padded) = padded_bound(accepted, number, port, class, least, coarse) {
+        said.put_template(PADDED, &[padded], &[]);
     }
 }

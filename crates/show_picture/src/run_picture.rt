@@ -5,10 +5,10 @@ use crate::frame_selection::{DrawnFrame, FrameSelection, select_frames};
 use crate::legend::colour_style;
 use crate::picture::Picture;
 use crate::selection::Selection;
-use bridge_bounds::{find_filter, queue_bound};
+use bridge_bounds::find_filter;
 use bridge_check::Accepted;
 use bridge_config::Plan;
-use bridge_groups::{SharedQueue, plan_shared_queues};
+use bridge_groups::{SharedQueue, least_queue_bound, plan_shared_queues};
 use bridge_limits::NoMemory;
 use bridge_semantics::{Outcome, StoredDeparture, StoredOrigin};
 use bridge_text::{AXIS_LEFT, AXIS_WIDTH, Bar, Element, Mark, Span};
@@ -36,7 +36,7 @@ fn longest_delay<A: Allocator + Copy>(
     let mut longest = None;
     if (1..=16).contains(&port) {
         for class in 0..8u8 {
-            longest = longest.max(queue_bound(accepted, filter, port, class));
+            longest = longest.max(least_queue_bound(accepted, filter, port, class));
         }
     }
     match find_filter(accepted.plan().filters(), filter) {

@@ -2,8 +2,8 @@
 ghost use Rattle.std.specs.Prelude.{◌≡◌, ◌≤◌, IfOk};
 ghost use Rattle.show_tables.specs.PortBounds as spec;
 
-use bridge_bounds::tight_queue_bound;
 use bridge_check::Accepted;
+use bridge_groups::least_queue_bound;
 use bridge_limits::NoMemory;
 use std::alloc::Allocator;
 
@@ -19,8 +19,8 @@ pub(crate) fn greater_bound(one: Option<u64>, other: Option<u64>) -> Option<u64>
     }
 }
 
-/// Returns the delay bound in ns of `port` for a filter: the greatest tight bound of its classes. `None` if the filter is unprotected or
-/// has no queue there. `port_bounds` calls it.
+/// Returns the delay bound in ns of `port` for a filter: the greatest of the bounds that `bounds` prints for its classes. `None` if the
+/// filter is unprotected or has no queue there. `port_bounds` calls it.
 fn port_bound<A: Allocator + Copy>(accepted: &Accepted<A>, filter: u32, port: u8) -> Option<u64>
     requires from { 1 ≤ port }
     requires to { port ≤ 16 }
@@ -28,7 +28,7 @@ fn port_bound<A: Allocator + Copy>(accepted: &Accepted<A>, filter: u32, port: u8
 {
     let mut bound = None;
     for class in 0..8u8 {
-        bound = greater_bound(bound, tight_queue_bound(accepted, filter, port, class));
+        bound = greater_bound(bound, least_queue_bound(accepted, filter, port, class));
     }
     bound
 }

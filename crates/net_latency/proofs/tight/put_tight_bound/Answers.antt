@@ -1,7 +1,7 @@
 use Rattle.std.proofs.Common.{List, [], ◌∷◌, ◌++◌, refl, sym, subst}
 use Rattle.net_latency.specs.declared.tight.TightBound.{TightBound}
 use Rattle.net_latency.specs.Bounds.{AreTightened}
-use Rattle.net_latency.proofs.Gathered.{not_without, placed, valid_port}
+use Rattle.net_latency.proofs.Gathered.{not_without, placed}
 use Rattle.net_latency.proofs.Tightened.{tighter_more}
 use Rattle.net_latency.proofs.tight.put_tight_bound.Goals as goal
 
@@ -14,11 +14,15 @@ tight_queue_bound-requires-clause-to g c = (placed c.args.accepted.now c.args.bo
 pub tight_queue_bound-requires-clause-class : goal.tight_queue_bound-requires-clause-class
 tight_queue_bound-requires-clause-class g c = (placed c.args.accepted.now c.args.bound.now.filter c.args.bound.now.port c.args.bound.now.class c.args.bound.now.bound c.plan.ensures.rules c.requires.bound).class
 
-pub least_bound-least-requires-clause-valid : goal.least_bound-least-requires-clause-valid
-least_bound-least-requires-clause-valid g c = valid_port c.args.accepted.now c.args.bound.now c.plan.ensures.rules c.requires.bound
+pub least_bound-least-requires : goal.least_bound-least-requires
+least_bound-least-requires g c =
+    let at = placed c.args.accepted.now c.args.bound.now.filter c.args.bound.now.port c.args.bound.now.class c.args.bound.now.bound c.plan.ensures.rules c.requires.bound in
+    record { from = at.from; to = at.to; class = at.class; tight = c.in_some-tight.ensures }
 
 pub padded_bound-requires : goal.padded_bound-requires
-padded_bound-requires g c = record { valid = valid_port c.args.accepted.now c.args.bound.now c.plan.ensures.rules c.requires.bound }
+padded_bound-requires g c =
+    let at = placed c.args.accepted.now c.args.bound.now.filter c.args.bound.now.port c.args.bound.now.class c.args.bound.now.bound c.plan.ensures.rules c.requires.bound in
+    record { from = at.from; to = at.to; class = at.class }
 
 pub returns-in_ok-push : goal.returns-in_ok-push
 returns-in_ok-push g c = record {

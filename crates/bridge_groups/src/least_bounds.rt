@@ -1,0 +1,82 @@
+//! Least delay bounds of a protected filter's queues: by capacity, or by the octets that its stream gate passes.
+ghost use Rattle.std.specs.Prelude.{◌≤◌, ◌<◌, IfSome, MatchOption};
+ghost use Rattle.bridge_bounds.specs.Bounds.{HasNoBound, IsTightBound};
+ghost use Rattle.bridge_groups.specs.GateBounds.{IsLeastBound, IsPaddedBound};
+
+use crate::gate_bounds::{CAPTURED_SDU, PADDED_SDU, gate_work_bound};
+use bridge_bounds::{is_coarse, tight_queue_bound};
+use bridge_check::Accepted;
+use std::alloc::Allocator;
+
+/// Returns the lesser of two bounds of a queue in ns: `tight`, and the bound by the octets that the filter's stream gate passes.
+///
+/// Returns `tight` if the lists of stream gate and port have no common cycle (`coarse`), because the search for the other bound would take
+/// too long.
+pub fn least_bound<A: Allocator + Copy>(
+    accepted: &Accepted<A>,
+    number: u32,
+    port: u8,
+    class: u8,
+    tight: u64,
+    coarse: bool,
+) -> u64
+    requires from { 1 ≤ port }
+    requires to { port ≤ 16 }
+    requires class { class < 8 }
+    requires tight { IsTightBound accepted.now number port class tight }
+    ensures { IsLeastBound accepted.now number port class result }
+{
+    if coarse {
+        return tight;
+    }
+    match gate_work_bound(accepted, number, port, class, CAPTURED_SDU) {
+        Some(bound) if bound < tight => bound,
+        _ => tight,
+    }
+}
+
+/// Returns a queue's bound in ns for frames of at least 60 octets, by the octets that the filter's stream gate passes.
+///
+/// Returns `None` if it isn't below `bound`, if no frame of this length passes, or if the lists of stream gate and port have no common
+/// cycle (`coarse`).
+pub fn padded_bound<A: Allocator + Copy>(
+    accepted: &Accepted<A>,
+    number: u32,
+    port: u8,
+    class: u8,
+    bound: u64,
+    coarse: bool,
+) -> Option<u64>
+    requires from { 1 ≤ port }
+    requires to { port ≤ 16 }
+    requires class { class < 8 }
+    ensures { IfSome result (IsPaddedBound accepted.now number port class bound) }
+{
+    if coarse {
+        return None;
+    }
+    match gate_work_bound(accepted, number, port, class, PADDED_SDU) {
+        Some(padded) if 0 < padded && padded < bound => Some(padded),
+        _ => None,
+    }
+}
+
+/// Returns the least known bound of a queue in ns for any capture: the bound that `bounds` prints. Allocates no memory.
+///
+/// Returns `None` exactly if the filter is missing or unprotected, or can't reach the queue.
+pub fn least_queue_bound<A: Allocator + Copy>(
+    accepted: &Accepted<A>,
+    number: u32,
+    port: u8,
+    class: u8,
+) -> Option<u64>
+    requires from { 1 ≤ port }
+    requires to { port ≤ 16 }
+    requires class { class < 8 }
+    ensures { MatchOption result (HasNoBound accepted.now number port class)
+        (IsLeastBound accepted.now number port class) }
+{
+    let tight = tight_queue_bound(accepted, number, port, class)?;
+    let coarse = is_coarse(accepted, number, port);
+    Some(least_bound(accepted, number, port, class, tight, coarse))
+}
