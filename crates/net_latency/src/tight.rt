@@ -40,14 +40,28 @@ fn put_tight_bound<A: Allocator + Copy>(
     let _ = accepted.plan();
     if let Some(tight) = tight_queue_bound(accepted, bound.filter, bound.port, bound.class) {
         let coarse = is_coarse(accepted, bound.filter, bound.port);
-        let least = least_bound(accepted, bound.filter, bound.port, bound.class, tight, coarse);
+        let least = least_bound(
+            accepted,
+            bound.filter,
+            bound.port,
+            bound.class,
+            tight,
+            coarse,
+        );
         made.push(TightBound {
             filter: bound.filter,
             port: bound.port,
             class: bound.class,
             coarse,
             bound: least,
-            padded: padded_bound(accepted, bound.filter, bound.port, bound.class, least, coarse),
+            padded: padded_bound(
+                accepted,
+                bound.filter,
+                bound.port,
+                bound.class,
+                least,
+                coarse,
+            ),
         })?;
     }
     Ok(())
