@@ -25,7 +25,7 @@ module _ (opens : ℕ → Bool) (occ cycle : ℕ) (repeats : IsPeriodic opens cy
       let open_then = h (v - cycle) (omega (arith, p)) (omega (arith, p, q)) in
       subst (λ (i : ℕ). opens i ≡ true) back (repeats (v - cycle) ∙ open_then)
 
-  fits_before : (u : ℕ) → Fits opens occ (u + cycle) → Fits opens occ u
+  pub fits_before : (u : ℕ) → Fits opens occ (u + cycle) → Fits opens occ u
   fits_before u h = λ v p q. sym (repeats v) ∙ h (v + cycle) (omega (arith, p)) (omega (arith, q))
 
   pub first_later : (u v : ℕ) → IsFirstFit opens occ u v → IsFirstFit opens occ (u + cycle) (v + cycle)

@@ -6,6 +6,8 @@ pub mod Delivered
 pub mod Turns
 pub mod Limits
 pub mod Costs
+pub mod FrameCosts
+pub mod LongStarts
 pub mod Departures
 pub mod MergedOrder
 pub mod MeterCurves

@@ -32,9 +32,10 @@ use Rattle.bridge_groups.specs.LinearCurves.{count_at, curve_at}
 use Rattle.bridge_groups.specs.Work.{IsDelayBound, IsNthFit, IsSufficientRoom}
 use Rattle.bridge_groups.proofs.Candidates.{lesser_curve}
 use Rattle.bridge_groups.proofs.NthFits.{nth_apart, nth_some}
+use Rattle.bridge_groups.specs.CostCurves.{HasLongStarts, IsCostCurve, sharers_cost_curve}
 use Rattle.bridge_groups.specs.Curves.{AreSharers, sharers_curve, sharers_frame_limit}
 use Rattle.bridge_groups.specs.Sharers.{IsSharersCurve, are_metered, is_sharer, longest_sdu, queue_sharers, sdu_or_zero}
-use Rattle.bridge_groups.specs.SharedQueues.{IsListsBound, IsMeterBound, IsSharedBound, IsSharedRoom, IsSumOfBounds}
+use Rattle.bridge_groups.specs.SharedQueues.{IsCostBound, IsListsBound, IsMeterBound, IsSharedBound, IsSharedRoom, IsSumOfBounds, IsWindowCostBound}
 
 -- A value that is known to be present, with its property.
 pub present : {P : ℕ → Type 0} (o : Option ℕ) (flag : Bool) → flag ≡ is_some o → flag ≡ true → IfSome o P → (b : ℕ) × P b
@@ -230,7 +231,32 @@ meter_room_is p out sharers c sdu occ least lists curve counts o size long short
     let three = subst (λ (n : ℕ). IsSufficientRoom (lists_open out.list c) (transmission_time (longest_frame (longest_sdu sharers)) out.speed) n (curve_at curve) (count_at counts) room) short two in
     record { metered = metered; sufficient = same_room (lists_open out.list c) _ _ room (curve_at curve) (sharers_curve p sharers out.speed) (count_at counts) (sharers_frame_limit p sharers) is.value limit three }) h
 
--- The lesser bound is one of both.
-pub shared_bound_is : {A : Type 0} (p : Plan A) (out : PortPlan A) (sharers : List (ℕ × FilterPlan)) (c sdu b by_room : ℕ) (by_meters : Option ℕ) → sdu ≡ longest_sdu sharers → IfSome by_meters (IsMeterBound p out sharers c) → IsRoomBound out c sdu by_room → (by_meters ≡ Some b) ⊎ (b ≡ by_room) → IsSharedBound p out sharers c b
-shared_bound_is p out sharers c sdu b by_room by_meters size meters room (inl is) = inl (let h : IfSome (Some b) (IsMeterBound p out sharers c) = subst (λ (o : Option ℕ). IfSome o (IsMeterBound p out sharers c)) is meters in h)
-shared_bound_is p out sharers c sdu b by_room by_meters size meters room (inr is) = inr (subst (λ (n : ℕ). IsRoomBound out c (longest_sdu sharers) n) (sym is) (subst (λ (s : ℕ). IsRoomBound out c s by_room) size room))
+-- One of two known bounds has their property.
+pub one_of_two : (P : ℕ → Type 0) (r one other : Option ℕ) → (r ≡ one) ⊎ (r ≡ other) → IfSome one P → IfSome other P → IfSome r P
+one_of_two P r one other (inl is) h k = subst (λ (o : Option ℕ). IfSome o P) (sym is) h
+one_of_two P r one other (inr is) h k = subst (λ (o : Option ℕ). IfSome o P) (sym is) k
+
+-- A delay bound of a curve that covers the sum of the cost curves is a bound by costs.
+pub window_bound_is : {A : Type 0} (p : Plan A) (sharers : List (ℕ × FilterPlan)) (speed : Speed) (opens : ℕ → Bool) (long fit least : ℕ) (curve : LinearCurve) (o : Option ℕ) → transmission_time 60 speed ≤ fit → HasLongStarts opens fit long → least ≡ transmission_time 60 speed → IsCostCurve p sharers fit speed curve → IfSome o (IsDelayBound opens fit least (curve_at curve)) → IfSome o (IsWindowCostBound p sharers speed opens long)
+window_bound_is p sharers speed opens long fit least curve o shortest starts same is h = map_some o (λ b done. record {
+  fit = fit;
+  shortest = shortest;
+  starts = starts;
+  bound = lesser_curve opens fit (transmission_time 60 speed) b (sharers_cost_curve p fit speed sharers) (curve_at curve) is.covers (subst (λ (n : ℕ). IsDelayBound opens fit n (curve_at curve) b) same done);
+}) h
+
+-- A bound by costs under one list is a bound by costs of the port.
+pub one_list_costs : {A : Type 0} (p : Plan A) (sharers : List (ℕ × FilterPlan)) (speed : Speed) (list : Option (Egress A)) (l : Cyclic ℕ) (c long : ℕ) (o : Option ℕ) → list ≡ Some (egress.Cyclic l) → IfSome o (IsWindowCostBound p sharers speed (list_opens l c) long) → IfSome o (IsWindowCostBound p sharers speed (lists_open list c) long)
+one_list_costs p sharers speed list l c long o is h = subst (λ (e : Option (Egress _)). IfSome o (IsWindowCostBound p sharers speed (lists_open e c) long)) (sym is) h
+
+-- The bound under the lists is a bound by costs.
+pub cost_bound_is : {A : Type 0} (p : Plan A) (out : PortPlan A) (sharers : List (ℕ × FilterPlan)) (c sdu occ : ℕ) (lists : Egress A) (o : Option ℕ) → sdu ≡ longest_sdu sharers → occ ≡ transmission_time (longest_frame sdu) out.speed → out.list ≡ Some lists → are_metered sharers ≡ true → IfSome o (IsWindowCostBound p sharers out.speed (lists_open (Some lists) c) occ) → IfSome o (IsCostBound p out sharers c)
+cost_bound_is p out sharers c sdu occ lists o size long at metered h = map_some o (λ b done.
+    let one = subst (λ (e : Option (Egress _)). IsWindowCostBound p sharers out.speed (lists_open e c) occ b) (sym at) done in
+    record { metered = metered; bound = subst (λ (n : ℕ). IsWindowCostBound p sharers out.speed (lists_open out.list c) n b) (long ∙ ap (λ (s : ℕ). transmission_time (longest_frame s) out.speed) size) one }) h
+
+-- The least bound is one of the three.
+pub shared_bound_is : {A : Type 0} (p : Plan A) (out : PortPlan A) (sharers : List (ℕ × FilterPlan)) (c sdu b by_room : ℕ) (by_meters by_costs : Option ℕ) → sdu ≡ longest_sdu sharers → IfSome by_meters (IsMeterBound p out sharers c) → IfSome by_costs (IsCostBound p out sharers c) → IsRoomBound out c sdu by_room → (by_meters ≡ Some b) ⊎ ((by_costs ≡ Some b) ⊎ (b ≡ by_room)) → IsSharedBound p out sharers c b
+shared_bound_is p out sharers c sdu b by_room by_meters by_costs size meters costs room (inl is) = inl (let h : IfSome (Some b) (IsMeterBound p out sharers c) = subst (λ (o : Option ℕ). IfSome o (IsMeterBound p out sharers c)) is meters in h)
+shared_bound_is p out sharers c sdu b by_room by_meters by_costs size meters costs room (inr (inl is)) = inr (inl (let h : IfSome (Some b) (IsCostBound p out sharers c) = subst (λ (o : Option ℕ). IfSome o (IsCostBound p out sharers c)) is costs in h))
+shared_bound_is p out sharers c sdu b by_room by_meters by_costs size meters costs room (inr (inr is)) = inr (inr (subst (λ (n : ℕ). IsRoomBound out c (longest_sdu sharers) n) (sym is) (subst (λ (s : ℕ). IsRoomBound out c s by_room) size room)))

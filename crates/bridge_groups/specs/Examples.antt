@@ -1,6 +1,6 @@
 -- A class that 20 streams of a vehicle share, and the definitions of groups, computed.
 use Rattle.std.specs.Prelude.{◌≡◌, ℕ, zero, suc, ◌+◌, ◌*◌, ◌/◌, true, false, List, [], ◌∷◌, ◌++◌, Option, None, Some, nat_eq, nat_lt, pos, if◌then◌else◌, refl}
-use Rattle.bridge_frame.specs.declared.Speed.TheVariants.{Mbps1000}
+use Rattle.bridge_frame.specs.declared.Speed.TheVariants.{Mbps1000, Mbps10000}
 use Rattle.bridge_frame.specs.Link.{transmission_time}
 use Rattle.bridge_cycle.specs.declared.timeline.Turn.{Turn}
 use Rattle.bridge_gate.specs.declared.schedule.GateEntry.{GateEntry}
@@ -14,6 +14,7 @@ use Rattle.bridge_semantics.specs.Events.{Arrived, Cleared, arrival}
 use Rattle.bridge_semantics.specs.Offers.{CarriedFrame, Offer}
 use Rattle.bridge_groups.specs.Admission.{are_open_entries, committed_tokens, has_tokens}
 use Rattle.bridge_groups.specs.Costs.{frame_cost, recent_filter_cost, recent_offer_cost, recent_sharer_cost}
+use Rattle.bridge_groups.specs.CostCurves.{HasLongStarts, cost_sum, octet_cost, rounding_margin}
 use Rattle.bridge_groups.specs.Curves.{burst_sum, count_filter_offers, count_recent_offers, count_sharer_offers, curve_sum, frame_limit, gate_curve, has_filter_number, last_arrival_time, meter_curve, optional_burst, rate_sum, recent_filter_octets, recent_filter_work, recent_offer_work, recent_sharer_octets, recent_sharer_work}
 use Rattle.bridge_groups.specs.Departures.{filter_passages}
 use Rattle.bridge_groups.specs.GateLimits.{is_same_turn, octet_budget, recent_passed_octets}
@@ -156,6 +157,31 @@ cost_of_filter_1 = refl
 
 pub cost_of_both : recent_sharer_cost (λ len. len) (filters 2 1 1) 500 three ≡ 1574
 cost_of_both = refl
+
+-- At 1 Gbit/s an octet takes 8 ns; at 10 Gbit/s, transmission times are rounded up.
+pub no_margin : rounding_margin Mbps1000 ≡ 0
+no_margin = refl
+
+pub margin : rounding_margin Mbps10000 ≡ 2
+margin = refl
+
+-- A lidar frame has at most 1,000 octets of SDU, so 1,020 metered octets, and needs 8,320 ns. If a bound counts fits of the
+-- shortest frames, it costs 15,968 ns.
+pub cost_of_a_lidar_octet : octet_cost 672 Mbps1000 1000 ≡ 2004
+unfolding transmission_time
+cost_of_a_lidar_octet = refl
+
+-- For fits of 5,930 ns, it costs 10,710 ns: per metered octet no more than a shortest frame, with 672 ns for 64 octets.
+pub cost_of_a_plain_octet : octet_cost 5930 Mbps1000 1000 ≡ 2 * 672
+unfolding transmission_time
+cost_of_a_plain_octet = refl
+
+pub cost_of_two_radars : cost_sum (λ f. 276) 5930 Mbps1000 (filters 2 1 1) ≡ 2 * 276 * 1576
+unfolding transmission_time
+cost_of_two_radars = refl
+
+pub always_open_class : HasLongStarts (λ u. true) 1 2
+always_open_class = λ v shut fits u from before. refl
 
 -- OCTET LIMITS
 

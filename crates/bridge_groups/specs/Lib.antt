@@ -2,6 +2,7 @@ pub mod Curves
 pub mod Talkers
 pub mod GateLimits
 pub mod Costs
+pub mod CostCurves
 pub mod Departures
 pub mod QueueBounds
 pub mod Sharers

@@ -1,7 +1,8 @@
 -- Delay bounds and capacities of the queues that a plan's groups share.
-use Rattle.std.specs.Prelude.{◌≡◌, ◌⊎◌, ℕ, true, ◌+◌, List, Option, Some, IfSome}
+use Rattle.std.specs.Prelude.{◌≡◌, ◌⊎◌, ◌≤◌, ℕ, Bool, true, ◌+◌, List, Option, Some, IfSome}
 use Rattle.bridge_cycle.specs.ChangingList.{Joined}
 use Rattle.bridge_cycle.specs.declared.gate_control_lists.Egress.{Egress}
+use Rattle.bridge_frame.specs.declared.Speed.{Speed}
 use Rattle.bridge_frame.specs.Link.{transmission_time}
 use Rattle.bridge_filter.specs.declared.FilterPlan.{FilterPlan}
 use Rattle.bridge_port.specs.GateSchedule.{Changing, gate_schedule, list_opens, lists_open}
@@ -13,6 +14,7 @@ use Rattle.bridge_semantics.specs.Groups.{IsGroupQueue}
 use Rattle.bridge_semantics.specs.Offers.{egress_rules}
 use Rattle.bridge_bounds.specs.Bounds.{IsRoomBound}
 use Rattle.bridge_groups.specs.Work.{IsDelayBound, IsSufficientRoom}
+use Rattle.bridge_groups.specs.CostCurves.{HasLongStarts, sharers_cost_curve}
 use Rattle.bridge_groups.specs.Curves.{sharers_curve, sharers_frame_limit}
 use Rattle.bridge_groups.specs.Sharers.{are_metered, longest_sdu, queue_sharers}
 use Rattle.bridge_groups.specs.declared.shared_queues.SharedQueue.{SharedQueue}
@@ -42,9 +44,24 @@ pub record IsMeterBound {A : Type 0} (p : Plan A) (out : PortPlan A) (sharers : 
   pub metered : are_metered sharers ≡ true
   pub bound : IsListsBound out.list c (transmission_time (longest_frame (longest_sdu sharers)) out.speed) (transmission_time 60 out.speed) (sharers_curve p sharers out.speed) b
 
--- Holds if `b` ns bounds the delays of a queue by the meters of the filters that share it, or by its capacity.
+-- Holds if `b` ns bounds the delays of a queue with open times `opens` by costs. The bound counts fits of `fit` ns, and
+-- longer frames of up to `long` ns cost more.
+pub record IsWindowCostBound {A : Type 0} (p : Plan A) (sharers : List (ℕ × FilterPlan)) (speed : Speed) (opens : ℕ → Bool) (long b : ℕ) : Type 0 where
+  pub fit : ℕ
+  pub shortest : transmission_time 60 speed ≤ fit
+  pub starts : HasLongStarts opens fit long
+  pub bound : IsDelayBound opens fit (transmission_time 60 speed) (sharers_cost_curve p fit speed sharers) b
+
+-- Holds if `b` ns bounds the delays of the class-`c` queue at port `out` by the costs of the frames that the meters of
+-- the filters pass.
+pub record IsCostBound {A : Type 0} (p : Plan A) (out : PortPlan A) (sharers : List (ℕ × FilterPlan)) (c b : ℕ) : Type 0 where
+  pub metered : are_metered sharers ≡ true
+  pub bound : IsWindowCostBound p sharers out.speed (lists_open out.list c) (transmission_time (longest_frame (longest_sdu sharers)) out.speed) b
+
+-- Holds if `b` ns bounds the delays of a queue by the meters of the filters that share it, by the costs of their frames,
+-- or by its capacity.
 abbrev pub IsSharedBound : {A : Type 0} → Plan A → PortPlan A → List (ℕ × FilterPlan) → ℕ → ℕ → Type 0
-IsSharedBound p out sharers c b = IsMeterBound p out sharers c b ⊎ IsRoomBound out c (longest_sdu sharers) b
+IsSharedBound p out sharers c b = IsMeterBound p out sharers c b ⊎ (IsCostBound p out sharers c b ⊎ IsRoomBound out c (longest_sdu sharers) b)
 
 -- Holds if a capacity of `room` frames suffices for the class-`c` queue at port `out`, by the meters of the filters that share it.
 pub record IsSharedRoom {A : Type 0} (p : Plan A) (out : PortPlan A) (sharers : List (ℕ × FilterPlan)) (c room : ℕ) : Type 0 where

@@ -17,6 +17,7 @@ pub(crate) fn find_closed<A: Allocator + Copy>(list: &CyclicList<u8, A>, class: 
     requires class { class < 8 }
     requires lawful { IsLawful list.now }
     ensures closed { IfSome result (λ u. list_opens list.now class u ≡ false) }
+    ensures within { IfSome result (λ u. u < list.now.cycle) }
     ensures open { (u : ℕ) → result ≡ None → list_opens list.now class u ≡ true }
 {
     let cycle = list.cycle();

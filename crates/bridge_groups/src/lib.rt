@@ -4,9 +4,11 @@
 //! The laws of one queue give delay bounds and capacities for frames with an arrival curve, as flow meters enforce it.
 
 mod admission;
+mod cost_search;
 mod count_curves;
 mod delay_bound;
 mod fit_runs;
+mod frame_costs;
 mod gate_bounds;
 mod group_rows;
 pub mod laws;

@@ -41,7 +41,10 @@ pub(crate) fn find_meter(meters: &[(u32, MeterPlan)], number: u32) -> MeterPlan
 }
 
 /// Returns the burst in octets and the rate in bit/s that an optional meter of the plan lets pass; 0 without a meter.
-fn burst_and_rate<A: Allocator + Copy>(plan: &Plan<A>, meter: Option<u32>) -> (u128, u128)
+pub(crate) fn burst_and_rate<A: Allocator + Copy>(
+    plan: &Plan<A>,
+    meter: Option<u32>,
+) -> (u128, u128)
     ensures burst { result.0 ≡ spec.optional_burst (plan_police plan.now).meters meter }
     ensures rate { result.1 ≡ spec.optional_rate (plan_police plan.now).meters meter }
     ensures few { result.0 ≤ 8_589_934_590 }

@@ -12,6 +12,7 @@ ghost use Rattle.bridge_groups.specs.Curves.{sharers_frame_limit};
 ghost use Rattle.bridge_groups.specs.Sharers as sharing;
 ghost use Rattle.bridge_groups.specs.SharedQueues as spec;
 
+use crate::cost_search::lists_cost_bound;
 use crate::meter_curves::{count_curves, sharers_curve};
 use crate::sharers::{are_metered, longest_sdu, queue_sharers};
 use crate::{LinearCurve, list_delay_bound, sufficient_room};
@@ -156,8 +157,10 @@ fn lists_room<A: Allocator + Copy>(
 /// Delay bound and capacity of a queue by the meters of the filters that share it.
 #[derive(Clone, Copy)]
 struct MeterFigures {
-    /// Delay bound in ns, if one is known.
+    /// Delay bound in ns that counts fits of the longest frame, if one is known.
     bound: Option<u64>,
+    /// Delay bound in ns that counts fits of a shorter frame, if one is known.
+    cost: Option<u64>,
     /// Capacity in frames that suffices, if one is known.
     room: Option<u16>,
 }
@@ -173,6 +176,7 @@ fn curve_figures<A: Allocator + Copy>(
     counts: &[LinearCurve],
 ) -> MeterFigures
     requires class { class < 8 }
+    requires few { length sharers.now ≤ 1024 }
     requires sdu { sdu ≡ sharing.longest_sdu sharers.now }
     requires small { sdu ≤ 65535 }
     requires ever { lists_can_fit port.now.list class (transmission_time (longest_frame sdu) port.now.speed) ≡ true }
@@ -181,11 +185,13 @@ fn curve_figures<A: Allocator + Copy>(
     requires counts { All IsCountCurve counts.now }
     requires limit { (w : ℕ) → count_at counts.now w ≡ sharers_frame_limit plan.now sharers.now w }
     ensures bound { IfSome result.bound (spec.IsMeterBound plan.now port.now sharers.now class) }
+    ensures cost { IfSome result.cost (spec.IsCostBound plan.now port.now sharers.now class) }
     ensures room { IfSome result.room (spec.IsSharedRoom plan.now port.now sharers.now class) }
 {
     let Some(lists) = &port.list else {
         return MeterFigures {
             bound: None,
+            cost: None,
             room: None,
         };
     };
@@ -193,6 +199,7 @@ fn curve_figures<A: Allocator + Copy>(
     let least = occupation(60, port.speed);
     MeterFigures {
         bound: lists_bound(lists, class, occ, least, curve),
+        cost: lists_cost_bound(plan, sharers, lists, class, port.speed, sdu, occ),
         room: lists_room(lists, class, occ, least, curve, counts),
     }
 }
@@ -213,10 +220,12 @@ fn meter_figures<A: Allocator + Copy>(
     requires small { sdu ≤ 65535 }
     requires ever { lists_can_fit port.now.list class (transmission_time (longest_frame sdu) port.now.speed) ≡ true }
     ensures bound { IfOk result (λ m. IfSome m.bound (spec.IsMeterBound plan.now port.now sharers.now class)) }
+    ensures cost { IfOk result (λ m. IfSome m.cost (spec.IsCostBound plan.now port.now sharers.now class)) }
     ensures room { IfOk result (λ m. IfSome m.room (spec.IsSharedRoom plan.now port.now sharers.now class)) }
 {
     let none = MeterFigures {
         bound: None,
+        cost: None,
         room: None,
     };
     if !are_metered(sharers) {
@@ -231,13 +240,15 @@ fn meter_figures<A: Allocator + Copy>(
     Ok(curve_figures(plan, sharers, port, class, sdu, &curve, &counts))
 }
 
-/// Returns the lesser of a queue's bounds by meters and by capacity, in ns. Returns the bound by capacity if `by_meters` is `None`.
-fn lesser_bound(by_meters: Option<u64>, by_room: u64) -> u64
-    ensures { (by_meters ≡ Some result) ⊎ (result ≡ by_room) }
+/// Returns the least of a queue's bounds by meters, by costs and by capacity, in ns. Returns the bound by capacity if `by_meters` is `None`,
+/// because `bounds` marks this queue as `unmetered`.
+fn least_bound(by_meters: Option<u64>, by_costs: Option<u64>, by_room: u64) -> u64
+    ensures { (by_meters ≡ Some result) ⊎ ((by_costs ≡ Some result) ⊎ (result ≡ by_room)) }
 {
-    match by_meters {
-        Some(bound) => if bound < by_room { bound } else { by_room },
-        None => by_room,
+    match (by_meters, by_costs) {
+        (Some(meters), Some(costs)) => meters.min(costs).min(by_room),
+        (Some(meters), None) => meters.min(by_room),
+        (None, _) => by_room,
     }
 }
 
@@ -272,7 +283,7 @@ pub fn shared_queue<A: Allocator + Copy>(
         group,
         port: port.number,
         class,
-        bound: lesser_bound(figures.bound, by_room),
+        bound: least_bound(figures.bound, figures.cost, by_room),
         is_metered: figures.bound.is_some(),
         room: figures.room,
         capacity: port.rooms[class as usize],

@@ -6,7 +6,7 @@ use Rattle.bridge_filter.specs.declared.FilterPlan.{FilterPlan}
 use Rattle.bridge_config.specs.Model.{Plan}
 use Rattle.bridge_check.specs.Windows.{longest_frame}
 use Rattle.bridge_groups.specs.Sharers.{longest_sdu, queue_sharers}
-use Rattle.bridge_groups.specs.SharedQueues.{IsMeterBound, IsSharedRoom}
+use Rattle.bridge_groups.specs.SharedQueues.{IsCostBound, IsMeterBound, IsSharedRoom}
 use Rattle.bridge_groups.proofs.SharedQueues.{few_sharers, present, shared_bound_is, sharers_fit, sharers_small}
 use Rattle.bridge_groups.proofs.shared_queues.shared_queue.Goals as goal
 
@@ -66,13 +66,14 @@ returns g c =
     let there = c.deref-2.ensures.value ∙ own in
     let figures = c.in-Ok-meter_figures.figures in
     let bound = subst (λ (xs : List (ℕ × FilterPlan)). IfSome figures.bound (IsMeterBound p out xs c.args.class)) there (subst (λ (z : Plan _). IfSome figures.bound (IsMeterBound z out c.deref-2.result.now c.args.class)) c.plan-plan.ensures.plan c.in-Ok-meter_figures.ensures.bound) in
+    let cost = subst (λ (xs : List (ℕ × FilterPlan)). IfSome figures.cost (IsCostBound p out xs c.args.class)) there (subst (λ (z : Plan _). IfSome figures.cost (IsCostBound z out c.deref-2.result.now c.args.class)) c.plan-plan.ensures.plan c.in-Ok-meter_figures.ensures.cost) in
     let room = subst (λ (xs : List (ℕ × FilterPlan)). IfSome figures.room (IsSharedRoom p out xs c.args.class)) there (subst (λ (z : Plan _). IfSome figures.room (IsSharedRoom z out c.deref-2.result.now c.args.class)) c.plan-plan.ensures.plan c.in-Ok-meter_figures.ensures.room) in
     record {
       is = record {
         out = out;
         at = c.requires.port;
         reached = c.requires.reached;
-        bound = shared_bound_is p out (queue_sharers p c.args.group q c.args.class p.filters) c.args.class c.longest_sdu-sdu.result c.lesser_bound.result c.class_bound-by_room.result figures.bound sdu bound c.class_bound-by_room.ensures c.lesser_bound.ensures;
+        bound = shared_bound_is p out (queue_sharers p c.args.group q c.args.class p.filters) c.args.class c.longest_sdu-sdu.result c.least_bound.result c.class_bound-by_room.result figures.bound figures.cost sdu bound cost c.class_bound-by_room.ensures c.least_bound.ensures;
         metered = λ known. present figures.bound c.is_some.result c.is_some.ensures known bound;
         room = room;
         capacity = refl;
