@@ -17,7 +17,7 @@ tight_queue_bound-requires-clause-class g c = (placed c.args.accepted.now c.args
 pub least_bound-least-requires : goal.least_bound-least-requires
 least_bound-least-requires g c =
     let at = placed c.args.accepted.now c.args.bound.now.filter c.args.bound.now.port c.args.bound.now.class c.args.bound.now.bound c.plan.ensures.rules c.requires.bound in
-    record { from = at.from; to = at.to; class = at.class; tight = c.in_some-tight.ensures }
+    record { from = at.from; to = at.to; class = at.class; tight = c.in-Some.ensures }
 
 pub padded_bound-requires : goal.padded_bound-requires
 padded_bound-requires g c =
