@@ -52,14 +52,14 @@ pub record IsWindowCostBound {A : Type 0} (p : Plan A) (sharers : List (ℕ × F
   pub starts : HasLongStarts opens fit long
   pub bound : IsDelayBound opens fit (transmission_time 60 speed) (sharers_cost_curve p fit speed sharers) b
 
--- Holds if `b` ns bounds the delays of the class-`c` queue at port `out` by the costs of the frames that the meters of
--- the filters pass.
+-- Holds if `b` ns bounds the delays of the class-`c` queue at port `out` by costs: of the frames that its filters' meters
+-- pass.
 pub record IsCostBound {A : Type 0} (p : Plan A) (out : PortPlan A) (sharers : List (ℕ × FilterPlan)) (c b : ℕ) : Type 0 where
   pub metered : are_metered sharers ≡ true
   pub bound : IsWindowCostBound p sharers out.speed (lists_open out.list c) (transmission_time (longest_frame (longest_sdu sharers)) out.speed) b
 
--- Holds if `b` ns bounds the delays of a queue by the meters of the filters that share it, by the costs of their frames,
--- or by its capacity.
+-- Holds if `b` ns bounds a queue's delays by one of three: its filters' meters, the costs of their frames, or its
+-- capacity.
 abbrev pub IsSharedBound : {A : Type 0} → Plan A → PortPlan A → List (ℕ × FilterPlan) → ℕ → ℕ → Type 0
 IsSharedBound p out sharers c b = IsMeterBound p out sharers c b ⊎ (IsCostBound p out sharers c b ⊎ IsRoomBound out c (longest_sdu sharers) b)
 
