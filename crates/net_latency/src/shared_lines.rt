@@ -45,7 +45,7 @@ fn push_room<A: Allocator + Copy>(
     }
 }
 
-/// Appends the line of a shared queue, such as `group 1 port 3 class 6 bound 351055 room 134 of 256`.
+/// Appends the line of a shared queue, such as `group 1 port 3 class 6 bound 348665 room 134 of 256`.
 #[tactic(auto, unfolding(crate::specs::SharedLines::shared_line))]
 fn push_shared_line<A: Allocator + Copy>(
     text: &mut String<A>,
