@@ -147,7 +147,7 @@ fn bounds_output(
     })
 }
 
-/// Returns the output of `bounds --traffic`: delay bounds, and whether the traffic is kept. The status is 1 if a frame may be refused or
+/// Returns the output of `bounds --traffic`: delay bounds, and delays of the traffic's frames. The status is 1 if a frame may be refused or
 /// late, or a warning is an error.
 pub(crate) fn bound_traffic<H: AllocGlobal + Files>(
     files: &CommandFiles<'_, H>,
@@ -212,8 +212,8 @@ fn bound_rows<R: Read + Drop, H: AllocGlobal + Files>(
     }
 }
 
-/// Returns why frames of traffic may be refused, if an explanation is requested and the traffic isn't kept. The text is empty if memory
-/// runs out or a file is a pipe.
+/// Returns why frames of traffic may be refused. The text is empty without `--explain`, if no frame may be refused or late (`is_kept`), if
+/// memory runs out or a file is a pipe.
 fn traffic_reasons(
     rt: &(impl AllocGlobal + Files),
     plan: &str,

@@ -72,7 +72,8 @@ fn output_of_check(said: NetworkOutput, reasons: String, flags: Flags) -> Result
     })
 }
 
-/// Runs a network and returns the output of `net`. The status is 1 if a loss is an error, or if a warning is an error; then nothing runs.
+/// Runs a network and returns the output of `net`. The status is 1 if a warning or a loss is an error. After such a warning, the network
+/// doesn't run.
 pub(crate) fn run_network<H: AllocGlobal + Eprint + Files>(
     files: &mut CommandFiles<'_, H>,
     job: &NetworkRunRequest<'_>,
@@ -88,8 +89,8 @@ pub(crate) fn run_network<H: AllocGlobal + Eprint + Files>(
     }
 }
 
-/// Returns the output of a network run: its line on standard output, lines about lost and late streams on standard error. With `--explain`,
-/// the number of rounds follows these lines.
+/// Returns the output of `net`. Standard output gets the run's line. Standard error gets warnings, or lines about lost and late streams,
+/// and with `--explain` the number of rounds of a complete run.
 fn output_of_run(alloc: Global, said: NetworkRunResult, flags: Flags) -> Output
     ensures { IsOutputOfRun said flags.is_explained result }
 {

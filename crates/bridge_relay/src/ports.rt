@@ -169,7 +169,7 @@ impl<G: Agenda + Drop, A: Allocator + Copy> Ports<G, A> {
         }
     }
 
-    /// Makes the next start of all ports. Returns its port, its time in ns and the copy. A copy must be queued.
+    /// Starts the transmission that is next among all ports. Returns its port, its time in ns and the copy. A copy must be queued.
     #[inline(always)]
     pub fn start(&mut self) -> (u8, u64, StartedFrame<A>)
         requires { (q k : ℕ) × (G.held self.old.agenda q ≡ Some k) }

@@ -162,7 +162,8 @@ impl<'a, G: Agenda + Drop, A: Allocator + Copy> Relay<'a, G, A> {
         self.earliest
     }
 
-    /// Makes the next start, records the departure, and returns the frame. Allocates no memory.
+    /// Starts the transmission that is next among all ports, records the departure, and returns the frame. A copy must be queued. Allocates
+    /// no memory.
     #[inline(always)]
     pub fn advance(&mut self) -> Sent<A>
         requires { (q k : ℕ) × (G.held self.old.ports.agenda q ≡ Some k) }

@@ -63,7 +63,8 @@ fn put_lists_of_bridge(
     }
 }
 
-/// Appends the line of a list that is to begin `earlier` ns earlier: its new base time in ns, less than its cycle time.
+/// Appends the line that proposes to start `list` earlier by `earlier` ns: the plan, the port, and the new base time in ns, less than the
+/// cycle time.
 fn put_list(
     said: &mut TextBuilder<Global>,
     row: &BridgeRow<Global>,

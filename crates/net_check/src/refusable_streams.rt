@@ -239,8 +239,8 @@ fn put_hop(
     }
 }
 
-/// Appends the first condition that fails for this traffic at a hop. If delays up to it are known (`has_figures`) and its filter passes the
-/// traffic, it may miss frames of the hop before.
+/// Appends the first failing condition for this traffic at a hop. If delays up to the hop are known (`has_figures`) and its filter passes
+/// the traffic, the hop may miss frames of the hop before.
 fn put_condition(
     said: &mut TextBuilder<Global>,
     plan: &Plan<Global>,

@@ -1,5 +1,5 @@
-//! Laws of complete runs of networks: the promises that reviewers read. Each law is the contract of a function that does nothing, and that
-//! nobody calls.
+//! Laws of complete runs of networks, which reviewers read. Each law is the contract of an empty function that nobody calls. A stream is
+//! closed if over links its hops accept only the stream's frames.
 ghost use Rattle.std.specs.Prelude.{◌≡◌, ◌↔◌, ℕ, Bool, List, Option, Some, None, nat_eq, true};
 ghost use Rattle.std.specs.Map.{lookup};
 ghost use Rattle.bridge_capture.specs.Grammar.{CapturedFrame};
@@ -57,8 +57,8 @@ pub fn stream_alone_has_one_result<A: Allocator + Copy>()
         → AreSameViews u v }
 {}
 
-/// Other traffic can't change a closed stream. Two complete runs with equal inputs of the stream from outside give equal records for each
-/// of its hops.
+/// Other traffic can't change the records of a closed stream. If two complete runs have equal inputs of the stream from outside, each hop
+/// of the stream has equal records in both.
 pub fn other_traffic_changes_nothing<A: Allocator + Copy>()
     ensures { (n : Network A) (stream : List (ℕ × ℕ)) (commands others : ℕ → List Input)
         (captures frames : ℕ → ℕ → List CapturedFrame) (o r : ℕ → Outcome A) (h : Hop A) (u v : View A)

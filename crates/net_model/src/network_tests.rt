@@ -199,7 +199,8 @@ pub(crate) struct TestedHop<'a, A: Allocator + Copy> {
 }
 
 impl<'a, A: Allocator + Copy> TestedHop<'a, A> {
-    /// Whether an entry gives the handle at port `j` + 1.
+    /// Whether a stream entry gives the hop's handle to frames on port `j` + 1 of the hop's bridge. `first_or_frame_on_port` skips other
+    /// ports.
     fn is_entry_index(&self, j: u8) -> bool
         requires case { IsTestedHop self.now }
         requires index { j < 16 }
@@ -328,7 +329,7 @@ impl<'a, A: Allocator + Copy> TestedHop<'a, A> {
         first
     }
 
-    /// Whether `on` has no link and has an entry with the filter's handle.
+    /// Whether `on` is an open port and has a stream entry with the hop's handle. `has_entry_port` calls it for each port.
     fn is_entry_port(&self, on: &PortPlan<A>) -> bool
         ensures { result ≡ spec.is_entry_port self.now.case.links.now self.now.hop.bridge self.now.next.now
             self.now.handle
@@ -342,7 +343,7 @@ impl<'a, A: Allocator + Copy> TestedHop<'a, A> {
         has_entry(self.next, port, self.handle)
     }
 
-    /// Whether an open port has an entry with the filter's handle, so that frames from outside can feed the hop.
+    /// Whether an open port has a stream entry with the hop's handle, so that frames from outside can feed the hop.
     fn has_entry_port(&self) -> bool
         ensures { result ≡ spec.has_entry_port self.now.case.links.now self.now.hop.bridge self.now.next.now
             self.now.handle }

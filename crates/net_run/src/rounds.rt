@@ -33,8 +33,8 @@ impl RoundObserver for NoObserver {
 /// Why a network run ends without result.
 #[derive(Clone, Copy, Debug, PartialEq, Eq)]
 pub enum RoundsFault {
-    /// A bridge refuses a capture: the first bridge of the round with a fault, by its index from 0. The fault is neither `Write` nor the
-    /// fault `Read` of a capture.
+    /// Bridge `bridge`, an index from 0, refuses a capture: it is the first bridge of the round with a fault. `fault` is never a failed
+    /// read or write, because all captures are in memory.
     Bridge { bridge: usize, fault: RunFault },
     /// In the last allowed round, this linked port still received other frames than in the round before. It is the first such port.
     NotSettled { bridge: usize, port: u8 },

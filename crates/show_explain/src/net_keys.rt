@@ -155,7 +155,8 @@ fn allowed_number(instance: Instance<'_>, field: NetField) -> Option<u64> {
     }
 }
 
-/// Returns the key that limits a key from below, its value, and the least value allowed. Returns `None` if no key does.
+/// Returns the key that limits `field` from below, its value, and the least allowed value of `field`. Returns `None` if there is no such
+/// key, or its value isn't allowed. `put_range` calls it.
 fn lower_limit(instance: Instance<'_>, field: NetField) -> Option<(NetField, u64, u64)> {
     let (key, more) = match field {
         NetField::Period => (NetField::From, 1),

@@ -15,7 +15,7 @@ fn is_text(value: &Value) -> bool {
     matches!(value, Value::String(_))
 }
 
-/// Whether a value is a text, a dot and a filter number.
+/// Whether a value is a text that ends in a dot and a filter number, such as `left.10`.
 fn is_hop(value: &Value) -> bool {
     match value {
         Value::String(text) => is_numbered_name(text.as_str(), 0, u32::MAX),
@@ -102,7 +102,7 @@ pub(crate) fn put_unknown_bridge(
     }
 }
 
-/// Writes a text that names an unknown bridge, the nearest name, and what to do.
+/// Writes that the file has no bridge with the name in `text`, then the nearest of `names`, and a remedy. `put_unknown_bridge` calls it.
 fn put_unknown(alloc: Global, said: &mut Said, text: &str, names: &[&str]) {
     let name = bridge_part(text);
     put_text(said, text);

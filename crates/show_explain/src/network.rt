@@ -1,4 +1,4 @@
-//! Explains why a text isn't a network or traffic.
+//! Explains why a network file or a traffic file is refused.
 ghost use Rattle.std.specs.Prelude.{IfOk, string_bytes};
 ghost use Rattle.bridge_text.specs.PathPrefix.{StartsWithName};
 
@@ -20,8 +20,8 @@ use net_file::{
 use std::alloc::Global;
 use toml::{Table, Value};
 
-/// Explains why a file isn't a network: the position of the fault, the value there, the allowed values, and what to change. The explanation
-/// begins with `path`.
+/// Explains why a network file is refused: the position of the fault, the value there, the allowed values, and what to change. The
+/// explanation begins with `path`.
 pub fn explain_network_text(
     alloc: Global,
     path: &str,
@@ -37,8 +37,8 @@ pub fn explain_network_text(
     )
 }
 
-/// Explains why a file isn't traffic: the position of the fault, the value there, the allowed values, and what to change. The explanation
-/// begins with `path`.
+/// Explains why a traffic file is refused: the position of the fault, the value there, the allowed values, and what to change. The
+/// explanation begins with `path`.
 pub fn explain_traffic_text(
     alloc: Global,
     path: &str,

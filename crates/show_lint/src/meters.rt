@@ -29,7 +29,8 @@ pub(crate) fn find_meter(meters: &[(u32, MeterPlan)], number: u32) -> Option<Met
     None
 }
 
-/// Adds warnings about the meter of a protected or grouped filter: buckets too small, or a rate too low. Does nothing without a meter.
+/// Adds warnings about the meter of filter `number`, protected or grouped: buckets too small, or a rate too low. Does nothing without a
+/// meter or a largest SDU. `find_plan_warnings` calls it.
 pub(crate) fn find_meter_warnings<A: Allocator + Copy>(
     alloc: Global,
     found: &mut Vec<Warning>,
@@ -93,7 +94,8 @@ fn tokens_per_cycle(limits: &MeterPlan, cycle: u64) -> u64 {
     octets.min(u128::from(u64::MAX)) as u64
 }
 
-/// Adds a warning for each stage at which the meter gets fewer tokens in a cycle of the stream gate than this gate passes.
+/// Adds a warning if a cycle of the stream gate can pass more octets than the meter gets tokens. With a schedule change, tests the old and
+/// the new list.
 fn find_rates<A: Allocator + Copy>(
     alloc: Global,
     found: &mut Vec<Warning>,

@@ -85,7 +85,7 @@ fn is_shown(filter: &FilterPlan) -> bool {
     filter.protected || filter.group.is_some()
 }
 
-/// Whether a plan has a group of filters.
+/// Whether the plan has a grouped filter. If so, `put_ports` writes the legend for groups.
 pub(crate) fn has_groups<A: Allocator + Copy>(plan: &Plan<A>) -> bool {
     for (_, filter) in plan.filters() {
         if filter.group.is_some() {
@@ -174,8 +174,8 @@ impl Picture {
         }
     }
 
-    /// Collects the windows of a lane, at most one more than its limit. Returns whether they are complete. A state that lasts for 20,000
-    /// intervals lasts for ever.
+    /// Collects the windows of a lane, at most one more than its limit. Returns whether they are complete. If one list applies, a state
+    /// that lasts for 20,000 intervals counts as permanent.
     fn collect_windows<A: Allocator + Copy>(&mut self, lane: Lane, times: &LaneTimes<A>) -> bool {
         let (from, end) = (self.span.from, self.span.to.min(END_OF_TURNS));
         let mut at = from;

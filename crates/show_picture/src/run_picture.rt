@@ -25,8 +25,8 @@ const FRAME: &str = "filter {0} frame {1}, sent {2} to {3} ns, arrived at {4} ns
 /// Title of a refused or dropped frame.
 const MARK: &str = "filter {0} frame {1}, arrived at {2} ns: {a}";
 
-/// Returns the longest delay bound in ns of a protected or grouped filter at `port`, over all queues. `rows` has the shared queues of all
-/// groups. Returns `None` for other filters and unreachable ports.
+/// Returns the longest delay bound in ns of a filter's queues at `port`, for the latest ends that `put_frame` draws. `rows` has the shared
+/// queues of all groups. Returns `None` without a bound.
 fn longest_delay<A: Allocator + Copy>(
     accepted: &Accepted<A>,
     rows: &[SharedQueue],
