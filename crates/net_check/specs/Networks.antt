@@ -60,7 +60,7 @@ abbrev pub filter_text : Option ℕ → List ℕ
 filter_text None = codes "none"
 filter_text (Some n) = decimal n
 
--- The filter of the stray frames at the sender, or `none`, and the port on which they arrive there.
+-- The number of the filter that sends stray frames, or `none`, and the sending bridge's port on which the frames arrive.
 abbrev pub sender_text : Option ℕ → ℕ → List ℕ
 sender_text filter from = codes " sends " ++ (filter_text filter ++ (codes " from " ++ decimal from))
 
@@ -72,7 +72,7 @@ link_fault_text name link = codes "network refused: " ++ (name ++ (codes " link 
 abbrev pub hop_fault_text : List ℕ → ℕ → ℕ → List ℕ
 hop_fault_text name stream hop = codes "network refused: " ++ (name ++ (codes " stream " ++ (decimal stream ++ (codes " hop " ++ decimal hop))))
 
--- The fault line of a network, with the names of its bridges.
+-- The fault line of a network, in which bridges have their names. It has no line feed.
 unfoldable pub network_fault_line : List Bridge → NetworkFault → List ℕ
 network_fault_line bridges (network.Unresolved link) = link_fault_text (codes "Unresolved") link
 network_fault_line bridges (network.LinkTwice link end) = link_fault_text (codes "LinkTwice") link ++ (codes " " ++ port_text bridges end.bridge end.port)
@@ -83,15 +83,14 @@ network_fault_line bridges (network.NotClosed stream hop bridge port filter from
     hop_fault_text (codes "NotClosed") stream hop ++ (codes " " ++ (port_text bridges bridge port ++ sender_text filter from))
 network_fault_line bridges (network.NotFed stream hop) = hop_fault_text (codes "NotFed") stream hop
 
--- Holds if the program's fault has the fault line of the first stream whose talker's period doesn't suit the plans, or
--- memory ran out.
+-- Holds if the program's fault is `NoMemory`, or has the fault line of the first stream whose talker's period doesn't suit the plans.
 abbrev pub RefusesPeriods : {A : Type 0} → file.Network → List (Plan A) → Failure → Type 0
 RefusesPeriods f plans (fault.Network line) = (e : NetFault) × (first_misfit plans 1 f.streams ≡ Some e) × (string_bytes line ≡ text_line e)
 RefusesPeriods f plans fault.NoMemory = Unit {0}
 RefusesPeriods f plans e = ⊥
 
--- Holds if memory ran out, or the failure's line names the network's first fault. Without such a fault, the line names
--- the first talker's period that doesn't suit the plans.
+-- Holds if the failure is `NoMemory`, or its line names the network's first fault. Without such a fault, the line names the first talker's
+-- period that doesn't suit the plans.
 abbrev pub RefusesNetwork : {A : Type 0} → file.Network → List (Plan A) → Failure → Type 0
 RefusesNetwork {A} f plans (fault.Network line) = (n : NetworkParts A) × IsNetworkOfFile f plans n
     × (((e : NetworkFault) × (first_fault n ≡ Some e) × (string_bytes line ≡ network_fault_line f.bridges e))
@@ -136,19 +135,21 @@ is_absolute path = slice_index path 0 == 47
 abbrev pub beside : List ℕ → List ℕ → List ℕ
 beside path file = if is_absolute file then file else in_folder (folder_of path) file
 
--- Holds if `file` is the network of the file at `path`, or the octets of this file are unknown. `octets_at` has the known octets.
+-- Holds if the first 1,048,577 octets of the file at `path` describe network `f`, or its octets are unknown. `octets_at` has the known
+-- octets.
 abbrev pub IsNetworkAt : (List ℕ → Option (List ℕ)) → List ℕ → file.Network → Type 0
 IsNetworkAt octets_at path f = (text : List ℕ) → octets_at path ≡ Some text → network_of_text (take 1048577 text) ≡ Ok f
 
--- Holds if `plan` is read from the file at `path` and accepted, or the octets of this file are unknown.
+-- Holds if the first 1,048,577 octets of the file at `path` are the text of the accepted plan `plan`, or its octets are unknown.
 abbrev pub IsPlanAt : {A : Type 0} → (List ℕ → Option (List ℕ)) → List ℕ → Plan A → Type 0
 IsPlanAt octets_at path plan = (text : List ℕ) → octets_at path ≡ Some text → Accepts (take 1048577 text) plan
 
--- Holds if `new` has the plans `old`, followed by the accepted plan of the file at `path`.
+-- Holds if `new` has the plans `old`, followed by an accepted plan. It is the plan of the file at `path`, or this file's octets are
+-- unknown.
 abbrev pub AddsPlanAt : {A : Type 0} → (List ℕ → Option (List ℕ)) → List ℕ → List (Plan A) → List (Plan A) → Type 0
 AddsPlanAt {A} octets_at path old new = (p : Plan A) × (new ≡ old ++ p ∷ []) × IsPlanAt octets_at path p
 
--- Holds if each plan belongs to the bridge with its index: the network file at `path` names the plan's file.
+-- Holds if each plan is the plan of the bridge with its index (`IsPlanAt`). The network file at `path` names the plan's file.
 abbrev pub ArePlansAt : {A : Type 0} → (List ℕ → Option (List ℕ)) → List ℕ → List Bridge → List (Plan A) → Type 0
 ArePlansAt {A} octets_at path bridges plans =
     (i : ℕ) (b : Bridge) (p : Plan A) → slice_get bridges i ≡ Some b → slice_get plans i ≡ Some p → IsPlanAt octets_at (beside path b.plan) p
@@ -159,63 +160,65 @@ paths_of path bridges = path ∷ map (λ (b : Bridge). beside path b.plan) bridg
 
 -- THE FAULTS OF THE COMMAND
 
--- Holds if the program's fault has the line of the text fault `e`, or memory ran out.
+-- Holds if the program's fault is `NoMemory`, or has the fault line of the text fault `e`, which isn't `NoMemory`.
 abbrev pub SaysText : NetFault → Failure → Type 0
 SaysText e (fault.Network line) = (e ≢ net.NoMemory) × (string_bytes line ≡ text_line e)
 SaysText e fault.NoMemory = Unit {0}
 SaysText e f = ⊥
 
--- Holds if the network's text is refused and the program's fault has the line of its first fault. At most 1,048,577 octets are read.
+-- Holds if `line` is the fault line of some text that describes no network.
 abbrev pub RefusesText : List ℕ → Type 0
 RefusesText line = (text : List ℕ) × (e : NetFault) × (network_of_text text ≡ Err e) × (line ≡ text_line e)
 
--- Holds if the program's fault has the line of the fault with which reading the network's text ended, or memory ran
--- out.
+-- Holds if the program's fault is `NoMemory`, or `reading` is a fault and the program's fault has its fault line.
 abbrev pub RefusesTextBy : Result file.Network NetFault → Failure → Type 0
 RefusesTextBy reading (fault.Network line) = (e : NetFault) × (reading ≡ Err e) × (string_bytes line ≡ text_line e)
 RefusesTextBy reading fault.NoMemory = Unit {0}
 RefusesTextBy reading f = ⊥
 
--- Holds if the file at `path` has no network: it can't be read, its text is refused, or memory ran out.
+-- Holds if the failure says why `path` gives no network. It is a file error with this path, the fault line of a refused text, or
+-- `NoMemory`.
 abbrev pub EndsText : List ℕ → Failure → Type 0
 EndsText path (fault.File e) = string_bytes e.path ≡ path
 EndsText path (fault.Network line) = RefusesText (string_bytes line)
 EndsText path fault.NoMemory = Unit {0}
 EndsText path f = ⊥
 
--- The lines of a refused plan: the network's line with the bridge's name, then the plan's own line.
+-- The lines for a refused plan: a line with the bridge's name, then the plan's own fault line, `line`.
 unfoldable pub plan_lines : List ℕ → List ℕ → List ℕ
 plan_lines name line = codes "network refused: Plan " ++ (name ++ (codes "\n" ++ line))
 
--- Holds if the program's fault has the lines of a plan of bridge `name`, refused by fault `e`, or memory ran out.
+-- Holds if the program's fault is `NoMemory`, or has the lines for a plan of bridge `name` with fault `e`. This fault has exit status 1.
 abbrev pub SaysPlan : List ℕ → Failure → Failure → Type 0
 SaysPlan name e (fault.Network line) = (fault_status e ≡ 1) × (string_bytes line ≡ plan_lines name (fault_line e))
 SaysPlan name e fault.NoMemory = Unit {0}
 SaysPlan name e f = ⊥
 
--- Holds if the plan of bridge `b` is refused with these lines. Its text has a fault, or it doesn't isolate each of its protected filters.
+-- Holds if `lines` are the lines for some refused plan of bridge `b`. The plan's text has a fault, or the plan doesn't isolate each of its
+-- protected filters.
 abbrev pub RefusesPlanOf : (A : Type 0) → Bridge → List ℕ → Type 0
 RefusesPlanOf A b lines = (text : List ℕ) × (e : Failure) × RefusesPlan A text e × (fault_status e ≡ 1) × (lines ≡ plan_lines b.name (fault_line e))
 
--- Holds if the program's fault has the lines of the plan of bridge `name`, whose text is refused, or memory ran out.
+-- Holds if the program's fault is `NoMemory`, or has the lines for the plan of bridge `name`, whose text `text` is refused.
 abbrev pub RefusesPlanBy : (A : Type 0) → List ℕ → List ℕ → Failure → Type 0
 RefusesPlanBy A name text (fault.Network line) = (e : Failure) × RefusesPlan A text e × (fault_status e ≡ 1) × (string_bytes line ≡ plan_lines name (fault_line e))
 RefusesPlanBy A name text fault.NoMemory = Unit {0}
 RefusesPlanBy A name text f = ⊥
 
--- Holds if bridge `b` of the network file at `path` has no accepted plan. The plan's file can't be read, the plan is refused, or memory ran out.
+-- Holds if the failure says why bridge `b` has no accepted plan. It is an error of the plan's file, the lines for a refused plan, or
+-- `NoMemory`.
 abbrev pub EndsPlanOf : (A : Type 0) → List ℕ → Bridge → Failure → Type 0
 EndsPlanOf A path b (fault.File e) = string_bytes e.path ≡ beside path b.plan
 EndsPlanOf A path b (fault.Network line) = RefusesPlanOf A b (string_bytes line)
 EndsPlanOf A path b fault.NoMemory = Unit {0}
 EndsPlanOf A path b f = ⊥
 
--- Holds if one of the bridges has no accepted plan.
+-- Holds if failure `f` says why one of these bridges has no accepted plan. `path` is the network file's path.
 abbrev pub EndsPlans : (A : Type 0) → List ℕ → List Bridge → Failure → Type 0
 EndsPlans A path bridges f = (b : Bridge) × IsMember b bridges × EndsPlanOf A path b f
 
--- Holds if fault `f` ends the command over the network file at `path`. The file has no network, a bridge has no accepted plan, the network is refused, or
--- memory ran out.
+-- Holds if failure `f` can end a command over the network file at `path`. It is a failure of the network file, of a bridge's plan, of the
+-- network, or `NoMemory`.
 abbrev pub EndsNetwork : (A : Type 0) → List ℕ → Failure → Type 0
 EndsNetwork A path f =
     (f ≡ fault.NoMemory)

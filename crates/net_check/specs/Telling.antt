@@ -37,12 +37,12 @@ abbrev pub destination_text : Option (List ℕ) → List ℕ
 destination_text None = codes "any other destination"
 destination_text (Some address) = codes "destination " ++ address_text address
 
--- The line of frames that may loop, from the texts of its parts.
+-- The warning about frames that may loop, from the texts of its parts: VLAN, destination, bridge name and port.
 unfoldable pub loop_words : List ℕ → List ℕ → List ℕ → ℕ → List ℕ
 loop_words vlan destination name port =
     codes "may go round: VLAN " ++ (vlan ++ (codes " " ++ (destination ++ (codes " at " ++ (name ++ (codes "." ++ (decimal port ++ codes "\n")))))))
 
--- The line of frames that may loop, with a port at which they can arrive again and again.
+-- The warning about a group of frames that may loop, with a port at which they can arrive again and again.
 abbrev pub loop_line : List Bridge → ForwardingLoop → List ℕ
 loop_line bridges c = loop_words (vlan_text c.group.vlan) (destination_text c.group.destination) (bridge_name bridges c.at.bridge) c.at.port
 
@@ -60,32 +60,32 @@ has_hop streams b n = list_any (λ (s : Stream). is_hop s.hops b n) streams
 abbrev pub has_link : List LinkRow → ℕ → ℕ → Bool
 has_link links b q = list_any (λ (l : LinkRow). (nat_eq l.one.0 b && nat_eq l.one.1 q) || (nat_eq l.other.0 b && nat_eq l.other.1 q)) links
 
--- True if one of these entries has handle `h` and is on a linked port.
+-- True if one of these entries of bridge `b` has handle `h` and is on a linked port.
 abbrev pub has_linked_entry : List LinkRow → ℕ → List StreamEntry → ℕ → Bool
 has_linked_entry links b entries h = list_any (λ (e : StreamEntry). nat_eq e.handle h && has_link links b e.port) entries
 
--- True if an entry of the plan has the optional handle and is on a linked port. False without a handle.
+-- True if an entry of plan `p` of bridge `b` has the optional handle and is on a linked port. False without a handle.
 abbrev pub is_entered_by_link : {A : Type 0} → List LinkRow → ℕ → Plan A → Option ℕ → Bool
 is_entered_by_link links b p None = false
 is_entered_by_link links b p (Some h) = has_linked_entry links b p.streams h
 
--- True if a filter is protected, its frames can arrive over a link, and it is a hop of no stream.
+-- True if filter `f` of bridge `b` is protected, its frames can arrive over a link, and it is a hop of no stream.
 abbrev pub is_unlisted : {A : Type 0} → List LinkRow → List Stream → ℕ → Plan A → ℕ × FilterPlan → Bool
 is_unlisted links streams b p f = f.1.protected && (is_entered_by_link links b p f.1.handle && not (has_hop streams b f.0))
 
--- The warning about a filter that is a hop of no stream, with its bridge's name.
+-- The warning about filter `n` that is a hop of no stream, with its bridge's name.
 unfoldable pub unlisted_words : List ℕ → ℕ → List ℕ
 unlisted_words name n = codes "in no stream: " ++ (name ++ (codes "." ++ (decimal n ++ codes "\n")))
 
--- The line of a filter if it is in no stream, otherwise empty.
+-- The warning about filter `x` of bridge `b` if the filter is unlisted, otherwise empty.
 abbrev pub unlisted_text : {A : Type 0} → file.Network → ℕ → Plan A → ℕ × FilterPlan → List ℕ
 unlisted_text f b p x = if is_unlisted f.links f.streams b p x then unlisted_words (bridge_name f.bridges b) x.0 else []
 
--- The warnings about a plan's filters that are hops of no stream.
+-- The warnings about the unlisted filters of plan `p` of bridge `b`.
 abbrev pub unlisted_of_plan : {A : Type 0} → file.Network → ℕ → Plan A → List ℕ
 unlisted_of_plan f b p = flat_map (unlisted_text f b p) p.filters
 
--- The warnings about the filters of these plans that are hops of no stream. The first plan has bridge index `b`.
+-- The warnings about the unlisted filters of these plans. The first plan has bridge index `b`.
 abbrev pub unlisted_filters : {A : Type 0} → file.Network → ℕ → List (Plan A) → List ℕ
 unlisted_filters f b [] = []
 unlisted_filters f b (p ∷ ps) = unlisted_of_plan f b p ++ unlisted_filters f (suc b) ps
@@ -106,36 +106,37 @@ filter_sdu (Some p) n = sdu_if_any (lookup (nat_eq n) p.filters)
 abbrev pub hop_sdu : {A : Type 0} → List (Plan A) → ℕ × ℕ → Option ℕ
 hop_sdu plans h = filter_sdu (slice_get plans h.0) h.1
 
--- True if the second of two limits is less than the first; false without one of them.
+-- True if limit `b` is less than limit `a`; false without one of them.
 abbrev pub is_smaller_limit : Option ℕ → Option ℕ → Bool
 is_smaller_limit (Some a) (Some b) = nat_lt b a
 is_smaller_limit a b = false
 
--- True if a hop has a lower limit than the hop before, so that it passes only shorter frames.
+-- True if hop `b` has a lower `max_sdu` than hop `a`; false if a hop or a limit is missing.
 abbrev pub is_sdu_falling : {A : Type 0} → List (Plan A) → Option (ℕ × ℕ) → Option (ℕ × ℕ) → Bool
 is_sdu_falling plans (Some a) (Some b) = is_smaller_limit (hop_sdu plans a) (hop_sdu plans b)
 is_sdu_falling plans a b = false
 
--- The line of a hop with a lower limit. Streams and hops are counted from 1.
+-- The warning that `max_sdu` falls at hop `k` of stream `i`. Both are indexes from 0; the line counts from 1.
 unfoldable pub sdu_fall_line : ℕ → ℕ → List ℕ
 sdu_fall_line i k = codes "max_sdu falls: stream " ++ (decimal (i + 1) ++ (codes " hop " ++ (decimal (k + 1) ++ codes "\n")))
 
--- The line of the hop after index `k` if it has a lower limit, otherwise empty.
+-- The warning about the hop after index `k` of stream `i`, if it has a lower `max_sdu` than the hop with index `k`; otherwise empty.
 abbrev pub sdu_fall_text : {A : Type 0} → List (Plan A) → ℕ → List (ℕ × ℕ) → ℕ → List ℕ
 sdu_fall_text plans i hops k = if is_sdu_falling plans (slice_get hops k) (slice_get hops (k + 1)) then sdu_fall_line i (k + 1) else []
 
--- The lines of a stream's hops with a lower limit than the hop before.
+-- The warnings about the hops of stream `i` that have a lower `max_sdu` than the hop before.
 abbrev pub stream_sdu_falls : {A : Type 0} → List (Plan A) → ℕ → List (ℕ × ℕ) → List ℕ
 stream_sdu_falls plans i hops = collect_below (length hops) (sdu_fall_text plans i hops)
 
--- The lines of the hops with a lower limit, for streams with indexes from `i` on.
+-- The warnings about all hops with a lower `max_sdu` than the hop before. The first stream has index `i`.
 abbrev pub sdu_falls : {A : Type 0} → List (Plan A) → ℕ → List Stream → List ℕ
 sdu_falls plans i [] = []
 sdu_falls plans i (s ∷ ss) = stream_sdu_falls plans i s.hops ++ sdu_falls plans (suc i) ss
 
 -- ALL WARNINGS
 
--- Holds if `text` has the warnings of this network; it is empty without a warning.
+-- Holds if `text` has the warnings of a network that need no delays: frames that may loop, unlisted filters, falling limits. It is empty
+-- without a warning.
 abbrev pub AreNetworkWarnings : {A : Type 0} → file.Network → NetworkParts A → List ℕ → Type 0
 AreNetworkWarnings {A} f n text =
     (rows : List ForwardingLoop) × AreForwardingLoops n.plans n.links rows

@@ -17,58 +17,59 @@ use Rattle.net_check.specs.Telling.{AreNetworkWarnings}
 
 -- FRAMES OF OTHER TALKERS
 
--- The warning that frames of other talkers can arrive at a hop by a port. Streams and hops are counted from 1.
+-- The warning that frames of other talkers can arrive at hop `k` of stream `i` on port `port` of bridge `name`. Both are indexes from 0;
+-- the line counts from 1.
 unfoldable pub entering_line : ℕ → ℕ → List ℕ → ℕ → List ℕ
 entering_line i k name port =
     codes "may also come in: stream " ++ (decimal (i + 1) ++ (codes " hop " ++ (decimal (k + 1) ++ (codes " " ++ (name ++ (codes "." ++ (decimal port ++ codes "\n")))))))
 
--- The warning of a port, if frames of other devices can get the hop's handle there; otherwise empty.
+-- The warning about port `on` of plan `p`, if frames of other devices can get the handle of hop `h` there; otherwise empty.
 abbrev pub entering_text : {A : Type 0} → file.Network → NetworkParts A → ℕ → ℕ → StreamHop → Plan A → PortPlan A → List ℕ
 entering_text f n i k h p on =
     if may_come_in n.links (nat_eq k 0) h p on then entering_line i k (bridge_name f.bridges h.bridge) on.number else []
 
--- The warnings for all ports of the hop's bridge; empty if its plan is missing.
+-- The warnings about the ports of the hop's bridge at which other devices' frames can get its handle. Empty if its plan is missing.
 abbrev pub entering_at : {A : Type 0} → file.Network → NetworkParts A → ℕ → ℕ → StreamHop → Option (Plan A) → List ℕ
 entering_at f n i k h None = []
 entering_at f n i k h (Some p) = flat_map (entering_text f n i k h p) p.ports
 
--- The warnings for a hop, if the talker is periodic (`true`). Without a periodic talker, the stream has no delays that
--- depend on other devices.
+-- The warnings `may also come in` about hop `k` of stream `i`, if the talker is periodic (`true`). Otherwise the stream has no delays that
+-- other devices' frames could spoil.
 abbrev pub entering_if : {A : Type 0} → file.Network → NetworkParts A → ℕ → Bool → ℕ → StreamHop → List ℕ
 entering_if f n i false k h = []
 entering_if f n i true k h = entering_at f n i k h (slice_get n.plans h.bridge)
 
 -- HOPS WITHOUT REACHABLE QUEUE
 
--- True if one of the bounds belongs to a queue of the hop. Then the hop's frames can leave the bridge.
+-- True if one of the bounds belongs to a queue of hop `h`, so that the hop's frames can leave the bridge.
 abbrev pub has_queue : {A : Type 0} → List (Vec QueueBound A) → StreamHop → Bool
 has_queue bounds h = list_any (is_queue_of_hop h) (bounds_if_any (slice_get bounds h.bridge))
 
--- The warning that a hop's frames have no reachable queue. Streams and hops are counted from 1.
+-- The warning that frames of hop `k` of stream `i` have no reachable queue. Both are indexes from 0; the line counts from 1.
 unfoldable pub nowhere_line : ℕ → ℕ → List ℕ
 nowhere_line i k = codes "leads nowhere: stream " ++ (decimal (i + 1) ++ (codes " hop " ++ (decimal (k + 1) ++ codes "\n")))
 
--- The warning of a hop without reachable queue; otherwise empty.
+-- The warning about hop `k` of stream `i` if the hop has no reachable queue; otherwise empty.
 abbrev pub nowhere_text : {A : Type 0} → List (Vec QueueBound A) → ℕ → ℕ → StreamHop → List ℕ
 nowhere_text bounds i k h = if has_queue bounds h then [] else nowhere_line i k
 
 -- ALL WARNINGS
 
--- The warnings of a hop: entries for other devices, and no reachable queue.
+-- The warnings about hop `k` of stream `i`: ports where other devices' frames can enter, and no reachable queue.
 abbrev pub hop_text : {A : Type 0} → file.Network → NetworkParts A → List (Vec QueueBound A) → ℕ → Bool → ℕ → StreamHop → List ℕ
 hop_text f n bounds i periodic k h = entering_if f n i periodic k h ++ nowhere_text bounds i k h
 
--- The warnings of an optional hop, which has index `k` in its stream.
+-- The warnings about hop `k` of stream `i`; empty if the hop is missing.
 abbrev pub place_text : {A : Type 0} → file.Network → NetworkParts A → List (Vec QueueBound A) → ℕ → Bool → ℕ → Option StreamHop → List ℕ
 place_text f n bounds i periodic k None = []
 place_text f n bounds i periodic k (Some h) = hop_text f n bounds i periodic k h
 
--- The warnings of all hops of a stream, in order.
+-- The warnings about all hops of stream `i`, in order. `periodic` is true if its talker is periodic.
 abbrev pub hops_text : {A : Type 0} → file.Network → NetworkParts A → List (Vec QueueBound A) → ℕ → Bool → List StreamHop → List ℕ
 hops_text f n bounds i periodic hops =
     collect_below (length hops) (λ (k : ℕ). place_text f n bounds i periodic k (slice_get hops k))
 
--- The warnings of a stream: of its hops, in order.
+-- The warnings about stream `i`: those of its hops, in order.
 abbrev pub stream_text : {A : Type 0} → file.Network → NetworkParts A → List (Vec QueueBound A) → ℕ → Stream → List ℕ
 stream_text f n bounds i s =
     hops_text f n bounds i (is_some s.talker) (map stream_hop_value s.hops)
@@ -78,7 +79,7 @@ abbrev pub streams_text : {A : Type 0} → file.Network → NetworkParts A → L
 streams_text f n bounds i [] = []
 streams_text f n bounds i (s ∷ ss) = stream_text f n bounds i s ++ streams_text f n bounds (suc i) ss
 
--- Holds if `text` has all warnings of an accepted network.
+-- Holds if `text` has all warnings of an accepted network: those that need no delays, then those of its streams' hops.
 pub record AreWarnings {A : Type 0} (f : file.Network) (n : NetworkParts A) (text : List ℕ) : Type 0 where
   pub bounds : List (Vec QueueBound A)
   pub are_bounds : AreQueueBoundsOfPlans n.plans bounds

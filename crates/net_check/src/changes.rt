@@ -1,4 +1,5 @@
-//! Changes of gate control lists and talkers that an explanation proposes, so that late streams meet their deadlines.
+//! Changes of gate control lists and talkers by which late streams meet their deadlines. `deadline_search` finds the changes, and
+//! `late_streams` prints them for `--explain`.
 use crate::hop_times::{HopTimes, ListShift};
 use bridge_bounds::Phases;
 use net_file::Talker;
@@ -12,7 +13,8 @@ pub(crate) struct SendShift {
     pub phases: Phases,
 }
 
-/// Proposed changes: at most one list shift for each port, and at most one talker's phases for each stream.
+/// Proposed changes: at most one list shift for each port, and at most one talker's phases for each stream. `find_changes` collects them,
+/// and `put_changes` prints them.
 #[derive(Drop)]
 pub(crate) struct Changes {
     /// Shifts of ports' lists.
@@ -21,7 +23,8 @@ pub(crate) struct Changes {
     pub sends: Vec<SendShift>,
 }
 
-/// Returns the phases of a stream's talker after the changes: the new ones in `sends` or, without any, the talker's own.
+/// Returns the phases of a stream's talker after the changes: the new phases in `sends` or, without any, the talker's own. The search and
+/// `put_talker` call it.
 pub(crate) fn changed_phases(sends: &[SendShift], stream: usize, talker: &Talker) -> Phases {
     let mut phases = Phases {
         from: talker.from,
@@ -35,7 +38,8 @@ pub(crate) fn changed_phases(sends: &[SendShift], stream: usize, talker: &Talker
     phases
 }
 
-/// Returns the index in `sends` of the stream's new phases, or the length of `sends` if there are none.
+/// Returns the index in `sends` of the stream's new phases, or the length of `sends` without any. `put_phases` replaces the item with this
+/// index.
 fn index_of_stream(sends: &[SendShift], stream: usize) -> usize {
     let mut index = 0usize;
     for send in sends {
@@ -47,7 +51,7 @@ fn index_of_stream(sends: &[SendShift], stream: usize) -> usize {
     index
 }
 
-/// Returns the index in `shifts` of the port's shift, or the length of `shifts` if there is none.
+/// Returns the index in `shifts` of the port's shift, or the length of `shifts` without one. `put_shift` replaces the item with this index.
 fn index_of_port(shifts: &[ListShift], bridge: u16, port: u8) -> usize {
     let mut index = 0usize;
     for shift in shifts {
@@ -59,7 +63,8 @@ fn index_of_port(shifts: &[ListShift], bridge: u16, port: u8) -> usize {
     index
 }
 
-/// Adds new phases of the talker of stream `stream` to `changes`, in place of earlier ones. Returns `None` if memory runs out.
+/// Sets the new phases of the talker of stream `stream` in `changes`; earlier phases are replaced. `relieve_talker` calls it. Returns
+/// `None` if memory runs out.
 pub(crate) fn put_phases(changes: &mut Changes, stream: usize, phases: Phases) -> Option<()> {
     let index = index_of_stream(&changes.sends, stream);
     let send = SendShift { stream, phases };
@@ -72,7 +77,7 @@ pub(crate) fn put_phases(changes: &mut Changes, stream: usize, phases: Phases) -
     }
 }
 
-/// Adds a shift of the list at the hop's port to `changes`, in place of an earlier one: the list begins `earlier` ns earlier. Returns
+/// Sets the shift of the list at the hop's port in `changes`: `earlier` ns, last used in pass `pass`. An earlier shift is replaced. Returns
 /// `None` if memory runs out.
 pub(crate) fn put_shift(
     changes: &mut Changes,

@@ -17,14 +17,14 @@ use net_latency::{QueueBound, latency_through_hops, stream_hops};
 use net_model::Network;
 use std::alloc::Global;
 
-/// Largest number of times that the search relieves all late streams. Rings of five bridges needed up to four.
+/// Largest number of passes of `find_changes`. A pass changes each late stream once. Rings of five bridges needed up to four passes.
 const PASSES: u32 = 8;
 
-/// Largest number of changes for a stream in one pass.
+/// Largest number of changes that `relieve_stream` makes for one stream in one pass.
 const CHANGES: u32 = 16;
 
-/// Returns changes by which each stream that the search may change (`is_searched`) meets its deadline. Returns `None` if it finds none, or
-/// memory runs out.
+/// Returns changes after which each stream that `is_searched` meets its deadline. `explain_network_streams` prints them. Returns `None` if
+/// `PASSES` passes find none, or memory runs out.
 pub(crate) fn find_changes(
     alloc: Global,
     network: &Network<Global>,
@@ -55,8 +55,8 @@ pub(crate) fn find_changes(
     None
 }
 
-/// Returns for each stream whether the search may change it. Computed once, because each pass of the search needs it. Returns `None` if
-/// memory runs out.
+/// Returns for each stream whether the search may change it (`is_searched`). `find_changes` computes this once for all passes. Returns
+/// `None` if memory runs out.
 fn searched_streams(
     alloc: Global,
     network: &Network<Global>,
@@ -74,7 +74,8 @@ fn searched_streams(
     Some(searched)
 }
 
-/// Whether the search may change a stream: its delays are known, all its frames pass, and it can meet its deadline.
+/// Returns whether the search may change a stream. Its talker is periodic, its delays are known, all its frames pass, and it can meet its
+/// deadline.
 fn is_searched(
     alloc: Global,
     network: &Network<Global>,
@@ -106,7 +107,8 @@ fn is_searched(
     course.passes && can_meet(alloc, &route, stream.deadline())
 }
 
-/// Whether a stream would meet its deadline if its frames waited nowhere.
+/// Returns whether a stream would meet its deadline if no frame waited for its transmission. True without a deadline; false if the times
+/// are unknown.
 fn can_meet(alloc: Global, route: &StreamRoute<'_>, deadline: Option<u64>) -> bool
     requires placed { All (λ v. All HasValidPort v.items) route.now.bounds.now }
     requires talker { IsTalker route.now.talker }
@@ -121,8 +123,8 @@ fn can_meet(alloc: Global, route: &StreamRoute<'_>, deadline: Option<u64>) -> bo
     }
 }
 
-/// Changes lists and talkers for each late stream that is `searched`: pass `pass` of the search. Returns whether no such stream was late.
-/// Returns `None` if memory runs out.
+/// Changes lists and talkers for each late stream that is `searched`, in pass `pass`. Returns whether no such stream was late, or `None` if
+/// memory runs out.
 fn relieve_streams(
     alloc: Global,
     network: &Network<Global>,
@@ -150,7 +152,8 @@ fn relieve_streams(
     Some(is_met)
 }
 
-/// Changes lists and the talker of a stream if it is late. Returns whether the stream met its deadline before, so that nothing changed.
+/// Calls `relieve_stream` for the stream with index `index` of the file. Returns whether the stream needed no change; without a periodic
+/// talker, it needs none.
 fn relieve_listed_stream(
     alloc: Global,
     network: &Network<Global>,
@@ -177,8 +180,8 @@ fn relieve_listed_stream(
     relieve_stream(alloc, &route, deadline, index, pass, changes)
 }
 
-/// Changes lists and the talker until the stream meets its deadline, or no change helps. Later streams of the same pass don't change its
-/// ports. Returns whether the stream needed no change.
+/// Changes lists and the talker until the stream meets its deadline, or no change helps. Then marks its ports as used in this pass. Returns
+/// whether the stream needed no change.
 fn relieve_stream(
     alloc: Global,
     route: &StreamRoute<'_>,
@@ -211,7 +214,8 @@ fn relieve_stream(
     Some(false)
 }
 
-/// Returns the times of the stream at each hop after the changes. Returns `None` if phases are unknown or memory runs out.
+/// Returns the times at each hop of the stream with index `index` after the changes. Returns `None` if phases are unknown or memory runs
+/// out.
 fn changed_times(
     alloc: Global,
     route: &StreamRoute<'_>,
@@ -225,7 +229,7 @@ fn changed_times(
     hop_times(alloc, route, sent, &changes.shifts)
 }
 
-/// Whether each hop's filter passes all frames of the stream, and its worst delay is at most `deadline` ns.
+/// Returns whether each hop passes all frames of the stream, and the stream's worst delay is at most `deadline` ns.
 fn is_in_time(times: &[HopTimes], deadline: u128) -> bool {
     for hop in times {
         if !hop.passes {
@@ -235,8 +239,8 @@ fn is_in_time(times: &[HopTimes], deadline: u128) -> bool {
     worst_delay(times) <= deadline
 }
 
-/// Returns the hop at which the latest frame waits longest, among the first hop and hops whose port no late stream has used in pass `pass`.
-/// Returns `None` if it waits at none of these.
+/// Returns the hop at which the latest frame waits longest. Ports that a late stream used in pass `pass` count only for the first hop.
+/// `None` if the frame waits at none.
 pub(crate) fn costliest_hop(
     times: &[HopTimes],
     shifts: &[ListShift],
@@ -253,7 +257,7 @@ pub(crate) fn costliest_hop(
     found
 }
 
-/// Whether a late stream has used the hop's port in pass `pass`. Then other streams don't shift this port's list in this pass.
+/// Returns whether a late stream has used the hop's port in pass `pass`. Then other streams don't shift this port's list in this pass.
 fn is_kept(shifts: &[ListShift], hop: &HopTimes, pass: u32) -> bool {
     for shift in shifts {
         if shift.bridge == hop.hop.bridge && shift.port == hop.port && shift.pass == pass {
@@ -263,7 +267,8 @@ fn is_kept(shifts: &[ListShift], hop: &HopTimes, pass: u32) -> bool {
     false
 }
 
-/// Removes the wait of the latest frame at the costliest hop, by a later talker or an earlier list. Returns whether a change stays.
+/// Removes the wait of the latest frame at the costliest hop: its talker sends later, or its list begins earlier. Returns whether a change
+/// stays.
 fn relieve_hop(
     alloc: Global,
     route: &StreamRoute<'_>,
@@ -285,7 +290,8 @@ fn relieve_hop(
     }
 }
 
-/// Lets the talker send later by the wait at the first hop. Undoes this if a frame may then be refused. Returns whether the change stays.
+/// Lets the talker send later by the latest frame's wait at the first hop. Undoes this if a frame may then be refused. Returns whether the
+/// change stays.
 fn relieve_talker(
     alloc: Global,
     route: &StreamRoute<'_>,
@@ -306,8 +312,8 @@ fn relieve_talker(
     Some(false)
 }
 
-/// Lets the list at the hop's port begin earlier by the wait there. Undoes this if a frame may then be refused. Returns whether the change
-/// stays.
+/// Lets the list at the hop's port begin earlier by the latest frame's wait there. Undoes this if a frame may then be refused. Returns
+/// whether the change stays.
 fn relieve_list(
     alloc: Global,
     route: &StreamRoute<'_>,
@@ -331,7 +337,7 @@ fn relieve_list(
     Some(false)
 }
 
-/// Whether, after the changes, the stream's phases are known and all its frames pass each hop.
+/// Returns whether, after the changes, the stream's times are known and all its frames pass each hop. Otherwise the last change is undone.
 fn is_passing(alloc: Global, route: &StreamRoute<'_>, index: usize, changes: &Changes) -> bool
     requires placed { All (λ v. All HasValidPort v.items) route.now.bounds.now }
     requires talker { IsTalker route.now.talker }
@@ -342,7 +348,8 @@ fn is_passing(alloc: Global, route: &StreamRoute<'_>, index: usize, changes: &Ch
     }
 }
 
-/// Returns the phases `wait` ns later. If they would lie in two periods, the earliest becomes the start of a period.
+/// Returns the phases `wait` ns later, counted within the period. If they would lie in two periods, they begin at the start of a period
+/// instead.
 fn later_phases(phases: Phases, wait: u64, period: u64) -> Phases {
     let width = phases.to.saturating_sub(phases.from);
     let from = phases.from.saturating_add(wait) % period.max(1);
@@ -353,7 +360,8 @@ fn later_phases(phases: Phases, wait: u64, period: u64) -> Phases {
     Phases { from, to }
 }
 
-/// Marks the ports of these hops as used in pass `pass`, without changing the shifts of their lists.
+/// Marks the ports of these hops as used in pass `pass`, without changing their lists' shifts. Later streams of the pass then leave them.
+/// Returns `None` if memory runs out.
 fn keep_ports(times: &[HopTimes], pass: u32, changes: &mut Changes) -> Option<()> {
     for hop in times {
         let earlier = shift_of_port(&changes.shifts, hop.hop.bridge, hop.port);
@@ -362,14 +370,15 @@ fn keep_ports(times: &[HopTimes], pass: u32, changes: &mut Changes) -> Option<()
     Some(())
 }
 
-/// Returns the cycle time in ns of the list at the hop's port. Returns `None` if the port has no list or a schedule change.
+/// Returns the cycle time in ns of the list at the hop's port, for `relieve_list`. Returns `None` if the port has no list or a schedule
+/// change.
 fn cycle_of_port(network: &Network<Global>, hop: &HopTimes) -> Option<u64> {
     let accepted = network.plans().get(hop.hop.bridge as usize)?;
     let list = port_list(accepted.plan().port(hop.port)?)?;
     Some(list.cycle())
 }
 
-/// Returns the gate control list of a port. Returns `None` if the port has no list or a schedule change.
+/// Returns the gate control list of a port, which the search can shift. Returns `None` if the port has no list or a schedule change.
 pub(crate) fn port_list(port: &PortPlan<Global>) -> Option<&CyclicList<u8, Global>> {
     match &port.list {
         Some(Egress::Cyclic(list)) => Some(list),

@@ -18,8 +18,8 @@ use net_model::Network;
 use std::alloc::Global;
 use std::rt::Files;
 
-/// Explains streams with periodic talkers: why frames may be refused, when frames arrive and leave at each hop, and how to meet deadlines.
-/// Reads all files again. Returns `None` if this fails.
+/// Explains the streams of an accepted network for `net check --explain` (`check_network` of `app_networks`). Reads the network's files
+/// again. Returns `None` if this fails or memory runs out.
 pub fn explain_streams<H: AllocGlobal + Files>(rt: &H, path: &str) -> Option<String> {
     let alloc = rt.alloc();
     let mut files = CommandFiles::new(rt);

@@ -19,8 +19,8 @@ use std::alloc::Global;
 use std::rt::Files;
 use toml::Table;
 
-/// Explains why a network with an accepted text is refused: a plan can't be read, or the network has a fault. Reads all files again.
-/// Returns `None` if this fails or memory runs out.
+/// Explains why a network with an accepted text is refused: a plan can't be read, or the network has a fault. Reads all files again;
+/// returns `None` if this fails.
 pub fn explain_network<H: AllocGlobal + Files>(rt: &H, path: &str) -> Option<String> {
     let alloc = rt.alloc();
     let octets = reread_text(rt, path)?;
@@ -40,8 +40,8 @@ pub fn explain_network<H: AllocGlobal + Files>(rt: &H, path: &str) -> Option<Str
     }
 }
 
-/// Returns the beginning of a sentence about the plan file `plan`, which can't be read: its bridge, and its position in the network file.
-/// Returns `None` if no bridge names this file.
+/// Returns the beginning of a sentence about plan file `plan`, which can't be read: its position in the network file, and its bridge.
+/// `None` if no bridge names this file.
 fn explain_plan_path(alloc: Global, asked: NetworkText<'_>, plan: &str) -> Option<String> {
     let mut index = 0usize;
     for bridge in asked.file.bridges() {
@@ -60,7 +60,7 @@ fn explain_plan_path(alloc: Global, asked: NetworkText<'_>, plan: &str) -> Optio
     None
 }
 
-/// Bundles a network file's path, text, document and network in one value.
+/// Returns a network file's path, text, document and network in one value, which the functions that explain take as `asked`.
 fn network_text<'a>(
     path: &'a str,
     text: &'a str,
@@ -75,8 +75,8 @@ fn network_text<'a>(
     }
 }
 
-/// Returns a line for each group of frames that may loop, to explain why a network run didn't end. Reads the network file and its plans
-/// again. Returns `None` if this fails.
+/// Returns a line for each group of frames that may loop, to explain why a network run didn't end. Reads the network's files again; returns
+/// `None` if this fails.
 pub fn explain_loops<H: AllocGlobal + Files>(rt: &H, path: &str) -> Option<String> {
     let alloc = rt.alloc();
     let mut files = CommandFiles::new(rt);

@@ -1,4 +1,4 @@
-//! Lines with the times of a stream's frames at each hop, and the sentence about a missed deadline.
+//! Lines with the times of a stream's frames at each hop, and the sentence about a missed deadline. `net check --explain` prints them.
 ghost use Rattle.std.specs.Prelude.{◌≡◌, ◌<◌, ◌≤◌, All};
 ghost use Rattle.std.specs.Option.{ForSome};
 ghost use Rattle.bridge_cycle.specs.declared.fit_search.TheConstants.{END_OF_SEARCHES};
@@ -32,8 +32,8 @@ struct Window {
     to: u64,
 }
 
-/// Appends the times at each hop for each stream with a periodic talker and known delays. Returns whether some stream, whose frames all
-/// pass, misses a deadline that it can meet.
+/// Appends the times at each hop for each stream with a periodic talker and known delays. Returns whether a passing stream misses a
+/// deadline that it can meet.
 pub(crate) fn put_stream_times(
     alloc: Global,
     said: &mut TextBuilder<Global>,
@@ -54,8 +54,8 @@ pub(crate) fn put_stream_times(
     is_late
 }
 
-/// Appends the times of a stream at each hop. Returns whether all its frames pass and the stream misses a deadline that it can meet.
-/// Appends nothing without a periodic talker or if delays are unknown.
+/// Appends a stream's times at each hop; nothing without a periodic talker or known delays. Returns whether the stream passes, and misses a
+/// deadline that it can meet.
 fn put_times_of_stream(
     alloc: Global,
     said: &mut TextBuilder<Global>,
@@ -102,7 +102,7 @@ fn put_times_of_stream(
     put_deadline(said, file, stream.deadline(), &times) && course.passes
 }
 
-/// Appends a line for each queue of each hop.
+/// Appends the lines of a stream's hops: one for each queue that a hop's frames enter.
 fn put_hops(
     said: &mut TextBuilder<Global>,
     file: &NetworkFile<Global>,
@@ -143,7 +143,8 @@ fn put_hop(
     said.put("\n");
 }
 
-/// Appends the window, and its slack: the time from the latest end of transmission, `leaves`, to the window's end, both in ns.
+/// Appends the window, and its slack: the time in ns from `leaves`, the latest end of transmission, to the window's end. The window's start
+/// can be negative.
 fn put_window(said: &mut TextBuilder<Global>, window: Window, leaves: u64) {
     said.put(", window ");
     match window.later.checked_sub(window.cycle) {
@@ -157,8 +158,8 @@ fn put_window(said: &mut TextBuilder<Global>, window: Window, leaves: u64) {
     );
 }
 
-/// Returns the window in which the last frame is sent. Returns `None` if the port has no list or a schedule change, or the class never
-/// closes.
+/// Returns the window in which the last frame is sent. `None` without a list, with a schedule change, if the class never closes, or after
+/// `END_OF_SEARCHES`.
 fn window_of_hop(plan: &Plan<Global>, hop: &HopTimes) -> Option<Window> {
     let port = plan.port(hop.port)?;
     let time = hop.leaves.to.checked_sub(1)?;
@@ -228,8 +229,8 @@ fn window_end(list: &CyclicList<u8, Global>, class: u8, time: u64) -> u64
     end
 }
 
-/// Appends a sentence if the stream misses its deadline: by how many ns, and why. Returns whether the stream misses a deadline that it can
-/// meet.
+/// Appends by how many ns the stream misses its deadline, and why; nothing if it meets it. Returns whether the stream misses a deadline
+/// that it can meet.
 fn put_deadline(
     said: &mut TextBuilder<Global>,
     file: &NetworkFile<Global>,
@@ -256,7 +257,7 @@ fn put_deadline(
     true
 }
 
-/// Appends the hop at which the latest frame of a late stream waits longest, or a remedy if this frame waits nowhere.
+/// Appends the hop at which the latest frame of a late stream waits longest. If this frame waits nowhere, appends a remedy instead.
 fn put_costliest_hop(
     said: &mut TextBuilder<Global>,
     file: &NetworkFile<Global>,

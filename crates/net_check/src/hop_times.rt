@@ -17,7 +17,7 @@ use net_latency::{QueueBound, bounds_of_bridge};
 use net_model::{Link, Network, StreamHop, is_bridge_port, peer_port};
 use std::alloc::Global;
 
-/// Shift of a port's gate control list, which an explanation proposes.
+/// Shift of a port's gate control list, which an explanation proposes. `Changes` has at most one for each port.
 #[derive(Clone, Copy)]
 pub(crate) struct ListShift {
     /// Index of the bridge, from 0.
@@ -30,7 +30,7 @@ pub(crate) struct ListShift {
     pub pass: u32,
 }
 
-/// A stream with a periodic talker, in an accepted network.
+/// A stream with a periodic talker in an accepted network: everything that `hop_times` needs besides changes.
 #[derive(Clone, Copy)]
 pub(crate) struct StreamRoute<'a> {
     /// The network.
@@ -43,7 +43,7 @@ pub(crate) struct StreamRoute<'a> {
     pub talker: Talker,
 }
 
-/// Arrival of a talker's frames at a hop.
+/// Arrival of a talker's frames at a hop. `hop_times` collects arrivals, and computes each hop's times from its arrival.
 #[derive(Clone, Copy)]
 struct HopArrival {
     /// The hop.
@@ -63,7 +63,7 @@ struct HopArrival {
 pub(crate) struct HopTimes {
     /// The hop.
     pub hop: StreamHop,
-    /// Whether the talker sends to this hop.
+    /// Whether this is the stream's first hop, which receives the frames from the talker.
     pub is_first: bool,
     /// Port number, 1 to 16.
     pub port: u8,
@@ -75,19 +75,19 @@ pub(crate) struct HopTimes {
     pub leaves: Phases,
     /// Longest waiting time of a frame before its transmission, in ns.
     pub longest_wait: u64,
-    /// Waiting time of the longest frame if it arrives at the latest phase, in ns.
+    /// Waiting time in ns of the longest frame before its transmission, if the frame arrives at the latest phase.
     pub last_wait: u64,
-    /// Sum of worst delays up to the end of this transmission, in ns.
+    /// Sum of the hops' worst delays and of link delays up to the end of this transmission, in ns.
     total: u128,
     /// Worst delay in ns from arrival at the first hop to the end of this transmission.
     pub worst: u128,
     /// Sum of the longest frame's transmission times and of link delays up to the end of this transmission, in ns.
     pub shortest: u128,
-    /// Whether the hop's filter passes each frame.
+    /// Whether the hop's filter passes each frame of the talker.
     pub passes: bool,
 }
 
-/// Times of the frames in one queue, without the delays at the hops before it.
+/// Times of the frames in one queue, without the delays at the hops before it. `times_in_queue` adds these delays.
 #[derive(Clone, Copy)]
 struct QueueTimes {
     /// Earliest and latest end of transmission, in ns from the start of the period.
@@ -96,7 +96,8 @@ struct QueueTimes {
     worst: u64,
 }
 
-/// Returns the time in ns by which a port's list begins earlier, from the last item of `shifts` for the port, or 0 without one.
+/// Returns the time in ns by which a port's list begins earlier, from the last item of `shifts` for the port. Returns 0 without such an
+/// item.
 pub(crate) fn shift_of_port(shifts: &[ListShift], bridge: u16, port: u8) -> u64 {
     let mut earlier = 0;
     for shift in shifts {
@@ -107,8 +108,8 @@ pub(crate) fn shift_of_port(shifts: &[ListShift], bridge: u16, port: u8) -> u64 
     earlier
 }
 
-/// Returns the times of a stream's frames in each queue of each hop, first hop first. `sent` has the phases at the first hop. Returns
-/// `None` if phases are unknown or memory runs out.
+/// Returns the times of a stream's frames in each queue of each hop, first hop first. `sent` has the phases at the first hop. `None` if
+/// phases are unknown or memory runs out.
 pub(crate) fn hop_times(
     alloc: Global,
     route: &StreamRoute<'_>,
@@ -136,8 +137,8 @@ pub(crate) fn hop_times(
     Some(times)
 }
 
-/// Appends the times of the queues of the arrival's hop to `times`, and the arrivals at the next hops to `arrivals`. Returns `None` if
-/// phases are unknown or memory runs out.
+/// Appends the times of the arrival's hop to `times`, and arrivals at the next hops to `arrivals`. `sent` is the talker's first phase in
+/// ns. `None` as in `hop_times`.
 fn put_hop_times(
     route: &StreamRoute<'_>,
     arrival: HopArrival,
@@ -157,6 +158,7 @@ fn put_hop_times(
 }
 
 /// Appends the times of those queues in `rows` that belong to the hop's filter to `times`, and the arrivals at the next hops to `arrivals`.
+/// `None` as in `hop_times`.
 fn put_rows(
     route: &StreamRoute<'_>,
     rows: &[QueueBound],
@@ -180,8 +182,8 @@ fn put_rows(
     Some(())
 }
 
-/// Returns the times of the frames of `arrival` in the queue of `row`. `sent` is the talker's first phase in ns. Returns `None` if the
-/// phases are unknown.
+/// Returns the times of the frames of `arrival` in the queue of `row`. `sent` is the talker's first phase in ns. Returns `None` if phases
+/// are unknown or the plan lacks the queue.
 fn times_in_queue(
     route: &StreamRoute<'_>,
     row: &QueueBound,
@@ -221,7 +223,7 @@ fn times_in_queue(
     })
 }
 
-/// Whether the filter passes each frame of the traffic. Returns false if the plan lacks the filter.
+/// Returns whether the filter passes each frame of the traffic; false if the plan lacks the filter.
 fn passes_hop(plan: &Plan<Global>, filter: u32, traffic: &Traffic) -> bool
     requires { IsTraffic traffic.now }
 {
@@ -231,7 +233,8 @@ fn passes_hop(plan: &Plan<Global>, filter: u32, traffic: &Traffic) -> bool
     }
 }
 
-/// Returns the transmission time in ns of the longest frame that the filter passes. Returns `None` if the plan lacks filter or port.
+/// Returns the transmission time in ns of the longest frame that the filter passes. Returns `None` if the plan lacks filter or port, or the
+/// filter has no `max_sdu`.
 fn longest_transmission(plan: &Plan<Global>, row: &QueueBound, traffic: &Traffic) -> Option<u64> {
     let sdu = find_filter(plan.filters(), row.filter)?.max_sdu?;
     let longest = sdu.saturating_add(16).min(LONGEST_FRAME);
@@ -239,8 +242,8 @@ fn longest_transmission(plan: &Plan<Global>, row: &QueueBound, traffic: &Traffic
     Some(occupation(traffic.longest.min(longest), speed))
 }
 
-/// Returns the times in a queue if the port's list begins `earlier` ns earlier. It computes them as if the frames arrived later by this
-/// time. Returns `None` if the phases are unknown.
+/// Returns the times in a queue whose list begins `earlier` ns earlier, computed with frames that arrive later instead. `None` if a
+/// transmission may end after the next period's earliest arrival.
 fn shifted_times(
     accepted: &Accepted<Global>,
     row: &QueueBound,
@@ -265,8 +268,8 @@ fn shifted_times(
     })
 }
 
-/// Returns the traffic with phases that are `earlier` ns later. The period doubles, so that the phases lie in one period. Returns `None` if
-/// the period would be too long.
+/// Returns the traffic with phases `earlier` ns later. The period doubles, so that the phases lie in one period. `None` if `earlier`
+/// reaches the period, or the new period is too long.
 fn shifted_traffic(traffic: &Traffic, earlier: u64) -> Option<Traffic>
     requires { IsTraffic traffic.now }
     ensures { IfSome result IsTraffic }
@@ -286,8 +289,8 @@ fn shifted_traffic(traffic: &Traffic, earlier: u64) -> Option<Traffic>
     })
 }
 
-/// Appends to `arrivals` the arrival at the hop after the queue of `found`. Appends nothing if the queue's port leads to no hop. Returns
-/// `None` if memory runs out.
+/// Appends to `arrivals` the arrival at the hop after the queue of `found`; nothing if the queue's port leads to no hop. Returns `None` if
+/// memory runs out.
 fn put_next_arrival(
     route: &StreamRoute<'_>,
     found: &HopTimes,
@@ -309,7 +312,8 @@ fn put_next_arrival(
     arrivals.push(next).ok()
 }
 
-/// Returns the hop to which the port's link leads, and the link's delay in ns. Returns `None` if the port is open or leads to no hop.
+/// Returns the stream's first hop at the other end of the port's link, and the link's delay in ns. Returns `None` if the port is open or
+/// leads to no hop.
 fn hop_over_link(
     links: &[Link],
     hops: &[StreamHop],

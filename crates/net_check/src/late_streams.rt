@@ -1,4 +1,4 @@
-//! Lines with changes by which late streams meet their deadlines.
+//! Lines of `net check --explain` with changes by which late streams meet their deadlines.
 use crate::changes::{Changes, SendShift, changed_phases};
 use crate::deadline_search::port_list;
 use crate::hop_times::{ListShift, shift_of_port};
@@ -10,7 +10,7 @@ use net_file::{BridgeRow, NetworkFile, StreamRow};
 use net_model::Network;
 use std::alloc::Global;
 
-/// Appends the changes by which late streams meet their deadlines, or that the search has found none (`None`).
+/// Appends the changes that `find_changes` returned, after a heading. For `None`, appends that no changes were found, and a remedy.
 pub(crate) fn put_changes(
     said: &mut TextBuilder<Global>,
     file: &NetworkFile<Global>,
@@ -29,7 +29,7 @@ pub(crate) fn put_changes(
     put_talkers(said, file.streams(), &changes.sends);
 }
 
-/// Appends a line for each shifted list, by bridge and port.
+/// Appends a line for each shifted list, ordered by bridge and port.
 fn put_lists(
     said: &mut TextBuilder<Global>,
     bridges: &[BridgeRow<Global>],
@@ -45,7 +45,7 @@ fn put_lists(
     }
 }
 
-/// Appends a line for each shifted list of a bridge.
+/// Appends a line for each shifted list of the bridge of `row`, which has index `bridge`.
 fn put_lists_of_bridge(
     said: &mut TextBuilder<Global>,
     row: &BridgeRow<Global>,
@@ -63,8 +63,8 @@ fn put_lists_of_bridge(
     }
 }
 
-/// Appends the line that proposes to start `list` earlier by `earlier` ns: the plan, the port, and the new base time in ns, less than the
-/// cycle time.
+/// Appends the line that proposes to start `list` earlier by `earlier` ns. It names the plan, the port, and the new base time in ns, below
+/// the cycle time.
 fn put_list(
     said: &mut TextBuilder<Global>,
     row: &BridgeRow<Global>,
@@ -91,7 +91,8 @@ fn put_talkers(said: &mut TextBuilder<Global>, streams: &[StreamRow<Global>], se
     }
 }
 
-/// Appends the line of a talker, if it has new phases.
+/// Appends the new phases of the talker of the stream with index `index`, and by how many ns it sends later. Appends nothing if its phases
+/// stay.
 fn put_talker(
     said: &mut TextBuilder<Global>,
     stream: &StreamRow<Global>,

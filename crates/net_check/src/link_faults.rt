@@ -7,7 +7,8 @@ use net_latency::{NetworkText, put_numbers};
 use net_model::{BridgePort, Link, NetworkFault, RefusedNetwork};
 use std::alloc::Global;
 
-/// Explains the fault of link `place`, counted from 1, in a refused network. Returns `None` if the link is missing or memory runs out.
+/// Explains the fault of link `place`, counted from 1, in a refused network. `explain_refusal` calls it. Returns `None` if the link is
+/// missing or memory runs out.
 pub(crate) fn explain_link_fault(
     alloc: Global,
     asked: NetworkText<'_>,
@@ -28,12 +29,12 @@ pub(crate) fn explain_link_fault(
     said.finish().ok()
 }
 
-/// Whether two ends of links name one bridge port.
+/// Returns whether two ends of links are the same bridge port.
 fn is_one_port(one: BridgePort, other: BridgePort) -> bool {
     one.bridge == other.bridge && one.port == other.port
 }
 
-/// Returns the name of an end's bridge, or an empty text.
+/// Returns the name of the bridge at this end of a link, or an empty text if the bridge is missing.
 fn bridge_name<'a>(asked: NetworkText<'a>, end: BridgePort) -> &'a str {
     match asked.bridge(end.bridge) {
         Some(bridge) => bridge.name(),
@@ -41,7 +42,7 @@ fn bridge_name<'a>(asked: NetworkText<'a>, end: BridgePort) -> &'a str {
     }
 }
 
-/// Returns the path of the plan of an end's bridge as the network file writes it, or an empty text if the bridge is missing.
+/// Returns the path of the plan of the bridge at this end of a link, as the network file writes it. Empty if the bridge is missing.
 fn bridge_plan<'a>(asked: NetworkText<'a>, end: BridgePort) -> &'a str {
     match asked.bridge(end.bridge) {
         Some(bridge) => bridge.plan(),
@@ -49,7 +50,7 @@ fn bridge_plan<'a>(asked: NetworkText<'a>, end: BridgePort) -> &'a str {
     }
 }
 
-/// Returns the number, from 1, of the first link that ends at the port, or 0 if none does.
+/// Returns the number, from 1, of the first link that ends at this port, or 0 if none does.
 fn first_link_index(links: &[Link], end: BridgePort) -> u64 {
     let mut place = 0u64;
     for link in links {
@@ -61,8 +62,8 @@ fn first_link_index(links: &[Link], end: BridgePort) -> u64 {
     0
 }
 
-/// Appends the position of the end `field` of link `place`, and this end as the file writes it. All explanations of links begin like this,
-/// except for unequal speeds.
+/// Appends the position of end `field` of link `place` in the file, and the end as the file writes it. Explanations of unequal speeds don't
+/// begin like this.
 fn put_end(
     said: &mut TextBuilder<Global>,
     asked: NetworkText<'_>,
@@ -79,7 +80,7 @@ fn put_end(
     );
 }
 
-/// Appends which other link ends at the port of `end`: an earlier link, or the other end of this link.
+/// Explains a port with two links. Appends which other link ends at the port of `end`: an earlier link, or the other end of this link.
 fn put_twice(
     said: &mut TextBuilder<Global>,
     asked: NetworkText<'_>,
@@ -106,7 +107,7 @@ fn put_twice(
     said.put("and so is `one`.\nA link joins two ports: correct one of its ends.\n");
 }
 
-/// Returns the speed of an end's port in Mb/s, or 0 if the plan has no such port.
+/// Returns the speed in Mb/s of the port at this end of a link, or 0 if the plan has no such port.
 fn port_mbps(plans: &[Accepted<Global>], end: BridgePort) -> u64 {
     let Some(accepted) = plans.get(end.bridge as usize) else {
         return 0;
@@ -117,7 +118,7 @@ fn port_mbps(plans: &[Accepted<Global>], end: BridgePort) -> u64 {
     }
 }
 
-/// Appends the speeds of the two ports of a link, with the plans to correct.
+/// Explains a link between ports of different speeds: appends both speeds, and the plans to correct.
 fn put_speeds(
     said: &mut TextBuilder<Global>,
     asked: NetworkText<'_>,
@@ -139,7 +140,7 @@ fn put_speeds(
     );
 }
 
-/// Whether the plan of an end's bridge has the port.
+/// Returns whether the plan of the bridge at this end of a link has the port.
 fn has_port(plans: &[Accepted<Global>], end: BridgePort) -> bool {
     match plans.get(end.bridge as usize) {
         Some(accepted) => accepted.plan().port(end.port).is_some(),
@@ -147,7 +148,8 @@ fn has_port(plans: &[Accepted<Global>], end: BridgePort) -> bool {
     }
 }
 
-/// Appends the end of a link whose port is missing, and the ports that its bridge has.
+/// Explains a link to a missing port: appends the link's end, and the ports that its bridge has. If memory runs out, the whole text is
+/// discarded.
 fn put_ports(
     alloc: Global,
     said: &mut TextBuilder<Global>,

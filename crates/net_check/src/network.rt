@@ -1,4 +1,5 @@
-//! The command `net check`: reads a network file and its plans, checks the network, and prints its lines.
+//! The command `net check`: reads a network file and its plans, checks the network, and returns its lines. Other commands for networks read
+//! networks by the same functions.
 ghost use Rattle.std.specs.Prelude.{◌≡◌, ◌≤◌, ℕ, All, List, None, Ok, Vec, length, map, IfOk, IfErr, OnOk, string_bytes};
 ghost use Rattle.bridge_config.specs.Model.{Plan};
 ghost use Rattle.net_file.specs.Document.{network_of_text};
@@ -30,7 +31,7 @@ use std::alloc::{Allocator, Global};
 /// Exit status of a refused plan. By it, `plan_failure` distinguishes a refused plan from memory that ran out.
 const REFUSED: u8 = 1;
 
-/// Converts the links of a network file to the links of `net_model`.
+/// Returns the links of a network file as links of `net_model`, for `check_network`.
 pub(crate) fn network_links<A: Allocator + Copy>(
     alloc: A,
     rows: &[LinkRow],
@@ -55,7 +56,7 @@ pub(crate) fn network_links<A: Allocator + Copy>(
     Ok(links)
 }
 
-/// Converts the streams of a network file to lists of hops of `net_model`.
+/// Returns the streams of a network file as lists of hops of `net_model`, for `check_network`.
 pub(crate) fn network_streams<A: Allocator + Copy>(
     alloc: A,
     rows: &[StreamRow<A>],
@@ -75,8 +76,8 @@ pub(crate) fn network_streams<A: Allocator + Copy>(
     Ok(streams)
 }
 
-/// Returns the network if each talker's period is a multiple of the cycles on its route. Otherwise returns the fault of the first stream
-/// whose period isn't.
+/// Returns the network if each talker's period is a multiple of the cycle times on its route. Otherwise returns the fault of the first
+/// stream whose period isn't.
 fn check_periods<A: Allocator + Copy>(
     heap: Global,
     file: &NetworkFile<A>,
@@ -162,8 +163,7 @@ fn accepted_line<A: Allocator + Copy>(
     )?)
 }
 
-/// Returns the lines of an accepted network: the numbers of its bridges, links, streams and hops, then a line for each stream with its
-/// delays and bound.
+/// Returns the lines of an accepted network: the numbers of its bridges, links, streams and hops, then a line with delays for each stream.
 fn network_lines<A: Allocator + Copy>(
     alloc: A,
     heap: Global,
@@ -206,7 +206,7 @@ pub fn read_network<F: ReadFiles>(
     }
 }
 
-/// Returns the network of a text. A refused text is the program's fault, with the line of the text's first fault.
+/// Returns the network that the text describes. For a refused text, returns the program's fault with the line of the text's first fault.
 fn parse_network_text(alloc: Global, text: &[u8]) -> Result<NetworkFile<Global>, Failure>
     ensures file { IfOk result (λ file. network_of_text text.now ≡ Ok file) }
     ensures refused { IfErr result (RefusesTextBy (network_of_text text.now)) }
@@ -217,7 +217,7 @@ fn parse_network_text(alloc: Global, text: &[u8]) -> Result<NetworkFile<Global>,
     }
 }
 
-/// Returns the program's fault for a network whose text is refused.
+/// Returns the program's fault for a network file whose text has the fault `fault`: its fault line, or out of memory.
 fn refused_text_fault(alloc: Global, fault: &NetFault) -> Failure
     ensures { SaysText fault.now result }
 {
@@ -230,15 +230,15 @@ fn refused_text_fault(alloc: Global, fault: &NetFault) -> Failure
     }
 }
 
-/// Whether a path is absolute: it begins with `/`.
+/// Returns whether a path is absolute: it begins with `/`.
 fn is_absolute(path: &str) -> bool
     ensures { result ≡ is_absolute path.now }
 {
     path.starts_with('/')
 }
 
-/// Returns the path of the plan file `file` of the network file at `path`. A relative path counts from the network file's folder, so that
-/// both can be moved together.
+/// Returns the path of the plan file `file`, which a network file at `path` names. A relative path counts from the network file's folder,
+/// so both can be moved together.
 pub fn sibling_path(alloc: Global, path: &str, file: &str) -> Result<String, NoMemory>
     ensures { IfOk result (λ place. string_bytes place ≡ beside path.now file.now) }
 {
@@ -251,8 +251,8 @@ pub fn sibling_path(alloc: Global, path: &str, file: &str) -> Result<String, NoM
     }
 }
 
-/// Returns the program's fault for a refused plan: a line with the bridge's name, then the plan's own fault line. Returns `NoMemory` if
-/// memory ran out for the plan.
+/// Returns the program's fault for a refused plan: a line with the bridge's name, then the plan's fault line. Returns `NoMemory` if `fault`
+/// isn't a refusal or memory runs out.
 #[tactic(auto, unfolding(crate::specs::Networks::plan_lines))]
 fn plan_failure(alloc: Global, name: &str, fault: &Failure) -> Failure
     ensures { SaysPlan name.now fault.now result }
@@ -269,7 +269,7 @@ fn plan_failure(alloc: Global, name: &str, fault: &Failure) -> Failure
     }
 }
 
-/// Returns the accepted plan of a text, or the program's fault with the bridge's name.
+/// Returns the accepted plan of a text. For a refused plan, returns the program's fault with the name of the bridge, `name`.
 fn check_bridge_plan(alloc: Global, name: &str, text: &[u8]) -> Result<Accepted<Global>, Failure>
     ensures accepts { IfOk result (Accepts text.now) }
     ensures refused { IfErr result (RefusesPlanBy Global name.now text.now) }
@@ -284,7 +284,7 @@ fn check_bridge_plan(alloc: Global, name: &str, text: &[u8]) -> Result<Accepted<
     }
 }
 
-/// Reads the plan of a bridge. Its path is absolute, or relative to the folder of the network file.
+/// Reads the plan of a bridge of the network file at `path`. The plan's path is absolute, or relative to the folder of the network file.
 pub(crate) fn read_plan<F: ReadFiles>(
     alloc: Global,
     files: &mut F,
@@ -304,7 +304,7 @@ pub(crate) fn read_plan<F: ReadFiles>(
     }
 }
 
-/// Appends the accepted plan of a bridge to `plans`, or returns the fault of its file.
+/// Reads the plan of a bridge, and appends it to `plans`. Returns the fault of the plan's file if it can't be read or is refused.
 fn push_plan<F: ReadFiles>(
     alloc: Global,
     files: &mut F,
@@ -349,8 +349,8 @@ pub fn read_plans<F: ReadFiles>(
     Ok(plans)
 }
 
-/// Returns the paths of a network's files: the network file and the bridges' plans. `can_read_network_again` tests whether each of them can
-/// be read a second time.
+/// Returns the paths of a network's files: the network file and the bridges' plans. `can_read_network_again` tests whether each file can be
+/// read a second time.
 pub fn network_paths(
     alloc: Global,
     path: &str,
@@ -366,7 +366,7 @@ pub fn network_paths(
     Ok(paths)
 }
 
-/// Result of `net check` for an accepted network, from which the command's output is made.
+/// What `network_job` returns for an accepted network. `app_networks` makes the output of `net check` from it.
 #[derive(Drop)]
 pub struct NetworkOutput {
     /// Lines for standard output: numbers of bridges, links, streams and hops, and the delays of each stream.

@@ -1,4 +1,4 @@
-//! Explanations of a stream that isn't closed: an example of a stray frame, and remedies.
+//! Explanations of the fault `NotClosed`: a hop accepts stray frames. They show an example of a stray frame, and remedies.
 
 use crate::refusing::bridge_name;
 use crate::warning_lines::address_words;
@@ -16,14 +16,14 @@ use net_model::{
 };
 use std::alloc::{Allocator, Global};
 
-/// A stream that isn't closed, with the hop and the stray frames that the fault line names.
+/// The values of a fault `NotClosed`: the stream, its hop that accepts stray frames, and how the sending bridge passes them.
 #[derive(Clone, Copy)]
 struct OpenStream {
-    /// Number of the stream, from 1.
+    /// Number of the stream in the network file, from 1.
     stream: usize,
     /// Number of the hop in the stream, from 1.
     hop: usize,
-    /// Port of the hop.
+    /// Port of the hop's bridge on which the hop accepts stray frames.
     port: u8,
     /// Filter of the stray frames at the sending bridge, the bridge at the other end of the link, or `None` if no filter matches.
     filter: Option<u32>,
@@ -31,7 +31,7 @@ struct OpenStream {
     from: u8,
 }
 
-/// Returns the stream that the fault `NotClosed` names, or `None` for other faults.
+/// Returns the values of the fault `NotClosed`, or `None` for other faults.
 fn open_stream(refused: &RefusedNetwork<Global>) -> Option<OpenStream> {
     match refused.fault {
         NetworkFault::NotClosed {
@@ -52,8 +52,8 @@ fn open_stream(refused: &RefusedNetwork<Global>) -> Option<OpenStream> {
     }
 }
 
-/// Explains a stream that isn't closed: the hop, an example of a stray frame, and remedies. Returns `None` for other faults or without
-/// memory.
+/// Explains a stream that isn't closed: the hop, an example of a stray frame, and remedies. `explain_refusal` calls it. `None` for other
+/// faults or without memory.
 pub(crate) fn explain_open_stream(
     heap: Global,
     asked: NetworkText<'_>,
@@ -82,7 +82,7 @@ pub(crate) fn explain_open_stream(
     said.finish().ok()
 }
 
-/// Whether a filter of a bridge is a hop of one of these streams.
+/// Returns whether a filter of a bridge is a hop of one of these streams.
 fn is_hop<A: Allocator + Copy>(streams: &[Vec<StreamHop, A>], bridge: u16, filter: u32) -> bool {
     for hops in streams {
         for hop in hops {
@@ -94,7 +94,7 @@ fn is_hop<A: Allocator + Copy>(streams: &[Vec<StreamHop, A>], bridge: u16, filte
     false
 }
 
-/// Whether frames of a hop of the stream may arrive on this port. The port has a link, and at the link's other end a hop's frames can leave
+/// Returns whether frames of a hop of the stream may arrive on this port over its link. At the link's other end, a hop's frames can leave
 /// by the linked port.
 fn is_fed<A: Allocator + Copy>(
     plans: &[Accepted<A>],
@@ -121,7 +121,7 @@ fn is_fed<A: Allocator + Copy>(
     false
 }
 
-/// Whether the filter of one of these hops has the handle `handle`.
+/// Returns whether the filter of one of these hops has the handle `handle`; `None` stands for a filter without handle.
 fn is_handle_of_hop<A: Allocator + Copy>(
     plans: &[Accepted<A>],
     hops: &[StreamHop],
@@ -139,7 +139,7 @@ fn is_handle_of_hop<A: Allocator + Copy>(
     false
 }
 
-/// Whether a filter has a reachable queue at a port, so that its frames can leave by the port.
+/// Returns whether a filter has a reachable queue at a port, so that its frames can leave by the port.
 fn can_leave_by_port<A: Allocator + Copy>(plan: &Plan<A>, filter: &FilterPlan, port: u8) -> bool {
     let reach = filter_reach(plan, filter);
     match reach.ports.get(usize::from(port).saturating_sub(1)) {
@@ -148,8 +148,8 @@ fn can_leave_by_port<A: Allocator + Copy>(plan: &Plan<A>, filter: &FilterPlan, p
     }
 }
 
-/// Whether the stray frames' filter is likely a forgotten hop. It is protected and in no stream, and it has a hop's handle, or frames of
-/// the stream may arrive on its port.
+/// Returns whether the stray frames' filter is likely a forgotten hop. It is protected, in no stream, and has a hop's handle, or frames of
+/// the stream can arrive on its port.
 fn is_left_out(
     refused: &RefusedNetwork<Global>,
     hops: &[StreamHop],
@@ -170,7 +170,7 @@ fn is_left_out(
         || is_fed(plans, refused.links.as_slice(), hops, end.bridge, open.from)
 }
 
-/// Appends the remedy to add the forgotten hop to the stream, and the heading of the other remedies.
+/// Appends the remedy to add the stray frames' filter to the stream's `hops`, and the heading of the other remedies.
 fn put_left_out<A: Allocator + Copy>(
     said: &mut TextBuilder<Global>,
     bridges: &[BridgeRow<A>],
@@ -186,7 +186,7 @@ fn put_left_out<A: Allocator + Copy>(
     put_front(said, "Otherwise repair", bridges, end);
 }
 
-/// Appends the heading of the list of remedies: which bridge's plan to repair. `word` begins the sentence.
+/// Appends the heading of the list of remedies, which names the sending bridge's plan. `word` begins the sentence.
 fn put_front<A: Allocator + Copy>(
     said: &mut TextBuilder<Global>,
     word: &str,
@@ -200,7 +200,7 @@ fn put_front<A: Allocator + Copy>(
     );
 }
 
-/// Appends the position of the stream's key `hops` and a sentence with the hop that accepts stray frames.
+/// Appends the position of the stream's key `hops` in the file, and a sentence with the hop that accepts stray frames.
 fn put_open_hop(
     said: &mut TextBuilder<Global>,
     asked: NetworkText<'_>,
@@ -262,7 +262,8 @@ fn put_stray_frame<A: Allocator + Copy>(
     said.put_template(template, &[u64::from(filter), u64::from(end.port)], &[]);
 }
 
-/// Returns the VLAN in which the sender's port `from` classifies the example frame: the remedies name it. Returns 0 if the port is missing.
+/// Returns the VLAN in which the sending bridge classifies the example frame on port `from`. A remedy names this VLAN. Returns 0 if the
+/// port is missing.
 fn sender_vlan<A: Allocator + Copy>(sender: &Plan<A>, from: u8, tag: Option<Tag>) -> u16 {
     match (tag, sender.port(from)) {
         (Some(tag), _) if tag.vid != 0 => tag.vid,
@@ -271,7 +272,8 @@ fn sender_vlan<A: Allocator + Copy>(sender: &Plan<A>, from: u8, tag: Option<Tag>
     }
 }
 
-/// Returns the filter of the stream's first hop at the sending bridge, or `None` if the stream has no hop there.
+/// Returns the filter of the stream's first hop at the sending bridge. Returns `None` if the stream has no hop there or the plan lacks the
+/// filter.
 fn first_hop_filter<A: Allocator + Copy>(
     sender: &Plan<A>,
     hops: &[StreamHop],
@@ -285,8 +287,8 @@ fn first_hop_filter<A: Allocator + Copy>(
     None
 }
 
-/// Returns the handle of the stream's hop at the sender if its filter accepts every priority, otherwise `None`. Only then can an entry with
-/// this handle catch all stray frames.
+/// Returns the handle of the stream's hop at the sending bridge, if its filter matches every priority. Only then can an entry with this
+/// handle catch all stray frames.
 fn stream_handle<A: Allocator + Copy>(
     sender: &Plan<A>,
     hops: &[StreamHop],
@@ -299,8 +301,7 @@ fn stream_handle<A: Allocator + Copy>(
     }
 }
 
-/// Appends the remedies against stray frames. An entry with the stream's handle helps only if a filter of the stream accepts every
-/// priority.
+/// Appends the remedies against stray frames. The remedy with the stream's handle is left out if `stream_handle` finds none.
 fn put_remedies<A: Allocator + Copy>(
     said: &mut TextBuilder<Global>,
     sender: &Plan<A>,

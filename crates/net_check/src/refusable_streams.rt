@@ -1,4 +1,5 @@
-//! Explanations of streams whose frames may be refused: the first such hop, and the condition that fails there.
+//! Explanations of `refusable` streams, whose frames may be refused: the first hop that may refuse them, and the condition that fails
+//! there.
 ghost use Rattle.std.specs.Prelude.{◌≤◌, All, IfSome, length};
 ghost use Rattle.std.specs.Option.{ForSome};
 ghost use Rattle.net_file.specs.Rules.{IsTalker};
@@ -19,8 +20,8 @@ use net_latency::{
 use net_model::{Link, Network, StreamHop};
 use std::alloc::Global;
 
-/// Appends a sentence for each stream whose periodic talker's frames may be refused: the first hop that may refuse them, and the condition
-/// that fails.
+/// Appends a sentence for each periodic talker's stream whose frames may be refused: the first hop that may refuse them, and the failing
+/// condition.
 pub(crate) fn put_refusable_streams(
     alloc: Global,
     said: &mut TextBuilder<Global>,
@@ -51,7 +52,7 @@ pub(crate) fn put_refusable_streams(
     }
 }
 
-/// Appends a sentence about a stream if its frames may be refused. Finds the hop by computing delays for one hop, two hops, and so on.
+/// Appends a sentence about a stream if its frames may be refused. Finds the hop by computing delays up to hop 1, up to hop 2, and so on.
 fn put_stream(
     alloc: Global,
     said: &mut TextBuilder<Global>,
@@ -89,7 +90,7 @@ fn put_stream(
     }
 }
 
-/// Appends the beginning of a sentence: the stream, and its hop with index `place`.
+/// Appends the beginning of a sentence: the stream, and its hop with index `place`, from 0.
 fn put_start(
     said: &mut TextBuilder<Global>,
     file: &NetworkFile<Global>,
@@ -107,8 +108,8 @@ fn put_start(
     );
 }
 
-/// Returns the traffic of a talker at hop `place`, from the delays `before` up to the hop before. Returns `None` if its phases lie in two
-/// periods or no link leads to the hop.
+/// Returns a talker's traffic at hop `place`, from the delays `before` up to the hop before it. `None` if the phases lie in two periods, or
+/// are unknown.
 fn hop_traffic(
     links: &[Link],
     hops: &[StreamHop],
@@ -128,8 +129,8 @@ fn hop_traffic(
     traffic_with_phases(talker, phases.from, phases.to)
 }
 
-/// Returns the phases of arrivals over a link of `delay` ns, from the start of the earliest arrival's period, and the time in ns from the
-/// period of `done` to this period.
+/// Returns the phases of arrivals over a link of `delay` ns, if transmissions end in phases `done`. The second value is the start of the
+/// arrivals' period, in ns.
 pub(crate) fn phases_after_link(done: Phases, delay: u64, period: u64) -> (Phases, u128) {
     let start = u128::from(done.from).saturating_add(u128::from(delay));
     let end = u128::from(done.to).saturating_add(u128::from(delay));
@@ -142,7 +143,7 @@ pub(crate) fn phases_after_link(done: Phases, delay: u64, period: u64) -> (Phase
     (phases, whole)
 }
 
-/// Returns the traffic of a talker with the phases `from` to `to`, or `None` if they don't lie in one period.
+/// Returns the traffic of a talker if its frames arrive in the phases `from` to `to`. Returns `None` if the phases don't lie in one period.
 pub(crate) fn traffic_with_phases(talker: &Talker, from: u64, to: u64) -> Option<Traffic>
     requires { IsTalker talker.now }
     ensures { IfSome result IsTraffic }
@@ -159,7 +160,7 @@ pub(crate) fn traffic_with_phases(talker: &Talker, from: u64, to: u64) -> Option
     })
 }
 
-/// Returns the delay in ns of the first link between the bridges of hop `place` and the hop before. Returns `None` if there is no such
+/// Returns the delay in ns of the first link between the bridges of hop `place` and of the hop before it. Returns `None` without such a
 /// link.
 fn link_delay(links: &[Link], hops: &[StreamHop], place: usize) -> Option<u64> {
     let hop = hops.get(place)?.bridge;
@@ -173,8 +174,7 @@ fn link_delay(links: &[Link], hops: &[StreamHop], place: usize) -> Option<u64> {
     None
 }
 
-/// Whether each hop up to `place` has a link to the hop before it. Only then do the delays up to a hop determine the phases at the next
-/// one.
+/// Returns whether each hop up to index `place` has a link to the hop before it. Only then do delays determine the phases at the next hop.
 fn is_chain(links: &[Link], hops: &[StreamHop], place: usize) -> bool {
     for next in 1..=place {
         if link_delay(links, hops, next).is_none() {
@@ -184,7 +184,7 @@ fn is_chain(links: &[Link], hops: &[StreamHop], place: usize) -> bool {
     true
 }
 
-/// Whether a hop before index `place` is at this bridge. Delays are unknown if a stream crosses a bridge twice.
+/// Returns whether a hop before index `place` is at this bridge. Delays are unknown if a stream crosses a bridge twice.
 fn has_earlier_hop(hops: &[StreamHop], place: usize, bridge: u16) -> bool {
     for (k, hop) in hops.iter().enumerate() {
         if k < place && hop.bridge == bridge {
@@ -194,7 +194,7 @@ fn has_earlier_hop(hops: &[StreamHop], place: usize, bridge: u16) -> bool {
     false
 }
 
-/// Appends why frames may be refused at hop `place`: the first reason that applies, in the order of this function.
+/// Appends why frames may be refused at hop `place`: the first reason that applies, in the order of the tests below.
 fn put_hop(
     said: &mut TextBuilder<Global>,
     network: &Network<Global>,
@@ -239,8 +239,8 @@ fn put_hop(
     }
 }
 
-/// Appends the first failing condition for this traffic at a hop. If delays up to the hop are known (`has_figures`) and its filter passes
-/// the traffic, the hop may miss frames of the hop before.
+/// Appends the first condition that fails for this traffic at a hop. If delays are known (`has_figures`) and the filter passes the traffic,
+/// names the hop before.
 fn put_condition(
     said: &mut TextBuilder<Global>,
     plan: &Plan<Global>,

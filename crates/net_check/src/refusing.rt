@@ -1,4 +1,4 @@
-//! Fault lines of refused networks.
+//! Fault lines of refused networks. `check_network_file` returns them, and commands for networks print them.
 ghost use Rattle.std.specs.Prelude.{◌≡◌, IfOk, string_bytes};
 ghost use Rattle.bridge_text.specs.Growth.{HasGrown};
 ghost use Rattle.net_check.specs.Networks.{network_fault_line, hop_fault_text, link_fault_text, port_text, sender_text};
@@ -10,8 +10,8 @@ use net_file::BridgeRow;
 use net_model::NetworkFault;
 use std::alloc::Allocator;
 
-/// Returns the fault line of a network without line feed, for example `network refused: NotFed stream 1 hop 2`. Bridges have their names,
-/// filters and ports their numbers.
+/// Returns the fault line of a network without line feed, for example `network refused: NotFed stream 1 hop 2`. `check_network_file` calls
+/// it.
 pub fn network_fault_line<A: Allocator + Copy, B: Allocator + Copy>(
     alloc: A,
     bridges: &[BridgeRow<B>],
@@ -24,7 +24,7 @@ pub fn network_fault_line<A: Allocator + Copy, B: Allocator + Copy>(
     text.finish()
 }
 
-/// Writes the fault line of a network: fault, link or stream and hop, and the details of the fault.
+/// Writes the fault line of a network: the fault's name, the link or the stream and hop, and the details of the fault.
 fn put_network_fault<A: Allocator, B: Allocator + Copy>(
     text: &mut TextBuilder<A>,
     bridges: &[BridgeRow<B>],
@@ -100,7 +100,7 @@ fn put_port<A: Allocator, B: Allocator + Copy>(
     text.put_number(u64::from(port));
 }
 
-/// Writes the filter of the stray frames at the sender, or `none`, and the port on which they arrive there.
+/// Writes the number of the filter that sends stray frames, or `none`, and the sending bridge's port on which the frames arrive.
 fn put_sender<A: Allocator>(text: &mut TextBuilder<A>, filter: &Option<u32>, from: u8)
     ensures { HasGrown text.old (sender_text filter.now from) text.new }
 {
@@ -113,7 +113,7 @@ fn put_sender<A: Allocator>(text: &mut TextBuilder<A>, filter: &Option<u32>, fro
     text.put_number(u64::from(from));
 }
 
-/// Returns the name of the bridge with this index, or an empty text.
+/// Returns the name of the bridge with index `bridge`, or an empty text if it is missing. Lines about networks name bridges by it.
 pub(crate) fn bridge_name<'a, A: Allocator + Copy>(
     bridges: &'a [BridgeRow<A>],
     bridge: u16,

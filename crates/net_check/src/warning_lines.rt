@@ -1,4 +1,4 @@
-//! Warnings of an accepted network: frames that may loop, filters in no stream, and limits that fall along a stream.
+//! Warnings that need no delays: frames that may loop, filters in no stream, and limits that fall along a stream.
 ghost use Rattle.std.specs.Prelude.{◌≡◌, ◌<◌, ◌≤◌, ◌+◌, ◌++◌, All, IfOk, OnOk, flat_map, length, slice_get, string_bytes};
 ghost use Rattle.net_file.specs.Model as file;
 ghost use Rattle.net_check.specs.Telling as spec;
@@ -46,7 +46,7 @@ fn destination_words(heap: Global, destination: &Option<[u8; 6]>) -> Result<Stri
     }
 }
 
-/// Appends the line of frames that may loop, from the texts of its parts: VLAN, destination, bridge name and port.
+/// Appends the warning about frames that may loop, from the texts of its parts: VLAN, destination, bridge name and port.
 #[tactic(auto, unfolding(crate::specs::Telling::loop_words))]
 fn push_loop_words(
     text: &mut String,
@@ -79,7 +79,7 @@ fn push_loop<A: Allocator + Copy>(
     push_loop_words(text, vlan.as_str(), destination.as_str(), name, row.at.port)
 }
 
-/// Appends the warnings of all groups of frames that may loop.
+/// Appends a warning for each group of frames that may loop. `network_warnings` and `explain_loops` call it.
 pub(crate) fn push_loops<A: Allocator + Copy>(
     heap: Global,
     text: &mut String,
@@ -97,7 +97,7 @@ pub(crate) fn push_loops<A: Allocator + Copy>(
     Ok(())
 }
 
-/// Whether one of these streams has filter `filter` of the bridge with index `bridge` as a hop.
+/// Returns whether one of these streams has filter `filter` of the bridge with index `bridge` as a hop.
 fn has_hop<A: Allocator + Copy>(streams: &[StreamRow<A>], bridge: u16, filter: u32) -> bool
     ensures { result ≡ spec.has_hop streams.now bridge filter }
 {
@@ -109,14 +109,14 @@ fn has_hop<A: Allocator + Copy>(streams: &[StreamRow<A>], bridge: u16, filter: u
     false
 }
 
-/// Whether one of these hops is filter `filter` of the bridge with index `bridge`.
+/// Returns whether one of these hops is filter `filter` of the bridge with index `bridge`.
 fn is_hop(hops: &[(u16, u32)], bridge: u16, filter: u32) -> bool
     ensures { result ≡ spec.is_hop hops.now bridge filter }
 {
     hops.iter().any(|hop| hop.0 == bridge && hop.1 == filter)
 }
 
-/// Whether a port of a bridge has a link in the network file.
+/// Returns whether a port of a bridge has a link in the network file.
 fn has_link(links: &[LinkRow], bridge: u16, port: u8) -> bool
     ensures { result ≡ spec.has_link links.now bridge port }
 {
@@ -126,15 +126,15 @@ fn has_link(links: &[LinkRow], bridge: u16, port: u8) -> bool
     })
 }
 
-/// Whether one of these entries has this handle and is on a linked port.
+/// Returns whether one of these entries of bridge `bridge` has handle `handle` and is on a linked port.
 fn has_linked_entry(links: &[LinkRow], bridge: u16, entries: &[StreamEntry], handle: u32) -> bool
     ensures { result ≡ spec.has_linked_entry links.now bridge entries.now handle }
 {
     entries.iter().any(|entry| entry.handle == handle && has_link(links, bridge, entry.port))
 }
 
-/// Whether an entry of the plan has this handle and is on a linked port, so that frames can get the handle over a link. Returns false
-/// without a handle.
+/// Returns whether frames can get handle `handle` over a link: an entry of the plan has the handle and is on a linked port. False for
+/// `None`.
 fn is_entered_by_link<A: Allocator + Copy>(
     links: &[LinkRow],
     bridge: u16,
@@ -152,7 +152,8 @@ fn is_entered_by_link<A: Allocator + Copy>(
     }
 }
 
-/// Whether a filter is protected, its frames can arrive over a link, and it is a hop of no stream. Such a filter is likely a forgotten hop.
+/// Returns whether a filter is protected, its frames can arrive over a link, and it is a hop of no stream. Such a filter is likely a
+/// forgotten hop.
 fn is_unlisted<A: Allocator + Copy>(
     links: &[LinkRow],
     streams: &[StreamRow<A>],
@@ -168,7 +169,7 @@ fn is_unlisted<A: Allocator + Copy>(
     is_entered_by_link(links, bridge, plan, filter.1.handle) && !has_hop(streams, bridge, filter.0)
 }
 
-/// Appends the warning about a filter that is a hop of no stream, with its bridge's name.
+/// Appends the warning `in no stream` about filter `filter` of the bridge with name `name`.
 #[tactic(auto, unfolding(crate::specs::Telling::unlisted_words))]
 fn push_unlisted_line(text: &mut String, name: &str, filter: u32) -> Result<(), AllocError>
     ensures { OnOk result (string_bytes text.new ≡ string_bytes text.old ++ unlisted_words name.now filter) }
@@ -176,7 +177,7 @@ fn push_unlisted_line(text: &mut String, name: &str, filter: u32) -> Result<(), 
     write!(text, "in no stream: {name}.{filter}\n")
 }
 
-/// Appends the warning of a filter if it is in no stream and its frames can arrive over a link.
+/// Appends the warning `in no stream` about a filter of bridge `bridge`, if the filter is likely a forgotten hop (`is_unlisted`).
 fn push_unlisted_filter<A: Allocator + Copy>(
     text: &mut String,
     file: &NetworkFile<A>,
@@ -194,7 +195,7 @@ fn push_unlisted_filter<A: Allocator + Copy>(
     push_unlisted_line(text, name, filter.0)
 }
 
-/// Appends the warnings about a plan's filters that are hops of no stream.
+/// Appends the warnings about the filters of bridge `bridge` that are likely forgotten hops.
 fn push_unlisted_of_plan<A: Allocator + Copy>(
     text: &mut String,
     file: &NetworkFile<A>,
@@ -211,7 +212,7 @@ fn push_unlisted_of_plan<A: Allocator + Copy>(
     Ok(())
 }
 
-/// Appends the warnings about filters that are hops of no stream, plan by plan.
+/// Appends the warnings about filters that are likely forgotten hops, plan by plan.
 fn push_unlisted_filters<A: Allocator + Copy>(
     text: &mut String,
     file: &NetworkFile<A>,
@@ -240,7 +241,7 @@ fn filter_sdu<A: Allocator + Copy>(plan: &Plan<A>, number: u32) -> Option<u32>
     None
 }
 
-/// Returns the limit in octets (`max_sdu`) of a hop's filter. Returns `None` if the bridge or the filter is missing, or the filter has no
+/// Returns the limit in octets (`max_sdu`) of a hop's filter. Returns `None` if the plan or the filter is missing, or the filter has no
 /// limit.
 fn hop_sdu<A: Allocator + Copy>(plans: &[Accepted<A>], hop: (u16, u32)) -> Option<u32>
     ensures { result ≡ spec.hop_sdu plans.now hop }
@@ -251,7 +252,7 @@ fn hop_sdu<A: Allocator + Copy>(plans: &[Accepted<A>], hop: (u16, u32)) -> Optio
     }
 }
 
-/// Whether the second of two limits is less than the first. Returns false if one of them is `None`: no limit.
+/// Returns whether limit `b` is less than limit `a`, both in octets. Returns false if one of them is `None`, which means no limit.
 fn is_smaller_limit(a: Option<u32>, b: Option<u32>) -> bool
     ensures { result ≡ spec.is_smaller_limit a b }
 {
@@ -273,7 +274,8 @@ fn push_sdu_fall_line(text: &mut String, i: usize, k: usize) -> Result<(), Alloc
     write!(text, "max_sdu falls: stream {stream} hop {hop}\n")
 }
 
-/// Whether the second of two hops has a lower limit than the first, so that it passes only shorter frames.
+/// Returns whether hop `next` has a lower `max_sdu` than hop `before`. Then it refuses some frames that the earlier hop passes. False if a
+/// hop is missing.
 fn is_sdu_falling<A: Allocator + Copy>(
     plans: &[Accepted<A>],
     before: Option<(u16, u32)>,
@@ -297,7 +299,7 @@ fn hop_at_index(hops: &[(u16, u32)], k: usize) -> Option<(u16, u32)>
     if k < hops.len() { Some(hops[k]) } else { None }
 }
 
-/// Whether the hop after index `k` has a lower limit than the hop with index `k`.
+/// Returns whether the hop after index `k` has a lower `max_sdu` than the hop with index `k`.
 fn is_sdu_falling_at_index<A: Allocator + Copy>(
     plans: &[Accepted<A>],
     hops: &[(u16, u32)],
@@ -311,7 +313,7 @@ fn is_sdu_falling_at_index<A: Allocator + Copy>(
     is_sdu_falling(plans, before, next)
 }
 
-/// Appends the warning of the hop after index `k` if it has a lower limit than hop `k`.
+/// Appends the warning about the hop after index `k` of stream `i`, if it has a lower `max_sdu` than the hop with index `k`.
 fn push_sdu_fall<A: Allocator + Copy>(
     text: &mut String,
     plans: &[Accepted<A>],
@@ -330,7 +332,7 @@ fn push_sdu_fall<A: Allocator + Copy>(
     Ok(())
 }
 
-/// Appends the warnings of a stream's hops that have a lower `max_sdu` than the hop before.
+/// Appends the warnings about the hops of stream `i`, from 0, that have a lower `max_sdu` than the hop before.
 fn push_stream_sdu_falls<A: Allocator + Copy>(
     text: &mut String,
     plans: &[Accepted<A>],
@@ -367,7 +369,7 @@ fn push_sdu_falls<A: Allocator + Copy>(
     Ok(())
 }
 
-/// Appends the warnings about falling `max_sdu` of the network file's streams.
+/// Appends the warnings about falling `max_sdu` for all streams of the network file.
 fn push_file_sdu_falls<A: Allocator + Copy>(
     text: &mut String,
     file: &NetworkFile<A>,
@@ -378,8 +380,8 @@ fn push_file_sdu_falls<A: Allocator + Copy>(
     push_sdu_falls(text, plans, file.streams())
 }
 
-/// Returns the warnings of an accepted network. They name frames that may loop, protected filters in no stream, and hops with a lower limit
-/// than the hop before.
+/// Returns the warnings that need no delays: frames that may loop, protected filters in no stream, hops with a lower limit than the hop
+/// before. `all_warnings` calls it.
 pub(crate) fn network_warnings<A: Allocator + Copy>(
     alloc: A,
     heap: Global,

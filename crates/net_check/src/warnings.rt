@@ -1,4 +1,4 @@
-//! All warnings of an accepted network: frames that may loop, filters in no stream, and warnings of streams.
+//! All warnings of an accepted network, which `net check` and `net` print: those of `warning_lines`, then warnings about hops of streams.
 ghost use Rattle.std.specs.Prelude.{◌≡◌, ◌<◌, ◌≤◌, ◌++◌, All, IfOk, OnOk, Some, length, string_bytes, true};
 ghost use Rattle.net_latency.specs.Streams.{AreQueueBoundsOfPlans, stream_hop_value};
 ghost use Rattle.net_check.specs.Warnings as spec;
@@ -13,7 +13,8 @@ use net_latency::{QueueBound, bounds_of_bridge, can_others_enter, stream_hops};
 use net_model::{Network, StreamHop, find_plan};
 use std::alloc::{AllocError, Allocator, Global};
 
-/// Appends the warning that frames of other devices can arrive at hop `k` of stream `i` by a port of bridge `name`.
+/// Appends the warning `may also come in` about hop `k` of stream `i`, indexes from 0. Other devices' frames can arrive at port `port` of
+/// bridge `name`.
 #[tactic(auto, unfolding(crate::specs::Warnings::entering_line))]
 fn push_entering_line(
     text: &mut String,
@@ -34,7 +35,7 @@ fn push_entering_line(
     )
 }
 
-/// Appends the warning that a hop's frames have no reachable queue. Indexes count from 0.
+/// Appends the warning `leads nowhere` about hop `k` of stream `i`, both indexes from 0: its frames have no reachable queue.
 #[tactic(auto, unfolding(crate::specs::Warnings::nowhere_line))]
 fn push_nowhere_line(text: &mut String, i: usize, k: usize) -> Result<(), AllocError>
     requires stream { i < 1024 }
@@ -46,7 +47,7 @@ fn push_nowhere_line(text: &mut String, i: usize, k: usize) -> Result<(), AllocE
     write!(text, "leads nowhere: stream {stream} hop {hop}\n")
 }
 
-/// An accepted network and its file, which has the names of its bridges.
+/// An accepted network, and its network file, which has the names of the bridges. Warnings need both.
 #[derive(Clone, Copy)]
 pub(crate) struct Named<'a, A: Allocator + Copy> {
     file: &'a NetworkFile<A>,
@@ -54,7 +55,7 @@ pub(crate) struct Named<'a, A: Allocator + Copy> {
 }
 
 impl<'a, A: Allocator + Copy> Named<'a, A> {
-    /// Appends a warning if frames of other devices can get the handle of hop `k` of stream `i` at port `on`.
+    /// Appends the warning `may also come in` if frames of other devices can get the handle of hop `k` of stream `i` at port `on`.
     fn push_entering(
         &self,
         text: &mut String,
@@ -76,7 +77,7 @@ impl<'a, A: Allocator + Copy> Named<'a, A> {
         push_entering_line(text, i, k, name, on.number)
     }
 
-    /// Appends the warnings of all ports of a hop's bridge at which frames of other devices can get its handle.
+    /// Appends a warning for each port of the hop's bridge at which frames of other devices can get the hop's handle.
     fn push_entry_warnings(
         &self,
         text: &mut String,
@@ -98,8 +99,8 @@ impl<'a, A: Allocator + Copy> Named<'a, A> {
         Ok(())
     }
 
-    /// Appends the warnings `may also come in` for hop `k` of stream `i`, both indexes from 0, which has a periodic talker. Appends nothing if
-    /// the bridge is missing.
+    /// Appends the warnings `may also come in` about hop `k` of stream `i`, both indexes from 0. Only for periodic talkers. Appends nothing
+    /// if the plan is missing.
     fn push_entering_hop(
         &self,
         text: &mut String,
@@ -118,7 +119,8 @@ impl<'a, A: Allocator + Copy> Named<'a, A> {
         }
     }
 
-    /// Appends the warnings of a hop: entries for other devices if the talker is periodic, and no reachable queue.
+    /// Appends the warnings about hop `k` of stream `i`: ports where other devices' frames can enter, if the talker is periodic; no
+    /// reachable queue.
     fn push_hop(
         &self,
         text: &mut String,
@@ -139,7 +141,7 @@ impl<'a, A: Allocator + Copy> Named<'a, A> {
         push_nowhere(text, bounds, i, k, hop)
     }
 
-    /// Appends the warnings of all hops of a stream, in order.
+    /// Appends the warnings about all hops of stream `i`, in order. `periodic` is true if the stream has a periodic talker.
     fn push_hops(
         &self,
         text: &mut String,
@@ -161,8 +163,8 @@ impl<'a, A: Allocator + Copy> Named<'a, A> {
         Ok(())
     }
 
-    /// Appends the warnings of the hops of stream `i`. Hops without reachable queue always count; entries for other devices count only for
-    /// periodic talkers.
+    /// Appends the warnings about the hops of stream `i`, from 0. Ports where other devices' frames can enter count only for periodic
+    /// talkers.
     fn push_stream(
         &self,
         alloc: A,
@@ -206,7 +208,7 @@ impl<'a, A: Allocator + Copy> Named<'a, A> {
     }
 }
 
-/// Whether a hop's filter has a reachable queue. The delay bounds list each reachable queue, so without a bound the hop's frames can't
+/// Returns whether a hop's filter has a reachable queue. `bounds` has an item for each reachable queue; without one, the hop's frames can't
 /// leave the bridge.
 fn has_queue<A: Allocator + Copy>(bounds: &[Vec<QueueBound, A>], hop: StreamHop) -> bool
     ensures { result ≡ spec.has_queue bounds.now hop }
@@ -215,7 +217,7 @@ fn has_queue<A: Allocator + Copy>(bounds: &[Vec<QueueBound, A>], hop: StreamHop)
     rows.iter().any(|row| row.filter == hop.filter)
 }
 
-/// Appends a warning if the frames of hop `k` of stream `i` have no reachable queue.
+/// Appends the warning `leads nowhere` if the frames of hop `k` of stream `i` have no reachable queue.
 fn push_nowhere<A: Allocator + Copy>(
     text: &mut String,
     bounds: &[Vec<QueueBound, A>],
@@ -233,7 +235,7 @@ fn push_nowhere<A: Allocator + Copy>(
     push_nowhere_line(text, i, k)
 }
 
-/// Appends the warnings of a network's streams, after the warnings of `network_warnings`.
+/// Appends the warnings about the hops of the network's streams. `all_warnings` calls it after `network_warnings`.
 fn push_warnings<A: Allocator + Copy>(
     alloc: A,
     text: &mut String,
