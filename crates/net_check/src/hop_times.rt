@@ -52,7 +52,7 @@ struct HopArrival {
     phases: Phases,
     /// Time in ns from the start of the talker's period to the start of the period in which `phases` count.
     later: u128,
-    /// Sum of worst delays up to this arrival, in ns.
+    /// Sum of the hops' worst delays and of link delays before this arrival, in ns.
     worst: u128,
     /// Sum of the longest frame's transmission times and of link delays up to this arrival, in ns.
     shortest: u128,

@@ -18,7 +18,7 @@ use Rattle.net_report.specs.SourceFrames.{source_frame}
 abbrev pub saturating_increment : ℕ → ℕ
 saturating_increment n = if nat_lt n (2 ^ 64 - 1) then n + 1 else n
 
--- The counts of a first-hop frame, with one added to the count of this fate.
+-- The counts `t` of a first-hop frame, with one added to the count of this fate.
 abbrev pub add_fate : CopyCounts → CopyFate → CopyCounts
 add_fate t fate.Delivered = record t { delivered = saturating_increment t.delivered }
 add_fate t fate.Refused = record t { refused = saturating_increment t.refused }
@@ -35,16 +35,16 @@ set_counts_if_any ts k f (Some t) = slice_set ts k (add_fate t f)
 abbrev pub count_at_index : List CopyCounts → ℕ → CopyFate → List CopyCounts
 count_at_index ts k f = set_counts_if_any ts k f (slice_get ts k)
 
--- The list of counts with one more for a first-hop frame, if the frame is known.
+-- The list of counts with one more of fate `f` for first-hop frame `r`; unchanged if the frame is unknown or has number 0.
 abbrev pub count_frame : CopyFate → List CopyCounts → Option SourceFrame → List CopyCounts
 count_frame f ts None = ts
 count_frame f ts (Some r) = if nat_eq r.number 0 then ts else count_at_index ts (r.number - 1) f
 
--- The fate of a copy that left: forwarded to a hop, or delivered.
+-- The fate of a copy that left: forwarded if its port leads to a hop, otherwise delivered.
 abbrev pub departure_fate : List Bool → Departure → CopyFate
 departure_fate ways d = if is_onward ways d.port then fate.Forwarded else fate.Delivered
 
--- The counts after a copy left: one more for its first-hop frame.
+-- The counts `ts` after a copy left: one more for its first-hop frame. `roots` has the source of each frame of the hop.
 abbrev pub with_departure : List Bool → List (Option SourceFrame) → List CopyCounts → Departure → List CopyCounts
 with_departure ways roots ts d = count_frame (departure_fate ways d) ts (source_frame roots d.own)
 
@@ -78,20 +78,21 @@ with_arrivals ts roots = fold (count_frame fate.Arrived) ts roots
 abbrev pub with_view : {A : Type 0} → List Bool → List (Option SourceFrame) → List CopyCounts → View A → List CopyCounts
 with_view ways roots ts v = with_verdicts roots 1 (with_drops roots (with_departures ways roots ts v.departures.items) v.drops.items) v.verdicts.items
 
--- The counts with everything of one hop. The flag is true for the first hop, whose arrivals don't count, because no hop
--- sent them.
+-- The counts `ts` plus everything that record `v` of one hop reports. The flag is true for the first hop, whose arrivals don't count,
+-- because no hop sent them.
 abbrev pub with_hop : {A : Type 0} → Bool → List Bool → List (Option SourceFrame) → List CopyCounts → View A → List CopyCounts
 with_hop true ways roots ts v = with_view ways roots ts v
 with_hop false ways roots ts v = with_arrivals (with_view ways roots ts v) roots
 
--- Holds if `us` has the counts of `ts` after the hops in the list. `first` is true if the list begins with the stream's first hop.
+-- Holds if `us` are the counts `ts` plus those of the hops in the last list. `first` is true if this list begins with the stream's first
+-- hop.
 abbrev pub AreCounted : {A : Type 0} → List Link → List (HopRun A) → Bool → List (HopRun A) → List (Vec (Option SourceFrame) A) → List CopyCounts → List CopyCounts → Type 0
 AreCounted links hops first [] known ts us = us ≡ ts
 AreCounted links hops first (h ∷ hs) [] ts us = us ≡ ts
 AreCounted links hops first (h ∷ hs) (k ∷ ks) ts us =
     (ways : List Bool) × AreOnwardPorts links hops h.bridge ways × AreCounted links hops false hs ks (with_hop first ways k.items ts h.view.now) us
 
--- Number of frames that arrived at the first hop.
+-- Number of frames that arrived at the first hop; 0 without hops.
 abbrev pub frame_count : {A : Type 0} → List (HopRun A) → ℕ
 frame_count [] = 0
 frame_count (h ∷ hs) = length h.view.now.origins.items

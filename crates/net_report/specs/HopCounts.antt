@@ -14,7 +14,7 @@ use Rattle.net_report.specs.declared.sources.SourceFrame.{SourceFrame}
 use Rattle.net_report.specs.Hops.{is_onward}
 use Rattle.net_report.specs.SourceFrames.{source_frame}
 
--- True if a verdict is `Pass`: the filter accepted the frame.
+-- True if a verdict is `Pass`: the filter passed the frame.
 abbrev pub is_pass : Verdict → Bool
 is_pass (verdict.Pass ipv eligible) = true
 is_pass v = false
@@ -24,7 +24,7 @@ abbrev pub is_blocked : Verdict → Bool
 is_blocked verdict.Blocked = true
 is_blocked v = false
 
--- True if the frame's service data unit is above the filter's maximum.
+-- True if a frame was refused because its service data unit is above the filter's maximum.
 abbrev pub is_oversize : Verdict → Bool
 is_oversize verdict.Oversize = true
 is_oversize v = false
@@ -45,22 +45,22 @@ abbrev pub is_shut_octets : Verdict → Bool
 is_shut_octets verdict.ShutByOctets = true
 is_shut_octets v = false
 
--- True if the frame has more octets than are left in the interval.
+-- True if a frame was refused because it has more octets than are left in the stream gate's interval.
 abbrev pub is_octets_exceeded : Verdict → Bool
 is_octets_exceeded verdict.OctetsExceeded = true
 is_octets_exceeded v = false
 
--- True if the meter refused the frame as red.
+-- True if a frame was refused because the meter coloured it red.
 abbrev pub is_red : Verdict → Bool
 is_red verdict.Red = true
 is_red v = false
 
--- True if the meter colours the frame yellow, and drops yellow frames.
+-- True if a frame was refused because the meter coloured it yellow, and drops yellow frames.
 abbrev pub is_yellow_dropped : Verdict → Bool
 is_yellow_dropped verdict.YellowDropped = true
 is_yellow_dropped v = false
 
--- True if a copy is dropped because its queue is full.
+-- True if the reason for which a copy was dropped is a full queue.
 abbrev pub is_full_queue : Refusal → Bool
 is_full_queue refusal.Full = true
 is_full_queue refusal.NeverFits = false
@@ -94,7 +94,7 @@ counts_by_ports ways v = record {
   never = count_by never_fits v.drops.items;
 }
 
--- The delay of a delivered copy as a list; empty if its source is unknown.
+-- The delay of a copy since its frame's arrival at the first hop, as a list; empty if the source is unknown.
 abbrev pub delay_if_known : Departure → Option SourceFrame → List ℕ
 delay_if_known d None = []
 delay_if_known d (Some r) = (d.done - r.came) ∷ []

@@ -17,9 +17,11 @@ pub record Trace : Type 0 where
   pub origins : List Origin
   pub departures : List Departure
 
+-- The part of hop `h` that the search uses.
 abbrev pub trace_of : {A : Type 0} → HopRun A → Trace
 trace_of h = record { bridge = h.bridge; origins = h.view.now.origins.items; departures = h.view.now.departures.items }
 
+-- The parts of all hops that the search uses.
 abbrev pub traces : {A : Type 0} → List (HopRun A) → List Trace
 traces hops = map trace_of hops
 
@@ -44,11 +46,11 @@ abbrev pub paired : Sender → ℕ → ℕ → List (List (Option SourceFrame)) 
 paired s i q all (Some h) (Some g) (Some mine) (Some others) = if nat_eq g.bridge s.from.bridge then slice_set all i (traced_list s g.departures others q h.origins mine) else all
 paired s i q all _ _ _ _ = all
 
--- The sources after tracing from hop `j` to port `q` of hop `i`.
+-- The sources after tracing frames of hop `i` on port `q`, whose sender is `s`, to copies of hop `j`.
 unfoldable pub pair_step : List Trace → Sender → ℕ → ℕ → ℕ → List (List (Option SourceFrame)) → List (List (Option SourceFrame))
 pair_step ts s i q j all = paired s i q all (slice_get ts i) (slice_get ts j) (slice_get all i) (slice_get all j)
 
--- The sources after tracing from each hop to port `q` of hop `i`.
+-- The sources after tracing frames of hop `i` on port `q`, whose sender is `s`, to copies of each hop.
 abbrev pub sender_step : List Trace → Sender → ℕ → ℕ → List (List (Option SourceFrame)) → List (List (Option SourceFrame))
 sender_step ts s i q all = upto (pair_step ts s i q) (length ts) all
 

@@ -27,7 +27,7 @@ flatten (Some r) = r
 abbrev pub source_frame : List (Option SourceFrame) → ℕ → Option SourceFrame
 source_frame roots n = if nat_eq n 0 then None else flatten (slice_get roots (n - 1))
 
--- The source of the first copy, if it arrives over the link at time `at`.
+-- The source of the first copy in the list if the copy arrives, `delay` ns after its end, exactly at time `at`; otherwise `None`.
 abbrev pub source_over_link : List (Option SourceFrame) → ℕ → ℕ → List Departure → Option SourceFrame
 source_over_link roots delay at [] = None
 source_over_link roots delay at (d ∷ ds) = if nat_eq (d.done + delay) at then source_frame roots d.own else None
@@ -106,7 +106,7 @@ abbrev pub IsTracedByFrame : Sender → List Departure → List (Option SourceFr
 IsTracedByFrame s sent sent_roots q origins old new = (k : ℕ) (o : Origin) (x y : Option SourceFrame) → slice_get origins k ≡ Some o → slice_get old k ≡ Some x → slice_get new k ≡ Some y
     → y ≡ source_after_tracing s sent sent_roots q o x
 
--- Holds if all frames of a hop were traced.
+-- Holds if `new` has the source after tracing of each frame that has an item in `old` and in `origins`, and no other items.
 pub record AreTraced (s : Sender) (sent : List Departure) (sent_roots : List (Option SourceFrame)) (q : ℕ) (origins : List Origin) (old new : List (Option SourceFrame)) : Type 0 where
   pub within : length new ≤ length old
   pub came : length new ≤ length origins
@@ -121,11 +121,11 @@ AddsNoSource old new = (k : ℕ) (y : Option SourceFrame) → slice_get old k �
 abbrev pub IsExhausted : Sender → List Departure → List (Option SourceFrame) → ℕ → List Origin → List (Option SourceFrame) → Type 0
 IsExhausted s sent sent_roots q origins roots = (k : ℕ) (o : Origin) (x : Option SourceFrame) → slice_get origins k ≡ Some o → slice_get roots k ≡ Some x → source_after_tracing s sent sent_roots q o x ≡ x
 
--- Holds if each frame in the list is its own source.
+-- Holds if each item of `roots` is the frame with its index, as its own source.
 abbrev pub AreOwnSources : List Origin → List (Option SourceFrame) → Type 0
 AreOwnSources origins roots = (k : ℕ) (x : Option SourceFrame) → slice_get roots k ≡ Some x → (o : Origin) × (slice_get origins k ≡ Some o) × (x ≡ Some (record { number = k + 1; came = o.at }))
 
--- Holds if each frame of the hop is its own source.
+-- Holds if `roots` has an item for each of these frames: the frame itself, as its own source.
 pub record AreFirstHopSources (origins : List Origin) (roots : List (Option SourceFrame)) : Type 0 where
   pub many : length roots ≡ length origins
   pub each : AreOwnSources origins roots
@@ -157,7 +157,7 @@ AreExhausted links hops all = (i q : ℕ) → i < length hops → 1 ≤ q → q 
 abbrev pub IsSenderOfPort : {A : Type 0} → List Link → List (HopRun A) → ℕ → ℕ → Sender → Type 0
 IsSenderOfPort {A} links hops place q s = (h : HopRun A) → slice_get hops place ≡ Some h → sender (map link_value links) h.bridge q ≡ Some s
 
--- Holds if the list has an entry for each frame of a hop, and no source is known.
+-- Holds if the list has an item for each frame of a hop, and no source is known.
 pub record AreOpen (origins : List Origin) (roots : List (Option SourceFrame)) : Type 0 where
   pub many : length roots ≡ length origins
   pub unknown : AreUnknown roots
@@ -171,13 +171,12 @@ AreInitialSourcesOfHop false origins roots = AreOpen origins roots
 abbrev pub AreInitialSources : {A : Type 0} → List (HopRun A) → List (Vec (Option SourceFrame) A) → Type 0
 AreInitialSources {A} hops all = (i k : ℕ) (known : Vec (Option SourceFrame) A) (r : SourceFrame) → slice_get all i ≡ Some known → slice_get known.items k ≡ Some (Some r) → IsFirstHopFrame hops i k r
 
--- Holds if the lists have an entry for each frame of each hop.
+-- Holds if the lists have an item for each frame of each hop.
 abbrev pub HaveEach : {A : Type 0} → List (HopRun A) → List (Vec (Option SourceFrame) A) → Type 0
 HaveEach {A} hops all = (i : ℕ) (h : HopRun A) (known : Vec (Option SourceFrame) A) → slice_get hops i ≡ Some h → slice_get all i ≡ Some known
     → length known.items ≡ length h.view.now.origins.items
 
--- Holds if each known source is the frame's source, each first-hop frame is its own source, and each frame has an entry
--- in `all`.
+-- Holds if each known source is the frame's source, each first-hop frame is its own source, and `all` has an item for each frame.
 pub record AreSound {A : Type 0} (links : List Link) (hops : List (HopRun A)) (all : List (Vec (Option SourceFrame) A)) : Type 0 where
   pub from : HaveSources links hops all
   pub first : AreFirstHopFramesKnown hops all

@@ -13,7 +13,7 @@ use bridge_semantics::{Departure, StoredDeparture, StoredDrop, StoredVerdict, Vi
 use net_model::Link;
 use std::alloc::Allocator;
 
-/// Fate of a copy, or of a frame at a hop.
+/// Fate of a frame's copy, or of a frame at a hop. `count_frame` counts it for the first-hop frame from which the copy stems.
 #[derive(Clone, Copy)]
 pub enum CopyFate {
     /// The copy left by a port without next hop: an open port, or a link to a bridge without a hop of the stream.
@@ -33,7 +33,7 @@ fn saturating_increment(count: u64) -> u64
     if count < u64::MAX { count + 1 } else { count }
 }
 
-/// Returns the counts of a first-hop frame, with one added to the count of this fate.
+/// Returns the counts `tally` of a first-hop frame, with one added to the count of fate `fate`.
 fn add_fate(tally: CopyCounts, fate: CopyFate) -> CopyCounts
     ensures { result ≡ spec.add_fate tally fate }
 {
@@ -71,7 +71,7 @@ fn add_fate(tally: CopyCounts, fate: CopyFate) -> CopyCounts
     }
 }
 
-/// Counts a copy or frame with this fate: adds one to the matching count of `tallies[place]`. Does nothing if the index is too large.
+/// Counts one copy or frame with fate `fate` for the first-hop frame with index `place`. Does nothing if `tallies` has no such index.
 fn count_at_index(tallies: &mut [CopyCounts], place: usize, fate: CopyFate)
     ensures { tallies.new ≡ spec.count_at_index tallies.old place fate }
 {
@@ -80,7 +80,8 @@ fn count_at_index(tallies: &mut [CopyCounts], place: usize, fate: CopyFate)
     }
 }
 
-/// Counts a copy or frame with this fate for its source, the first-hop frame `root`. Does nothing if the source is unknown (`None`).
+/// Counts one copy or frame with fate `fate` for its source, the first-hop frame `root`. Does nothing if the source is unknown (`None`) or
+/// has number 0.
 fn count_frame(tallies: &mut [CopyCounts], root: Option<SourceFrame>, fate: CopyFate)
     ensures { tallies.new ≡ spec.count_frame fate tallies.old root }
 {
@@ -93,7 +94,7 @@ fn count_frame(tallies: &mut [CopyCounts], root: Option<SourceFrame>, fate: Copy
     count_at_index(tallies, (root.number - 1) as usize, fate);
 }
 
-/// Returns the fate of a copy that left: `Forwarded` if its port leads to a hop, otherwise `Delivered`.
+/// Returns the fate of a copy that left: `Forwarded` if its port leads to a bridge with a hop of the stream, otherwise `Delivered`.
 fn departure_fate(ways: &[bool], departure: &Departure) -> CopyFate
     ensures { result ≡ spec.departure_fate ways.now departure.now }
 {
@@ -123,7 +124,8 @@ fn count_departures(
     }
 }
 
-/// Counts the copies that a hop's ports dropped, each for its first-hop frame.
+/// Counts the copies that a hop's ports dropped as `Refused`, each for its first-hop frame. `roots` has the source of each frame of the
+/// hop.
 fn count_drops(tallies: &mut [CopyCounts], roots: &[Option<SourceFrame>], drops: &[StoredDrop])
     ensures { tallies.new ≡ spec.with_drops roots.now tallies.old drops.now }
 {
@@ -136,7 +138,7 @@ fn count_drops(tallies: &mut [CopyCounts], roots: &[Option<SourceFrame>], drops:
     }
 }
 
-/// Counts a frame as `Refused` for its first-hop frame if its verdict isn't `Pass`.
+/// Counts a frame as `Refused` for its first-hop frame `root`, unless its verdict is `Pass`.
 fn count_verdict(tallies: &mut [CopyCounts], root: Option<SourceFrame>, verdict: Verdict)
     ensures { tallies.new ≡ spec.with_verdict tallies.old root verdict }
 {
@@ -145,7 +147,8 @@ fn count_verdict(tallies: &mut [CopyCounts], root: Option<SourceFrame>, verdict:
     }
 }
 
-/// Counts the frames that a hop's filter refused, each for its first-hop frame. Frames are numbered from 1.
+/// Counts the frames that a hop's filter refused, each for its first-hop frame. Verdicts and `roots` are in the order of the hop's frames,
+/// numbered from 1.
 fn count_verdicts(
     tallies: &mut [CopyCounts],
     roots: &[Option<SourceFrame>],
@@ -162,7 +165,7 @@ fn count_verdicts(
     }
 }
 
-/// Counts the frames that arrived at a later hop than the first. `roots` has the source of each of them.
+/// Counts the frames that arrived at a later hop than the first as `Arrived`. `roots` has the source of each of these frames.
 fn count_arrivals(tallies: &mut [CopyCounts], roots: &[Option<SourceFrame>])
     ensures { tallies.new ≡ spec.with_arrivals tallies.old roots.now }
 {
@@ -171,7 +174,7 @@ fn count_arrivals(tallies: &mut [CopyCounts], roots: &[Option<SourceFrame>])
     }
 }
 
-/// Counts everything that a hop's record reports: copies that left, dropped copies and refused frames.
+/// Counts everything that a hop's record reports: copies that left, dropped copies and refused frames, each for its first-hop frame.
 fn count_hop_record<A: Allocator>(
     tallies: &mut [CopyCounts],
     roots: &[Option<SourceFrame>],
@@ -186,7 +189,7 @@ fn count_hop_record<A: Allocator>(
 }
 
 /// Returns the number of frames that arrived at the first hop, or 0 for a stream without hops. `count_copies` makes one item for each of
-/// them.
+/// these frames.
 fn frame_count<A: Allocator>(hops: &[HopRun<'_, A>]) -> usize
     ensures { result ≡ spec.frame_count hops.now }
 {
@@ -212,7 +215,8 @@ fn zero_counts<A: Allocator + Copy>(alloc: A, count: usize) -> Result<Vec<CopyCo
     Ok(Vec::from_elem(alloc, none, count)?)
 }
 
-/// Counts the copies and frames of a hop. `roots` has the source of each of its frames. Arrivals count only at later hops.
+/// Counts the copies and frames of hop `hop`, each for its first-hop frame. `roots` has the source of each of its frames. Arrivals count
+/// only at later hops than the first.
 fn count_hop<A: Allocator + Copy>(
     alloc: A,
     links: &[Link],
@@ -234,7 +238,7 @@ fn count_hop<A: Allocator + Copy>(
     Ok(())
 }
 
-/// Counts the copies and frames of all hops. `all` has the source of each frame of each hop.
+/// Counts the copies and frames of all hops. `all` has the source of each frame of each hop. Hops without item in `all` don't count.
 fn count_hops<A: Allocator + Copy>(
     alloc: A,
     links: &[Link],
@@ -261,8 +265,8 @@ fn count_hops<A: Allocator + Copy>(
     Ok(())
 }
 
-/// Returns for each first-hop frame the numbers of copies that were delivered, were refused or dropped, were sent to a bridge with a hop,
-/// and arrived at a hop. `all` has the source frames.
+/// Returns the counts of each first-hop frame's copies over all hops. `all` has the source of each frame of each hop. The tables and the
+/// lines about lost frames use the counts.
 pub fn count_copies<A: Allocator + Copy>(
     alloc: A,
     links: &[Link],
@@ -298,14 +302,14 @@ impl CopyCounts {
     ghost use Rattle.std.specs.Prelude.{◌≡◌};
     ghost use Rattle.net_report.specs.CopyCounts as fates;
 
-    /// Returns the number of astray copies: they were sent to a bridge with a hop, but no hop there accepted them.
+    /// Returns the number of astray copies: copies that were sent to a bridge with a hop, but that no hop there accepted.
     pub fn astray(&self) -> u64
         ensures { result ≡ fates.astray self.now }
     {
         self.sent_on.saturating_sub(self.taken)
     }
 
-    /// Whether a copy of the frame was delivered, and none was refused, dropped or astray.
+    /// Returns whether a copy of the frame was delivered, and none was refused, dropped or astray.
     pub fn is_delivered(&self) -> bool
         ensures { result ≡ fates.is_delivered self.now }
     {

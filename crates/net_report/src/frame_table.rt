@@ -1,4 +1,4 @@
-//! The table of frames: the fate of each frame of a stream at each hop.
+//! The table `frames.csv` of a network run: the fate of each frame of a stream at each hop. `write_stream` writes its rows.
 ghost use Rattle.std.specs.Prelude.{◌≡◌, ◌++◌, IfOk, codes, string_bytes};
 ghost use Rattle.bridge_text.specs.Growth.{HasGrown};
 ghost use Rattle.net_report.specs.FrameTable as spec;
@@ -35,7 +35,7 @@ fn put_source_frame<A: Allocator>(text: &mut TextBuilder<A>, root: Option<Source
     }
 }
 
-/// Writes the beginning of a row of `frames.csv`, up to the column `at`: stream, hop, source frame and arrival time at this hop.
+/// Writes the beginning of a row of `frames.csv`: stream, hop, source frame, and the arrival time at this hop in ns.
 fn put_line_start<A: Allocator>(
     text: &mut TextBuilder<A>,
     stream: &str,
@@ -53,7 +53,7 @@ fn put_line_start<A: Allocator>(
     put_number_with_suffix(text, at, ",");
 }
 
-/// Writes the `frames.csv` row of a refused frame, with the verdict as its fate.
+/// Writes the `frames.csv` row of a refused frame, with the verdict as its fate. `at` is the arrival time at this hop in ns.
 fn put_refused<A: Allocator>(
     text: &mut TextBuilder<A>,
     stream: &str,
@@ -69,7 +69,8 @@ fn put_refused<A: Allocator>(
     text.put(",,,,\n");
 }
 
-/// Writes the `frames.csv` row of a dropped copy, with the reason of the drop as its fate.
+/// Writes the `frames.csv` row of a dropped copy, with the reason of the drop as its fate. `at` is the frame's arrival time at this hop in
+/// ns.
 fn put_drop<A: Allocator>(
     text: &mut TextBuilder<A>,
     stream: &str,
@@ -86,8 +87,8 @@ fn put_drop<A: Allocator>(
     put_number_with_suffix(text, dropped.port as u64, ",,,\n");
 }
 
-/// Writes the delay of a copy since its arrival at the first hop, and the end of the row. The field is empty if the source frame is
-/// unknown.
+/// Writes the delay in ns of a copy from its frame's arrival at the first hop to `done`, and ends the row. The field is empty if the source
+/// is unknown.
 fn put_delay<A: Allocator>(text: &mut TextBuilder<A>, done: u64, root: Option<SourceFrame>)
     ensures { HasGrown text.old (spec.delay_word done root ++ codes "\n") text.new }
 {
@@ -97,14 +98,14 @@ fn put_delay<A: Allocator>(text: &mut TextBuilder<A>, done: u64, root: Option<So
     }
 }
 
-/// Returns the fate of a copy that left: `sent` if its port leads to a hop (`on`), otherwise `delivered`.
+/// Returns the word for the fate of a copy that left: `sent` if its port leads to a hop (`on`), otherwise `delivered`.
 fn departure_word(on: bool) -> &'static str
     ensures { result.now ≡ spec.departure_word on }
 {
     if on { "sent" } else { "delivered" }
 }
 
-/// Writes the `frames.csv` row of a copy that left. `on` is true if its port leads to a hop.
+/// Writes the `frames.csv` row of a copy that left. `on` is true if its port leads to a hop; `at` is the frame's arrival time at this hop.
 fn put_departure<A: Allocator>(
     text: &mut TextBuilder<A>,
     stream: &str,
@@ -125,7 +126,7 @@ fn put_departure<A: Allocator>(
     put_delay(text, departure.done, root);
 }
 
-/// Writes the `frames.csv` row of a frame if it was refused.
+/// Writes the `frames.csv` row of a frame that arrived at time `at`, if it was refused. Passed frames get rows by their copies.
 fn put_verdict<A: Allocator>(
     text: &mut TextBuilder<A>,
     stream: &str,
@@ -169,7 +170,7 @@ fn put_verdicts<A: Allocator>(
     }
 }
 
-/// Writes the rows of the copies that a hop dropped.
+/// Writes the `frames.csv` rows of the copies that a hop dropped. `roots` and `origins` have source and arrival of each frame of the hop.
 fn put_drops<A: Allocator>(
     text: &mut TextBuilder<A>,
     stream: &str,
@@ -192,7 +193,7 @@ fn put_drops<A: Allocator>(
     }
 }
 
-/// Writes the rows of the copies that left a hop. `ways` has for ports 1 to 16 whether the port leads to a hop.
+/// Writes the `frames.csv` rows of the copies that left a hop. `ways` has for ports 1 to 16 whether the port leads to a hop.
 fn put_departures<A: Allocator>(
     text: &mut TextBuilder<A>,
     stream: &str,
@@ -218,7 +219,7 @@ fn put_departures<A: Allocator>(
     }
 }
 
-/// Writes the rows of a hop's record to `frames.csv`: refused frames, dropped copies, then copies that left.
+/// Writes the `frames.csv` rows of a hop's record `view`: refused frames, dropped copies, then copies that left. `rows_of_hop` calls it.
 pub(crate) fn put_hop_lines<A: Allocator + Copy>(
     text: &mut TextBuilder<A>,
     stream: &str,
@@ -242,7 +243,7 @@ pub(crate) fn put_hop_lines<A: Allocator + Copy>(
     );
 }
 
-/// Returns the rows of a hop: refused frames, dropped copies, then copies that left, each in the order of the run.
+/// Returns the `frames.csv` rows of hop `run`: refused frames, dropped copies, then copies that left, each in the order of the run.
 pub fn frame_lines<A: Allocator + Copy>(
     alloc: A,
     links: &[Link],

@@ -1,4 +1,4 @@
-//! Counts of frames and copies at one hop of a stream, and delays of its copies.
+//! Counts of frames and copies at one hop of a stream, and delays of its copies, for `streams.csv` and the lines about lost frames.
 ghost use Rattle.std.specs.Prelude.{◌≡◌, ◌++◌, Bool, List, count_by, IfOk, OnOk};
 ghost use Rattle.net_report.specs.Hops.{AreOnwardPorts};
 ghost use Rattle.net_report.specs.HopCounts as spec;
@@ -16,7 +16,7 @@ use bridge_semantics::{
 use net_model::Link;
 use std::alloc::Allocator;
 
-/// Whether a verdict is `Pass`: the filter accepted the frame.
+/// Returns whether a verdict is `Pass`: the filter passed the frame.
 pub(crate) fn is_pass(verdict: Verdict) -> bool
     ensures { result ≡ spec.is_pass verdict }
 {
@@ -40,84 +40,84 @@ pub struct HopCounts {
     pub never: u64,
 }
 
-/// Whether a frame was refused as `Blocked`. Each of the next functions tests another cause of a refusal.
+/// Returns whether a frame was refused as `Blocked`: an earlier oversize frame had blocked the filter.
 fn is_blocked(verdict: &Verdict) -> bool
     ensures { result ≡ spec.is_blocked verdict.now }
 {
     matches!(*verdict, Verdict::Blocked)
 }
 
-/// Whether a frame was refused as `Oversize`.
+/// Returns whether a frame was refused as `Oversize`: its SDU was above the filter's maximum.
 fn is_oversize(verdict: &Verdict) -> bool
     ensures { result ≡ spec.is_oversize verdict.now }
 {
     matches!(*verdict, Verdict::Oversize)
 }
 
-/// Whether a frame was refused as `GateClosed`.
+/// Returns whether a frame was refused as `GateClosed`: the stream gate was closed when it arrived.
 fn is_gate_closed(verdict: &Verdict) -> bool
     ensures { result ≡ spec.is_gate_closed verdict.now }
 {
     matches!(*verdict, Verdict::GateClosed)
 }
 
-/// Whether a frame was refused as `ShutByRx`.
+/// Returns whether a frame was refused as `ShutByRx`: an earlier frame, which arrived while the stream gate was closed, had shut the gate.
 fn is_shut_rx(verdict: &Verdict) -> bool
     ensures { result ≡ spec.is_shut_rx verdict.now }
 {
     matches!(*verdict, Verdict::ShutByRx)
 }
 
-/// Whether a frame was refused as `ShutByOctets`.
+/// Returns whether a frame was refused as `ShutByOctets`: an earlier frame with too many octets had shut the stream gate.
 fn is_shut_octets(verdict: &Verdict) -> bool
     ensures { result ≡ spec.is_shut_octets verdict.now }
 {
     matches!(*verdict, Verdict::ShutByOctets)
 }
 
-/// Whether a frame was refused as `OctetsExceeded`.
+/// Returns whether a frame was refused as `OctetsExceeded`: it had more octets than were left in the stream gate's interval.
 fn is_octets_exceeded(verdict: &Verdict) -> bool
     ensures { result ≡ spec.is_octets_exceeded verdict.now }
 {
     matches!(*verdict, Verdict::OctetsExceeded)
 }
 
-/// Whether a frame was refused as `Red`.
+/// Returns whether a frame was refused as `Red`: the meter coloured it red.
 fn is_red(verdict: &Verdict) -> bool
     ensures { result ≡ spec.is_red verdict.now }
 {
     matches!(*verdict, Verdict::Red)
 }
 
-/// Whether a frame was refused as `YellowDropped`.
+/// Returns whether a frame was refused as `YellowDropped`: the meter coloured it yellow, and drops yellow frames.
 fn is_yellow_dropped(verdict: &Verdict) -> bool
     ensures { result ≡ spec.is_yellow_dropped verdict.now }
 {
     matches!(*verdict, Verdict::YellowDropped)
 }
 
-/// Whether a copy was dropped because its queue was full; the next function tests the other cause.
+/// Returns whether a copy was dropped because its queue was full.
 fn is_full(dropped: &Dropped) -> bool
     ensures { result ≡ spec.is_full dropped.now }
 {
     matches!(dropped.refusal, Refusal::Full)
 }
 
-/// Whether a copy was dropped because it fits at no time.
+/// Returns whether a copy was dropped because it fits at no time (`NeverFits`).
 fn never_fits(dropped: &Dropped) -> bool
     ensures { result ≡ spec.never_fits dropped.now }
 {
     !is_full(dropped)
 }
 
-/// Returns the number of frames refused as `Blocked`: an oversize frame before had blocked the filter.
+/// Returns the number of frames refused as `Blocked`: an earlier oversize frame had blocked the filter.
 fn count_blocked(verdicts: &[StoredVerdict]) -> usize
     ensures { result ≡ count_by spec.is_blocked verdicts.now }
 {
     verdicts.iter().filter(|v| is_blocked(&v.verdict())).count()
 }
 
-/// Returns the number of frames refused because their SDU was above the filter's maximum.
+/// Returns the number of frames refused as `Oversize`: their SDU was above the filter's maximum.
 fn count_oversize(verdicts: &[StoredVerdict]) -> usize
     ensures { result ≡ count_by spec.is_oversize verdicts.now }
 {
@@ -127,7 +127,7 @@ fn count_oversize(verdicts: &[StoredVerdict]) -> usize
         .count()
 }
 
-/// Returns the number of frames that were refused because the stream gate was closed when they arrived.
+/// Returns the number of frames refused as `GateClosed`: the stream gate was closed when they arrived.
 fn count_gate_closed(verdicts: &[StoredVerdict]) -> usize
     ensures { result ≡ count_by spec.is_gate_closed verdicts.now }
 {
@@ -137,14 +137,14 @@ fn count_gate_closed(verdicts: &[StoredVerdict]) -> usize
         .count()
 }
 
-/// Returns the number of frames that arrived after a frame had shut the stream gate (`ShutByRx`).
+/// Returns the number of frames refused as `ShutByRx`: an earlier frame, which arrived while the stream gate was closed, had shut the gate.
 fn count_shut_rx(verdicts: &[StoredVerdict]) -> usize
     ensures { result ≡ count_by spec.is_shut_rx verdicts.now }
 {
     verdicts.iter().filter(|v| is_shut_rx(&v.verdict())).count()
 }
 
-/// Returns the number of frames that arrived after octets had shut the stream gate (`ShutByOctets`).
+/// Returns the number of frames refused as `ShutByOctets`: an earlier frame with too many octets had shut the stream gate.
 fn count_shut_octets(verdicts: &[StoredVerdict]) -> usize
     ensures { result ≡ count_by spec.is_shut_octets verdicts.now }
 {
@@ -154,7 +154,7 @@ fn count_shut_octets(verdicts: &[StoredVerdict]) -> usize
         .count()
 }
 
-/// Returns the number of frames that were refused because they exceeded the octets of a stream gate's interval.
+/// Returns the number of frames refused as `OctetsExceeded`: they had more octets than were left in the stream gate's interval.
 fn count_octets_exceeded(verdicts: &[StoredVerdict]) -> usize
     ensures { result ≡ count_by spec.is_octets_exceeded verdicts.now }
 {
@@ -164,14 +164,14 @@ fn count_octets_exceeded(verdicts: &[StoredVerdict]) -> usize
         .count()
 }
 
-/// Returns the number of frames refused because the meter coloured them red.
+/// Returns the number of frames refused as `Red`: the meter coloured them red.
 fn count_red(verdicts: &[StoredVerdict]) -> usize
     ensures { result ≡ count_by spec.is_red verdicts.now }
 {
     verdicts.iter().filter(|v| is_red(&v.verdict())).count()
 }
 
-/// Returns the number of frames that were refused because the meter coloured them yellow and drops yellow frames.
+/// Returns the number of frames refused as `YellowDropped`: the meter coloured them yellow, and drops yellow frames.
 fn count_yellow_dropped(verdicts: &[StoredVerdict]) -> usize
     ensures { result ≡ count_by spec.is_yellow_dropped verdicts.now }
 {
@@ -188,7 +188,7 @@ fn count_full(drops: &[StoredDrop]) -> usize
     drops.iter().filter(|d| is_full(&d.dropped_copy())).count()
 }
 
-/// Returns the number of copies dropped because they fit at no time.
+/// Returns the number of copies that a hop dropped because they fit at no time (`NeverFits`).
 fn count_never_fits(drops: &[StoredDrop]) -> usize
     ensures { result ≡ count_by spec.never_fits drops.now }
 {
@@ -209,8 +209,8 @@ fn count_delivered(ways: &[bool], departures: &[StoredDeparture]) -> usize
         .count()
 }
 
-/// Returns the counts of a hop from its record `view`. `ways` has for ports 1 to 16 whether the port leads to a hop. Callers that have
-/// computed `ways` use this.
+/// Returns the counts of a hop from its record `view`. `ways` has for ports 1 to 16 whether the port leads to a hop. `rows_of_hop` and
+/// `hop_counts` call it.
 pub(crate) fn counts_by_ports<A: Allocator>(ways: &[bool], view: &View<A>) -> HopCounts
     ensures { result ≡ spec.counts_by_ports ways.now view.now }
 {
@@ -233,7 +233,8 @@ pub(crate) fn counts_by_ports<A: Allocator>(ways: &[bool], view: &View<A>) -> Ho
     }
 }
 
-/// Returns the counts of a hop of the stream with these hops. The links decide which ports lead to a next hop.
+/// Returns the counts of hop `hop` of the stream with hops `hops`, for the lines about lost frames. The links decide which ports lead to a
+/// hop.
 pub fn hop_counts<A: Allocator + Copy>(
     alloc: A,
     links: &[Link],
@@ -266,7 +267,7 @@ fn push_delay<A: Allocator>(
 }
 
 /// Returns the delays in ns of the copies that a hop delivered, from arrival at the first hop, in the order of leaving. Copies with unknown
-/// source have none.
+/// source are left out.
 pub(crate) fn departure_delays<A: Allocator + Copy>(
     alloc: A,
     ways: &[bool],
@@ -291,7 +292,8 @@ fn delay_at_hop(origins: &[StoredOrigin], departure: &Departure) -> u64
         .saturating_sub(arrival_time(origins, departure.own))
 }
 
-/// Returns the delays at a hop in ns of all copies that left it, in the order of leaving.
+/// Returns the delays in ns of all copies that left a hop, from arrival at this hop, in the order of leaving. `rows_of_hop` uses their
+/// least and greatest.
 pub(crate) fn delays_at_hop<A: Allocator + Copy>(
     alloc: A,
     origins: &[StoredOrigin],

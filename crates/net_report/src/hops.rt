@@ -1,4 +1,4 @@
-//! Hops of a stream in a network run, and the ports that lead to a next hop.
+//! Ports of a stream's bridges that lead to a next hop, in a network run. Copies that leave by other ports count as delivered.
 ghost use Rattle.std.specs.Prelude.{◌≡◌, IfOk, Some, ◌+◌, ◌<◌};
 ghost use Rattle.net_report.specs.Hops as spec;
 
@@ -7,14 +7,14 @@ use bridge_limits::NoMemory;
 use net_model::{Link, find_sender};
 use std::alloc::Allocator;
 
-/// Whether one of these hops is at the bridge with index `bridge`.
+/// Returns whether one of these hops is at the bridge with index `bridge`.
 fn has_hop_at_bridge<A: Allocator>(hops: &[HopRun<'_, A>], bridge: usize) -> bool
     ensures { result ≡ spec.has_hop_at_bridge hops.now bridge }
 {
     hops.iter().any(|hop| hop.bridge == bridge)
 }
 
-/// Whether a port is linked to a bridge with a hop of the stream. If not, copies that leave by the port count as delivered.
+/// Returns whether a port is linked to a bridge with a hop of the stream. If not, copies that leave by the port count as delivered.
 pub fn has_next_hop<A: Allocator>(
     links: &[Link],
     hops: &[HopRun<'_, A>],
@@ -29,7 +29,7 @@ pub fn has_next_hop<A: Allocator>(
     }
 }
 
-/// Returns for each port of a bridge, from 1 to 16, whether it leads to a hop.
+/// Returns for each port of bridge `bridge`, from 1 to 16, whether it leads to a bridge with a hop of the stream.
 pub fn onward_ports<A: Allocator + Copy>(
     alloc: A,
     links: &[Link],
@@ -45,7 +45,7 @@ pub fn onward_ports<A: Allocator + Copy>(
     Ok(ways)
 }
 
-/// Whether a port leads to a hop. `ways` has the results of `onward_ports` for ports 1 to 16. Returns false for other port numbers.
+/// Returns whether a port leads to a hop. `ways` has the results of `onward_ports` for ports 1 to 16. Returns false for other port numbers.
 pub(crate) fn is_onward(ways: &[bool], port: u8) -> bool
     ensures { result ≡ spec.is_onward ways.now port }
 {

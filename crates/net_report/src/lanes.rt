@@ -16,8 +16,8 @@ const WINDOW_WORDS: &str = "port {0} opens class {1}";
 const HATCH_WORDS: &str =
     "port {0}, class {1}: windows drawn: {2} of {3}, none of those after {4} ns";
 
-/// Draws a window of a queue (port and class), from time `from` to time `to` in ns, in the row at height `y`. Counts it in `drawn` unless
-/// the picture is full.
+/// Draws a window of a queue (port and class), from time `from` to time `to` in ns, in the row at height `y`. Counts it as drawn unless the
+/// picture is full.
 pub(crate) fn put_window(picture: &mut RunPicture, y: u64, queue: (u8, u8), from: u64, to: u64) {
     let (port, class) = (u64::from(queue.0), u64::from(queue.1));
     let bar = bar_x_and_width(picture, from, to, y.saturating_sub(10), 20);
@@ -28,7 +28,7 @@ pub(crate) fn put_window(picture: &mut RunPicture, y: u64, queue: (u8, u8), from
     }
 }
 
-/// Hatches the row at height `y` from time `from` on, because windows after it aren't drawn. The title reports `all`, the number of
+/// Hatches the row at height `y` from time `from` on: later windows aren't drawn. The title has the queue and `all`, the number of its
 /// windows.
 fn put_hatch(picture: &mut RunPicture, y: u64, queue: (u8, u8), from: u64, all: u64) {
     let (port, class) = (u64::from(queue.0), u64::from(queue.1));
@@ -38,7 +38,8 @@ fn put_hatch(picture: &mut RunPicture, y: u64, queue: (u8, u8), from: u64, all: 
     put_titled(picture, "hatch", bar, HATCH_WORDS, &numbers, "");
 }
 
-/// Draws the first 500 windows of a queue (port and class) in the picture's time span. Hatches the rest of the row if there are more.
+/// Draws the first 500 windows of a queue (port and class) in the picture's time span, in the row at height `y`. If there are more, hatches
+/// the rest.
 pub(crate) fn put_windows<A: Allocator + Copy>(
     picture: &mut RunPicture,
     y: u64,

@@ -10,7 +10,7 @@ use bridge_report::{Losses, greatest_delay, put_losses, put_reason};
 use bridge_text::TextBuilder;
 use std::alloc::Allocator;
 
-/// A hop of a stream with its losses, for the line of a stream that lost frames.
+/// A hop of a stream with its losses. `put_faults` writes them in the line of a stream that lost frames.
 #[derive(Drop)]
 pub struct HopLosses<A: Allocator> {
     /// Name of the hop, with a space at its end.
@@ -37,7 +37,7 @@ fn hop_losses(counts: &HopCounts) -> Losses
     }
 }
 
-/// Writes the words for the causes of losses at a hop, with the hop's name.
+/// Writes the words for the causes of losses at a hop, with the hop's name. `put_losses` leaves out causes without loss.
 fn put_hop<A: Allocator>(text: &mut TextBuilder<A>, hop: &HopLosses<A>)
     ensures { HasGrown text.old (spec.hop_words hop.now) text.new }
 {
@@ -53,8 +53,8 @@ fn put_hops<A: Allocator>(text: &mut TextBuilder<A>, hops: &[HopLosses<A>])
     }
 }
 
-/// Whether no copy of a first-hop frame was delivered, refused, dropped or astray. Then the last hop that accepted the frame forwarded it
-/// to no port.
+/// Returns whether no copy of a first-hop frame was delivered, refused, dropped or astray. Then the last hop that accepted the frame
+/// forwarded it to no port.
 fn is_nowhere(tally: &CopyCounts) -> bool
     ensures { result ≡ spec.is_nowhere tally.now }
 {
@@ -100,7 +100,7 @@ fn put_lost<A: Allocator>(
     text.put("\n");
 }
 
-/// Writes the line of a stream if the stream lost a frame.
+/// Writes the line of a stream if not all its first-hop frames were delivered.
 fn put_lost_if<A: Allocator>(
     text: &mut TextBuilder<A>,
     stream: &str,
@@ -154,7 +154,8 @@ fn put_late_if<A: Allocator>(
     }
 }
 
-/// Writes a line if the stream lost frames, and a line if a copy missed the deadline. Writes nothing for other streams.
+/// Writes a line if the stream lost frames, and a line if a delivered copy missed the deadline. `delays` has the delivered copies' delays
+/// in ns. `net --strict` prints the lines.
 pub fn put_faults<A: Allocator>(
     text: &mut TextBuilder<A>,
     stream: &str,

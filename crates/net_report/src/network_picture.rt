@@ -63,7 +63,7 @@ fn arc_height(link: &LinkRow) -> u64 {
     columns.saturating_mul(16).saturating_add(26 + 7 * lane)
 }
 
-/// Returns the height in pixels of the tallest arc. The boxes begin below this space.
+/// Returns the height in pixels of the tallest arc, at least 26. The bridges' boxes begin below this space.
 fn tallest_arc(links: &[LinkRow]) -> u64 {
     let mut most = 26u64;
     for link in links {
@@ -147,7 +147,7 @@ fn put_hop<A: Allocator + Copy>(
     shapes.end_shape();
 }
 
-/// Draws the row of a stream: its name, its hops and its delay bound.
+/// Draws the row of a stream at height `y`: its name, its hops and, if known, its delay bound in ns.
 fn put_stream<A: Allocator + Copy>(
     alloc: Global,
     shapes: &mut Shapes,
@@ -210,8 +210,8 @@ fn put_all<A: Allocator + Copy>(
     Ok(())
 }
 
-/// Returns a network's picture as SVG of at most 2,000,000 octets: bridges, links, and a row for each stream. `bounds` has the streams'
-/// delay bounds in ns. A note counts omitted shapes.
+/// Returns a network's picture as SVG of at most 2,000,000 octets, for `picture NET`. `bounds` has the streams' delay bounds in ns. A note
+/// counts omitted shapes.
 pub fn draw_network<A: Allocator + Copy>(
     alloc: Global,
     bridges: &[BridgeRow<A>],

@@ -39,7 +39,7 @@ fn put_line(picture: &mut RunPicture, from: Point, to: Point) {
     picture.shapes.end_shape();
 }
 
-/// Whether a frame of a hop's record arrived on `port` at time `at`. Uses a binary search, because the frames are in order of arrival.
+/// Returns whether a frame of a hop's record arrived on `port` at time `at`. Binary search: the frames are in order of arrival.
 fn has_come<A: Allocator>(view: &View<A>, port: u8, at: u64) -> bool {
     let first = view
         .origins
@@ -56,7 +56,8 @@ fn has_come<A: Allocator>(view: &View<A>, port: u8, at: u64) -> bool {
     false
 }
 
-/// Returns the index of the first hop at `bridge` with a frame that arrived on `port` at time `at`. Returns `None` if there is none.
+/// Returns the index of the first hop at `bridge` whose record has a frame that arrived on `port` at time `at`. Returns `None` without such
+/// a hop.
 fn hop_reached<A: Allocator>(
     hops: &[HopRun<'_, A>],
     bridge: usize,
@@ -71,8 +72,8 @@ fn hop_reached<A: Allocator>(
     None
 }
 
-/// Draws the line of a copy over a link to the row of the hop that accepted it. `y` is the height of the sender's row. Draws nothing if no
-/// hop accepted it.
+/// Draws the line of a copy over its link, from the row at height `y` to the row of the hop that accepted it. Draws nothing without such a
+/// hop.
 fn put_link<A: Allocator>(
     picture: &mut RunPicture,
     links: &[Link],
@@ -116,7 +117,7 @@ fn put_departure(
     put_titled(picture, "out", sends, LEFT_WORDS, &numbers, "");
 }
 
-/// Returns a triangle at a time in a row. The tip is up for a refused frame and down for a dropped copy.
+/// Returns a triangle at time `at` in the row at height `y`. The tip is up for a refused frame and down for a dropped copy.
 fn time_mark(picture: &RunPicture, at: u64, y: u64, is_refused: bool) -> Element {
     let x = time_x(picture, at);
     let (above, below) = (y.saturating_sub(HALF), y.saturating_add(HALF));
@@ -134,7 +135,7 @@ fn time_mark(picture: &RunPicture, at: u64, y: u64, is_refused: bool) -> Element
     })
 }
 
-/// Draws a mark at the arrival time of each frame that the filter of a hop refused.
+/// Draws a triangle at the arrival time of each frame that the filter of a hop refused, in the row at height `y`.
 fn put_refused<A: Allocator>(picture: &mut RunPicture, view: &View<A>, y: u64) {
     let mut own = 0u64;
     for stored in &view.verdicts {
@@ -149,7 +150,7 @@ fn put_refused<A: Allocator>(picture: &mut RunPicture, view: &View<A>, y: u64) {
     }
 }
 
-/// Draws a mark at the frame's arrival time for each copy that a port of a hop dropped.
+/// Draws a triangle at the frame's arrival time for each copy that a port of a hop dropped, in the row at height `y`.
 fn put_dropped<A: Allocator>(picture: &mut RunPicture, view: &View<A>, y: u64) {
     for stored in &view.drops {
         let dropped = stored.dropped_copy();
@@ -161,7 +162,7 @@ fn put_dropped<A: Allocator>(picture: &mut RunPicture, view: &View<A>, y: u64) {
     }
 }
 
-/// Draws the row of a hop: its name, departures with lines to the next hops, drops and refused frames.
+/// Draws the row of a hop at height `y`: its name, copies that left with lines to the next hops, dropped copies and refused frames.
 pub(crate) fn put_hop<A: Allocator>(
     picture: &mut RunPicture,
     links: &[Link],

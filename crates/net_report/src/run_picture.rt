@@ -1,4 +1,4 @@
-//! The picture of a network run: one row for each hop of each stream, with its frames over time.
+//! The picture of a network run that `net --picture` draws: one row for each hop of each stream, with its frames over time.
 ghost use Rattle.std.specs.Prelude.{◌≤◌, IfOk, length, string_bytes};
 
 use crate::copy_counting::HopRun;
@@ -43,7 +43,7 @@ const WINDOWS_LEFT_OUT: &str = "; windows drawn: {0} of {1} (hatched: not drawn)
 /// Note in the legend about shapes that don't fit into the picture.
 const LEFT_OUT: &str = "; not drawn: {0} shapes";
 
-/// A picture under construction: the time that it shows, its rows, the number of windows in all and of drawn windows, and its shapes.
+/// A picture under construction: its time span, the number of rows drawn, the numbers of all and of drawn windows, and its shapes.
 #[derive(Drop)]
 pub struct RunPicture {
     pub(crate) span: Span,
@@ -140,8 +140,8 @@ impl RunPicture {
         self.span = widen_span(hops, self.span);
     }
 
-    /// Draws the windows of a class at a port in the row of hop `place` of the next stream. A port without list is always open. Call this
-    /// before `put_stream`, which draws over the windows.
+    /// Draws the windows of a class at a port in the row of hop `place` of the next stream. A port without list is always open.
+    /// `put_stream` draws over the windows.
     pub fn put_open_windows<A: Allocator + Copy>(
         &mut self,
         place: usize,
@@ -163,7 +163,7 @@ impl RunPicture {
         }
     }
 
-    /// Draws the rows of a stream, one for each hop, with the hops' names.
+    /// Draws the rows of a stream, one for each hop, below the rows drawn before. `names` has the hops' names.
     pub fn put_stream<A: Allocator>(
         &mut self,
         links: &[Link],
@@ -180,7 +180,7 @@ impl RunPicture {
         self.rows = self.rows.saturating_add(hops.len() as u64);
     }
 
-    /// Returns the legend, with notes on windows and shapes that aren't drawn.
+    /// Returns the text above the rows: the time span and the meaning of colours, with notes on windows and shapes that aren't drawn.
     fn legend(&self, alloc: Global) -> Result<String, NoMemory> {
         let mut legend = TextBuilder::new(alloc);
         let Span { from, to } = self.span;

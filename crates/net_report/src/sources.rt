@@ -1,4 +1,5 @@
-//! Source frames: for each frame of each hop, the frame of the first hop of which it is a copy.
+//! Source frames: for each frame of each hop, the frame of the first hop from which it stems. Tables and lines about losses count by source
+//! frames.
 ghost use Rattle.std.specs.Prelude.{◌≡◌, ◌<◌, ◌≤◌, ℕ, List, false, length, IfOk, OnOk};
 ghost use Rattle.net_model.specs.declared.links.Link.{Link};
 ghost use Rattle.net_model.specs.NetworkParts.{sender_value};
@@ -36,7 +37,7 @@ fn first_hop_sources<A: Allocator + Copy>(
     Ok(roots)
 }
 
-/// Returns one unknown source (`None`) for each of a hop's frames. `trace_source_frames` replaces those that it finds.
+/// Returns one unknown source (`None`) for each of a hop's frames. `trace_source_frames` replaces the sources that it finds.
 fn unknown_sources<A: Allocator + Copy>(
     alloc: A,
     origins: &[StoredOrigin],
@@ -85,7 +86,7 @@ fn initial_sources<A: Allocator + Copy>(
     Ok(all)
 }
 
-/// Whether a copy left by `port` and arrives over the port's link at time `at` or later. It arrives `delay` ns after its end of
+/// Returns whether a copy left by `port` and arrives over the port's link at time `at` or later. It arrives `delay` ns after its end of
 /// transmission.
 fn is_due(departure: &Departure, port: u8, delay: u64, at: u64) -> bool
     ensures { result ≡ spec.is_due port delay at departure.now }
@@ -93,7 +94,7 @@ fn is_due(departure: &Departure, port: u8, delay: u64, at: u64) -> bool
     departure.port == port && at as u128 <= departure.done as u128 + delay as u128
 }
 
-/// Returns `departures` without the copies before the first one that left by `port` and arrives over its link at time `at` or later.
+/// Returns the rest of `departures` from the first copy on that left by `port` and arrives over its link at time `at` or later.
 fn due_departures(
     departures: &[StoredDeparture],
     port: u8,
@@ -147,8 +148,8 @@ fn source_over_link(
     }
 }
 
-/// Returns the sender's copies from the first one that arrives at time `at` or later. Searches only `left`, which suffices from time
-/// `since` on, or else all copies `sent`.
+/// Returns the sender's copies from the first one on that arrives at time `at` or later. From time `since` on, `left` is searched instead
+/// of all copies `sent`.
 fn resume_due_departures<'a>(
     sender: Sender,
     sent: &'a [StoredDeparture],
@@ -165,8 +166,8 @@ fn resume_due_departures<'a>(
     due_departures(left, sender.from.port, sender.delay, at)
 }
 
-/// Returns the source of a frame, the rest of the sender's copies to search for later frames, and the time from which this rest suffices.
-/// So later frames of the port don't search all copies.
+/// Returns a frame's source after tracing, the rest of the sender's copies to search for later frames, and the time from which this rest
+/// suffices.
 fn trace_frame<'a>(
     sender: Sender,
     sent: &'a [StoredDeparture],
@@ -196,8 +197,8 @@ fn trace_frame<'a>(
     )
 }
 
-/// Returns the sources of a hop's frames, with those found for frames that arrived on `port` from another hop. `sent` has this hop's
-/// copies, `sent_roots` the sources of its frames.
+/// Returns the sources of a hop's frames after tracing those that arrived on `port` to the copies `sent` of another hop. `sent_roots` has
+/// the sources of that hop's frames.
 fn trace_from_sender<A: Allocator + Copy>(
     alloc: A,
     sender: Sender,
@@ -234,7 +235,7 @@ fn trace_from_sender<A: Allocator + Copy>(
     Ok(made)
 }
 
-/// Whether a source is known in `new` and unknown in `old` at one index.
+/// Returns whether, at some index, a source is known in `new` and unknown in `old`.
 fn has_new_source(old: &[Option<SourceFrame>], new: &[Option<SourceFrame>]) -> bool
     ensures { result ≡ false → spec.AddsNoSource old.now new.now }
 {
@@ -246,7 +247,8 @@ fn has_new_source(old: &[Option<SourceFrame>], new: &[Option<SourceFrame>]) -> b
     false
 }
 
-/// Traces the frames that arrived at a port of hop `place` from hop `other`, and updates `all`. Returns whether more sources are known.
+/// Traces the frames that arrived at port `port` of hop `place` to copies of hop `other`, and updates `all`. Returns whether it found a
+/// source.
 fn trace_pair<A: Allocator + Copy>(
     alloc: A,
     hops: &[HopRun<'_, A>],
@@ -293,7 +295,7 @@ fn trace_pair<A: Allocator + Copy>(
     Ok(true)
 }
 
-/// Whether `one` or `other` is true. Loops over hops and ports combine by it whether they found more sources. Their proofs need the
+/// Returns whether `one` or `other` is true. Loops over hops and ports combine by it whether they found more sources. Their proofs need the
 /// contract, which `||` lacks.
 fn either(one: bool, other: bool) -> bool
     ensures one { result ≡ false → one ≡ false }
@@ -302,7 +304,8 @@ fn either(one: bool, other: bool) -> bool
     one || other
 }
 
-/// Traces the frames that arrived at a port of hop `place` from all hops of the sending bridge. Returns whether more sources are known.
+/// Traces the frames that arrived at port `port` of hop `place` to copies of all hops at the sending bridge. Returns whether it found a
+/// source.
 fn trace_sender<A: Allocator + Copy>(
     alloc: A,
     hops: &[HopRun<'_, A>],
@@ -334,7 +337,7 @@ fn trace_sender<A: Allocator + Copy>(
     Ok(more)
 }
 
-/// Traces the frames that arrived at a port of hop `place` over its link. Returns whether more sources are known.
+/// Traces the frames that arrived at port `port` of hop `place` over its link. Returns whether it found a source.
 fn trace_port<A: Allocator + Copy>(
     alloc: A,
     links: &[Link],
@@ -363,7 +366,7 @@ fn trace_port<A: Allocator + Copy>(
     }
 }
 
-/// Traces the frames that arrived at hop `place` over links. Returns whether more sources are known.
+/// Traces the frames that arrived at hop `place` over links, port by port. Returns whether it found a source.
 fn trace_hop<A: Allocator + Copy>(
     alloc: A,
     links: &[Link],
@@ -390,8 +393,8 @@ fn trace_hop<A: Allocator + Copy>(
     Ok(more)
 }
 
-/// Traces once, for each hop, the frames that arrived over links. Returns whether more sources are known. Then `trace_source_frames`
-/// repeats it, because more may be found.
+/// Traces once, for each hop, the frames that arrived over links. Returns whether it found a source. `trace_source_frames` repeats it until
+/// it finds no more.
 fn trace_all<A: Allocator + Copy>(
     alloc: A,
     links: &[Link],
@@ -415,8 +418,8 @@ fn trace_all<A: Allocator + Copy>(
     Ok(more)
 }
 
-/// Returns the source of each frame of each hop, by hop, or `None` for a frame without source. A frame from a link has the source of the
-/// copy that ended one link delay before.
+/// Returns the source of each frame of each hop, or `None` for a frame without source. A frame from a link has the source of the copy that
+/// ended one delay before.
 pub fn trace_source_frames<A: Allocator + Copy>(
     alloc: A,
     links: &[Link],

@@ -1,4 +1,4 @@
-//! The table of streams: counts and delays of each stream and each of its hops.
+//! The table `streams.csv` of a network run: counts and delays of each stream and each of its hops. `write_stream` writes its rows.
 ghost use Rattle.std.specs.Prelude.{◌≡◌, IfOk, string_bytes, sum_by, ◌++◌, decimal};
 ghost use Rattle.bridge_text.specs.Growth.{HasGrown};
 ghost use Rattle.net_report.specs.StreamTable as spec;
@@ -49,7 +49,7 @@ fn lost_copies(counts: &HopCounts) -> u128
     refused + shut + metered + dropped
 }
 
-/// Writes the number of losses at a hop for each cause.
+/// Writes the numbers of losses at a hop, one field for each cause.
 fn put_loss_causes<A: Allocator>(text: &mut TextBuilder<A>, counts: &HopCounts)
     ensures { HasGrown text.old (spec.reason_words counts.now) text.new }
 {
@@ -102,8 +102,8 @@ fn put_hop_delays<A: Allocator>(text: &mut TextBuilder<A>, figures: Option<Delay
     }
 }
 
-/// Returns the row of a hop in `streams.csv`. `figures` are its delivered copies' delays from the first hop, `here` delays at the hop of
-/// all copies that left; `None` without copies.
+/// Returns the row of a hop in `streams.csv`. `figures` has delivered copies' delays from the first hop, `here` delays at this hop. Each is
+/// `None` without copies.
 pub fn hop_line<A: Allocator + Copy>(
     alloc: A,
     stream: &str,
@@ -153,7 +153,7 @@ fn put_stream_start<A: Allocator>(text: &mut TextBuilder<A>, stream: &str, talli
     put_wide_with_suffix(text, total_astray(tallies), ",");
 }
 
-/// Whether no copy's delay exceeds a deadline. Returns true if no copy was delivered.
+/// Returns whether no copy's delay exceeds a deadline. Returns true if no copy was delivered.
 fn is_below_deadline(figures: Option<DelayStatistics>, deadline: u64) -> bool
     ensures { result ≡ spec.is_below_deadline figures deadline }
 {
@@ -163,7 +163,7 @@ fn is_below_deadline(figures: Option<DelayStatistics>, deadline: u64) -> bool
     }
 }
 
-/// Whether all frames of a stream were delivered, and no copy's delay exceeds a deadline.
+/// Returns whether all frames of a stream were delivered, and no copy's delay exceeds a deadline.
 fn is_deadline_met(tallies: &[CopyCounts], figures: Option<DelayStatistics>, deadline: u64) -> bool
     ensures { result ≡ spec.is_deadline_met tallies.now figures deadline }
 {
@@ -233,8 +233,8 @@ fn put_margin<A: Allocator>(text: &mut TextBuilder<A>, deadline: Option<u64>, wo
     }
 }
 
-/// Returns the row of a whole stream in `streams.csv`. `figures` is `None` if no copy was delivered, `worst` if the delays of its talker's
-/// frames are unknown.
+/// Returns the row of a whole stream in `streams.csv`. `figures` is `None` if no copy was delivered. `worst` is `None` if the talker's
+/// worst delay is unknown.
 pub fn stream_line<A: Allocator + Copy>(
     alloc: A,
     stream: &str,

@@ -1,4 +1,4 @@
-//! The rows of a stream in the tables of streams and of frames.
+//! Writing of a stream's rows to the two tables of `net`: `streams.csv` and `frames.csv`.
 ghost use Rattle.std.specs.Prelude.{◌≡◌, ◌++◌, IfOk, OnOk, Ok, length, map, string_bytes};
 ghost use Rattle.std.specs.Io.KnownBytes.{Appends};
 ghost use Rattle.net_report.specs.Tables.{AddDelays, AreDelays, AreRowsOfHop, WriteHops, WriteStream, WritesHop, heading_of};
@@ -64,7 +64,7 @@ struct HopRows<A: Allocator> {
     lines: String<A>,
 }
 
-/// Writes a text to the writer of a table. A failed write is the fault `Broken` with this table.
+/// Writes a text to the writer of a table, also the tables' first lines. If this fails, returns the fault `Broken` with the table.
 pub fn put_table<W: Write>(writer: &mut W, text: &str, table: Table) -> Result<(), TableFault>
     ensures { OnOk result (Appends (W.contents writer.old) (W.contents writer.new) text.now) }
 {
@@ -74,7 +74,7 @@ pub fn put_table<W: Write>(writer: &mut W, text: &str, table: Table) -> Result<(
     }
 }
 
-/// Returns the rows of a hop in both tables. `roots` has the source of each of its frames.
+/// Returns the rows of hop `hop` of stream `stream` in both tables. `name` is the hop's name, `roots` has the source of each of its frames.
 fn rows_of_hop<A: Allocator + Copy>(
     alloc: A,
     links: &[Link],
@@ -105,7 +105,7 @@ fn rows_of_hop<A: Allocator + Copy>(
     Ok(HopRows { row, lines })
 }
 
-/// Writes the rows of a hop to both tables.
+/// Writes the rows of hop `hop` to both tables: first to `streams`, then to `frames`.
 fn write_hop<A: Allocator + Copy, V: Write, W: Write>(
     alloc: A,
     links: &[Link],
@@ -157,7 +157,7 @@ fn write_hops<A: Allocator + Copy, V: Write, W: Write>(
     Ok(())
 }
 
-/// Appends to `delays` the delays of the copies that a hop delivered.
+/// Appends to `delays` the delays in ns of the copies that hop `hop` delivered. `roots` has the source of each of its frames.
 fn push_delays<A: Allocator + Copy>(
     alloc: A,
     links: &[Link],
@@ -174,8 +174,8 @@ fn push_delays<A: Allocator + Copy>(
     Ok(())
 }
 
-/// Returns the delays in ns of the copies that a stream delivered, from arrival at the first hop. They are in the order of hops, and of
-/// leaving at each hop.
+/// Returns the delays in ns of a stream's delivered copies, from arrival at the first hop, in the order of hops. Rows of streams and late
+/// lines use them.
 pub fn stream_delays<A: Allocator + Copy>(
     alloc: A,
     links: &[Link],
@@ -192,7 +192,7 @@ pub fn stream_delays<A: Allocator + Copy>(
     Ok(delays)
 }
 
-/// Writes the rows of a stream. The table of streams gets the stream and each hop, the table of frames each frame at each hop.
+/// Writes the rows of a stream: the stream and each hop to `streams`, each frame at each hop to `frames`. `known` has the frames' sources.
 pub fn write_stream<A: Allocator + Copy, V: Write, W: Write>(
     alloc: A,
     links: &[Link],

@@ -9,7 +9,7 @@ use std::alloc::Allocator;
 /// schedule change.
 const MAX_TURNS: usize = 8 * MAX_ENTRIES;
 
-/// Whether the gate control lists open a class at time `at`.
+/// Returns whether the gate control lists open a class at time `at`.
 pub(crate) fn is_class_open<A: Allocator + Copy>(list: &Egress<A>, class: u8, at: u64) -> bool
     requires class { class < 8 }
     requires soon { at < END_OF_TURNS }
@@ -86,7 +86,8 @@ fn count_list_openings<A: Allocator + Copy>(
         .saturating_add(count_openings(list, class, rest, to))
 }
 
-/// Returns the number of windows of a class in a span of time. The cost doesn't depend on the length of the span.
+/// Returns the number of windows of a class in a time span; a window that begins before the span counts. The cost doesn't depend on the
+/// span's length.
 pub(crate) fn count_windows<A: Allocator + Copy>(list: &Egress<A>, class: u8, span: Span) -> u64
     requires { class < 8 }
 {
@@ -109,8 +110,8 @@ pub(crate) fn count_windows<A: Allocator + Copy>(list: &Egress<A>, class: u8, sp
     count
 }
 
-/// Returns the first time after `from` at which a class opens or closes, but at most `end`. If nothing changes for a cycle, the search
-/// skips to the next list.
+/// Returns the first time after `from` at which a class opens or closes, but at most `end`. If nothing changes for a cycle, continues with
+/// the next list.
 pub(crate) fn next_gate_change<A: Allocator + Copy>(
     list: &Egress<A>,
     class: u8,
