@@ -40,11 +40,11 @@ IsGroupNamed plans None (Some address) = (vid : ℕ) × HasStaticEntry plans vid
 IsGroupNamed plans (Some vid) None = HasVlan plans vid
 IsGroupNamed plans None None = Unit {0}
 
--- Holds if the plans name the group's VLAN and destination.
+-- Holds if the plans name the group's VLAN and destination (`IsGroupNamed`).
 abbrev pub IsNamedGroup : {A : Type 0} → List (Plan A) → FrameGroup → Type 0
 IsNamedGroup plans g = IsGroupNamed plans g.vlan g.destination
 
--- Holds if a row has group `g`.
+-- Holds if one of the rows is for group `g`.
 pub record HasLoopRow (rows : List ForwardingLoop) (g : FrameGroup) : Type 0 where
   pub row : ForwardingLoop
   pub listed : IsMember row rows

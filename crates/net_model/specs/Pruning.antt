@@ -6,7 +6,7 @@ use Rattle.net_model.specs.declared.links.BridgePort.{BridgePort}
 use Rattle.net_model.specs.declared.step.Step.{Step}
 use Rattle.net_model.specs.Walks.{IsOnLoop}
 
--- True if two ports are equal.
+-- True if two bridge ports are equal: in bridge index and port number.
 abbrev pub is_same_port : BridgePort → BridgePort → Bool
 is_same_port a b = nat_eq a.bridge b.bridge && nat_eq a.port b.port
 
@@ -26,7 +26,7 @@ has_incoming_step steps x = list_any (λ (s : Step). is_same_port s.to x) steps
 abbrev pub is_inner_step : List Step → Step → Bool
 is_inner_step steps s = has_outgoing_step steps s.to && has_incoming_step steps s.from
 
--- Holds if `kept` is a part of `steps` and has each loop of `steps`.
+-- Holds if all steps of `kept` are steps of `steps`, and `kept` has each loop of `steps`.
 pub record IsPruned (steps kept : List Step) : Type 0 where
   pub within : (s : Step) → IsMember s kept → IsMember s steps
   pub keeps : (x : BridgePort) → IsOnLoop steps x → IsOnLoop kept x

@@ -19,12 +19,12 @@ abbrev pub lesser_optional_filter : Option (ℕ × FilterPlan) → Option (ℕ �
 lesser_optional_filter None o = o
 lesser_optional_filter (Some f) o = lesser_filter f o
 
--- True for a filter number if this filter of the sending bridge is a hop of the stream.
+-- A test of filter numbers: true if the filter of the sending bridge with this number is a hop of the stream.
 abbrev pub hops : {A : Type 0} → SendingPort A → ℕ → Bool
 hops s = has_hop (stream_value s.stream.now) s.end.bridge
 
--- An example of frames with this priority and handle that arrive on port `from` of the sender, if the search looks for
--- them.
+-- An example of frames with this priority and handle that arrive on port `from` of the sender, if the search looks for them; otherwise
+-- `None`.
 abbrev pub frames_from_port : {A : Type 0} → SendingPort A → ℕ → ℕ → Option ℕ → Option FoundFrames
 frames_from_port s from priority handle = finding.frames_by_handle s.question s.plan.now (hops s) s.end.port from priority handle
 

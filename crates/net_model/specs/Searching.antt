@@ -15,7 +15,7 @@ is_reached start reached x = is_same_port start x || has_port reached x
 abbrev pub is_unexplored : BridgePort → List BridgePort → Step → Bool
 is_unexplored start reached s = not (is_reached start reached s.from)
 
--- The ports that steps reach from the reached ports.
+-- The ports that one step reaches from `start` or from a reached port.
 abbrev pub reached_targets : BridgePort → List BridgePort → List Step → List BridgePort
 reached_targets start reached steps = map (λ (s : Step). s.to) (filter (λ (s : Step). is_reached start reached s.from) steps)
 

@@ -17,31 +17,32 @@ use Rattle.net_model.specs.Faults.{protected_handle, first_taken_at_port_number,
 use Rattle.net_model.specs.SearchState as walking
 use Rattle.net_model.specs.NetworkParts.{NetworkParts, peer_port, stream_value}
 
--- Holds if the filter accepts the frames `s` at its port, and the search looks for them.
+-- Holds if the hop's filter accepts frames `s` at its port, and the search looks for them.
 abbrev pub IsSample : {A : Type 0} → TakingFilter A → StrayFrame → Type 0
 IsSample t s = (f : FoundFrames) × (walking.first_frame_with_tag t s.entry s.tag ≡ Some f)
 
--- Holds if the optional bridge may send the frames from `e`, and filter `n` accepts them at its port. The frames belong to no hop of the stream.
+-- Holds if the optional bridge may send frames `s` from `e`, and filter `n` accepts them at port `on`. The frames belong to no hop of the
+-- stream.
 abbrev pub IsStrayOfSender : {A : Type 0} → List StreamHop → End → Plan A → PortPlan A → ℕ → Option (Plan A) → StrayFrame → Type 0
 IsStrayOfSender hops e next on n None s = ⊥
 IsStrayOfSender hops e next on n (Some p) s = (f : FoundFrames) × (finding.first_taken_with_tag Strays p (has_hop (stream_value hops) e.bridge) e.port next on n s.entry s.tag ≡ Some f)
 
--- Holds if filter `n` accepts the stray frames over a link from the optional end.
+-- Holds if filter `n` accepts stray frames `s` at port `on` over a link from the optional end.
 abbrev pub IsStrayOfPeer : {A : Type 0} → List (Plan A) → List StreamHop → Plan A → PortPlan A → ℕ → Option End → StrayFrame → Type 0
 IsStrayOfPeer plans hops next on n None s = ⊥
 IsStrayOfPeer plans hops next on n (Some e) s = IsStrayOfSender hops e next on n (slice_get plans e.bridge) s
 
--- Holds if hop `h` accepts the stray frames at the optional port of its bridge.
+-- Holds if hop `h` accepts stray frames `s` over the link of the optional port of its bridge.
 abbrev pub IsStrayAtPort : {A : Type 0} → List (Plan A) → List Link → List StreamHop → StreamHop → Plan A → Option (PortPlan A) → StrayFrame → Type 0
 IsStrayAtPort plans links hops h next None s = ⊥
 IsStrayAtPort plans links hops h next (Some on) s = IsStrayOfPeer plans hops next on h.filter (peer_port links h.bridge on.number) s
 
--- Holds if hop `h` accepts the stray frames at port number `port` of the optional bridge.
+-- Holds if hop `h` accepts stray frames `s` over the link of port `port`. The optional plan is the plan of the hop's bridge.
 abbrev pub IsStrayAtPortNumber : {A : Type 0} → List (Plan A) → List Link → List StreamHop → StreamHop → ℕ → Option (Plan A) → StrayFrame → Type 0
 IsStrayAtPortNumber plans links hops h port None s = ⊥
 IsStrayAtPortNumber plans links hops h port (Some next) s = IsStrayAtPort plans links hops h next (find_port next.ports port) s
 
--- Holds if hop `h` accepts the frames over the link of port `port`, although they belong to no hop of the stream.
+-- Holds if hop `h` accepts frames `s` over the link of port `port`, although they belong to no hop of the stream.
 abbrev pub IsStray : {A : Type 0} → List (Plan A) → List Link → List StreamHop → StreamHop → ℕ → StrayFrame → Type 0
 IsStray plans links hops h port s = IsStrayAtPortNumber plans links hops h port (slice_get plans h.bridge) s
 

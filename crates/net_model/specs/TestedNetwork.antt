@@ -13,7 +13,7 @@ use Rattle.net_model.specs.Networks as networks
 use Rattle.net_model.specs.FrameSearch.{first_taken_over_link}
 use Rattle.net_model.specs.NetworkParts.{NetworkParts, stream_value}
 
--- The parts of the network under test.
+-- The parts of the network under test, in the form of these definitions.
 abbrev pub tested_parts : {A : Type 0} → TestedNetwork A → NetworkParts A
 tested_parts c = record { plans = c.plans.now; links = c.links.now; streams = c.streams.now }
 

@@ -8,15 +8,15 @@ use Rattle.net_model.specs.declared.step.Step.{Step}
 abbrev pub step : BridgePort → BridgePort → Step
 step x y = record { from = x; to = y }
 
--- Holds if steps lead from `x` to `y` by the ports in between.
+-- Holds if steps lead from `x` to `y` by the ports in the last list, in order.
 abbrev pub IsWalk : List Step → BridgePort → BridgePort → List BridgePort → Type 0
 IsWalk steps x y [] = IsMember (step x y) steps
 IsWalk steps x y (z ∷ zs) = IsMember (step x z) steps × IsWalk steps z y zs
 
--- Holds if steps lead from `x` to `y`.
+-- Holds if one or more steps lead from `x` to `y`.
 abbrev pub HasWalk : List Step → BridgePort → BridgePort → Type 0
 HasWalk steps x y = (between : List BridgePort) × IsWalk steps x y between
 
--- Holds if steps lead from `x` back to `x`.
+-- Holds if one or more steps lead from `x` back to `x`.
 abbrev pub IsOnLoop : List Step → BridgePort → Type 0
 IsOnLoop steps x = HasWalk steps x x

@@ -5,8 +5,8 @@ ghost use Rattle.net_model.specs.FaultCodes.{fault_code};
 use crate::links::BridgePort;
 use thiserror::Error;
 
-/// Reason why `net check` refuses a network. The variants follow the order of the tests. Links, streams and a stream's hops are counted
-/// from 1.
+/// Reason for which `check_network` refuses a network. The variants follow the order of the tests. Links, streams and a stream's hops are
+/// counted from 1.
 #[derive(Clone, Copy, Debug, PartialEq, Eq, Error)]
 pub enum NetworkFault {
     /// The link names a missing bridge or port.
@@ -37,8 +37,8 @@ pub enum NetworkFault {
         stream: usize,
         hop: usize,
     },
-    /// The hop accepts stray frames over the link of port `port` of `bridge`. They come in on port `from` of the bridge at the link's other
-    /// end, as frames of its `filter` (`None`: unfiltered).
+    /// The hop accepts stray frames over the link of port `port` of `bridge`. They arrive on port `from` of the bridge at the link's other
+    /// end. `filter` passes them there (`None`: unfiltered).
     #[error("a hop that accepts stray frames over a link")]
     NotClosed {
         stream: usize,
@@ -57,7 +57,8 @@ pub enum NetworkFault {
 }
 
 impl NetworkFault {
-    /// Returns the fault's number among the faults of a network file: 9 if a bridge or port is missing, otherwise 13 to 18.
+    /// Returns the fault's number among the faults of a network file: 9 if a bridge or port is missing, otherwise 13 to 18. Proofs and
+    /// contracts use it.
     pub fn number(self) -> u8
         ensures { result ≡ fault_code self }
     {

@@ -15,7 +15,7 @@ use bridge_check::Accepted;
 use bridge_limits::NoMemory;
 use std::alloc::Allocator;
 
-/// Group of frames that may loop, and a port at which they can arrive again and again. `net check` warns of each.
+/// A group of frames that may loop, and a port at which they can arrive again and again. `net check` prints a warning for each.
 #[derive(Clone, Copy)]
 pub struct ForwardingLoop {
     pub group: FrameGroup,
@@ -37,7 +37,7 @@ fn group_loop_port<A: Allocator + Copy>(
     find_loop_port(alloc, &steps)
 }
 
-/// Appends the group's loop to `rows` if its frames may loop.
+/// Appends the loop of group `group` to `rows` if the group's frames may loop.
 fn add_group_loop<A: Allocator + Copy>(
     alloc: A,
     plans: &[Accepted<A>],

@@ -18,7 +18,7 @@ pub struct FrameGroup {
     pub destination: Option<[u8; 6]>,
 }
 
-/// Whether two optional VLANs are equal; `None` equals only `None`.
+/// Returns whether two optional VLANs are equal; `None` equals only `None`.
 fn is_same_vlan(a: Option<u16>, b: Option<u16>) -> bool
     ensures { result ≡ spec.is_same_vlan a b }
 {
@@ -29,7 +29,7 @@ fn is_same_vlan(a: Option<u16>, b: Option<u16>) -> bool
     }
 }
 
-/// Whether two optional destinations are equal; `None` equals only `None`.
+/// Returns whether two optional destinations are equal; `None` equals only `None`.
 fn is_same_destination(a: Option<[u8; 6]>, b: Option<[u8; 6]>) -> bool
     ensures { result ≡ spec.is_same_destination a b }
 {
@@ -40,22 +40,21 @@ fn is_same_destination(a: Option<[u8; 6]>, b: Option<[u8; 6]>) -> bool
     }
 }
 
-/// Whether two groups have equal VLANs and destinations.
+/// Returns whether two groups have equal VLANs and destinations.
 fn is_same_group(a: &FrameGroup, b: &FrameGroup) -> bool
     ensures { result ≡ spec.is_same_group a.now b.now }
 {
     is_same_vlan(a.vlan, b.vlan) && is_same_destination(a.destination, b.destination)
 }
 
-/// Whether `groups` contains `group`.
+/// Returns whether `groups` contains `group`.
 fn has_group(groups: &[FrameGroup], group: &FrameGroup) -> bool
     ensures { result ≡ spec.has_group groups.now group.now }
 {
     groups.iter().any(|known| is_same_group(known, group))
 }
 
-/// Appends `group` to `groups` unless `groups` contains it. So the search for loops finds each loop of a group once, and `net check` warns
-/// once.
+/// Appends `group` to `groups` unless `groups` contains it. So the search for loops examines each group once, and `net check` warns once.
 fn add_group<A: Allocator + Copy>(
     groups: &mut Vec<FrameGroup, A>,
     group: FrameGroup,
@@ -136,6 +135,7 @@ fn add_plan_groups<A: Allocator + Copy>(
 }
 
 /// Returns the groups that the plans name by VLANs and static entries, and the group without VLAN and destination. No group is repeated.
+/// `find_forwarding_loops` searches each.
 pub(crate) fn all_groups<A: Allocator + Copy>(
     alloc: A,
     plans: &[Accepted<A>],

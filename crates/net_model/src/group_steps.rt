@@ -1,4 +1,5 @@
-//! Steps of a group's frames: from each port at which they can arrive, over one link, to the next port of arrival.
+//! Steps of a group's frames: from each port at which they can arrive, over one link, to the next port of arrival. The search for
+//! forwarding loops follows them.
 ghost use Rattle.std.specs.Prelude.{◌≡◌, ◌≤◌, ◌++◌, IfOk, OnOk, length};
 ghost use Rattle.bridge_forward.specs.Forward.{output_ports};
 ghost use Rattle.bridge_forward.specs.Ports as ports;
@@ -66,7 +67,8 @@ fn egress_ports<A: Allocator + Copy>(
     }
 }
 
-/// Appends to `steps` the step from `from` over the link of egress port `port`, if `outs` contains the port and it has a link.
+/// Appends to `steps` the step from ingress port `from` over the link of egress port `port`. Appends nothing if `outs` lacks the port or it
+/// has no link.
 fn push_step_over_link<A: Allocator + Copy>(
     steps: &mut Vec<Step, A>,
     links: &[Link],
@@ -102,8 +104,8 @@ fn push_steps_over_links<A: Allocator + Copy>(
     Ok(())
 }
 
-/// Appends to `steps` the steps from `from` over the links of the egress ports in `outs`. Returns at once if the set is empty, to save
-/// time.
+/// Appends to `steps` the steps from ingress port `from` over the links of the egress ports in `outs`. Returns at once if the set is empty,
+/// to save time.
 fn push_steps_if_any<A: Allocator + Copy>(
     steps: &mut Vec<Step, A>,
     links: &[Link],
@@ -118,7 +120,7 @@ fn push_steps_if_any<A: Allocator + Copy>(
     push_steps_over_links(steps, links, from, outs)
 }
 
-/// Appends to `steps` the steps of frames that arrive on the port with number `port`; none if the port is missing.
+/// Appends to `steps` the steps of the group's frames that arrive on port `port` of bridge `bridge`; none if the port is missing.
 fn push_port_steps<A: Allocator + Copy>(
     steps: &mut Vec<Step, A>,
     links: &[Link],
@@ -141,7 +143,7 @@ fn push_port_steps<A: Allocator + Copy>(
     }
 }
 
-/// Appends to `steps` the steps of frames that arrive at a bridge, on any port.
+/// Appends to `steps` the steps of the group's frames that arrive at bridge `bridge`, on any port.
 fn push_bridge_steps<A: Allocator + Copy>(
     steps: &mut Vec<Step, A>,
     links: &[Link],

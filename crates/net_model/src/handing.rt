@@ -1,5 +1,5 @@
-//! The test whether a hop's filter gets each frame that the previous hop sends. If it doesn't, frames of the stream may be refused, and
-//! `net check` prints `refusable`.
+//! The test whether a hop's filter gets each frame that the previous hop sends over a link. If it doesn't, `net check` prints `refusable`
+//! for a periodic talker's stream.
 ghost use Rattle.std.specs.Prelude.{◌≡◌, ◌≤◌, Some};
 ghost use Rattle.std.specs.List.{list_all};
 ghost use Rattle.bridge_filter.specs.OwnEvents.{is_filter_number};
@@ -32,8 +32,8 @@ struct Taker<'a, A: Allocator + Copy> {
 }
 
 impl<'a, A: Allocator + Copy> Taker<'a, A> {
-    /// Whether the receiving bridge forwards frames with this tag and the address of entry `named` by some port. Returns true for a source
-    /// address, because the destination is then unknown.
+    /// Returns whether the receiving bridge forwards frames with this tag and the address of entry `named` by some port. True for a source
+    /// address: the destination is unknown then.
     fn is_forwarded(&self, named: &StreamEntry, tag: Option<Tag>) -> bool
         requires from { 1 ≤ self.now.on.now.number }
         requires to { self.now.on.now.number ≤ 16 }
@@ -51,8 +51,8 @@ impl<'a, A: Allocator + Copy> Taker<'a, A> {
         }
     }
 
-    /// Whether frames with this tag and this stream handle belong to the receiving filter. `None` stands for an untagged frame, and for a
-    /// frame without handle.
+    /// Returns whether frames with this tag and this stream handle belong to the receiving filter. `None` stands for an untagged frame, and
+    /// for a frame without handle.
     fn is_given(&self, tag: Option<Tag>, handle: Option<u32>) -> bool
         ensures { result ≡ is_filter_number self.now.filter (feeding.matching_filter self.now.plan.now handle
             (classified.frame_priority self.now.on.now tag)) }
@@ -63,8 +63,8 @@ impl<'a, A: Allocator + Copy> Taker<'a, A> {
         }
     }
 
-    /// Whether each frame with this tag and the address of entry `named` gets the receiving filter, whichever of the receiving bridge's
-    /// entries matches it. If none surely matches, frames without handle must get it too.
+    /// Returns whether each frame with this tag and the address of entry `named` gets the receiving filter. This includes each handle that
+    /// the frame may get there, or none.
     fn gives_all(&self, named: &StreamEntry, tag: Option<Tag>) -> bool
         ensures { result ≡ spec.gives_all self.now.plan.now self.now.on.now self.now.filter
             (frame_pattern named.now tag) }
@@ -96,7 +96,7 @@ impl<'a, A: Allocator + Copy> Taker<'a, A> {
     }
 }
 
-/// Whether the filter's handle `own` is known and isn't `handle`.
+/// Returns whether the filter's handle `own` is known and isn't `handle`. Then entries of `handle` give the filter no frames.
 fn is_other_handle(own: Option<u32>, handle: u32) -> bool
     ensures { result ≡ is_other_handle own handle }
 {
@@ -112,15 +112,15 @@ fn is_other_handle(own: Option<u32>, handle: u32) -> bool
 struct Handing<'a, A: Allocator + Copy> {
     plan: &'a Plan<A>,
     filter: u32,
-    /// Stream handle of the sender's filter. `None` if the filter is unprotected or names no handle.
+    /// Stream handle of the sender's filter. `None` if the filter is missing, unprotected or names no handle.
     handle: Option<u32>,
     port: u8,
     taker: Taker<'a, A>,
 }
 
 impl<'a, A: Allocator + Copy> Handing<'a, A> {
-    /// Whether the receiving filter gets each frame with this tag that `entry` identifies at the sender's ingress port `from`. True if the
-    /// frames belong to another filter, or can't leave over the link.
+    /// Returns whether the receiving filter gets each frame with this tag that `entry` identifies at ingress port `from`. True for another
+    /// filter's frames, or frames that can't leave over the link.
     fn hands_tag(&self, entry: &StreamEntry, from: &PortPlan<A>, tag: Option<Tag>) -> bool
         requires handing { IsHanding self.now }
         requires from { 1 ≤ from.now.number }
@@ -136,7 +136,7 @@ impl<'a, A: Allocator + Copy> Handing<'a, A> {
         self.taker.takes_all(entry, tag)
     }
 
-    /// Whether the receiving filter gets each frame of the sender's entry `entry` with VLAN identifier `vid` and priority `pcp`.
+    /// Returns whether the receiving filter gets each frame of the sender's entry `entry` with VLAN identifier `vid` and priority `pcp`.
     fn hands_priority(&self, entry: &StreamEntry, from: &PortPlan<A>, vid: u16, pcp: u8) -> bool
         requires handing { IsHanding self.now }
         requires from { 1 ≤ from.now.number }
@@ -147,7 +147,8 @@ impl<'a, A: Allocator + Copy> Handing<'a, A> {
         self.hands_tag(entry, from, Some(Tag { pcp, dei, vid }))
     }
 
-    /// Whether the receiving filter gets each frame of the sender's entry `entry` with VLAN identifier `vid`, for all eight priorities.
+    /// Returns whether the receiving filter gets each frame of the sender's entry `entry` with VLAN identifier `vid`, for all eight
+    /// priorities.
     fn hands_tagged(&self, entry: &StreamEntry, from: &PortPlan<A>, vid: u16) -> bool
         requires handing { IsHanding self.now }
         requires from { 1 ≤ from.now.number }
@@ -165,7 +166,8 @@ impl<'a, A: Allocator + Copy> Handing<'a, A> {
         self.hands_priority(entry, from, vid, 0) & one
     }
 
-    /// Whether the receiving filter gets each frame that `entry` identifies at the sender's ingress port `from`, for all 17 possible tags.
+    /// Returns whether the receiving filter gets each frame that `entry` identifies at the sender's ingress port `from`, for all 17
+    /// possible tags.
     fn is_fed_by_entry(&self, entry: &StreamEntry, from: &PortPlan<A>) -> bool
         requires handing { IsHanding self.now }
         requires from { 1 ≤ from.now.number }
@@ -178,8 +180,8 @@ impl<'a, A: Allocator + Copy> Handing<'a, A> {
         untagged & (priority & tagged)
     }
 
-    /// Whether the receiving filter gets each frame that the sender's entry `entry` identifies. True if the sender's filter has another
-    /// handle, or if the sender lacks the entry's port.
+    /// Returns whether the receiving filter gets each frame that the sender's entry identifies. True if the sender's filter has another
+    /// handle, or the plan lacks the entry's port.
     fn hands_entry(&self, entry: &StreamEntry) -> bool
         requires handing { IsHanding self.now }
         ensures { result ≡ hands_entry self.now entry.now }
@@ -193,7 +195,7 @@ impl<'a, A: Allocator + Copy> Handing<'a, A> {
         }
     }
 
-    /// Whether the receiving filter gets each frame of the sender's filter that leaves over the link.
+    /// Returns whether the receiving filter gets each frame of the sender's filter that leaves over the link, entry by entry.
     fn hands_all(&self) -> bool
         requires handing { IsHanding self.now }
         ensures { result ≡ spec.hands_all self.now.plan.now self.now.filter self.now.port self.now.taker.plan.now
@@ -240,8 +242,8 @@ fn receives_every_frame<A: Allocator + Copy>(
     }
 }
 
-/// Whether each frame of `hop` that leaves by `port` gets filter `taker` at `end`, the link's other end. Returns false if a bridge or the
-/// port of `end` is missing.
+/// Returns whether each frame of `hop` that leaves by `port` gets filter `taker` at `end`, the link's other end. False if a bridge or port
+/// is missing. Delays of talkers need this.
 pub fn is_received_by_next_hop<A: Allocator + Copy>(
     plans: &[Accepted<A>],
     hop: StreamHop,

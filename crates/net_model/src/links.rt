@@ -1,4 +1,4 @@
-//! Links of a network, and hops of its streams.
+//! Links of a network, and hops of its streams, in the form that `check_network` accepts.
 ghost use Rattle.std.specs.Prelude.{◌≡◌, option_map};
 ghost use Rattle.net_model.specs.Networks as networks;
 ghost use Rattle.net_model.specs.ClosedTest as accepting;
@@ -31,14 +31,15 @@ pub struct StreamHop {
     pub filter: u32,
 }
 
-/// Whether `end` is port `port` of the bridge with index `bridge`. Searches for a port's link compare both ends by it.
+/// Returns whether `end` is port `port` of the bridge with index `bridge`. `peer_port` and searches for a link's delay compare both ends by
+/// it.
 pub fn is_bridge_port(end: BridgePort, bridge: u16, port: u8) -> bool
     ensures { result ≡ networks.is_bridge_port (end_value end) bridge port }
 {
     end.bridge == bridge && end.port == port
 }
 
-/// Returns the bridge port at the other end of the port's first link, or `None` for an open port.
+/// Returns the bridge port at the other end of the link of port `port`, or `None` for an open port. The first link of the port decides.
 pub fn peer_port(links: &[Link], bridge: u16, port: u8) -> Option<BridgePort>
     ensures { option_map end_value result ≡ peer_port links.now bridge port }
 {
@@ -53,7 +54,7 @@ pub fn peer_port(links: &[Link], bridge: u16, port: u8) -> Option<BridgePort>
     None
 }
 
-/// Whether `stream` has a hop with filter `filter` at the bridge with index `bridge`.
+/// Returns whether `stream` has a hop with filter `filter` at the bridge with index `bridge`.
 pub(crate) fn has_hop(stream: &[StreamHop], bridge: u16, filter: u32) -> bool
     ensures { result ≡ accepting.has_hop (stream_value stream.now) bridge filter }
 {

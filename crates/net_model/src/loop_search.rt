@@ -10,14 +10,14 @@ use crate::step::{Step, has_port, is_same_port};
 use bridge_limits::NoMemory;
 use std::alloc::Allocator;
 
-/// Whether `x` is the start of the search or a reached port.
+/// Returns whether `x` is the start of the search or a reached port.
 fn is_reached(start: BridgePort, reached: &[BridgePort], x: BridgePort) -> bool
     ensures { result ≡ searching.is_reached start reached.now x }
 {
     is_same_port(start, x) || has_port(reached, x)
 }
 
-/// Returns the steps that don't begin at a reached port. Later rounds of the search explore them.
+/// Returns those of `steps` that don't begin at a reached port or at `start`. Later rounds of the search explore them.
 #[tactic(auto, using(std::proofs::lemmas::List::Elements::filter_more))]
 fn unexplored_steps<A: Allocator + Copy>(
     alloc: A,
@@ -36,7 +36,7 @@ fn unexplored_steps<A: Allocator + Copy>(
     Ok(left)
 }
 
-/// Returns the reached ports, and the ports that one more step reaches from them.
+/// Returns the reached ports, and the ports that one of `steps` reaches from them or from `start`.
 #[tactic(auto, using(crate::proofs::Searched::targets_more))]
 fn add_reached_ports<A: Allocator + Copy>(
     alloc: A,
@@ -55,7 +55,7 @@ fn add_reached_ports<A: Allocator + Copy>(
     Ok(places)
 }
 
-/// Whether steps lead from `start` back to `start`: a search in which each round adds the ports that one more step reaches.
+/// Returns whether steps lead from `start` back to `start`. In each round, the search adds the ports that one more step reaches.
 pub(crate) fn is_on_loop<A: Allocator + Copy>(
     alloc: A,
     steps: &[Step],

@@ -61,7 +61,7 @@ impl<A: Allocator + Copy> Network<A> {
     }
 }
 
-/// A refused network, and its first fault. The unchanged parts let the caller write the fault line without reading the files again.
+/// A refused network: its unchanged parts and its first fault. `--explain` needs the parts to explain the fault.
 #[derive(Drop)]
 pub struct RefusedNetwork<A: Allocator + Copy> {
     /// The plans, unchanged.
@@ -74,7 +74,7 @@ pub struct RefusedNetwork<A: Allocator + Copy> {
     pub fault: NetworkFault,
 }
 
-/// Does nothing at run time: each call of `plan` gives the prover the fact that the plan is accepted.
+/// Does nothing at run time: each call of `plan` gives the prover the fact that the plan is accepted, for `first_fault`.
 fn assert_accepted<A: Allocator + Copy>(plans: &[Accepted<A>])
     ensures { All IsAccepted plans.now }
 {
@@ -102,8 +102,8 @@ fn first_fault<A: Allocator + Copy>(
     case.fault()
 }
 
-/// Accepts a network that passes all tests of its links and streams; otherwise returns the first fault and the unchanged parts. Allocates
-/// no memory.
+/// Accepts a network that passes all tests of its links and streams. Otherwise returns the first fault and the unchanged parts. Allocates
+/// no memory. `check_network_file` calls it.
 pub fn check_network<A: Allocator + Copy>(
     plans: Vec<Accepted<A>, A>,
     links: Vec<Link, A>,

@@ -19,7 +19,7 @@ use bridge_filter::FilterPlan;
 use bridge_frame::Speed;
 use std::alloc::Allocator;
 
-/// Tests of a link, in the order of the tests. Each test runs over all links before the next one.
+/// Tests of a link, in the order in which they run. Each test runs over all links before the next test.
 #[derive(Clone, Copy)]
 pub(crate) enum LinkTest {
     /// The ports at both ends exist.
@@ -30,7 +30,7 @@ pub(crate) enum LinkTest {
     SameSpeed,
 }
 
-/// Tests of a hop, in the order of the tests. Each test runs over all hops before the next one.
+/// Tests of a hop, in the order in which they run. Each test runs over all hops before the next test.
 #[derive(Clone, Copy)]
 pub(crate) enum HopTest {
     /// The hop's bridge exists and has a protected filter with the hop's number.
@@ -67,7 +67,7 @@ pub fn find_plan<'a, A: Allocator + Copy>(
     }
 }
 
-/// Returns the port that `end` names, or `None` if its bridge or port is missing.
+/// Returns the plan of the port that `end` names, or `None` if its bridge or port is missing.
 fn end_port<'a, A: Allocator + Copy>(
     plans: &'a [Accepted<A>],
     end: BridgePort,
@@ -80,14 +80,15 @@ fn end_port<'a, A: Allocator + Copy>(
     }
 }
 
-/// Whether the port that `end` names has a link. A port without one is open.
+/// Returns whether the port that `end` names has a link. A port without one is open.
 fn is_linked(links: &[Link], end: BridgePort) -> bool
     ensures { result ≡ spec.is_linked links.now end }
 {
     peer_port(links, end.bridge, end.port).is_some()
 }
 
-/// Returns the first end of `link` whose port has an earlier link, or `None`. If the link joins a port to itself, its end `other` counts.
+/// Returns the first end of `link` whose port has a link in `before`, or `None`. If the link joins a port to itself, its end `other`
+/// counts.
 fn doubly_linked_end(before: &[Link], link: &Link) -> Option<BridgePort>
     ensures { result ≡ spec.doubly_linked_end before.now link.now }
 {
@@ -113,7 +114,7 @@ fn speed_mbps(speed: Speed) -> u32
     }
 }
 
-/// Whether both ports of a link have one speed. Returns true if a port is missing, because the test `PortsExist` reports this.
+/// Returns whether both ports of a link have one speed. Returns true if a port is missing, because the test `PortsExist` reports this.
 fn has_one_speed<A: Allocator + Copy>(plans: &[Accepted<A>], link: &Link) -> bool
     ensures { result ≡ spec.is_one_speed (spec.end_port plans.now link.now.one)
         (spec.end_port plans.now link.now.other) }
@@ -124,7 +125,7 @@ fn has_one_speed<A: Allocator + Copy>(plans: &[Accepted<A>], link: &Link) -> boo
     }
 }
 
-/// Whether a plan has a protected filter with this number.
+/// Returns whether a plan has a protected filter with this number.
 fn is_protected<A: Allocator + Copy>(plan: &Plan<A>, number: u32) -> bool
     ensures { result ≡ is_protected plan.now number }
 {
@@ -133,7 +134,7 @@ fn is_protected<A: Allocator + Copy>(plan: &Plan<A>, number: u32) -> bool
         .any(|f| f.0 == number && f.1.protected)
 }
 
-/// Whether `hop` is a protected filter of its bridge.
+/// Returns whether `hop` is a protected filter of its bridge.
 fn is_protected_hop<A: Allocator + Copy>(plans: &[Accepted<A>], hop: &StreamHop) -> bool
     ensures { result ≡ spec.is_protected_hop (slice_get plans.now hop.now.bridge) hop.now.filter }
 {
@@ -143,7 +144,7 @@ fn is_protected_hop<A: Allocator + Copy>(plans: &[Accepted<A>], hop: &StreamHop)
     }
 }
 
-/// Whether `hop` is a hop of one of the earlier `streams`, or one of the earlier `hops` of its own stream.
+/// Returns whether `hop` is a hop of one of the earlier `streams`, or one of the earlier `hops` of its own stream.
 fn is_repeated_hop<A: Allocator + Copy>(
     streams: &[Vec<StreamHop, A>],
     hops: &[StreamHop],
@@ -159,7 +160,7 @@ fn is_repeated_hop<A: Allocator + Copy>(
     has_hop(hops, hop.bridge, hop.filter)
 }
 
-/// Returns the stream handle of the protected filter with this number. Returns `None` if the filter is missing, unprotected or names no
+/// Returns the stream handle of the protected filter with number `number`. Returns `None` if the filter is missing, unprotected or names no
 /// handle.
 pub fn protected_handle(filters: &[(u32, FilterPlan)], number: u32) -> Option<u32>
     ensures { result ≡ spec.protected_handle filters.now number }
@@ -172,7 +173,7 @@ pub fn protected_handle(filters: &[(u32, FilterPlan)], number: u32) -> Option<u3
     None
 }
 
-/// Whether the plan has a stream entry with this handle on this port. Without such an entry, no frame gets the handle there.
+/// Returns whether the plan has a stream entry with handle `handle` on port `port`. Without such an entry, no frame gets the handle there.
 pub fn has_entry<A: Allocator + Copy>(plan: &Plan<A>, port: u8, handle: u32) -> bool
     ensures { result ≡ spec.has_entry plan.now port handle }
 {
@@ -199,8 +200,8 @@ pub(crate) struct TestedHop<'a, A: Allocator + Copy> {
 }
 
 impl<'a, A: Allocator + Copy> TestedHop<'a, A> {
-    /// Whether a stream entry gives the hop's handle to frames on port `j` + 1 of the hop's bridge. `first_or_frame_on_port` skips other
-    /// ports.
+    /// Returns whether a stream entry gives the hop's handle to frames on port `j` + 1 of the hop's bridge. `first_or_frame_on_port` skips
+    /// other ports.
     fn is_entry_index(&self, j: u8) -> bool
         requires case { IsTestedHop self.now }
         requires index { j < 16 }
@@ -291,8 +292,8 @@ impl<'a, A: Allocator + Copy> TestedHop<'a, A> {
         }
     }
 
-    /// Returns `before` if it has frames, otherwise an example of frames at port `j` + 1. It skips ports without an entry of the hop's
-    /// handle, because the hop gets no frames there.
+    /// Returns `before` if it has frames, otherwise an example of frames at port `j` + 1. The port needs an entry of the hop's handle: the
+    /// hop gets no frames at other ports.
     fn first_or_frame_on_port(
         &self,
         before: Option<(u8, FoundFrames)>,
@@ -329,7 +330,8 @@ impl<'a, A: Allocator + Copy> TestedHop<'a, A> {
         first
     }
 
-    /// Whether `on` is an open port and has a stream entry with the hop's handle. `has_entry_port` calls it for each port.
+    /// Returns whether `on` is an open port of the hop's bridge and has a stream entry with the hop's handle. `has_entry_port` calls it for
+    /// each port.
     fn is_entry_port(&self, on: &PortPlan<A>) -> bool
         ensures { result ≡ spec.is_entry_port self.now.case.links.now self.now.hop.bridge self.now.next.now
             self.now.handle
@@ -343,7 +345,7 @@ impl<'a, A: Allocator + Copy> TestedHop<'a, A> {
         has_entry(self.next, port, self.handle)
     }
 
-    /// Whether an open port has a stream entry with the hop's handle, so that frames from outside can feed the hop.
+    /// Returns whether an open port has a stream entry with the hop's handle, so that frames from outside can feed the hop.
     fn has_entry_port(&self) -> bool
         ensures { result ≡ spec.has_entry_port self.now.case.links.now self.now.hop.bridge self.now.next.now
             self.now.handle }
@@ -434,7 +436,7 @@ impl<'a, A: Allocator + Copy> TestedNetwork<'a, A> {
         }
     }
 
-    /// Returns `before` if it is a fault, otherwise the fault of the link with index `i`. One step of the loop in `link_fault`.
+    /// Returns `before` if it is a fault, otherwise the fault of the link with index `i`. It is one step of the loop in `link_fault`.
     #[tactic(auto, using(crate::proofs::Firsts::item_at))]
     fn first_or_link_test_fault(
         &self,
@@ -557,7 +559,7 @@ impl<'a, A: Allocator + Copy> TestedNetwork<'a, A> {
         }
     }
 
-    /// Returns `before` if it is a fault, otherwise the fault of hop `k` of the stream. One step of the loop in `stream_test_fault`.
+    /// Returns `before` if it is a fault, otherwise the fault of hop `k` of stream `i`. It is one step of the loop in `stream_test_fault`.
     #[tactic(auto, using(crate::proofs::Firsts::item_at))]
     fn first_or_hop_test_fault(
         &self,
@@ -597,7 +599,7 @@ impl<'a, A: Allocator + Copy> TestedNetwork<'a, A> {
         first
     }
 
-    /// Returns `before` if it is a fault, otherwise the first fault of stream `i`. One step of the loop in `hop_fault`.
+    /// Returns `before` if it is a fault, otherwise the first fault of stream `i`. It is one step of the loop in `hop_fault`.
     #[tactic(auto, using(crate::proofs::Firsts::item_at))]
     fn first_or_stream_test_fault(
         &self,
@@ -616,7 +618,7 @@ impl<'a, A: Allocator + Copy> TestedNetwork<'a, A> {
         self.stream_test_fault(test, i, self.streams[i].as_slice())
     }
 
-    /// Returns the first fault of `test` among all hops, by stream and then by hop.
+    /// Returns the first fault of `test` among all hops, by stream and then by hop, or `None` if all hops pass.
     #[tactic(auto, using(bridge_check::proofs::Told::first_none, bridge_check::proofs::Told::first_more))]
     fn hop_fault(&self, test: HopTest) -> Option<NetworkFault>
         ensures { result ≡ spec.hop_fault (tested_parts self.now) test }
@@ -628,7 +630,7 @@ impl<'a, A: Allocator + Copy> TestedNetwork<'a, A> {
         first
     }
 
-    /// Returns the first fault of a hop. Finishes each test for all hops before the next test.
+    /// Returns the first fault of a hop, or `None`. Finishes each test for all hops before the next test.
     fn first_hop_fault(&self) -> Option<NetworkFault>
         ensures { result ≡ spec.first_hop_fault (tested_parts self.now) }
     {
@@ -647,7 +649,7 @@ impl<'a, A: Allocator + Copy> TestedNetwork<'a, A> {
         self.hop_fault(HopTest::Fed)
     }
 
-    /// Returns the first fault of the network: tests of links come before tests of hops.
+    /// Returns the first fault of the network, or `None`: tests of links come before tests of hops. `check_network` calls it.
     pub(crate) fn fault(&self) -> Option<NetworkFault>
         ensures { result ≡ spec.first_fault (tested_parts self.now) }
     {

@@ -9,28 +9,28 @@ use crate::step::{Step, is_same_port};
 use bridge_limits::NoMemory;
 use std::alloc::Allocator;
 
-/// Whether a step begins at port `x`.
+/// Returns whether a step begins at port `x`.
 fn has_outgoing_step(steps: &[Step], x: BridgePort) -> bool
     ensures { result ≡ peeling.has_outgoing_step steps.now x }
 {
     steps.iter().any(|step| is_same_port(step.from, x))
 }
 
-/// Whether a step ends at port `x`.
+/// Returns whether a step ends at port `x`.
 fn has_incoming_step(steps: &[Step], x: BridgePort) -> bool
     ensures { result ≡ peeling.has_incoming_step steps.now x }
 {
     steps.iter().any(|step| is_same_port(step.to, x))
 }
 
-/// Whether a step begins where `step` ends, and a step ends where `step` begins. Each step of a loop is such an inner step.
+/// Returns whether a step begins where `step` ends, and a step ends where `step` begins. Each step of a loop is such an inner step.
 fn is_inner_step(steps: &[Step], step: &Step) -> bool
     ensures { result ≡ peeling.is_inner_step steps.now step.now }
 {
     has_outgoing_step(steps, step.to) && has_incoming_step(steps, step.from)
 }
 
-/// Returns the inner steps of `steps` (`is_inner_step`). `prune_dead_ends` repeats this until no step is removed.
+/// Returns the inner steps of `steps` (`is_inner_step`). `prune_dead_ends` repeats this until it removes no step.
 #[tactic(auto, using(std::proofs::lemmas::List::Elements::filter_more))]
 fn inner_steps<A: Allocator + Copy>(alloc: A, steps: &[Step]) -> Result<Vec<Step, A>, NoMemory>
     ensures { IfOk result (λ kept. kept.items ≡ filter (peeling.is_inner_step steps.now) steps.now) }

@@ -1,11 +1,11 @@
-//! Search for the bridge port that sends to a given port, for network runs.
+//! Search for the bridge port that sends to a given port, for network runs and their reports.
 ghost use Rattle.std.specs.Prelude.{◌≡◌, map, option_map};
 ghost use Rattle.net_model.specs.Networks as networks;
 ghost use Rattle.net_model.specs.NetworkParts.{end_value, link_value, sender_value};
 
 use crate::links::{BridgePort, Link};
 
-/// Bridge port at the other end of a link, and the delay of the link in ns.
+/// Bridge port at the other end of a port's link, and the delay of the link in ns.
 #[derive(Clone, Copy)]
 pub struct Sender {
     pub from: BridgePort,
@@ -34,7 +34,8 @@ pub fn find_sender(links: &[Link], bridge: usize, port: u8) -> Option<Sender>
     None
 }
 
-/// Whether `end` is port `port` of the bridge with index `bridge`. Lists have `usize` indexes, so this version compares `usize`.
+/// Returns whether `end` is port `port` of the bridge with index `bridge`. Callers of `find_sender` have `usize` indexes, so this function
+/// compares `usize`.
 fn is_bridge_port(end: BridgePort, bridge: usize, port: u8) -> bool
     ensures { result ≡ networks.is_bridge_port (end_value end) bridge port }
 {

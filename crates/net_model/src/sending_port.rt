@@ -38,7 +38,7 @@ pub(crate) struct FoundFrames {
     pub from: u8,
 }
 
-/// A port of a bridge that sends over a link, and the question which frames the search is for.
+/// A port of a bridge that sends over a link, and the kind of frames for which the search looks.
 #[derive(Drop)]
 pub(crate) struct SendingPort<'a, A: Allocator + Copy> {
     /// Plan of the sending bridge.
@@ -51,7 +51,7 @@ pub(crate) struct SendingPort<'a, A: Allocator + Copy> {
     pub question: FrameQuery,
 }
 
-/// Whether a stream entry of tag kind `kind` accepts a frame with tag `tag`; `None` stands for an untagged frame.
+/// Returns whether a stream entry of tag kind `kind` accepts a frame with tag `tag`; `None` stands for an untagged frame.
 pub(crate) fn accepts_tag(kind: TagKind, tag: Option<Tag>) -> bool
     ensures { result ≡ ident.accepts_tag kind tag }
 {
@@ -82,7 +82,7 @@ pub(crate) fn frame_priority<A: Allocator + Copy>(port: &PortPlan<A>, tag: Optio
     }
 }
 
-/// Whether both entries compare the destination address, or both the source address.
+/// Returns whether both entries compare the destination address, or both the source address.
 pub(crate) fn is_same_kind(a: Kind, b: Kind) -> bool
     ensures { result ≡ feeding.is_same_kind a b }
 {
@@ -93,8 +93,8 @@ pub(crate) fn is_same_kind(a: Kind, b: Kind) -> bool
     }
 }
 
-/// Whether `entry` can match frames with this tag and the address of `named`, on port `port` in VLAN `vid`. If `entry` compares the other
-/// kind of address, it can match.
+/// Returns whether `entry` can match frames with this tag and the address of `named`, on port `port` in VLAN `vid`. If `entry` compares the
+/// other kind of address, it can match.
 pub(crate) fn can_match(
     entry: &StreamEntry,
     port: u8,
@@ -110,7 +110,7 @@ pub(crate) fn can_match(
     !is_same_kind(entry.kind, named.kind) || entry.address == named.address
 }
 
-/// Returns the filter with the lower number; at equal numbers `a`. `matching_filter` folds the matching filters by it.
+/// Returns the filter with the lower number; at equal numbers `a`. `matching_filter` calls it for each matching filter.
 fn lesser_filter(a: Option<(u32, FilterPlan)>, b: (u32, FilterPlan)) -> Option<(u32, FilterPlan)>
     ensures { result ≡ lesser_optional_filter a (Some b) }
 {
@@ -120,8 +120,8 @@ fn lesser_filter(a: Option<(u32, FilterPlan)>, b: (u32, FilterPlan)) -> Option<(
     }
 }
 
-/// Returns the filter of frames with this handle and priority, with its number. If several filters match, the lowest number decides; `None`
-/// if no filter matches.
+/// Returns the filter of frames with this handle and priority, with its number, or `None` if no filter matches. Among several, the lowest
+/// number decides.
 #[tactic(auto, using(crate::proofs::Flows::lesser_none, crate::proofs::Flows::lesser_more))]
 pub(crate) fn matching_filter(
     filters: &[(u32, FilterPlan)],
@@ -141,7 +141,8 @@ pub(crate) fn matching_filter(
     least
 }
 
-/// Whether `before` is true, or the filter's frames can wait in `class` at `port`. One step of the loop in `can_wait_at_port`.
+/// Returns whether `before` is true, or the filter's frames can wait in `class` at `port`. It is one step of the loop in
+/// `can_wait_at_port`.
 fn found_or_can_wait<A: Allocator + Copy>(
     before: bool,
     plan: &Plan<A>,
@@ -159,7 +160,7 @@ fn found_or_can_wait<A: Allocator + Copy>(
     before || can_wait_in_reach(plan, filter, reach, port, class)
 }
 
-/// Whether frames of a filter can wait at `port`. Computes the filter's reach once for its eight classes.
+/// Returns whether frames of a filter can wait at `port`. Computes the filter's reach once for its eight classes.
 fn can_wait_at_port<A: Allocator + Copy>(
     plan: &Plan<A>,
     filter: &FilterPlan,
@@ -178,7 +179,7 @@ fn can_wait_at_port<A: Allocator + Copy>(
     found
 }
 
-/// Whether frames of a filter can wait at the port with number `port`, 1 to 16. Returns false if the port is missing.
+/// Returns whether frames of a filter can wait at the port with number `port`, 1 to 16. Returns false if the port is missing.
 #[tactic(auto, using(crate::proofs::Reaching::unreached))]
 fn can_wait_at_port_number<A: Allocator + Copy>(
     plan: &Plan<A>,
@@ -195,8 +196,8 @@ fn can_wait_at_port_number<A: Allocator + Copy>(
     }
 }
 
-/// Whether frames with this tag and the address of `named`, received on `on`, can leave by `port`. True for a source address, because the
-/// destination is then unknown.
+/// Returns whether frames with this tag and the address of `named`, received on `on`, can leave by `port`. True for a source address: the
+/// destination is unknown then.
 pub(crate) fn may_go<A: Allocator + Copy>(
     plan: &Plan<A>,
     on: &PortPlan<A>,
@@ -220,7 +221,8 @@ pub(crate) fn may_go<A: Allocator + Copy>(
     }
 }
 
-/// Whether `entry` matches frames with this tag on port `on` and gives them a handle of `filter`.
+/// Returns whether `entry` matches frames with this tag on port `on`, and `filter` then judges them by the entry's handle and their
+/// priority.
 pub(crate) fn maps_tag_to_filter<A: Allocator + Copy>(
     plan: &Plan<A>,
     on: &PortPlan<A>,
@@ -258,7 +260,8 @@ impl<'a, A: Allocator + Copy> SendingPort<'a, A> {
         }
     }
 
-    /// Whether filter `flow` is a hop of the stream and its frames can wait at the sending port. False for unfiltered frames (`None`).
+    /// Returns whether filter `flow` is a hop of the stream and its frames can wait at the sending port. False for unfiltered frames
+    /// (`None`).
     fn is_own_filter(&self, flow: Option<(u32, FilterPlan)>) -> bool
         requires { IsSendingPort self.now }
         ensures { result ≡ is_own_filter self.now.plan.now (hops self.now) self.now.end.port flow }
@@ -272,7 +275,7 @@ impl<'a, A: Allocator + Copy> SendingPort<'a, A> {
         }
     }
 
-    /// Whether the search is for frames of the filter `flow`. `None` stands for unfiltered frames, which are stray.
+    /// Returns whether the search looks for frames of filter `flow`. `None` stands for unfiltered frames, which are stray.
     fn is_asked(&self, flow: Option<(u32, FilterPlan)>) -> bool
         requires { IsSendingPort self.now }
         ensures { result ≡ is_asked self.now.question self.now.plan.now (hops self.now) self.now.end.port flow }
@@ -302,8 +305,8 @@ impl<'a, A: Allocator + Copy> SendingPort<'a, A> {
         }
     }
 
-    /// Returns the first example among frames that arrive on port `port`, or `None`. Tries the handles that these frames can get there, in
-    /// entry order.
+    /// Returns the first example among frames of tag `tag` and the address of `named` that arrive on port `port`, or `None`. Tries the
+    /// handles that they can get.
     fn first_by_handle(
         &self,
         named: &StreamEntry,
@@ -352,8 +355,8 @@ impl<'a, A: Allocator + Copy> SendingPort<'a, A> {
         )
     }
 
-    /// Returns the first example among frames that arrive on the port with number `port`. Returns `None` without an example or without this
-    /// port.
+    /// Returns the first example among frames with this tag and the address of `named` that arrive on port `port`. `None` without an
+    /// example or without this port.
     fn first_frame_on_ingress_number(
         &self,
         named: &StreamEntry,
@@ -369,7 +372,7 @@ impl<'a, A: Allocator + Copy> SendingPort<'a, A> {
         }
     }
 
-    /// Returns `before` if it has frames, otherwise the first example from ingress port `port`. One step of the loop in
+    /// Returns `before` if it has frames, otherwise the first example from ingress port `port`. It is one step of the loop in
     /// `first_frame_by_ingress`.
     fn first_or_frame_on_ingress(
         &self,

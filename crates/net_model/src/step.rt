@@ -11,14 +11,14 @@ pub struct Step {
     pub to: BridgePort,
 }
 
-/// Whether two bridge ports are equal: bridge index and port number.
+/// Returns whether two bridge ports are equal: in bridge index and port number.
 pub(crate) fn is_same_port(a: BridgePort, b: BridgePort) -> bool
     ensures { result ≡ peeling.is_same_port a b }
 {
     a.bridge == b.bridge && a.port == b.port
 }
 
-/// Whether `places` contains port `x`. The search for loops calls it with the ports that it has reached.
+/// Returns whether `places` contains port `x`. The search for loops calls it with the ports that it has reached.
 pub(crate) fn has_port(places: &[BridgePort], x: BridgePort) -> bool
     ensures { result ≡ peeling.has_port places.now x }
 {

@@ -1,4 +1,5 @@
-//! Stray frames: a hop accepts them over a link, but they belong to no hop of its stream.
+//! Examples of stray frames: a hop accepts them over a link, but they belong to no hop of its stream. `--explain` shows one for the fault
+//! `NotClosed`.
 ghost use Rattle.std.specs.Prelude.{◌≡◌, ◌<◌, ◌&&◌, ℕ, true, IfSome, Some, is_some, slice_get};
 ghost use Rattle.bridge_filter.specs.OwnEvents.{is_filter_number};
 ghost use Rattle.net_model.specs.LinkFrames.{matching_filter, possible_tags};
@@ -19,8 +20,7 @@ use bridge_frame::Tag;
 use bridge_ident::StreamEntry;
 use std::alloc::Allocator;
 
-/// Stray frames that a hop accepts over a link: all with the address of `entry` and tag `tag`. Explanations of the fault `NotClosed` name
-/// them.
+/// Stray frames that a hop accepts over a link: all with the address of `entry` and tag `tag`. `explain_open_stream` prints them.
 #[derive(Clone, Copy)]
 pub struct StrayFrame {
     pub entry: StreamEntry,
@@ -101,8 +101,8 @@ impl<'a, A: Allocator + Copy> TakingFilter<'a, A> {
     }
 }
 
-/// Returns example frames that `plan` can send from `end`, or `None`. The hop's filter would accept them although they belong to no hop of
-/// the stream.
+/// Returns example frames that the bridge with plan `plan` can send from `end`, or `None`. The hop's filter would accept them although they
+/// belong to no hop.
 fn first_stray_of_sender<A: Allocator + Copy>(
     stream: &[StreamHop],
     hop: StreamHop,
@@ -140,7 +140,8 @@ fn first_stray_of_sender<A: Allocator + Copy>(
     }
 }
 
-/// Returns example stray frames that the hop's filter would accept over a link from `end`.
+/// Returns example stray frames that the hop's filter would accept over a link from `end`, or `None`. Looks up the plan of the sending
+/// bridge.
 fn first_stray_from_peer<A: Allocator + Copy>(
     plans: &[Accepted<A>],
     stream: &[StreamHop],
@@ -163,7 +164,8 @@ fn first_stray_from_peer<A: Allocator + Copy>(
     }
 }
 
-/// Returns example stray frames that the hop's filter would accept over the link of port `on`, if the port has a link.
+/// Returns example stray frames that the hop's filter would accept over the link of port `on`. `None` without such frames or without a
+/// link.
 fn first_stray_over_link<A: Allocator + Copy>(
     plans: &[Accepted<A>],
     links: &[Link],
@@ -184,7 +186,7 @@ fn first_stray_over_link<A: Allocator + Copy>(
     }
 }
 
-/// Returns example stray frames at port `on` of the hop's bridge, if the hop's filter names a handle.
+/// Returns example stray frames at port `on` of the hop's bridge. `None` without such frames, or if the hop's filter names no handle.
 fn first_stray_on_port<A: Allocator + Copy>(
     plans: &[Accepted<A>],
     links: &[Link],
@@ -203,7 +205,7 @@ fn first_stray_on_port<A: Allocator + Copy>(
     }
 }
 
-/// Returns example stray frames at the port with number `port`, if the hop's bridge has this port.
+/// Returns example stray frames at the port with number `port`. `None` without such frames, or if the hop's bridge lacks the port.
 fn first_stray_on_port_number<A: Allocator + Copy>(
     plans: &[Accepted<A>],
     links: &[Link],

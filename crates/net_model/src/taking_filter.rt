@@ -11,7 +11,7 @@ use bridge_frame::Tag;
 use bridge_ident::StreamEntry;
 use std::alloc::Allocator;
 
-/// Filter of a hop, a linked port of its bridge, and the port at the link's other end that sends to it.
+/// Filter of a hop, a linked port of its bridge, and the port at the link's other end that sends to it. The search for frames is a method.
 #[derive(Drop)]
 pub(crate) struct TakingFilter<'a, A: Allocator + Copy> {
     /// Port at the other end of the link.
@@ -44,8 +44,8 @@ impl<'a, A: Allocator + Copy> TakingFilter<'a, A> {
         }
     }
 
-    /// Returns `before` if it has frames, otherwise the first example with this tag and the address of `entry`. One step of the loop in
-    /// `first_frame_by_priority`.
+    /// Returns `before` if it has frames, otherwise the first example with this tag and the address of `entry`. It is one step of the loop
+    /// in `first_frame_by_priority`.
     fn first_or_frame_with_tag(
         &self,
         before: Option<FoundFrames>,
@@ -76,6 +76,7 @@ impl<'a, A: Allocator + Copy> TakingFilter<'a, A> {
     }
 
     /// Returns `before` if it has frames, otherwise the first example with the address of `entry` and VLAN identifier `vid`.
+    /// `first_frame_of_matching_entry` calls it.
     fn first_or_frame_by_priority(
         &self,
         before: Option<FoundFrames>,
@@ -103,8 +104,7 @@ impl<'a, A: Allocator + Copy> TakingFilter<'a, A> {
         self.first_or_frame_by_priority(alone, entry, entry.vid)
     }
 
-    /// Returns the first example among frames with the address of `entry`, or `None`. The entry must have the port and the handle of the
-    /// filter.
+    /// Returns the first example among frames with the address of `entry`, or `None`. Entries of another port or another handle have none.
     fn first_frame_of_entry(&self, entry: &StreamEntry) -> Option<FoundFrames>
         requires { IsTakingFilter self.now }
         ensures { result ≡ find_first (first_frame_with_tag self.now entry.now) (possible_tags entry.now.vid) }

@@ -288,8 +288,8 @@ pub struct HopRun<'a, A: Allocator> {
     pub view: &'a View<A>,
 }
 
-/// Counts for one first-hop frame: delivered, refused or dropped, sent to a bridge with a hop, and arrived at a hop. Copies that were sent
-/// but didn't arrive are astray.
+/// Counts for one first-hop frame over all hops. `refused` counts refused frames and dropped copies, `sent_on` copies sent to a bridge with
+/// a hop, `taken` frames at later hops.
 #[derive(Clone, Copy)]
 pub struct CopyCounts {
     pub delivered: u64,

@@ -95,7 +95,7 @@ fn put_link<A: Allocator>(
     put_line(picture, from, to);
 }
 
-/// Draws a copy that left a hop: a bar for its waiting time and a bar for its transmission time.
+/// Draws a copy that left a hop, in the row at height `y`. One bar shows its waiting time, one its transmission time.
 fn put_departure(
     picture: &mut RunPicture,
     origins: &[StoredOrigin],
