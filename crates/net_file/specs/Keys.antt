@@ -23,8 +23,8 @@ is_no_memory _ = false
 abbrev pub Fails : {Y : Type 0} → NetFault → Result Y NetFault → Type 0
 Fails = reading.Fails is_no_memory
 
--- Holds if the result of a call, with its value converted by a function, is the result that a definition gives, or
--- memory ran out.
+-- Holds if memory ran out, or the result of a call is the result that a definition gives. The function converts the call's value for the
+-- comparison.
 abbrev pub GivesAs : {X Y : Type 0} → (X → Y) → Result X NetFault → Result Y NetFault → Type 0
 GivesAs = reading.GivesAs is_no_memory
 
@@ -64,7 +64,7 @@ required_value = reading.required_in (λ place. fault.Missing place) flaw_fault
 abbrev pub optional_value : {A : Type 0} → NetKeyLocation → (Data → Result A Flaw) → Option Data → Result (Option A) NetFault
 optional_value = reading.optional_in flaw_fault
 
--- The value of a key, its default if the key is absent, or its fault.
+-- The value of a key, the default value if the key is absent, or the fault of a value that isn't allowed.
 abbrev pub value_or_default : {A : Type 0} → A → NetKeyLocation → (Data → Result A Flaw) → Option Data → Result A NetFault
 value_or_default = reading.default_in flaw_fault
 
@@ -82,7 +82,7 @@ read_or_default default place kind members = value_or_default default place kind
 
 -- KNOWN KEYS
 
--- True if a table has no key except these.
+-- True if a table has no key except the listed ones.
 abbrev pub has_only_keys : List NetField → Members → Bool
 has_only_keys = reading.are_known key_name
 

@@ -40,7 +40,7 @@ is_limited members = has_any_key limit_keys members
 abbrev pub has_limited_keys : Members → Bool
 has_limited_keys members = if has_any_key rate_keys members then has_only_keys rate_row_keys members else has_only_keys count_row_keys members
 
--- The location of a row's key.
+-- The location of a key of traffic row `index`.
 abbrev pub row_key : ℕ → NetField → NetKeyLocation
 row_key index key = record { section = section.Traffic; index = index; field = key }
 
@@ -79,20 +79,20 @@ read_limited_row index members = do
   deadline ← read_optional (row_key index field.Deadline) (number_in_range 0 END_OF_TIME) members
   Ok (record { filter = filter; limit = limit; least = least; longest = longest; deadline = deadline })
 
--- Holds if a flow meter can have this burst and rate. A burst has at least the 64 octets of the shortest frame.
+-- Holds if burst, in metered octets, and rate, in bit/s, are in their ranges. A burst has at least the 64 octets of the shortest frame.
 pub record IsRateLimit (burst rate : ℕ) : Type 0 where
   pub some : 64 ≤ burst
   pub few : burst ≤ 2 ^ 32 - 1
   pub slow : rate ≤ 10 ^ 11
 
--- Holds if a number of frames is 1 to 1,024, and the period has at least 1 ns.
+-- Holds if the number of frames is 1 to 1,024, and the period is 1 ns to `END_OF_TIME`.
 pub record IsCountLimit (frames period : ℕ) : Type 0 where
   pub some : 1 ≤ frames
   pub few : frames ≤ 1024
   pub some_time : 1 ≤ period
   pub within : period ≤ END_OF_TIME
 
--- Holds if a limit is within its ranges.
+-- Holds if the limit's two numbers are within their ranges.
 abbrev pub IsFrameLimit : FrameLimit → Type 0
 IsFrameLimit (limit.Rate burst rate) = IsRateLimit burst rate
 IsFrameLimit (limit.Count frames period) = IsCountLimit frames period

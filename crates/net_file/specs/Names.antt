@@ -60,12 +60,12 @@ bridge_index bridges name = bridge_index_from_start 0 bridges name
 abbrev pub IsBridgeIndex : List Bridge → Option ℕ → Type 0
 IsBridgeIndex bridges place = ForSome place (λ k. k < length bridges)
 
--- The index and the number, or `Unresolved` if no bridge has the name.
+-- The index and the number as a pair, or `Unresolved` if no bridge has the name, so that the index is `None`.
 abbrev pub pair_with_number : Option ℕ → ℕ → Result (ℕ × ℕ) Flaw
 pair_with_number None n = Err flaw.Unresolved
 pair_with_number (Some k) n = Ok (k, n)
 
--- The bridge's index and the number of an optional name, or `OutOfRange` without a name.
+-- The bridge's index and the number of an optional numbered name, or `OutOfRange` without such a name.
 abbrev pub resolve_if_named : List Bridge → Option NumberedName → Result (ℕ × ℕ) Flaw
 resolve_if_named bridges None = Err flaw.OutOfRange
 resolve_if_named bridges (Some x) = pair_with_number (bridge_index bridges x.name) x.number

@@ -54,7 +54,7 @@ pub record IsStream (count : ℕ) (stream : Stream) : Type 0 where
   pub talker : ForSome stream.talker IsTalker
   pub deadline : ForSome stream.deadline (λ d. d ≤ END_OF_TIME)
 
--- Holds if the streams obey the rules and have different names.
+-- Holds if each stream obeys its rules, and the streams have different names.
 pub record AreStreams (count : ℕ) (streams : List Stream) : Type 0 where
   pub each : All (IsStream count) streams
   pub own : has_no_duplicate (λ s t. bytes_eq s.name t.name) streams ≡ true

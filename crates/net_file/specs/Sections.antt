@@ -20,7 +20,7 @@ use Rattle.net_file.specs.Names.{resolve_numbered_name, is_numbered_name}
 use Rattle.net_file.specs.Keys.{provided, any_text, name_text, value_or_fault, read_required, read_optional, read_or_default, has_only_keys}
 use Rattle.net_file.specs.Rules.{has_bridge, has_stream}
 
--- Returns the fault `Duplicate` if an earlier instance has the name or filter; otherwise reading continues.
+-- Returns the fault `e` if the flag is true: an earlier instance has the name or filter. Otherwise reading continues.
 abbrev pub no_duplicate : Bool → NetFault → Result Bool NetFault
 no_duplicate stands e = provided (not stands) e
 
@@ -76,7 +76,8 @@ abbrev pub filter_text : List Bridge → Data → Result (ℕ × ℕ) Flaw
 filter_text bridges (string s) = resolve_numbered_name bridges 0 (2 ^ 32 - 1) s
 filter_text bridges _ = Err flaw.WrongKind
 
--- The filters that the items name, after the filters in `front` that were read before, or the first fault.
+-- The hops in `front`, which were read before, and the filters that the items name. If an item isn't allowed, the fault of the first such
+-- item.
 abbrev pub resolve_more_hops : NetKeyLocation → List Bridge → List (ℕ × ℕ) → Items → Result (List (ℕ × ℕ)) NetFault
 resolve_more_hops place bridges front no_items = Ok front
 resolve_more_hops place bridges front (item d ds) = value_or_fault place (filter_text bridges d) >>= λ h. resolve_more_hops place bridges (front ++ h ∷ []) ds
@@ -99,7 +100,7 @@ talker_keys = field.Period ∷ field.From ∷ field.To ∷ field.Least ∷ field
 abbrev pub stream_keys : List NetField
 stream_keys = field.Name ∷ field.Hops ∷ field.Period ∷ field.From ∷ field.To ∷ field.Least ∷ field.Longest ∷ field.Deadline ∷ []
 
--- True if a key has a value.
+-- True if an optional value is present.
 abbrev pub is_present : Option Data → Bool
 is_present None = false
 is_present (Some d) = true
@@ -108,7 +109,8 @@ is_present (Some d) = true
 abbrev pub has_any_key : List NetField → Members → Bool
 has_any_key keys members = list_any (λ f. is_present (get_member (key_name f) members)) keys
 
--- Reads the traffic of a stream's talker. If the first phase isn't less than the period, the fault names the period.
+-- Reads the traffic of stream `index`'s talker, or gives its first fault. If the first phase isn't less than the period, the fault names
+-- the period.
 unfoldable pub read_talker : ℕ → Members → Result Talker NetFault
 read_talker index members =
     let at : NetField → NetKeyLocation = λ key. record { section = section.Stream; index = index; field = key } in do

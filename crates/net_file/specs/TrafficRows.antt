@@ -24,7 +24,8 @@ use Rattle.net_file.specs.LimitedRows.{IsLimitedRow, is_limited, read_limited_ro
 abbrev pub row_keys : List NetField
 row_keys = field.Filter ∷ field.Period ∷ field.From ∷ field.To ∷ field.Least ∷ field.Longest ∷ field.Deadline ∷ []
 
--- Reads row `index` with periodic traffic. If the first phase isn't less than the period, the fault names the period.
+-- Reads row `index` with periodic traffic, or gives its first fault. If the first phase isn't less than the period, the fault names the
+-- period.
 unfoldable pub read_row : ℕ → Members → Result TrafficRow NetFault
 read_row index members =
     let at : NetField → NetKeyLocation = λ key. record { section = section.Traffic; index = index; field = key } in do

@@ -1,4 +1,4 @@
-//! Bridges of a network file.
+//! Bridges of a network file: the section `bridge`. `parse_network` reads it.
 ghost use Rattle.std.specs.Prelude.{◌≡◌, IfOk, true, false};
 ghost use Rattle.toml.specs.View.{table_view};
 ghost use Rattle.net_file.specs.declared.fault.NetSection.TheVariants as the_section;
@@ -47,7 +47,7 @@ impl<A: Allocator + Copy> BridgeRow<A> {
     }
 }
 
-/// Whether one of these bridges has this name. `read_bridge` then refuses another bridge of this name as `Duplicate`.
+/// Returns whether one of these bridges has the name `name`. `read_bridge` then refuses another bridge of this name as `Duplicate`.
 fn has_bridge<A: Allocator + Copy>(bridges: &[BridgeRow<A>], name: &str) -> bool
     ensures { result ≡ rules.has_bridge bridges.now name.now }
 {
@@ -70,7 +70,7 @@ fn bridge_key(index: u32, field: NetField) -> NetKeyLocation
     }
 }
 
-/// Reads bridge `index`, from 1, from its table, or returns its first fault. None of the bridges in `earlier` may have its name.
+/// Reads bridge `index`, from 1, from its table, or returns its first fault. A bridge in `earlier` with its name is the fault `Duplicate`.
 #[tactic(auto, unfolding(crate::specs::Sections::read_bridge))]
 fn read_bridge<A: Allocator + Copy>(
     alloc: A,
@@ -105,7 +105,7 @@ fn read_bridge<A: Allocator + Copy>(
     Ok(BridgeRow { name, plan })
 }
 
-/// Reads the section `bridge` for `read_instances`, one table at a time.
+/// Reads the section `bridge` for `read_instances`, one table at a time. `read_sections` passes it.
 #[derive(Clone, Copy)]
 pub(crate) struct BridgeSection;
 

@@ -155,7 +155,7 @@ pub enum NetFault {
 }
 
 impl NetFault {
-    /// Returns the fault's number, 1 to 11 in the order of the variants.
+    /// Returns the fault's number, 1 to 11 in the order of the variants. Contracts compare faults by it.
     pub fn number(self) -> u8
         ensures { result ≡ fault_code self }
     {
@@ -191,7 +191,7 @@ impl<T: Drop> From<AllocFailed<T>> for NetFault {
     }
 }
 
-/// Returns the largest number of instances of a section; 0 for the top, which has none.
+/// Returns the largest number of instances of a section; 0 for the top, which has none. More instances are the fault `TooMany`.
 pub fn max_instances(section: NetSection) -> usize
     ensures { result ≡ spec.max_instances section }
 {

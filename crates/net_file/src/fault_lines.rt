@@ -1,4 +1,4 @@
-//! Fault lines of refused network and traffic files.
+//! Fault lines of refused network and traffic files, which commands print.
 ghost use Rattle.std.specs.Prelude.{◌≡◌, IfOk, codes, string_bytes};
 ghost use Rattle.net_file.specs.Lines.{instance_text, key_text, refusal_line, fault_line, refusal_text, refusal_with_detail};
 
@@ -80,8 +80,8 @@ fn refusal_with_detail<A: Allocator + Copy>(
     }
 }
 
-/// Returns the fault line of an instance or a section, such as `network refused: Duplicate bridge 3`. If the number is 0, only the section
-/// is named.
+/// Returns the fault line of an instance, such as `network refused: Duplicate bridge 3`. If the number `index` is 0, the line names only
+/// the section.
 fn instance_refusal<A: Allocator + Copy>(
     alloc: A,
     kind: &str,

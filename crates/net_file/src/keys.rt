@@ -10,10 +10,10 @@ pub const LONGEST_NAME: usize = 32;
 /// Largest number of a stream's hops.
 pub const MAX_HOPS: usize = 64;
 
-/// Lowest port number.
+/// Lowest port number of a bridge.
 pub const FIRST_PORT: u32 = 1;
 
-/// Highest port number.
+/// Highest port number of a bridge.
 pub const LAST_PORT: u32 = 16;
 
 /// Allowed delays of a link in ns, at most 1 s.
@@ -61,13 +61,13 @@ pub const DEADLINE: NumberRange = NumberRange {
     high: END_OF_TIME,
 };
 
-/// Keys of a bridge.
+/// Keys of a bridge's table.
 pub const BRIDGE_KEYS: [NetField; 2] = [NetField::Name, NetField::Plan];
 
-/// Keys of a link.
+/// Keys of a link's table.
 pub const LINK_KEYS: [NetField; 3] = [NetField::One, NetField::Other, NetField::Delay];
 
-/// Keys of a stream.
+/// Keys of a stream's table.
 pub const STREAM_KEYS: [NetField; 8] = [
     NetField::Name,
     NetField::Hops,
@@ -102,7 +102,7 @@ pub const TRAFFIC_KEYS: [NetField; 10] = [
     NetField::Deadline,
 ];
 
-/// Keys of a row with periodic traffic.
+/// Keys of a traffic row with periodic traffic.
 pub const PERIODIC_ROW_KEYS: [NetField; 7] = [
     NetField::Filter,
     NetField::Period,
@@ -113,7 +113,7 @@ pub const PERIODIC_ROW_KEYS: [NetField; 7] = [
     NetField::Deadline,
 ];
 
-/// Keys of a row with a burst and a rate.
+/// Keys of a traffic row with a burst and a rate.
 pub const RATE_ROW_KEYS: [NetField; 6] = [
     NetField::Filter,
     NetField::Burst,
@@ -123,7 +123,7 @@ pub const RATE_ROW_KEYS: [NetField; 6] = [
     NetField::Deadline,
 ];
 
-/// Keys of a row with a number of frames in any period.
+/// Keys of a traffic row with a number of frames in any period.
 pub const COUNT_ROW_KEYS: [NetField; 6] = [
     NetField::Filter,
     NetField::Frames,
@@ -136,10 +136,10 @@ pub const COUNT_ROW_KEYS: [NetField; 6] = [
 /// Keys that give a row a burst and a rate. A row with one of them needs both.
 pub const RATE_KEYS: [NetField; 2] = [NetField::Burst, NetField::Rate];
 
-/// Keys that limit a talker's frames. A row with none of them has periodic traffic.
+/// Keys that limit a talker's frames. A traffic row with none of them has periodic traffic.
 pub const LIMIT_KEYS: [NetField; 3] = [NetField::Burst, NetField::Rate, NetField::Frames];
 
-/// Returns the keys that the tables of a section may have, in the order of explanations. The top has none.
+/// Returns the keys that the tables of a section may have, in the order in which explanations list them. The top has none.
 pub fn section_fields(section: NetSection) -> &'static [NetField] {
     match section {
         NetSection::Top => &[],
@@ -150,7 +150,7 @@ pub fn section_fields(section: NetSection) -> &'static [NetField] {
     }
 }
 
-/// Values that a key allows, in the form that explanations print.
+/// Values that a key allows, in the form that `show_explain` prints.
 #[derive(Clone, Copy)]
 pub enum NetAllowed {
     /// Array of tables: the value is a section.

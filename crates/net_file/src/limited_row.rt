@@ -36,7 +36,7 @@ pub enum FrameLimit {
     },
 }
 
-/// A row of a traffic file with a limit of its frames. Its filter must belong to a group of the plan.
+/// A row of a traffic file with a limit of its filter's frames. The filter must belong to a group of the plan.
 #[derive(Clone, Copy)]
 pub struct LimitedRow {
     /// Number of the filter whose frames the row describes.
@@ -51,14 +51,15 @@ pub struct LimitedRow {
     pub deadline: Option<u64>,
 }
 
-/// Whether a row's table has a key that limits the frames (`LIMIT_KEYS`). Otherwise the row has periodic traffic.
+/// Returns whether a row's table has a key that limits the frames (`LIMIT_KEYS`). Otherwise `read_talker_row` reads a row with periodic
+/// traffic.
 pub(crate) fn is_limited(table: &Table) -> bool
     ensures { result ≡ spec.is_limited (table_view table.now) }
 {
     has_any_key(table, &LIMIT_KEYS)
 }
 
-/// Whether a row with a limit has only keys that suit the limit. A burst or a rate excludes `frames` and `period`.
+/// Returns whether a row with a limit has only keys that suit the limit. A burst or a rate excludes `frames` and `period`.
 fn has_limited_keys(table: &Table) -> bool
     ensures { result ≡ spec.has_limited_keys (table_view table.now) }
 {
@@ -106,8 +107,8 @@ fn read_limit(index: u32, table: &Table) -> Result<FrameLimit, NetFault>
     }
 }
 
-/// Returns the captured length in octets of the longest frame that keeps a limit. A burst has room for the frame and its frame check
-/// sequence.
+/// Returns the captured length in octets of the longest frame that keeps a limit. The burst must contain the frame and its frame check
+/// sequence of 4 octets.
 fn limit_longest(limit: FrameLimit) -> u64
     requires limit { IsFrameLimit limit }
     ensures { result ≡ spec.limit_longest limit }
@@ -118,7 +119,7 @@ fn limit_longest(limit: FrameLimit) -> u64
     }
 }
 
-/// Reads row `index`, from 1, with a limit from its table, or returns its first fault.
+/// Reads row `index`, from 1, with a limit of its frames from its table, or returns its first fault. `read_talker_row` calls it.
 #[tactic(auto, unfolding(crate::specs::LimitedRows::read_limited_row))]
 pub(crate) fn read_limited_row(index: u32, table: &Table) -> Result<LimitedRow, NetFault>
     ensures reads { Gives result (spec.read_limited_row index (table_view table.now)) }

@@ -1,4 +1,4 @@
-//! Links of a network file.
+//! Links of a network file: the section `link`. `parse_network` reads it.
 ghost use Rattle.std.specs.Prelude.{◌≡◌, ◌<◌, ◌≤◌, All, IfErr, IfOk, length};
 ghost use Rattle.toml.specs.View.{table_view};
 ghost use Rattle.net_file.specs.declared.fault.NetFault.TheVariants.{NoMemory};
@@ -16,7 +16,7 @@ use bridge_schema::{Flaw, SectionReader, ValueKind, has_only};
 use std::alloc::Allocator;
 use toml::{Table, Value};
 
-/// A link of a network file, with its bridge names replaced by indexes.
+/// A link of a network file. Each end names its bridge by the bridge's index.
 #[derive(Clone, Copy)]
 pub struct LinkRow {
     /// Port at one end: the index of its bridge from 0, and its number.

@@ -1,4 +1,4 @@
-//! Names of bridges, and names of a bridge's port or filter.
+//! Names of bridges, and names of a bridge's port or filter, such as `left.3`.
 ghost use Rattle.std.specs.Prelude.{◌≡◌, ◌<◌, ◌≤◌, IfOk, length, option_map};
 ghost use Rattle.std.specs.List.{list_all};
 ghost use Rattle.net_file.specs.Names as spec;
@@ -8,21 +8,21 @@ use crate::keys::LONGEST_NAME;
 use bridge_schema::Flaw;
 use std::alloc::Allocator;
 
-/// Whether a name may contain the character: a letter, a digit, a hyphen or an underscore.
+/// Returns whether a name may contain the character: a letter, a digit, a hyphen or an underscore.
 fn is_name_character(c: u8) -> bool
     ensures { result ≡ spec.is_name_character c }
 {
     c.is_ascii_alphanumeric() || c == b'-' || c == b'_'
 }
 
-/// Whether a name may contain each of these octets.
+/// Returns whether a name may contain each of these octets.
 fn are_name_characters(octets: &[u8]) -> bool
     ensures { result ≡ list_all spec.is_name_character octets.now }
 {
     octets.iter().all(|c| is_name_character(*c))
 }
 
-/// Whether a text is a name: 1 to 32 letters, digits, `-` and `_`.
+/// Returns whether a text is a name of a bridge or stream: 1 to 32 letters, digits, `-` and `_`.
 pub(crate) fn is_valid_name(text: &str) -> bool
     ensures { result ≡ spec.is_valid_name text.now }
 {
@@ -30,8 +30,7 @@ pub(crate) fn is_valid_name(text: &str) -> bool
     1 <= octets.len() && octets.len() <= LONGEST_NAME && are_name_characters(octets)
 }
 
-/// Returns the number that a text of decimal digits stands for. Returns `None` for other texts, for a plus sign, and for numbers outside
-/// `low` to `high`.
+/// Returns the number from `low` to `high` that a text of decimal digits stands for. Returns `None` for other texts and other numbers.
 #[tactic(auto, using(crate::proofs::Numerals::numeral_from, crate::proofs::Numerals::numeral_to))]
 fn parse_number(text: &str, low: u32, high: u32) -> Option<u32>
     ensures { result ≡ spec.parse_number low high text.now }
@@ -55,7 +54,8 @@ fn split_numbered_name(text: &str, low: u32, high: u32) -> Option<(&str, u32)>
     Some((name, number))
 }
 
-/// Whether a text has the form of a bridge's port or filter: a text, a dot, and a number from `low` to `high`.
+/// Returns whether a text has the form of a bridge's port or filter: a text, a dot, and a number from `low` to `high`. The bridge may be
+/// missing.
 pub fn is_numbered_name(text: &str, low: u32, high: u32) -> bool
     ensures { result ≡ spec.is_numbered_name low high text.now }
 {

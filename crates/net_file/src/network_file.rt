@@ -1,4 +1,4 @@
-//! Reading of network files.
+//! Reading of network files: `parse_network`, and the type that it returns.
 ghost use Rattle.std.specs.Prelude.{◌≡◌, IfErr, IfOk};
 ghost use Rattle.toml.specs.View.{table_view};
 ghost use Rattle.net_file.specs.declared.fault.NetFault.TheVariants.{NoMemory};
@@ -73,7 +73,7 @@ struct SectionArrays<'a> {
     streams: &'a [Value],
 }
 
-/// Returns the arrays of a network's three sections, or the first fault of the top. Allocates no memory.
+/// Returns the arrays of a network's three sections, or the first fault at the top of the file. Allocates no memory.
 #[tactic(auto, unfolding(crate::specs::Document::read_arrays))]
 fn read_arrays<'a>(table: &'a Table) -> Result<SectionArrays<'a>, NetFault>
     ensures reads { GivesAs items_of_arrays result (doc.read_arrays (table_view table.now)) }
@@ -129,7 +129,8 @@ fn read_sections<A: Allocator + Copy>(
     })
 }
 
-/// Reads the TOML document of a text into `heap`. `TooLong` is a text above 1,048,576 octets; `Syntax` is a text that isn't TOML in UTF-8.
+/// Reads the TOML document of a network or traffic file into `heap`. `TooLong` is a text above 1,048,576 octets, `Syntax` a text that isn't
+/// TOML in UTF-8.
 #[tactic(auto, unfolding(crate::specs::Document::read_document))]
 pub fn read_document(heap: Global, text: &[u8]) -> Result<Table, NetFault>
     ensures { GivesAs table_view result (doc.read_document text.now) }

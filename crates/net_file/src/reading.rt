@@ -1,4 +1,4 @@
-//! Reading of required and optional keys.
+//! Reading of required and optional keys from the tables of network and traffic files.
 ghost use Rattle.std.specs.Prelude.{◌≡◌, IfErr, IfOk, option_map, true};
 ghost use Rattle.std.specs.Option.{ForSome};
 ghost use Rattle.toml.specs.View.{view, table_view};
@@ -42,7 +42,8 @@ pub fn read_optional<K: ValueKind>(
     optional_value(place, kind, get_value(table, place.field.key()))
 }
 
-/// Reads the value of a key, or returns `default` if the key is absent. Allocates no memory.
+/// Reads the value of the optional key at `place` from its table. `kind` defines the allowed values. Returns `default` if the key is
+/// absent. Allocates no memory.
 #[tactic(auto, unfolding(crate::specs::Keys::read_or_default))]
 pub(crate) fn read_or_default<K: ValueKind>(
     default: K::Out,
@@ -61,7 +62,7 @@ where
 }
 
 #[tactic(auto, unfolding(crate::specs::Keys::any_text))]
-/// Returns the text that is the value of a required key. The fault is `Missing` without a value, and `WrongKind` for a value of another
+/// Returns the text `value` of the required key at `place`. The fault is `Missing` without a value, and `WrongKind` for a value of another
 /// kind.
 fn text_value<'a>(place: NetKeyLocation, value: Option<&'a Value>) -> Result<&'a str, NetFault>
     ensures reads { GivesAs (λ x. x.now) result (spec.required_value place spec.any_text
@@ -75,7 +76,7 @@ fn text_value<'a>(place: NetKeyLocation, value: Option<&'a Value>) -> Result<&'a
     }
 }
 
-/// Reads the text of a required key. The result borrows from the table, so no memory is allocated.
+/// Reads the text of the required key at `place` from its table. The result borrows from the table, so no memory is allocated.
 #[tactic(auto, unfolding(crate::specs::Keys::read_required))]
 pub(crate) fn read_text<'a>(table: &'a Table, place: NetKeyLocation) -> Result<&'a str, NetFault>
     ensures reads { GivesAs (λ x. x.now) result (spec.read_required place spec.any_text (table_view table.now)) }
@@ -85,7 +86,7 @@ pub(crate) fn read_text<'a>(table: &'a Table, place: NetKeyLocation) -> Result<&
 }
 
 #[tactic(auto, unfolding(crate::specs::Keys::name_text))]
-/// Returns the name that is the value of a required key. The fault is `Missing` without a value, `OutOfRange` for another text, and
+/// Returns the name `value` of the required key at `place`. The fault is `Missing` without a value, `OutOfRange` for another text, and
 /// `WrongKind` for another kind.
 fn name_value<'a>(place: NetKeyLocation, value: Option<&'a Value>) -> Result<&'a str, NetFault>
     ensures reads { GivesAs (λ x. x.now) result (spec.required_value place spec.name_text
@@ -107,7 +108,7 @@ fn name_value<'a>(place: NetKeyLocation, value: Option<&'a Value>) -> Result<&'a
     }
 }
 
-/// Reads a required key whose value must be a name: 1 to 32 letters, digits, `-` and `_`. The result borrows from the table.
+/// Reads the required key at `place`, whose value must be a name: 1 to 32 letters, digits, `-` and `_`. The result borrows from the table.
 #[tactic(auto, unfolding(crate::specs::Keys::read_required))]
 pub(crate) fn read_name<'a>(table: &'a Table, place: NetKeyLocation) -> Result<&'a str, NetFault>
     ensures reads { GivesAs (λ x. x.now) result (spec.read_required place spec.name_text (table_view table.now)) }

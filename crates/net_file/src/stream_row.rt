@@ -1,4 +1,4 @@
-//! Streams of a network file.
+//! Streams of a network file: the section `stream`. `parse_network` reads it.
 ghost use Rattle.std.specs.Prelude.{◌≡◌, ◌&&◌, [], ◌^◌, ◌<◌, ◌≤◌, All, IfErr, IfOk, length, nat_le, option_map, true, false};
 ghost use Rattle.toml.specs.View.{view, table_view, items_view};
 ghost use Rattle.net_file.specs.declared.fault.NetFault.TheVariants.{NoMemory};
@@ -80,7 +80,7 @@ impl<A: Allocator + Copy> StreamRow<A> {
     }
 }
 
-/// Whether one of these streams has this name. `read_stream` then refuses another stream of this name as `Duplicate`.
+/// Returns whether one of these streams has the name `name`. `read_stream` then refuses another stream of this name as `Duplicate`.
 fn has_stream<A: Allocator + Copy>(streams: &[StreamRow<A>], name: &str) -> bool
     ensures { result ≡ rules.has_stream streams.now name.now }
 {
@@ -92,7 +92,7 @@ fn has_stream<A: Allocator + Copy>(streams: &[StreamRow<A>], name: &str) -> bool
     false
 }
 
-/// Whether each item is a text. Otherwise the fault of `hops` is `WrongKind`, before any item is resolved.
+/// Returns whether each item is a text. Otherwise the fault of `hops` is `WrongKind`, before any item is resolved.
 fn are_texts(items: &[Value]) -> bool
     ensures { result ≡ sections.are_texts (items_view items.now) }
 {
@@ -104,7 +104,7 @@ fn are_texts(items: &[Value]) -> bool
     true
 }
 
-/// Whether each item has a text, a dot and a filter number. Otherwise the fault of `hops` is `OutOfRange`.
+/// Returns whether each item has a text, a dot and a filter number. Otherwise the fault of `hops` is `OutOfRange`.
 fn are_numbered_names(items: &[Value]) -> bool
     ensures { result ≡ sections.are_numbered_names (items_view items.now) }
 {
@@ -121,7 +121,7 @@ fn are_numbered_names(items: &[Value]) -> bool
     true
 }
 
-/// Whether the number of items is allowed as a number of hops, 1 to 64.
+/// Returns whether the number of items is allowed as a number of hops, 1 to 64. Otherwise the fault of `hops` is `OutOfRange`.
 #[tactic(auto, using(bridge_schema::proofs::Counts::count_of_view))]
 fn has_hop_count(items: &[Value]) -> bool
     ensures count { result ≡ (nat_le 1 (count_items (items_view items.now)) && nat_le
@@ -132,7 +132,7 @@ fn has_hop_count(items: &[Value]) -> bool
     1 <= items.len() && items.len() <= MAX_HOPS
 }
 
-/// Returns the bridge's index and the filter number that a value such as `left.7` names, or why the value isn't allowed.
+/// Returns the bridge's index and the filter number that a value such as `left.7` names. A value that isn't a text is `WrongKind`.
 fn resolve_filter<A: Allocator + Copy>(
     bridges: &[BridgeRow<A>],
     value: &Value,
@@ -148,7 +148,8 @@ fn resolve_filter<A: Allocator + Copy>(
     }
 }
 
-/// Returns the bridge's index and the number of the filter that a value names, or the fault at this location. Allocates no memory.
+/// Returns the bridge's index and the filter number that a value such as `left.7` names, or the fault of the key at `place`. Allocates no
+/// memory.
 fn resolve_hop<A: Allocator + Copy>(
     bridges: &[BridgeRow<A>],
     place: NetKeyLocation,
@@ -193,7 +194,7 @@ fn resolve_hops<A: Allocator + Copy>(
     Ok(hops)
 }
 
-/// Returns the hops in the value of the key `hops`. It tests the kind, number and form of all items before it looks up any bridge.
+/// Returns the hops in `value`, the value of the key `hops`. Tests the kind, number and form of all items before it looks up any bridge.
 fn hops_value<A: Allocator + Copy>(
     alloc: A,
     bridges: &[BridgeRow<A>],
@@ -247,8 +248,8 @@ fn read_deadline(index: u32, table: &Table) -> Result<Option<u64>, NetFault>
     read_optional(table, stream_key(index, NetField::Deadline), &DEADLINE)
 }
 
-/// Reads stream `index`, from 1, from its table, or returns its first fault. Its hops must be filters of `bridges`, and no earlier stream
-/// may have its name.
+/// Reads stream `index`, from 1, from its table, or returns its first fault. Hops must be filters of `bridges`. An earlier stream with its
+/// name is `Duplicate`.
 #[tactic(auto, unfolding(crate::specs::Sections::read_stream))]
 fn read_stream<A: Allocator + Copy>(
     alloc: A,

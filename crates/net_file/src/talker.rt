@@ -1,4 +1,4 @@
-//! Periodic talkers of streams.
+//! Periodic talkers of streams: the keys `period`, `from`, `to`, `least` and `longest` of the section `stream`.
 ghost use Rattle.std.specs.Prelude.{◌≡◌, IfErr, IfOk, false, option_map, true};
 ghost use Rattle.std.specs.Option.{ForSome};
 ghost use Rattle.toml.specs.View.{view, table_view};
@@ -14,7 +14,8 @@ use crate::reading::read_required;
 use bridge_schema::{NumberRange, get_value};
 use toml::{Table, Value};
 
-/// Periodic traffic: one frame in each period, between two phases and between two lengths. Periods begin at multiples of the period.
+/// Periodic traffic of a stream: one frame in each period, between two phases and between two lengths. Periods begin at multiples of the
+/// period.
 #[derive(Clone, Copy)]
 pub struct Talker {
     /// Period in ns.
@@ -29,7 +30,7 @@ pub struct Talker {
     pub longest: u32,
 }
 
-/// Whether an optional value is present. `has_any_key` calls it for the value of each key.
+/// Returns whether an optional value is present. `has_any_key` calls it for the value of each key.
 fn is_present(value: Option<&Value>) -> bool
     ensures { result ≡ sections.is_present (option_map (λ v. view v.now) value.entry) }
 {
@@ -39,7 +40,7 @@ fn is_present(value: Option<&Value>) -> bool
     }
 }
 
-/// Whether a table has at least one of these keys. A stream with one key of a talker needs all of them.
+/// Returns whether a table has at least one of these keys. By it, streams have a talker, and traffic rows a limit.
 pub(crate) fn has_any_key(table: &Table, keys: &[NetField]) -> bool
     ensures { result ≡ sections.has_any_key keys.now (table_view table.now) }
 {

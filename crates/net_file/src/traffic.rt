@@ -1,4 +1,4 @@
-//! Reading of traffic files.
+//! Reading of traffic files, which `bounds --traffic` needs.
 ghost use Rattle.std.specs.Prelude.{◌≡◌, ◌≤◌, All, IfErr, IfOk, length, nat_eq, true};
 ghost use Rattle.toml.specs.View.{items_view, table_view};
 ghost use Rattle.bridge_limits.specs.Members.{has_no_duplicate};
@@ -14,7 +14,8 @@ use bridge_schema::{has_only, read_instances, section_items};
 use std::alloc::{Allocator, Global};
 use toml::{Table, Value};
 
-/// Returns the items of the document's section `traffic`, or a fault if the top has another key. Allocates no memory.
+/// Returns the items of the document's section `traffic`, or the first fault of the top. Another section is `UnknownKey`. Allocates no
+/// memory.
 #[tactic(auto, unfolding(crate::specs::TrafficDocument::row_items))]
 fn row_items<'a>(table: &'a Table) -> Result<&'a [Value], NetFault>
     ensures reads { GivesAs (λ x. items_view x.now) result (doc.row_items (table_view table.now)) }

@@ -11,7 +11,7 @@ use thiserror::Error;
 /// Why a traffic file is refused for a plan: by itself, or compared with the plan. Rows are counted from 1.
 #[derive(Clone, Copy, Debug, Error)]
 pub enum TrafficFault {
-    /// Fault of the file. Compared with the plan: `Unresolved` if the filter is missing, `OutOfRange` if a cycle on the route doesn't
+    /// Fault of the file. Compared with the plan: `Unresolved` if the filter is missing, `OutOfRange` if a cycle time on the route doesn't
     /// divide the period.
     #[error("the text isn't traffic")]
     Text(NetFault),

@@ -1,4 +1,4 @@
-//! Rows of a traffic file.
+//! Rows of a traffic file: the section `traffic`. `parse_traffic` reads it.
 ghost use Rattle.std.specs.Prelude.{◌≡◌, IfErr, IfOk, false};
 ghost use Rattle.toml.specs.View.{table_view};
 ghost use Rattle.net_file.specs.declared.fault.NetFault.TheVariants.{NoMemory};
@@ -27,7 +27,7 @@ pub struct TrafficRow {
     pub deadline: Option<u64>,
 }
 
-/// A row of a traffic file, by the kind of its traffic.
+/// A row of a traffic file: periodic traffic, or frames within a limit.
 #[derive(Clone, Copy)]
 pub enum TalkerRow {
     /// At most one frame in each period, between two phases.
@@ -118,14 +118,14 @@ fn read_talker_row(index: u32, table: &Table) -> Result<TalkerRow, NetFault>
     Ok(TalkerRow::Periodic(row))
 }
 
-/// Whether one of these rows has this filter. `next_row` then refuses another row of this filter as `Duplicate`.
+/// Returns whether one of these rows has the filter `filter`. `next_row` then refuses another row of this filter as `Duplicate`.
 fn has_filter(rows: &[TalkerRow], filter: u32) -> bool
     ensures { result ≡ spec.has_filter rows.now filter }
 {
     rows.iter().any(|row| row.filter() == filter)
 }
 
-/// Reads row `index` from its table. An earlier row with its filter is the fault `Duplicate`.
+/// Reads row `index`, from 1, from its table. A row in `earlier` with its filter is the fault `Duplicate`.
 fn next_row(earlier: &[TalkerRow], index: u32, table: &Table) -> Result<TalkerRow, NetFault>
     ensures reads { Gives result (spec.read_row_in_list earlier.now index (table_view table.now)) }
     ensures own { IfOk result (λ r. spec.has_filter earlier.now (spec.row_filter r) ≡ false) }

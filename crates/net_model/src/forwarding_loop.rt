@@ -75,9 +75,8 @@ fn group_loops<A: Allocator + Copy>(
     Ok(rows)
 }
 
-/// Returns each group whose frames may loop, once, with a port on the loop. A stream gate or a meter may still refuse the frames.
-///
-/// Returns `NoMemory` if an allocation fails.
+/// Returns each group whose frames may loop, once, with a port on the loop. Stream gates or meters may still refuse the frames. Warnings
+/// and `explain_loops` need the groups.
 pub fn find_forwarding_loops<A: Allocator + Copy>(
     alloc: A,
     plans: &[Accepted<A>],

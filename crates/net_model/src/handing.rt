@@ -206,8 +206,8 @@ impl<'a, A: Allocator + Copy> Handing<'a, A> {
     }
 }
 
-/// Whether filter `taker` at port `at` of the bridge with plan `next` gets each frame of filter `filter` that the bridge with plan `plan`
-/// sends from `port`. Returns false if port `at` is missing.
+/// Returns whether filter `taker` at port `at` of plan `next` gets each frame of filter `filter` that plan `plan` sends from `port`. False
+/// if port `at` is missing.
 fn receives_every_frame<A: Allocator + Copy>(
     plan: &Plan<A>,
     filter: u32,

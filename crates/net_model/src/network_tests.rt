@@ -358,8 +358,8 @@ impl<'a, A: Allocator + Copy> TestedHop<'a, A> {
         false
     }
 
-    /// Whether frames of the stream can reach the hop with index `place` in its stream: on an open port if the index is 0, otherwise over a
-    /// link.
+    /// Returns whether frames of the stream can reach its hop with index `place`. They arrive on an open port if the index is 0, otherwise
+    /// over a link.
     fn is_reached(&self, place: usize) -> bool
         requires { IsTestedHop self.now }
         ensures { result ≡ spec.is_reached (tested_parts self.now.case) self.now.stream.now place self.now.hop

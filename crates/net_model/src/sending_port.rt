@@ -245,8 +245,8 @@ pub(crate) fn maps_tag_to_filter<A: Allocator + Copy>(
 }
 
 impl<'a, A: Allocator + Copy> SendingPort<'a, A> {
-    /// Whether frames of filter `flow` can't be stray: the filter is a hop of the stream, or its frames can't wait at the sending port.
-    /// False for unfiltered frames (`None`).
+    /// Returns whether frames of filter `flow` can't be stray: the filter is a hop of the stream, or has no queue at the sending port.
+    /// False for unfiltered frames.
     fn is_safe_filter(&self, flow: Option<(u32, FilterPlan)>) -> bool
         requires { IsSendingPort self.now }
         ensures { result ≡ feeding.is_safe_filter self.now.plan.now (hops self.now) self.now.end.port flow }
@@ -330,7 +330,8 @@ impl<'a, A: Allocator + Copy> SendingPort<'a, A> {
         self.find_frames(port, priority, None)
     }
 
-    /// Returns the first example among frames that arrive on `on` and can leave by the sending port, or `None`.
+    /// Returns the first example among frames with this tag and the address of `named` that arrive on `on`, or `None`. They must be able to
+    /// leave by the sending port.
     fn first_frame_on_ingress(
         &self,
         named: &StreamEntry,
