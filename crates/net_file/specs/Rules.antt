@@ -44,7 +44,8 @@ pub record IsTalker (t : Talker) : Type 0 where
   pub lengths : t.least ≤ t.longest
   pub longest : t.longest ≤ LONGEST_FRAME
 
--- Holds if a stream has a valid name and 1 to 64 hops at `count` bridges.
+-- Holds if a stream has a valid name and 1 to 64 hops at `count` bridges. Its talker, if any, is valid, and its deadline, if any, at most
+-- `END_OF_TIME`.
 pub record IsStream (count : ℕ) (stream : Stream) : Type 0 where
   pub name : is_valid_name stream.name ≡ true
   pub some_hop : 1 ≤ length stream.hops

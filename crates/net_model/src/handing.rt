@@ -82,8 +82,8 @@ impl<'a, A: Allocator + Copy> Taker<'a, A> {
         self.is_given(tag, None)
     }
 
-    /// Whether the receiving bridge forwards each frame with this tag and the address of `named`, the sender's stream entry, and its
-    /// receiving filter judges the frame.
+    /// Returns whether the receiving bridge forwards each frame with this tag and the address of the sender's entry `named`, and the
+    /// receiving filter judges it.
     fn takes_all(&self, named: &StreamEntry, tag: Option<Tag>) -> bool
         requires from { 1 ≤ self.now.on.now.number }
         requires to { self.now.on.now.number ≤ 16 }

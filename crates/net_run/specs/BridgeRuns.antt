@@ -139,7 +139,7 @@ pub record IsInitialRun {A : Type 0} (p : Plan A) (links : List Link) (b : ℕ) 
 
 -- ARRIVALS OVER LINKS
 
--- Holds if `text` is the capture that a link delivers of the sent frames in `tap`.
+-- Holds if `text` has the frames of the sent capture `tap`, each `delay` ns later, but at most at the end of time.
 abbrev pub IsDelayedCapture : ℕ → List ℕ → List ℕ → Type 0
 IsDelayedCapture delay tap text = (frames : List CapturedFrame) → IsCaptureOfFrames frames tap → text ≡ written_text (map (delayed delay) frames)
 
@@ -161,7 +161,7 @@ IsBridgeUpToDate {A} xs b = (i : ℕ) (x : BridgeRunState A) → slice_get xs b 
 abbrev pub AreUpToDate : {A : Type 0} → List (BridgeRunState A) → Type 0
 AreUpToDate {A} xs = (b : ℕ) → IsBridgeUpToDate xs b
 
--- Holds if a bridge has run over its inputs.
+-- Holds if a bridge has a result: it has run over its inputs.
 abbrev pub HasRun : {A : Type 0} → BridgeRunState A → Type 0
 HasRun {A} x = (o : Outcome A) × (x.outcome ≡ Some o)
 
@@ -175,7 +175,7 @@ run_texts x = x.texts
 abbrev pub run_captures : {A : Type 0} → BridgeRunState A → List (List ℕ)
 run_captures x = x.taps
 
--- Holds if each bridge has run over its inputs, with its plan, ports and commands.
+-- Holds if the bridges `after` are the bridges `before` after they ran: each has a result. Plans, commands, ports and inputs are unchanged.
 pub record HaveRun {A : Type 0} (before after : List (BridgeRunState A)) : Type 0 where
   pub same : map constant_part after ≡ map constant_part before
   pub texts : map run_texts after ≡ map run_texts before
@@ -206,7 +206,7 @@ pub record IsPortOutdated {A : Type 0} (xs : List (BridgeRunState A)) (x : Bridg
   pub later : IsDelayedCapture sender.delay (sent_capture (slice_get xs sender.from.bridge) sender.from.port) sent
   pub other : text ≢ sent
 
--- Holds if port `q` is the first outdated port of bridge `b`.
+-- Holds if port `q` is the first outdated port of bridge `b`: all earlier ports are up to date.
 pub record IsFirstOutdatedPort {A : Type 0} (xs : List (BridgeRunState A)) (b q : ℕ) : Type 0 where
   pub bridge : BridgeRunState A
   pub there : slice_get xs b ≡ Some bridge

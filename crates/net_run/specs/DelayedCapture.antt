@@ -10,11 +10,11 @@ use Rattle.bridge_core.specs.CaptureWriters.{FitsRecord}
 abbrev pub delayed_time : ℕ → ℕ → ℕ
 delayed_time t delay = min (t + delay) END_OF_TIME
 
--- The frame `delay` ns later, but at most at the end of time.
+-- The frame `c` with its time `delay` ns later, but at most at the end of time.
 abbrev pub delayed : ℕ → CapturedFrame → CapturedFrame
 delayed delay c = record { time = delayed_time c.time delay; len = c.len; octets = c.octets }
 
--- Holds if `word` is the little-endian word of four octets at position `at`.
+-- Holds if `word` is the little-endian word of the four octets from index `at` on.
 abbrev pub IsWord : List ℕ → ℕ → ℕ → Type 0
 IsWord octets at word = word ≡ from_le_bytes w32 (take 4 (drop at octets))
 
@@ -28,7 +28,7 @@ AppendsDelayedRecord delay octets old new rest =
     (c : CapturedFrame) (more : List ℕ) → FitsRecord c → octets ≡ written_frame c ++ more
     → (rest ≡ Some more) × (new ≡ old ++ written_frame (delayed delay c))
 
--- The little-endian word of four octets at position `at`.
+-- The little-endian word of the four octets from index `at` on.
 abbrev pub word_at : List ℕ → ℕ → ℕ
 word_at octets at = from_le_bytes w32 (take 4 (drop at octets))
 

@@ -29,7 +29,7 @@ pub record AreBridgeInputs {A : Type 0} (plans : List (Plan A)) (came : List (Br
   pub many : length came ≡ length plans
   pub each : (b : ℕ) (p : Plan A) (c : BridgeInput A) → slice_get plans b ≡ Some p → slice_get came b ≡ Some c → IsBridgeInput p c
 
--- Holds if `xs` has the bridges of a network before the first round.
+-- Holds if `xs` has the bridges of network `n` before the first round, with the inputs `came` from outside.
 pub record AreInitialRuns {A : Type 0} (n : NetworkParts A) (came : List (BridgeInput A)) (xs : List (BridgeRunState A)) : Type 0 where
   pub many : length xs ≡ length n.plans
   pub each : (b : ℕ) (p : Plan A) (c : BridgeInput A) (x : BridgeRunState A) → slice_get n.plans b ≡ Some p → slice_get came b ≡ Some c → slice_get xs b ≡ Some x → IsInitialRun p n.links b c x

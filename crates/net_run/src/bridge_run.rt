@@ -21,7 +21,7 @@ use net_model::{Link, Sender, find_sender};
 use std::alloc::Allocator;
 use std::marker::Model;
 
-/// Returns one source for each capture in `texts`, in the same order, because `bridge_core` reads captures from sources.
+/// Returns one source for each capture in `texts`, in the same order, because `simulate` (bridge_core) reads captures from sources.
 fn capture_sources<'a, A: Allocator + Copy>(
     alloc: A,
     texts: &'a [Vec<u8, A>],
@@ -36,7 +36,7 @@ fn capture_sources<'a, A: Allocator + Copy>(
     Ok(sources)
 }
 
-/// Returns `count` empty sinks in memory, one for each port's sent frames.
+/// Returns `count` empty sinks in memory, one for each port's sent frames. `simulate` writes into them.
 fn empty_sinks<A: Allocator + Copy>(alloc: A, count: usize) -> Result<Vec<VecSink<A>, A>, NoMemory>
     ensures many { IfOk result (λ sinks. length sinks.items ≡ count) }
     ensures empty { IfOk result (λ sinks. All (λ d. d.octets ≡ []) sinks.items) }
@@ -49,7 +49,7 @@ fn empty_sinks<A: Allocator + Copy>(alloc: A, count: usize) -> Result<Vec<VecSin
     Ok(sinks)
 }
 
-/// Everything that a bridge's run yields: its result, and the captures of the frames that its ports sent, by rising port number.
+/// Everything that a bridge's run yields: its result, and the captures (`taps`) of the frames that its ports sent, by rising port number.
 #[derive(Drop)]
 pub(crate) struct RunOutput<A: Allocator + Copy> {
     outcome: Outcome<A>,
@@ -57,6 +57,7 @@ pub(crate) struct RunOutput<A: Allocator + Copy> {
 }
 
 /// Runs the bridge of an accepted plan over these commands and input captures. `texts` has one capture for each port in `ports`.
+/// `run_over_inputs` calls it.
 pub(crate) fn run_bridge<A: Allocator + Copy>(
     alloc: A,
     accepted: &Accepted<A>,
@@ -136,7 +137,8 @@ fn run_over_inputs<A: Allocator + Copy>(
     Ok((outcome, taps))
 }
 
-/// Returns the capture in `taps` of the frames that port `port` sent. Returns `None` if the port is missing or the bridge hasn't run.
+/// Returns the capture in `taps` of the frames that port `port` sent. Returns `None` if the port is missing or has no capture, because the
+/// bridge hasn't run.
 fn find_port_capture<'a, A: Allocator + Copy>(
     ports: &[u8],
     taps: &'a [SharedCapture<A>],
@@ -164,7 +166,7 @@ pub struct BridgeInput<A: Allocator> {
     pub captures: Vec<Vec<u8, A>, A>,
 }
 
-/// Whether a port of the bridge with index `bridge`, from 0, has a link.
+/// Returns whether a port of the bridge with index `bridge`, from 0, has a link. `app_networks` reads captures only for other ports.
 pub fn is_linked(links: &[Link], bridge: usize, port: u8) -> bool
     ensures { result ≡ is_some (networks.sender (map link_value links.now) bridge port) }
 {
@@ -236,8 +238,8 @@ fn clear_linked_ports<A: Allocator + Copy>(
     Ok(texts)
 }
 
-/// A bridge in a network run: its inputs (captures by port and commands), the captures of its sent frames, and its result. The result is
-/// `None` after an input has changed.
+/// A bridge in a network run: its inputs by port, its commands, the captures of its sent frames, and its result. The result is `None` after
+/// an input has changed.
 #[derive(Drop)]
 pub(crate) struct BridgeRun<'a, A: Allocator + Copy> {
     accepted: &'a Accepted<A>,
@@ -304,7 +306,8 @@ impl<'a, A: Allocator + Copy> BridgeRun<'a, A> {
         })
     }
 
-    /// Returns the result of the run, and the captures of the frames that the ports sent. The bridge must have a result.
+    /// Returns the result of the run, and the captures of the frames that the ports sent. Called after the last round, when each bridge has
+    /// a result.
     pub(crate) fn finish(self) -> (Outcome<A>, Vec<SharedCapture<A>, A>)
         requires { HasRun self }
         ensures { (self.entry.outcome ≡ Some result.0) × (self.entry.taps ≡ sink_octets result.1.items) }
@@ -316,7 +319,7 @@ impl<'a, A: Allocator + Copy> BridgeRun<'a, A> {
         }
     }
 
-    /// Whether the bridge has run over its current inputs. If not, it runs in the next round.
+    /// Returns whether the bridge has run over its current inputs. If not, it runs in the next round.
     pub(crate) fn has_run(&self) -> bool {
         self.outcome.is_some()
     }
@@ -337,7 +340,7 @@ impl<'a, A: Allocator + Copy> BridgeRun<'a, A> {
         self.ports[place]
     }
 
-    /// Returns the sender of the port with index `place`, or `None` for an open port.
+    /// Returns the sender of the port with index `place`: the port at the other end of its link. Returns `None` for an open port.
     pub(crate) fn sender(&self, place: usize) -> Option<Sender>
         requires { place < length self.now.ports }
         ensures { slice_get self.now.senders place ≡ Some (option_map sender_value result) }
@@ -382,8 +385,8 @@ impl<'a, A: Allocator + Copy> BridgeRun<'a, A> {
         self.texts[place] = input;
     }
 
-    /// Whether the input capture of the port with index `place` has the octets of `input`. If so, the frames from the port's sender haven't
-    /// changed.
+    /// Returns whether the input capture of the port with index `place` has the octets of `input`. If so, the frames from the port's sender
+    /// haven't changed.
     pub(crate) fn has_input(
         &self,
         alloc: A,

@@ -16,7 +16,7 @@ const HEADER_LENGTH: usize = 24;
 /// Length of a record's header in octets.
 const RECORD_HEADER_LENGTH: usize = 16;
 
-/// Returns the little-endian word of four octets at position `at`.
+/// Returns the little-endian word of the four octets from index `at` on.
 fn read_word(octets: &[u8], at: usize) -> u64
     requires { at + 4 ≤ length octets.now }
     ensures word { IsWord octets.now at result }
@@ -32,7 +32,7 @@ fn delayed_time(moment: u64, delay: u64) -> u64
     moment.saturating_add(delay).min(END_OF_TIME)
 }
 
-/// Returns the eight octets of a record's time: four octets of seconds, then four of nanoseconds, both little-endian.
+/// Returns the eight octets of a record's time: four octets of seconds, then four of nanoseconds within the second, both little-endian.
 #[tactic(auto, unfolding(crate::specs::DelayedCapture::time_words))]
 fn time_words(moment: u64) -> [u8; 8]
     requires { moment < 2 ^ 32 * 10 ^ 9 }
@@ -52,8 +52,8 @@ fn time_words(moment: u64) -> [u8; 8]
     ]
 }
 
-/// Appends to `text` the first record of `octets`, with its time `delay` ns later. Returns the octets after this record. Returns `None` if
-/// `octets` doesn't begin with a whole record.
+/// Appends to `text` the first record of `octets`, with its time `delay` ns later. Returns the octets after this record, or `None` if no
+/// whole record is left.
 fn append_delayed_record<'a, A: Allocator>(
     octets: &'a [u8],
     delay: u64,
@@ -80,7 +80,7 @@ fn append_delayed_record<'a, A: Allocator>(
     Ok(Some(&octets[end..]))
 }
 
-/// Appends to `text` each record of `octets`, with its time `delay` ns later.
+/// Appends to `text` each record of `octets`, with its time `delay` ns later. Stops where no whole record is left.
 fn append_delayed_records<A: Allocator>(
     octets: &[u8],
     delay: u64,
@@ -99,8 +99,8 @@ fn append_delayed_records<A: Allocator>(
     Ok(())
 }
 
-/// Returns a capture with each frame delayed by `delay` ns, at most to the end of time. The contract holds only for captures that this
-/// program wrote.
+/// Returns a capture with each frame delayed by `delay` ns, at most to the end of time. Without a whole header it is empty. `copy_octets`
+/// calls it.
 pub fn delay_capture<A: Allocator>(
     alloc: A,
     text: &[u8],

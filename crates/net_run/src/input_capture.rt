@@ -11,7 +11,7 @@ use std::alloc::Allocator;
 use std::marker::Model;
 use std::rc::Rc;
 
-/// Capture of the frames that a port sent. Inputs of other bridges share it.
+/// Capture of the frames that a port sent. Inputs of other bridges share its octets.
 #[derive(Drop)]
 pub(crate) struct SharedCapture<A: Allocator + Copy> {
     sink: Rc<VecSink<A>, A>,
@@ -27,7 +27,7 @@ impl<A: Allocator + Copy> Model for SharedCapture<A> {
 }
 
 impl<A: Allocator + Copy> SharedCapture<A> {
-    /// Makes a capture that can be shared. Its copy of the octets has no spare capacity, unlike the sink that grew frame by frame.
+    /// Returns a capture that inputs can share. Its copy of the octets has no spare capacity, unlike the sink that grew frame by frame.
     fn new(alloc: A, sink: VecSink<A>) -> Result<SharedCapture<A>, NoMemory>
         ensures { IfOk result (λ shared. shared.octets ≡ sink.octets) }
     {
@@ -56,7 +56,7 @@ impl<A: Allocator + Copy> SharedCapture<A> {
     }
 }
 
-/// Returns a sink with these octets. Without a limit, a sink accepts all octets in one call.
+/// Returns a sink with these octets. Returns `NoMemory` unless the sink accepts all octets in one call.
 fn copy_sink<A: Allocator + Copy>(alloc: A, octets: &[u8]) -> Result<VecSink<A>, NoMemory>
     ensures { IfOk result (λ sink. sink.octets ≡ octets.now) }
 {
@@ -94,7 +94,7 @@ impl<A: Allocator + Copy> Model for InputCapture<A> {
 }
 
 impl<A: Allocator + Copy> InputCapture<A> {
-    /// Makes an input capture from its octets, for an open port or without frames.
+    /// Returns the input capture with these octets: the capture of an open port, or a capture without frames.
     pub(crate) fn from_octets(octets: Vec<u8, A>) -> InputCapture<A>
         ensures { result ≡ octets.items }
     {
@@ -105,8 +105,8 @@ impl<A: Allocator + Copy> InputCapture<A> {
         }
     }
 
-    /// Makes the input capture for the port at the end of a link of `delay` ns over which the frames of `sent` arrive. It shares the octets
-    /// of `sent`.
+    /// Returns the input capture of the port at the end of a link of `delay` ns over which the frames of `sent` arrive. It shares the
+    /// octets of `sent`.
     pub(crate) fn over_link(
         alloc: A,
         sent: &SharedCapture<A>,
@@ -132,8 +132,8 @@ impl<A: Allocator + Copy> InputCapture<A> {
         }
     }
 
-    /// Whether both inputs come over links with equal delays from captures with equal octets. Then both inputs have equal octets, without
-    /// copying them.
+    /// Returns whether both inputs come over links with equal delays from captures with equal octets. Then both inputs have equal octets,
+    /// without copying them.
     fn has_same_sender_octets(&self, other: &InputCapture<A>) -> bool
         ensures { result ≡ true → self.now ≡ other.now }
     {
@@ -145,7 +145,7 @@ impl<A: Allocator + Copy> InputCapture<A> {
         }
     }
 
-    /// Whether both inputs have the same octets.
+    /// Returns whether both inputs have the same octets.
     pub(crate) fn has_same_octets(
         &self,
         alloc: A,
@@ -177,7 +177,7 @@ pub(crate) fn input_captures<A: Allocator + Copy>(
     Ok(inputs)
 }
 
-/// Returns a copy of each input's octets. A bridge runs over them.
+/// Returns a copy of each input's octets, link delays included. `run_over_inputs` runs a bridge over the copies.
 pub(crate) fn copy_inputs<A: Allocator + Copy>(
     alloc: A,
     inputs: &[InputCapture<A>],

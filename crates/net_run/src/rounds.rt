@@ -1,4 +1,4 @@
-//! Complete runs of networks in rounds.
+//! Complete runs of networks in rounds: `run_network`, its result and its fault.
 ghost use Rattle.std.specs.Prelude.{◌≡◌, ◌<◌, ℕ, All, Some, None, false, true, length, map, option_map, slice_get, IfOk, IfErr, OnErr, OnOk, Ok, Err};
 ghost use Rattle.net_model.specs.Checked.{AreClosed};
 ghost use Rattle.net_model.specs.Networks.{IsNetwork};
@@ -16,9 +16,10 @@ use bridge_semantics::Outcome;
 use net_model::{Network, Sender};
 use std::alloc::Allocator;
 
-/// Observer of a network run's progress.
+/// Observer of a network run's progress. `app_networks` implements it to show progress on a terminal.
 pub trait RoundObserver {
-    /// Reports that `bridge` begins to run in `round`. Both are counted from 0. `net` shows the progress of a long run by these reports.
+    /// Reports that bridge `bridge` begins to run in round `round`. Both are counted from 0. `announce_start` calls it before the bridge
+    /// runs.
     fn bridge_starts(&mut self, round: u32, bridge: usize);
 }
 
@@ -36,7 +37,8 @@ pub enum RoundsFault {
     /// Bridge `bridge`, an index from 0, refuses a capture: it is the first bridge of the round with a fault. `fault` is never a failed
     /// read or write, because all captures are in memory.
     Bridge { bridge: usize, fault: RunFault },
-    /// In the last allowed round, this linked port still received other frames than in the round before. It is the first such port.
+    /// In the last allowed round, this linked port still received other frames than in the round before. It is the first such port. With 0
+    /// rounds, both numbers are 0.
     NotSettled { bridge: usize, port: u8 },
     /// Memory ran out.
     NoMemory,
@@ -76,8 +78,8 @@ fn capture_over_link<A: Allocator + Copy>(
     station.delivered_capture(alloc, sender.from.port, sender.delay)
 }
 
-/// Whether `bridge` skipped this round, because its inputs hadn't changed. `ran` has for each bridge whether it ran. Returns false for a
-/// missing bridge.
+/// Returns whether `bridge` skipped this round, because its inputs hadn't changed. `ran` has for each bridge whether it ran. Returns false
+/// for a missing bridge.
 fn has_skipped_round(ran: &[bool], bridge: u16) -> bool
     ensures { result ≡ true → slice_get ran.now bridge ≡ Some false }
 {
@@ -136,7 +138,8 @@ fn feed_port<A: Allocator + Copy>(
     deliver_capture(alloc, stations, bridge, place, sender)
 }
 
-/// Delivers to each linked port of a bridge the frames sent to it. Returns the number of the first port whose input changed, or `None`.
+/// Delivers to each linked port of bridge `bridge` the frames sent to it. Returns the number of the first port whose input changed, or
+/// `None`.
 fn feed_bridge<A: Allocator + Copy>(
     alloc: A,
     stations: &mut [BridgeRun<'_, A>],
@@ -155,7 +158,7 @@ fn feed_bridge<A: Allocator + Copy>(
     Ok(first)
 }
 
-/// Returns the pair of the bridge's index and the port, or `None` without a port. The fault `NotSettled` names both.
+/// Returns bridge index and port as a pair, or `None` without a port. `feed_bridges` returns the pair, and the fault `NotSettled` names it.
 fn with_bridge(bridge: usize, port: Option<u8>) -> Option<(usize, u8)>
     ensures { result ≡ option_map (λ q. (bridge, q)) port }
 {
@@ -198,7 +201,7 @@ fn announce_start<A: Allocator + Copy, W: RoundObserver>(
     }
 }
 
-/// Returns the fault of a network run in which `bridge` stopped with `fault`: the bridge with this fault, or `NoMemory` if memory ran out.
+/// Returns the fault of a network run in which bridge `bridge` stopped with `fault`: `Bridge` with both, or `NoMemory` if memory ran out.
 fn bridge_fault(bridge: usize, fault: RunFault) -> RoundsFault
     ensures { IsFaultAt bridge fault result }
 {
@@ -208,7 +211,8 @@ fn bridge_fault(bridge: usize, fault: RunFault) -> RoundsFault
     }
 }
 
-/// Runs each bridge that has no result for its inputs. Returns for each bridge whether it ran. Stops at the first bridge with a fault.
+/// Runs each bridge that has no result for its inputs, in round `turn`. Returns for each bridge whether it ran. Stops at the first bridge
+/// with a fault.
 fn run_bridges<A: Allocator + Copy, W: RoundObserver>(
     alloc: A,
     stations: &mut [BridgeRun<'_, A>],
@@ -237,7 +241,8 @@ fn run_bridges<A: Allocator + Copy, W: RoundObserver>(
     Ok(all)
 }
 
-/// Result of a bridge, and the captures of the frames that its ports sent. When all bridges have ended, no input shares these captures.
+/// Result of a bridge that has ended, and the captures of the frames that its ports sent. When all bridges have ended, no input shares
+/// these captures.
 #[derive(Drop)]
 struct EndedRun<A: Allocator + Copy> {
     outcome: Outcome<A>,
@@ -289,7 +294,7 @@ fn bridge_results<A: Allocator + Copy>(
     Ok(results)
 }
 
-/// Returns the bridges of a network before the first round. No frame has arrived over a link.
+/// Returns the bridges of a network before the first round. `incoming` has their inputs from outside; no frame has arrived over a link.
 fn initial_bridge_runs<'a, A: Allocator + Copy>(
     alloc: A,
     network: &'a Network<A>,
@@ -323,8 +328,8 @@ fn assert_bridge_runs<A: Allocator + Copy>(stations: &[BridgeRun<'_, A>])
     }
 }
 
-/// Runs one round: each bridge with changed inputs runs, and each linked port gets the frames sent to it. Returns the first bridge and port
-/// whose input changed, or `None` if the run ends.
+/// Runs round `turn`: each bridge with changed inputs runs, and each linked port gets the frames sent to it. Returns the first bridge and
+/// port whose input changed, if any.
 fn run_round<A: Allocator + Copy, W: RoundObserver>(
     alloc: A,
     stations: &mut [BridgeRun<'_, A>],
@@ -355,8 +360,8 @@ fn assert_network<A: Allocator + Copy>(network: &Network<A>)
     let _streams = network.streams();
 }
 
-/// Runs a network in at most `rounds` rounds, until each link delivers exactly the frames that its sender sent. Bridges with unchanged
-/// inputs don't run again. `watch` gets a report before each bridge's run.
+/// Runs a network in at most `rounds` rounds, until each link delivers exactly the frames that its sender sent. `watch` gets a report
+/// before each bridge's run.
 pub fn run_network<A: Allocator + Copy, W: RoundObserver>(
     alloc: A,
     network: &Network<A>,
