@@ -66,11 +66,11 @@ abbrev pub is_used : ℕ → List (ℕ × FilterPlan) → Bool
 is_used gate [] = false
 is_used gate (f ∷ fs) = nat_eq f.1.gate gate || is_used gate fs
 
--- True if some filter uses stream gate `gate`, and no protected or grouped filter does.
+-- True if some filter uses stream gate `gate`, but no protected or grouped filter uses it.
 abbrev pub is_decision : ℕ → List (ℕ × FilterPlan) → Bool
 is_decision gate fs = is_used gate fs && not (is_number (tested_with gate fs))
 
--- True if a filter is protected or grouped.
+-- True if at least one filter is protected or grouped.
 abbrev pub has_tested : List (ℕ × FilterPlan) → Bool
 has_tested [] = false
 has_tested (f ∷ fs) = is_tested f.1 || has_tested fs

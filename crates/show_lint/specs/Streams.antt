@@ -25,7 +25,7 @@ is_same_kind kind.Null kind.Null = true
 is_same_kind kind.Source kind.Source = true
 is_same_kind one other = false
 
--- True if entry `one` matches every frame that entry `other` matches, by the keys of both.
+-- True if entry `one` matches every frame that entry `other` matches: equal port, VLAN and address, and a tag kind that covers the other's.
 abbrev pub hides : StreamEntry → StreamEntry → Bool
 hides one other = nat_eq one.port other.port && nat_eq one.vid other.vid && bytes_eq one.address other.address && is_same_kind one.kind other.kind && covers_tag one.tag other.tag
 
@@ -63,7 +63,7 @@ named_alone tag.All = Some tag.Tagged
 named_alone tag.Tagged = Some tag.Tagged
 named_alone tag.Priority = None
 
--- The tags of frames that entry `e` can match on a port whose untagged frames get VLAN `own`.
+-- The tag kind of the frames that entry `e` can match on a port whose untagged frames get VLAN `own`; `None` if it can match no frame.
 abbrev pub tag_on : ℕ → StreamEntry → Option TagKind
 tag_on own e = if nat_eq own e.vid then Some e.tag else named_alone e.tag
 

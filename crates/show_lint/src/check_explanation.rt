@@ -1,4 +1,4 @@
-//! Explains which tests a refused plan fails, and what to change.
+//! Explains which tests a refused plan fails, and what to change, for `check --explain`.
 ghost use Rattle.std.specs.Prelude.{◌≡◌, ◌<◌, IfOk, nat_eq, string_bytes};
 ghost use Rattle.show_lint.specs.Filters as spec;
 ghost use Rattle.bridge_text.specs.PathPrefix.{StartsWithName};
@@ -54,8 +54,8 @@ const NO_WINDOW: &str =
 const TOO_LONG: &str =
     "Filter {0}'s longest frame doesn't fit. It has {1} octets (`max_sdu` {2} and 16 octets of header; no frame exceeds {3}) and needs {5} ns at port {4}.\nClass {6} there is ";
 
-/// Explains why a plan doesn't isolate its protected filters and groups: `fault`, then every other failed test, and what to change. Each finding
-/// begins with `path` and the filter's line, if known.
+/// Explains why a plan isn't accepted: `fault`, then every other failed test, and what to change. Each finding begins with `path` and the
+/// filter's line, if known.
 pub fn explain_check(
     alloc: Global,
     path: &str,
@@ -78,7 +78,7 @@ pub fn explain_check(
     finish_with_path(alloc, path, said)
 }
 
-/// Writes the findings of all failed tests except `first`, which `explain_check` has written.
+/// Writes the findings of all failed tests except `first`, which `explain_check` has written. Each begins with `path`.
 fn put_other_findings<A: Allocator + Copy>(
     said: &mut LintText,
     path: &str,
@@ -95,7 +95,8 @@ fn put_other_findings<A: Allocator + Copy>(
     }
 }
 
-/// Returns the position of filter `number` in the text of its plan. Returns `None` if the text has no such table.
+/// Returns the position of filter `number` in the text of its plan. Returns `None` if the plan lacks the filter, or the text lacks its
+/// table.
 fn filter_position(text: &[u8], filters: &[(u32, FilterPlan)], number: u32) -> Option<Position> {
     let mut index = 0u32;
     for filter in filters {
@@ -108,7 +109,8 @@ fn filter_position(text: &[u8], filters: &[(u32, FilterPlan)], number: u32) -> O
     None
 }
 
-/// Writes the finding of a failed test, to stand after the path of the plan: the filter's position and the explanation.
+/// Writes the finding of a failed test, which follows the path of the plan: the filter's position and the explanation. Without the filter,
+/// writes only its position.
 fn put_finding<A: Allocator + Copy>(
     said: &mut LintText,
     text: &[u8],
@@ -122,7 +124,7 @@ fn put_finding<A: Allocator + Copy>(
     }
 }
 
-/// Writes the explanation of a test that a protected or grouped filter fails, by the function for this test.
+/// Writes the explanation of a test that filter `number`, protected or grouped, fails. Calls the function for this test.
 fn put_check<A: Allocator + Copy>(
     said: &mut LintText,
     text: &[u8],
@@ -173,8 +175,7 @@ fn put_check<A: Allocator + Copy>(
     }
 }
 
-/// Explains that frames without a matching filter would pass unfiltered: a catch-all filter is missing. `number` is the number of the
-/// filter that fails the test.
+/// Explains that frames without a matching filter would pass unfiltered: a catch-all filter is missing. Filter `number` fails the test.
 fn put_no_catch_all(said: &mut LintText, filters: &[(u32, FilterPlan)], number: u32) {
     let greatest = greatest_filter_number(filters);
     put_shared_part(said, filters, NO_CATCH_ALL, number, greatest, 0);
@@ -193,7 +194,7 @@ fn other_with_gate(filters: &[(u32, FilterPlan)], number: u32, gate: u32) -> Opt
     None
 }
 
-/// Whether a filter uses meter `meter`; false without a meter.
+/// Returns whether a filter uses meter `meter`; false without a meter.
 fn has_meter(filter: &FilterPlan, meter: u32) -> bool
     ensures { result ≡ spec.has_meter meter filter.now }
 {
@@ -215,7 +216,7 @@ fn other_with_meter(filters: &[(u32, FilterPlan)], number: u32, meter: u32) -> O
     None
 }
 
-/// Returns the greatest filter number, or 0 without filters: a catch-all filter needs a greater one.
+/// Returns the greatest filter number, or 0 without filters. `put_no_catch_all` asks for a catch-all filter with a greater number.
 fn greatest_filter_number(filters: &[(u32, FilterPlan)]) -> u32 {
     let mut last = 0u32;
     for filter in filters {
@@ -253,7 +254,7 @@ fn kind_of_number(filters: &[(u32, FilterPlan)], number: u32) -> &'static str {
 }
 
 /// Writes the sentence of `template` about filters `number` and `other`, with their kinds. `own` is the stream gate or meter that both use,
-/// or 0.
+/// or 0 for none.
 fn put_shared_part(
     said: &mut LintText,
     filters: &[(u32, FilterPlan)],
@@ -270,13 +271,13 @@ fn put_shared_part(
     said.put_template(template, &numbers, &kinds);
 }
 
-/// Writes the explanation of a stream gate that two filters share.
+/// Writes the explanation of stream gate `gate`, which filter `number` shares with another filter.
 fn put_shared_gate(said: &mut LintText, filters: &[(u32, FilterPlan)], number: u32, gate: u32) {
     let other = other_with_gate(filters, number, gate).unwrap_or(0);
     put_shared_part(said, filters, GATE_SHARED, number, other, gate);
 }
 
-/// Writes the explanation of a meter that two filters share.
+/// Writes the explanation of meter `meter`, which filter `number` shares with another filter.
 fn put_shared_meter(
     said: &mut LintText,
     filters: &[(u32, FilterPlan)],
@@ -288,7 +289,7 @@ fn put_shared_meter(
     put_shared_part(said, filters, METER_SHARED, number, other, meter);
 }
 
-/// Writes the explanation of a queue that two filters share, and why each filter's frames can reach the port.
+/// Writes the explanation of the queue that filters `number` and `other` share: why the frames of both can reach the port, and remedies.
 fn put_shared_queue<A: Allocator + Copy>(
     said: &mut LintText,
     plan: &Plan<A>,
@@ -329,7 +330,7 @@ fn put_open_classes(said: &mut LintText, state: u8) {
     }
 }
 
-/// Returns the state of the entry with offset `at` in ns, if it opens class `class` and another class, otherwise `None`.
+/// Returns the state of the entry that begins at offset `at` in ns, if it opens class `class` and another class. Otherwise returns `None`.
 fn shared_entry_state(entries: &[(u8, u64)], class: u8, at: u64) -> Option<u8>
     requires { class < 8 }
 {
@@ -343,8 +344,8 @@ fn shared_entry_state(entries: &[(u8, u64)], class: u8, at: u64) -> Option<u8>
     None
 }
 
-/// Returns the gate state at offset `at` in ns that opens `class` and another class, or `None`. The flag is true if only the port's new
-/// list has this state.
+/// Returns the state at offset `at` in ns that opens `class` and another class, or `None`. The flag is true if only the port's new list has
+/// it.
 fn shared_state<A: Allocator + Copy>(port: &PortPlan<A>, class: u8, at: u64) -> Option<(u8, bool)>
     requires { class < 8 }
 {
@@ -393,7 +394,7 @@ fn port_key_line<A: Allocator + Copy>(
     None
 }
 
-/// Writes that a port opens a class together with others from an offset, in its new list (`is_next`) or its first list.
+/// Writes that a port opens a class together with others from an offset on. The list is the port's new list (`is_next`), or its first list.
 fn put_shared_window<A: Allocator + Copy>(
     said: &mut LintText,
     text: &[u8],
@@ -423,7 +424,7 @@ fn put_shared_window<A: Allocator + Copy>(
     said.put_template(template, &numbers, &[]);
 }
 
-/// The window at fault: a class of a port that a filter needs alone. From the offset `at` in ns, another class is open too.
+/// The window at fault: a class of a port that a filter needs for itself. From offset `at` in ns on, another class is open too.
 #[derive(Clone, Copy)]
 struct Window {
     filter: u32,
@@ -432,7 +433,7 @@ struct Window {
     at: u64,
 }
 
-/// Writes the explanation of a window that two classes share: where, why the filter reaches the port, and remedies.
+/// Writes the explanation of a window that two classes share: port and offset, why the filter's frames reach the port, and remedies.
 fn put_window<A: Allocator + Copy>(
     said: &mut LintText,
     text: &[u8],
@@ -461,8 +462,8 @@ fn put_window<A: Allocator + Copy>(
     said.put_template(window_remedy(state.is_some(), is_other), &numbers, &[]);
 }
 
-/// Returns the remedy for a shared window: class `{2}` of port `{1}` gets a window of its own. `has_list` is true if the port has a list,
-/// `is_second` if another remedy precedes.
+/// Returns the remedy for a shared window: class `{2}` of port `{1}` gets its own window. `has_list`: the port has a list. `is_second`:
+/// another remedy precedes.
 fn window_remedy(has_list: bool, is_second: bool) -> &'static str {
     match (has_list, is_second) {
         (true, false) =>
@@ -492,7 +493,7 @@ fn put_unfit_length<A: Allocator + Copy>(
     }
 }
 
-/// Writes the transmission time of a filter's longest frame, and the windows of a class.
+/// Writes the transmission time of filter `number`'s longest frame, which has `sdu` SDU octets, and the windows of class `class`.
 fn put_too_long<A: Allocator + Copy>(
     said: &mut LintText,
     port: &PortPlan<A>,
@@ -517,7 +518,7 @@ fn put_too_long<A: Allocator + Copy>(
     said.put(".\n");
 }
 
-/// Writes what to change if a filter's frames don't fit the windows of a class.
+/// Writes what to change if a filter's longest frame doesn't fit the windows of a class: open, lengthen or shorten.
 fn put_remedy<A: Allocator + Copy>(said: &mut LintText, port: &PortPlan<A>, class: u8)
     requires { class < 8 }
 {

@@ -1,4 +1,4 @@
-//! Finds classes that never open although frames of unprotected filters can enter them.
+//! Finds classes that never open although frames of unprotected filters can enter their queues, for the warning `NeverOpen`.
 ghost use Rattle.std.specs.Prelude.{◌<◌, ◌≤◌};
 
 use crate::gate_openings::{change_stages, has_port_change, port_list};
@@ -9,7 +9,7 @@ use bridge_config::{Plan, PortPlan};
 use bridge_cycle::{Run, longest_run};
 use std::alloc::{AllocError, Allocator};
 
-/// Returns the number of the first unprotected filter that can reach class `class` at port `port`, or `None`.
+/// Returns the number of the first unprotected filter whose frames can enter the queue of class `class` at port `port`, or `None`.
 fn first_waiting_filter<A: Allocator + Copy>(plan: &Plan<A>, port: u8, class: u8) -> Option<u32>
     requires from { 1 ≤ port }
     requires to { port ≤ 16 }
@@ -22,8 +22,7 @@ fn first_waiting_filter<A: Allocator + Copy>(plan: &Plan<A>, port: u8, class: u8
     None
 }
 
-/// Adds a warning for each list of a port that never opens class `class`, if an unprotected filter can reach the class. `number` is the
-/// number of the port.
+/// Adds a warning for each list of port `number` that never opens class `class`, if frames of an unprotected filter can enter this queue.
 fn find_class<A: Allocator + Copy>(
     found: &mut Vec<Warning>,
     plan: &Plan<A>,
@@ -54,8 +53,8 @@ fn find_class<A: Allocator + Copy>(
     Ok(())
 }
 
-/// Adds a warning for each class that never opens, if an unprotected filter can reach it. For protected filters, `check` refuses such a
-/// plan.
+/// Adds a warning for each class that never opens, if frames of an unprotected filter can enter its queue. For protected filters, `check`
+/// refuses such a plan.
 pub(crate) fn find_closed_classes<A: Allocator + Copy>(
     found: &mut Vec<Warning>,
     plan: &Plan<A>,

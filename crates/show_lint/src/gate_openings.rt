@@ -1,5 +1,5 @@
-//! Finds the lists of stream gates and ports before and after a schedule change. Counts the frames that the entries of a stream gate can
-//! pass.
+//! Lists of stream gates and ports before and after a schedule change, and the frames that a stream gate's entries can pass. Searches for
+//! warnings about meters and queues use them.
 
 use crate::warning::ScheduleStage;
 use bridge_config::{Plan, PortPlan};
@@ -47,12 +47,12 @@ pub(crate) fn port_list<A: Allocator + Copy>(
     }
 }
 
-/// Whether a stream gate has a schedule change.
+/// Returns whether a stream gate has a schedule change.
 pub(crate) fn has_gate_change<A: Allocator + Copy>(schedule: &Schedule<A>) -> bool {
     matches!(schedule, Schedule::Joined(_))
 }
 
-/// Whether a port has a schedule change.
+/// Returns whether a port has a schedule change.
 pub(crate) fn has_port_change<A: Allocator + Copy>(port: &PortPlan<A>) -> bool {
     matches!(&port.list, Some(Egress::Joined(_)))
 }
@@ -66,7 +66,7 @@ pub(crate) fn change_stages(is_changed: bool) -> &'static [ScheduleStage] {
     }
 }
 
-/// Greatest load of a filter: its longest frames, back to back.
+/// Greatest load of a filter: its longest frames, back to back on each link by which its streams enter.
 #[derive(Clone, Copy)]
 pub(crate) struct OfferedLoad {
     /// SDU octets of a longest frame.
@@ -77,12 +77,12 @@ pub(crate) struct OfferedLoad {
     pub times: [u64; 16],
 }
 
-/// Returns the length in octets of the longest frame with `sdu` SDU octets.
+/// Returns the length in octets of the longest frame with `sdu` SDU octets: 16 octets of header more, but at most 9,216.
 pub(crate) fn longest_length(sdu: u32) -> u32 {
     sdu.saturating_add(16).min(LONGEST_FRAME)
 }
 
-/// Returns the greatest load of frames with handle `handle` and `sdu` SDU octets.
+/// Returns the greatest load of a filter with handle `handle` and a largest SDU of `sdu` octets.
 pub(crate) fn offered_load<A: Allocator + Copy>(
     plan: &Plan<A>,
     handle: u32,
@@ -108,8 +108,8 @@ fn set_port_time(times: &mut [u64; 16], port: u8, time: u64) {
     }
 }
 
-/// An open entry's duration and its cycle in ns. `is_alone` is true if no other entry opens the stream gate, so that frames may begin
-/// before the entry.
+/// Duration of an open entry and its cycle time in ns. `is_alone`: no other entry opens the stream gate, so frames may begin before the
+/// entry.
 #[derive(Clone, Copy)]
 struct OpeningSpan {
     duration: u64,
@@ -143,7 +143,8 @@ impl OfferedLoad {
         count
     }
 
-    /// Returns how many frames pass during the entry: the octet limit and the links bound this number. Returns 0 without an octet limit.
+    /// Returns how many longest frames pass during the entry: its octet limit `limit` and the links bound this number. Returns 0 without an
+    /// octet limit.
     fn limited_count(&self, limit: Option<u32>, span: OpeningSpan) -> u64 {
         match limit {
             Some(octets) if self.sdu > 0 => {
@@ -155,7 +156,7 @@ impl OfferedLoad {
     }
 }
 
-/// Entry in which a stream gate is open. Queues get its frames in a burst.
+/// Entry in which a stream gate is open: its place in the cycle, and the frames that queues receive from it in a burst.
 #[derive(Clone, Copy)]
 pub(crate) struct GateOpening {
     /// Offset of the entry from the cycle's start in ns.
@@ -164,12 +165,12 @@ pub(crate) struct GateOpening {
     pub lasting: u64,
     /// Internal priority value that the entry gives to frames.
     pub ipv: Option<u8>,
-    /// Number of longest frames that the entry's limit passes; 0 without a limit.
+    /// Number of longest frames that can pass in the entry, by its octet limit and the links; 0 without an octet limit.
     pub count: u64,
 }
 
-/// Returns the open entries of a stream gate's list, each with the number of frames of load `feed` that it passes. The last entry lasts to
-/// the end of the cycle.
+/// Returns the open entries of a stream gate's list, with the number of frames of load `feed` that each passes. The last entry lasts to the
+/// cycle's end.
 pub(crate) fn gate_openings<A: Allocator + Copy>(
     alloc: Global,
     list: &CyclicList<GateEntry, A>,
@@ -209,7 +210,7 @@ pub(crate) fn gate_openings<A: Allocator + Copy>(
     Ok(openings)
 }
 
-/// Returns the number of frames that all openings of a stream gate's cycle pass together.
+/// Returns the number of longest frames that all openings of a stream gate's cycle pass together.
 pub(crate) fn total_count(openings: &[GateOpening]) -> u64 {
     let mut count = 0u64;
     for opening in openings {

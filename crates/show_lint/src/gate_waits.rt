@@ -1,4 +1,5 @@
-//! Computes how long frames that arrive when a stream gate opens wait for the transmission gate.
+//! Computes how long frames wait for the transmission gate if they arrive when a stream gate opens, for the warning `LongWait` and
+//! `SmallQueue`.
 ghost use Rattle.std.specs.Prelude.{◌≤◌, ◌<◌, ◌+◌};
 ghost use Rattle.bridge_cycle.specs.Fits.{IsFirstFit};
 ghost use Rattle.bridge_cycle.specs.Runs.{Allows, FitsSoon};
@@ -25,8 +26,8 @@ pub(crate) struct GateWaits {
     pub are_all: bool,
 }
 
-/// Returns the wait in ns of a frame that arrives at time `from` and occupies the link for `occupied` ns. The frame must fit the class's
-/// longest window.
+/// Returns the wait in ns of a frame that arrives at time `from` and needs `occupied` ns on the link. The class's longest window `run` must
+/// be long enough.
 fn frame_wait<A: Allocator + Copy>(
     list: &CyclicList<u8, A>,
     class: u8,
@@ -44,8 +45,8 @@ fn frame_wait<A: Allocator + Copy>(
     first_fit(list, class, occupied, from) - from
 }
 
-/// Returns the waits of frames that arrive when a stream gate opens: first at `first`, then once in each `cycle` ns. `gate_waits` calls it
-/// if the frames fit the class's longest window.
+/// Returns the waits of frames that arrive at `first` and then once in each `cycle` ns. `gate_waits` calls it if the frames fit the class's
+/// longest window.
 fn waits_by_cycle<A: Allocator + Copy>(
     list: &CyclicList<u8, A>,
     class: u8,
@@ -75,8 +76,8 @@ fn waits_by_cycle<A: Allocator + Copy>(
     waits
 }
 
-/// Returns the waits of frames that arrive when a stream gate opens, first at `first`, then every `cycle` ns. Returns `None` if the frames
-/// never fit.
+/// Returns the waits of frames that arrive when a stream gate opens: at `first` and then every `cycle` ns. `None` if frames of `occupied`
+/// ns never fit.
 pub(crate) fn gate_waits<A: Allocator + Copy>(
     list: &CyclicList<u8, A>,
     class: u8,

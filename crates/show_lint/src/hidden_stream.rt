@@ -1,4 +1,5 @@
-//! Finds streams that match no frame, because earlier streams match all their frames or their port gives another VLAN.
+//! Finds streams that match no frame, because earlier streams match all their frames or their port gives another VLAN. A stream is an entry
+//! of the plan.
 ghost use Rattle.std.specs.Prelude.{◌≡◌, true};
 ghost use Rattle.show_lint.specs.Streams as spec;
 
@@ -8,7 +9,7 @@ use bridge_config::Plan;
 use bridge_ident::{Kind, StreamEntry, TagKind};
 use std::alloc::{AllocError, Allocator};
 
-/// Whether tag kind `one` accepts each frame that `other` accepts.
+/// Returns whether tag kind `one` accepts each frame that tag kind `other` accepts.
 fn covers_tag(one: TagKind, other: TagKind) -> bool
     ensures { result ≡ spec.covers_tag one other }
 {
@@ -20,7 +21,7 @@ fn covers_tag(one: TagKind, other: TagKind) -> bool
     }
 }
 
-/// Whether both kinds of stream identification compare the destination address, or both compare the source address.
+/// Returns whether both kinds of stream identification compare the destination address, or both compare the source address.
 fn is_same_kind(one: Kind, other: Kind) -> bool
     ensures { result ≡ spec.is_same_kind one other }
 {
@@ -31,7 +32,8 @@ fn is_same_kind(one: Kind, other: Kind) -> bool
     }
 }
 
-/// Whether stream entry `one` matches each frame that `other` matches: equal port, VLAN and address, and a tag kind that covers the other.
+/// Returns whether entry `one` matches each frame that `other` matches: equal port, VLAN and address, and a tag kind that covers the
+/// other's.
 #[tactic(auto, using(crate::proofs::Hiding::hides_frames))]
 pub fn hides(one: &StreamEntry, other: &StreamEntry) -> bool
     ensures asks { result ≡ spec.hides one.now other.now }
@@ -44,7 +46,7 @@ pub fn hides(one: &StreamEntry, other: &StreamEntry) -> bool
         && covers_tag(one.tag, other.tag)
 }
 
-/// Whether both entries have equal port, VLAN and address, and compare the same address of a frame. Their tags may differ.
+/// Returns whether both entries have equal port, VLAN and address, and compare the same address of a frame. Their tags may differ.
 fn is_place(one: &StreamEntry, other: &StreamEntry) -> bool
     ensures { result ≡ spec.is_place one.now other.now }
 {
@@ -54,7 +56,7 @@ fn is_place(one: &StreamEntry, other: &StreamEntry) -> bool
         && is_same_kind(one.kind, other.kind)
 }
 
-/// Whether tag kind `tag` accepts frames whose tag names a VLAN (`named` true), or other frames (`named` false).
+/// Returns whether tag kind `tag` accepts frames whose tag names a VLAN (`named` true), or other frames (`named` false).
 fn takes_named(tag: TagKind, named: bool) -> bool
     ensures { result ≡ spec.takes_named tag named }
 {
@@ -65,7 +67,7 @@ fn takes_named(tag: TagKind, named: bool) -> bool
     }
 }
 
-/// Whether an earlier entry matches each frame of `other` that names a VLAN (`named` true), or each other frame (`named` false).
+/// Returns whether an earlier entry matches each frame of `other` that names a VLAN (`named` true), or each other frame (`named` false).
 fn covers(earlier: &[StreamEntry], other: &StreamEntry, named: bool) -> bool
     ensures { result ≡ spec.covers earlier.now other.now named }
 {
@@ -77,7 +79,7 @@ fn covers(earlier: &[StreamEntry], other: &StreamEntry, named: bool) -> bool
     false
 }
 
-/// Whether earlier entries together match each frame that `other` matches.
+/// Returns whether earlier entries together match each frame that `other` matches. `find_hiders` then adds the warning `HiddenTogether`.
 #[tactic(auto, using(crate::proofs::Hiding::cover_frames))]
 pub fn hide_together(earlier: &[StreamEntry], other: &StreamEntry) -> bool
     ensures asks { result ≡ spec.cover earlier.now other.now }
@@ -86,7 +88,8 @@ pub fn hide_together(earlier: &[StreamEntry], other: &StreamEntry) -> bool
     covers(earlier, other, true) && covers(earlier, other, false)
 }
 
-/// Returns the tags of frames that an entry can match on a port with default VLAN `own`. Returns `None` if it can match no frame.
+/// Returns which tags frames have that an entry can match on its port, whose default VLAN is `own`. Returns `None` if it can match no
+/// frame.
 fn port_tags(own: u16, stream: &StreamEntry) -> Option<TagKind>
     ensures { result ≡ spec.tag_on own stream.now }
 {
@@ -112,7 +115,7 @@ fn first_hiding_stream(earlier: &[StreamEntry], stream: &StreamEntry) -> Option<
 }
 
 /// Returns the position, from 1, of the first earlier entry that matches each frame of `stream` with a VLAN (`named`) or without. Returns 0
-/// if there is none.
+/// without such an entry.
 fn first_covering_entry(earlier: &[StreamEntry], stream: &StreamEntry, named: bool) -> usize {
     let mut place = 0usize;
     for one in earlier {
@@ -153,8 +156,7 @@ fn find_hiders(
     push_warning(found, Warning::HiddenTogether(hidden))
 }
 
-/// Adds a warning if the stream at position `place`, counted from 1, matches no frame: because of its port's VLAN, or because of earlier
-/// streams.
+/// Adds a warning if the stream at position `place`, from 1, matches no frame, because of its port's VLAN `own` or of earlier streams.
 fn find_unmatched(
     found: &mut Vec<Warning>,
     own: u16,

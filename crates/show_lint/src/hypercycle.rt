@@ -1,4 +1,4 @@
-//! Computes the time after which cycles begin together again.
+//! Computes the hypercycle: the time after which all cycles of a plan begin together again. Warnings and pictures use it.
 
 use bridge_config::Plan;
 use bridge_cycle::{Egress, Joined, Timeline};
@@ -26,7 +26,7 @@ pub(crate) fn cycles_until_aligned(round: u64, cycle: u64) -> u64 {
     if divisor == 0 { 0 } else { round / divisor }
 }
 
-/// Returns the time in ns after which both cycles begin together again; `None` if one cycle is a multiple of the other.
+/// Returns the time in ns after which both cycles begin together again. Returns `None` if one cycle is a multiple of the other, or 0.
 pub(crate) fn aligned_period(cycle: u64, round: u64) -> Option<u64> {
     if cycle == 0 || round == 0 || cycle % round == 0 || round % cycle == 0 {
         return None;
@@ -34,8 +34,8 @@ pub(crate) fn aligned_period(cycle: u64, round: u64) -> Option<u64> {
     Some(cycles_until_aligned(round, cycle).saturating_mul(cycle))
 }
 
-/// Time in ns after which all lists of a plan begin together again: 0 without lists, at most the greatest number of 64 bits. `change` is
-/// the time of the schedule change, if any.
+/// Time `length` in ns after which all lists of a plan begin together again: 0 without lists, at most 2^64 - 1. `change` is the time of the
+/// schedule change.
 #[derive(Clone, Copy)]
 pub struct Hypercycle {
     pub length: u64,
@@ -66,7 +66,7 @@ impl Hypercycle {
         times
     }
 
-    /// Includes a list with cycle `cycle`: the length becomes the least common multiple.
+    /// Includes a list with cycle time `cycle` in ns: the length becomes the least common multiple, or stays at its greatest value.
     fn include_cycle(&mut self, cycle: u64) {
         self.length = match self.length {
             0 | u64::MAX => self.length.max(cycle),

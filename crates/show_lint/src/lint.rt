@@ -1,4 +1,4 @@
-//! Collects the warnings of a plan.
+//! Collects the warnings of a plan in the order of the report.
 
 use crate::closed::find_closed_classes;
 use crate::hidden_stream::find_hidden_streams;
@@ -12,8 +12,8 @@ use bridge_config::Plan;
 use bridge_limits::NoMemory;
 use std::alloc::{AllocError, Allocator, Global};
 
-/// Returns the warnings of an accepted plan: unused parts in file order, streams that match no frame, and classes that never open. Warnings
-/// about each protected filter's streams, meter and queues follow.
+/// Returns the warnings of an accepted plan: parts without effect, hidden streams, closed classes, then by filter its streams, meter and
+/// queues. `put_warnings` writes them.
 pub fn find_warnings<A: Allocator + Copy>(
     alloc: Global,
     accepted: &Accepted<A>,
@@ -47,7 +47,7 @@ fn find_plan_warnings<A: Allocator + Copy>(
     Ok(())
 }
 
-/// Adds a warning to `found`. Fails if memory runs out.
+/// Adds the warning `advice` to `found`. Fails if memory runs out.
 pub(crate) fn push_warning(found: &mut Vec<Warning>, advice: Warning) -> Result<(), AllocError> {
     match found.push(advice) {
         Ok(()) => Ok(()),

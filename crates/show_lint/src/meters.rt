@@ -1,4 +1,4 @@
-//! Finds meters that refuse frames of a protected or grouped filter.
+//! Finds meters that refuse frames of a protected or grouped filter, for the warnings `SmallBurst` and `LowRate`.
 use crate::gate_openings::{
     OfferedLoad, change_stages, gate_list, gate_openings, has_gate_change, longest_length,
     offered_load, total_count,
@@ -54,14 +54,14 @@ pub(crate) fn find_meter_warnings<A: Allocator + Copy>(
     find_rates(alloc, found, plan, number, filter, &limits)
 }
 
-/// Whether all buckets that a frame may use are smaller than `octets`. Then the meter refuses each frame of this length.
+/// Returns whether all buckets that a frame may use are smaller than `octets`. Then the meter refuses each frame of this length.
 fn has_small_buckets(limits: &MeterPlan, octets: u32) -> bool {
     let octets = u64::from(octets);
     limits.cbs < octets && (limits.drop_yellow || limits.ebs < octets)
 }
 
-/// Adds a warning if a meter's buckets are smaller than the filter's longest frame. If they are smaller than the shortest frame, another
-/// warning covers the meter.
+/// Adds a warning if a meter's buckets are smaller than the longest frame, which has `octets` metered octets. Smaller than the shortest
+/// frame is warning `NoToken`.
 fn find_burst(
     found: &mut Vec<Warning>,
     filter: u32,
@@ -86,7 +86,8 @@ fn find_burst(
     push_warning(found, Warning::SmallBurst(burst))
 }
 
-/// Returns the octets for which a meter gets tokens in `cycle` ns.
+/// Returns the octets for which a meter gets tokens in `cycle` ns. Tokens of the excess bucket don't count if the meter drops yellow
+/// frames.
 fn tokens_per_cycle(limits: &MeterPlan, cycle: u64) -> u64 {
     let excess = if limits.drop_yellow { 0 } else { limits.eir };
     let rate = u128::from(limits.cir.saturating_add(excess));
@@ -121,7 +122,7 @@ fn find_rates<A: Allocator + Copy>(
     Ok(())
 }
 
-/// Returns a warning if the meter gets fewer tokens in a cycle of `list` than the stream gate passes, otherwise `None`.
+/// Returns the warning `LowRate` if the meter gets fewer tokens in a cycle of `list` than the stream gate passes octets, otherwise `None`.
 fn low_rate<A: Allocator + Copy>(
     alloc: Global,
     stage: ScheduleStage,

@@ -14,7 +14,7 @@ use std::alloc::{AllocError, Allocator};
 /// First five octets of the addresses that no bridge forwards; the last octet is at most 15.
 const RESERVED: [u8; 5] = [0x01, 0x80, 0xC2, 0x00, 0x00];
 
-/// Whether frames to the stream's address, from its port and VLAN, have no egress port. `stream_cause` then looks for the reason.
+/// Returns whether frames to the stream's address, from its port and VLAN, have no egress port. `stream_cause` then looks for the reason.
 pub fn is_not_forwarded<A: Allocator + Copy>(plan: &Plan<A>, stream: &StreamEntry) -> bool
     requires from { 1 ≤ stream.now.port }
     requires to { stream.now.port ≤ 16 }
@@ -36,7 +36,7 @@ fn static_ports(statics: &[StaticEntry], vid: u16, address: [u8; 6]) -> Option<P
     None
 }
 
-/// Whether no bridge forwards frames to this address.
+/// Returns whether no bridge forwards frames to this address: 01-80-C2-00-00-00 to 01-80-C2-00-00-0F.
 fn is_reserved(address: [u8; 6]) -> bool {
     let [a, b, c, d, e, last] = address;
     [a, b, c, d, e] == RESERVED && last <= 15
@@ -68,7 +68,7 @@ fn vlan_cause(members: Option<PortSet>, port: u8) -> Option<NotForwardedCause>
     }
 }
 
-/// Returns why a stream isn't forwarded, by its static entry, if its VLAN has other ports.
+/// Returns why a stream with ingress port `port` isn't forwarded, by the ports of its static entry, if its VLAN has other members.
 fn static_entry_cause(entry: Option<PortSet>, port: u8) -> NotForwardedCause {
     match entry {
         None => NotForwardedCause::Alone,
@@ -80,7 +80,7 @@ fn static_entry_cause(entry: Option<PortSet>, port: u8) -> NotForwardedCause {
     }
 }
 
-/// Returns why a stream isn't forwarded. The stream must have no egress port.
+/// Returns why a stream isn't forwarded: reserved address, VLAN or static entry. The stream must have no egress port.
 fn not_forwarded_cause<A: Allocator + Copy>(
     plan: &Plan<A>,
     stream: &StreamEntry,
@@ -121,7 +121,7 @@ fn stream_cause<A: Allocator + Copy>(
     }
 }
 
-/// Adds a warning for each port of the stream's static entry that isn't a member of its VLAN.
+/// Adds a warning for each port of the stream's static entry that isn't a member of its VLAN. `place` is the stream's position, from 1.
 fn find_non_member_ports<A: Allocator + Copy>(
     found: &mut Vec<Warning>,
     plan: &Plan<A>,
@@ -148,7 +148,7 @@ fn find_non_member_ports<A: Allocator + Copy>(
     Ok(())
 }
 
-/// Whether a set has at least two ports. A stream that leaves by several ports without static entry floods its VLAN.
+/// Returns whether a set has at least two ports. A stream that leaves by several ports without static entry floods its VLAN.
 fn are_several(set: PortSet) -> bool {
     match other_port(set, 0) {
         Some(first) => other_port(set, first).is_some(),
@@ -156,7 +156,8 @@ fn are_several(set: PortSet) -> bool {
     }
 }
 
-/// Adds a warning if frames of the stream leave by several ports because no static entry has their address.
+/// Adds a warning if frames of the stream leave by several ports because no static entry has their address. `place` is the stream's
+/// position, from 1.
 fn find_flooded<A: Allocator + Copy>(
     found: &mut Vec<Warning>,
     plan: &Plan<A>,
@@ -177,7 +178,7 @@ fn find_flooded<A: Allocator + Copy>(
     push_warning(found, Warning::Flooded(Flooded { filter, place, vid }))
 }
 
-/// Adds warnings about the egress ports of a forwarded stream: missing members of the VLAN, and flooding. `place` is the stream's position,
+/// Adds warnings about the egress ports of a forwarded stream: ports that its VLAN lacks, and flooding. `place` is the stream's position,
 /// from 1.
 fn find_ways<A: Allocator + Copy>(
     found: &mut Vec<Warning>,
@@ -221,7 +222,7 @@ fn find_stream_warnings<A: Allocator + Copy>(
     }
 }
 
-/// Adds the warnings about each stream whose handle a protected filter names. Does nothing for a filter without handle.
+/// Adds the warnings about each stream whose handle protected filter `number` names. Does nothing for a filter without handle.
 pub(crate) fn find_not_forwarded<A: Allocator + Copy>(
     found: &mut Vec<Warning>,
     plan: &Plan<A>,

@@ -1,4 +1,4 @@
-//! Describes an accepted plan.
+//! Describes an accepted plan for `check --explain`: queues with windows and delay bounds, then warnings.
 ghost use Rattle.std.specs.Prelude.{◌<◌, ◌≤◌};
 
 use crate::group_description::{first_of_group, put_group, shared_queues};
@@ -37,7 +37,8 @@ pub fn describe_plan(
     said.finish()
 }
 
-/// Returns the warnings of an accepted plan, one for each line. `idle` is the line of a schedule change without effect (`idle_change`).
+/// Returns the warnings of an accepted plan, one for each line, for `check` and `run`. `idle` is the line of a schedule change without
+/// effect (`idle_change`).
 pub fn write_warnings<A: Allocator + Copy>(
     alloc: Global,
     accepted: &Accepted<A>,
@@ -48,7 +49,7 @@ pub fn write_warnings<A: Allocator + Copy>(
     said.finish()
 }
 
-/// Writes the warnings of a plan, one for each line. An idle schedule change comes first.
+/// Writes the warnings of a plan, one for each line. A schedule change without effect, in line `idle`, comes first.
 fn put_warnings<A: Allocator + Copy>(
     alloc: Global,
     said: &mut LintText,
@@ -68,7 +69,8 @@ fn put_warnings<A: Allocator + Copy>(
     }
 }
 
-/// Writes the queues of each protected filter and each group, with windows and bounds. The queues of a group stand at its first filter.
+/// Writes the queues of each protected filter and each group, with windows and bounds. The queues of a group in `rows` stand at its first
+/// filter.
 fn put_filters<A: Allocator + Copy>(
     said: &mut LintText,
     accepted: &Accepted<A>,
@@ -88,7 +90,7 @@ fn put_filters<A: Allocator + Copy>(
     }
 }
 
-/// Writes the reachable queues of a protected filter at all ports, by rising port.
+/// Writes the reachable queues of protected filter `number` at all ports, by rising port.
 fn put_ports<A: Allocator + Copy>(
     said: &mut LintText,
     accepted: &Accepted<A>,
@@ -102,7 +104,7 @@ fn put_ports<A: Allocator + Copy>(
     }
 }
 
-/// Writes the reachable queues of a protected filter at one port, by rising class.
+/// Writes the reachable queues of protected filter `number` at port `port`, by rising class: windows and delay bounds.
 fn put_classes<A: Allocator + Copy>(
     said: &mut LintText,
     accepted: &Accepted<A>,
@@ -126,7 +128,7 @@ fn put_classes<A: Allocator + Copy>(
     }
 }
 
-/// Writes the windows of a queue, and the longest frame that fits.
+/// Writes the windows of the queue of class `class` at port `number`, and the longest frame that fits.
 pub(crate) fn put_queue<A: Allocator + Copy>(
     said: &mut LintText,
     number: u8,
@@ -151,7 +153,7 @@ pub(crate) fn put_queue<A: Allocator + Copy>(
     }
 }
 
-/// Writes the delay bound of a queue by its capacity, with its assumptions.
+/// Writes the delay bound `bound` in ns of a queue by its capacity, with the frames that it assumes. Writes nothing without a largest SDU.
 fn put_bound<A: Allocator + Copy>(
     said: &mut LintText,
     filter: &FilterPlan,

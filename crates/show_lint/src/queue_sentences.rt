@@ -1,4 +1,4 @@
-//! Sentences of warnings about meters and queues.
+//! Sentences of warnings about meters and queues, with remedies. `put_warning` calls the functions.
 use crate::warning::{
     CycleMismatch, LongWait, LowRate, NeverOpen, QueueOverload, ScheduleStage, SmallBurst,
     SmallQueue,
@@ -38,7 +38,7 @@ const NEVER_OPEN: &str =
 const CYCLES: &str =
     "gate {0} of filter {1} has a cycle of {2} ns, and port {3} has {4} ns. Neither is a multiple of the other, so the delay pattern repeats only every {5} ns. Make one cycle a multiple of the other.\n";
 
-/// Returns the start of a warning's sentence: `Warning: `, and which schedule it concerns if the schedule changes.
+/// Returns the start of a warning's sentence: `Warning: `, and whether the old or the new schedule is concerned, if the schedule changes.
 fn stage_prefix(stage: ScheduleStage) -> &'static str {
     match stage {
         ScheduleStage::Always => "Warning: ",
@@ -86,7 +86,7 @@ pub(crate) fn put_low_rate<A: Allocator>(said: &mut TextBuilder<A>, rate: &LowRa
     said.put_template(rest, &numbers, &[]);
 }
 
-/// Writes that a queue gets more frames than its class has time for.
+/// Writes that frames enter a queue faster than its class has time to send them.
 pub(crate) fn put_overload<A: Allocator>(said: &mut TextBuilder<A>, flood: &QueueOverload) {
     let numbers = [
         u64::from(flood.spot.gate),

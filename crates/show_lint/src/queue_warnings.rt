@@ -8,10 +8,10 @@ use crate::warning::{LongWait, QueueId, QueueOverload, SmallQueue, Warning};
 use bridge_cycle::{CyclicList, Timeline, is_open};
 use std::alloc::{AllocError, Allocator};
 
-/// Smallest part of a port's cycle for a wait that gives a warning: a quarter. Shorter waits are usual.
+/// A wait gives a warning if it is at least this part of the port's cycle: a quarter. Shorter waits are usual.
 const PART_OF_CYCLE: u64 = 4;
 
-/// Queue of a protected filter at one stage, with a list of its stream gate and a list of its port.
+/// Queue of a protected filter at one stage of the schedule, with the times of its stream gate and the list of its port.
 #[derive(Drop)]
 pub(crate) struct ScheduledQueue<'a, A: Allocator + Copy> {
     /// Queue, filter and stream gate that a warning names.
@@ -49,7 +49,8 @@ fn open_time<A: Allocator + Copy>(list: &CyclicList<u8, A>, class: u8) -> u64
     open
 }
 
-/// Whether frames that take `occupied` ns in each `cycle` ns exceed windows of `open` ns in each `round` ns. Then the queue grows for ever.
+/// Returns whether frames that need `occupied` ns in each `cycle` ns exceed windows of `open` ns in each `round` ns. Then the queue grows
+/// for ever.
 fn is_overloaded(occupied: u64, cycle: u64, open: u64, round: u64) -> bool {
     let wanted = u128::from(occupied).saturating_mul(u128::from(round));
     let given = u128::from(open).saturating_mul(u128::from(cycle));
@@ -84,7 +85,7 @@ pub(crate) fn find_overload<A: Allocator + Copy>(
     push_warning(found, Warning::QueueOverload(flood))
 }
 
-/// Returns the waits of frames that arrive when an entry of the stream gate begins. Returns `None` if the frames never fit.
+/// Returns the waits of frames that arrive when entry `opening` of the stream gate begins. Returns `None` if the frames never fit.
 fn opening_waits<A: Allocator + Copy>(
     queue: &ScheduledQueue<'_, A>,
     opening: &GateOpening,
@@ -101,8 +102,8 @@ fn opening_waits<A: Allocator + Copy>(
     )
 }
 
-/// Returns the least number of an entry's frames that still wait when the entry ends, by the longest wait at its start. Returns 0 if the
-/// waits are unknown.
+/// Returns how many of an entry's frames still wait when the entry ends, if the first frame waits longest. Returns 0 if the waits are
+/// unknown.
 fn frames_left_waiting<A: Allocator + Copy>(
     queue: &ScheduledQueue<'_, A>,
     opening: &GateOpening,
@@ -147,12 +148,13 @@ pub(crate) fn find_small_queue<A: Allocator + Copy>(
     Ok(())
 }
 
-/// Whether a wait is longer than the entry, and at least a quarter of the port's cycle.
+/// Returns whether `wait` is longer than the entry, and at least a quarter of the port's cycle, which lasts `round` ns.
 fn is_long_wait(wait: u64, opening: &GateOpening, round: u64) -> bool {
     wait > opening.lasting && wait >= round / PART_OF_CYCLE
 }
 
-/// Returns the least wait of a frame that arrives when an entry begins. Returns `None` unless each of these waits was examined and is long.
+/// Returns the least wait of a frame that arrives when an entry begins. Returns `None` unless all these waits were examined and each is
+/// long.
 fn opening_wait<A: Allocator + Copy>(
     queue: &ScheduledQueue<'_, A>,
     opening: &GateOpening,

@@ -1,4 +1,4 @@
-//! Finds warnings about the queues of protected filters.
+//! Finds warnings about the queues of protected filters: overload, small capacity, long waits and cycles that don't match.
 ghost use Rattle.std.specs.Prelude.{◌<◌, ◌≤◌};
 
 use crate::gate_openings::{
@@ -27,7 +27,7 @@ struct ProtectedFilter<'a, A: Allocator + Copy> {
     feed: OfferedLoad,
 }
 
-/// Adds warnings about each queue of a protected filter. Does nothing if the filter names no handle or has no largest SDU.
+/// Adds warnings about each queue of protected filter `number`. Does nothing if the filter has no handle, no largest SDU or no stream gate.
 pub(crate) fn find_queues<A: Allocator + Copy>(
     alloc: Global,
     found: &mut Vec<Warning>,
@@ -57,7 +57,7 @@ pub(crate) fn find_queues<A: Allocator + Copy>(
     Ok(())
 }
 
-/// Adds warnings about each queue of a protected filter at port `number`; none if the port is missing.
+/// Adds warnings about each queue of a protected filter at port `number`, then about cycles; none if the port is missing.
 fn find_port_warnings<A: Allocator + Copy>(
     alloc: Global,
     found: &mut Vec<Warning>,
@@ -88,7 +88,7 @@ fn find_port_warnings<A: Allocator + Copy>(
     Ok(())
 }
 
-/// Adds a warning if neither the stream gate's cycle nor the port's cycle is a multiple of the other at `stage`. Then waits differ from
+/// Adds a warning if, at `stage`, neither the stream gate's cycle nor the port's cycle is a multiple of the other. Then waits differ from
 /// cycle to cycle.
 fn find_cycles<A: Allocator + Copy>(
     found: &mut Vec<Warning>,
@@ -156,7 +156,7 @@ fn find_queue_stage_warnings<A: Allocator + Copy>(
     find_opening_warnings(found, &queue, &openings)
 }
 
-/// Adds warnings about a queue by the stream gate's entries that pass its frames: overload, small capacity, long waits.
+/// Adds warnings about a queue by the stream gate's entries `openings`, whose frames enter it: overload, small capacity, long waits.
 fn find_opening_warnings<A: Allocator + Copy>(
     found: &mut Vec<Warning>,
     queue: &ScheduledQueue<'_, A>,
@@ -169,7 +169,8 @@ fn find_opening_warnings<A: Allocator + Copy>(
     find_long_wait(found, queue, openings)
 }
 
-/// Whether all frames that an entry passes enter class `class`, by the entry's internal priority value or the filter's priority.
+/// Returns whether all frames that an entry passes enter class `class`: by the entry's internal priority value or, without one, the
+/// filter's priority.
 fn is_opening_for_class(
     opening: &GateOpening,
     priority: Option<u8>,
@@ -185,7 +186,7 @@ fn is_opening_for_class(
     }
 }
 
-/// Returns the openings whose frames all enter class `class`: only they load this queue for certain.
+/// Returns the openings whose frames all enter class `class`. Only these certainly load the queue.
 fn class_openings(
     alloc: Global,
     openings: &[GateOpening],

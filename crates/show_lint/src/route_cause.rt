@@ -6,7 +6,7 @@ use bridge_forward::StaticEntry;
 use bridge_ident::{Kind, StreamEntry};
 use std::alloc::Allocator;
 
-/// Why frames can reach a port: the filter matches any stream, or a `stream` of the file leads there.
+/// Why frames of a filter can reach a port: the filter matches any stream, or a `stream` entry of the file leads there.
 #[derive(Clone, Copy)]
 enum RouteCause {
     /// The filter names no stream.
@@ -29,14 +29,14 @@ const ENTRY: &str = "`stream` {1} leads filter {0} to port {2} by a `static` ent
 const FLOOD: &str =
     "`stream` {1} leads filter {0} to port {2}. VLAN {3} has no `static` entry for its address, so its frames go to all members.\n";
 
-/// Whether a VLAN has a static entry for an address. Without one, frames to this address flood the VLAN.
+/// Returns whether a VLAN has a static entry for an address. Without such an entry, frames to this address flood the VLAN.
 fn has_entry(statics: &[StaticEntry], vid: u16, address: [u8; 6]) -> bool {
     statics
         .iter()
         .any(|entry| entry.vid == vid && entry.address == address)
 }
 
-/// Whether frames to the stream's address, from its port and VLAN, leave by port `port`.
+/// Returns whether frames to the stream's address, from its port and VLAN, leave by port `port`.
 fn is_forwarded_to_port<A: Allocator + Copy>(
     plan: &Plan<A>,
     stream: &StreamEntry,
@@ -65,7 +65,7 @@ fn route_cause<A: Allocator + Copy>(
     }
 }
 
-/// Writes why frames of a filter can reach a port, by the first stream that leads there.
+/// Writes why frames of filter `number` can reach port `port`, by the first stream that leads there. `check_explanation` calls it.
 pub(crate) fn put_route<A: Allocator + Copy>(
     said: &mut LintText,
     plan: &Plan<A>,
@@ -93,8 +93,8 @@ const NEED_ENTRY: &str =
 const NEED_KIND: &str =
     "Identify `stream` {0} by its destination address (`kind = \"null\"`), and add a `static` entry for this address that names only its egress ports.\n";
 
-/// Returns the position, from 1, and the cause of the first stream that leads a handle's frames to a port. Returns `None` if a `static`
-/// entry leads there, because that is intended.
+/// Returns the position, from 1, and the cause of the first stream that leads frames of `handle` to `port`. `None` if a `static` entry
+/// leads there, as intended.
 fn other_way<A: Allocator + Copy>(
     plan: &Plan<A>,
     handle: u32,
@@ -115,7 +115,8 @@ fn other_way<A: Allocator + Copy>(
     first
 }
 
-/// Writes how to keep a filter's frames from a port, and returns true. Returns false if a `static` entry leads the frames there.
+/// Writes how to keep a filter's frames from a port, and returns true. Returns false without a remedy: a `static` entry leads there, or
+/// there is no handle.
 pub(crate) fn put_other_way<A: Allocator + Copy>(
     said: &mut LintText,
     plan: &Plan<A>,
@@ -136,7 +137,7 @@ pub(crate) fn put_other_way<A: Allocator + Copy>(
     true
 }
 
-/// Writes the sentence of a cause: filter `number`, the stream's position `place`, port and VLAN.
+/// Writes the sentence of a cause about filter `number`, the stream at position `place` (0 for none), port and VLAN.
 fn put_route_sentence(
     said: &mut LintText,
     way: RouteCause,

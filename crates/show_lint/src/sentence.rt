@@ -1,4 +1,4 @@
-//! Writes the sentences of warnings.
+//! Writes the sentences of warnings, with remedies.
 use crate::queue_sentences::{
     put_cycle_mismatch, put_long_wait, put_low_rate, put_never_open, put_overload, put_small_burst,
     put_small_queue,
@@ -64,7 +64,7 @@ const NON_MEMBER_PORT: &str =
 const FLOODED: &str =
     "Warning: `stream` {1} of filter {0} (protected) leaves by all other ports of VLAN {2}, because no `static` entry has its address. Add a `static` entry with the egress ports.\n";
 
-/// Writes the sentence of a warning: a line that begins with `Warning: `. If the remedy isn't obvious, the line states it.
+/// Writes the sentence of warning `advice`: a line that begins with `Warning: `. If the remedy isn't obvious, the line states it.
 pub fn put_warning<A: Allocator>(said: &mut TextBuilder<A>, advice: &Warning) {
     match advice {
         Warning::IdleChange { line } => said.put_template(IDLE, &[*line as u64], &[]),
@@ -214,7 +214,7 @@ fn put_not_forwarded<A: Allocator>(said: &mut TextBuilder<A>, stuck: &NotForward
     said.put_template(cause_sentence(stuck.reason), &numbers, &[]);
 }
 
-/// Returns the sentence of a cause with its remedy, for a stream with ingress port `{0}`, VLAN `{1}` and egress port `{2}`.
+/// Returns the sentence of a cause with its remedy. In it, `{0}` is the stream's ingress port, `{1}` its VLAN and `{2}` an egress port.
 fn cause_sentence(reason: NotForwardedCause) -> &'static str {
     match reason {
         NotForwardedCause::Reserved =>
@@ -234,7 +234,7 @@ fn cause_sentence(reason: NotForwardedCause) -> &'static str {
     }
 }
 
-/// Writes that frames of a static entry don't leave by one of its ports, because the port isn't a member of the VLAN.
+/// Writes that a stream doesn't leave by a port of its static entry, because the port isn't a member of its VLAN.
 fn put_non_member_port<A: Allocator>(said: &mut TextBuilder<A>, outside: &NonMemberPort) {
     let numbers = [
         u64::from(outside.filter),

@@ -1,4 +1,4 @@
-//! Finds parts of an accepted plan without effect.
+//! Finds parts of an accepted plan without effect: streams, stream gates, meters and filters.
 ghost use Rattle.std.specs.Prelude.{◌≡◌, ◌<◌, IfSome};
 ghost use Rattle.bridge_filter.specs.Verdicts.{is_priority_match};
 ghost use Rattle.show_lint.specs.Filters as spec;
@@ -21,7 +21,7 @@ pub(crate) const SHORTEST: u64 = 64;
 /// SDU octets of the shortest frame: its EtherType.
 const LEAST_SDU: u32 = 2;
 
-/// Whether at least one filter is protected or grouped. Without one, the plan has no guarantee.
+/// Returns whether at least one filter is protected or grouped. Without one, the plan has no guarantee.
 fn has_tested(filters: &[(u32, FilterPlan)]) -> bool
     ensures { result ≡ spec.has_tested filters.now }
 {
@@ -33,7 +33,7 @@ fn has_tested(filters: &[(u32, FilterPlan)]) -> bool
     false
 }
 
-/// Adds a warning if no filter is protected or grouped: the plan then has no isolated filter and no bound.
+/// Adds a warning if no filter is protected or grouped: the plan then isolates no filter and bounds no delay.
 pub(crate) fn find_unprotected(
     found: &mut Vec<Warning>,
     filters: &[(u32, FilterPlan)],
@@ -55,7 +55,7 @@ pub(crate) fn find_unused_parts<A: Allocator + Copy>(
     find_filters(found, plan)
 }
 
-/// Whether `entry` has the stream's VLAN and address, and its egress ports include the stream's ingress port.
+/// Returns whether `entry` has the stream's VLAN and address, and its egress ports include the stream's ingress port.
 fn is_entry_to_ingress(stream: &StreamEntry, entry: &StaticEntry) -> bool {
     if stream.port == 0 || stream.port > 16 {
         return false;
@@ -63,7 +63,7 @@ fn is_entry_to_ingress(stream: &StreamEntry, entry: &StaticEntry) -> bool {
     entry.vid == stream.vid && entry.address == stream.address && entry.ports.has(stream.port)
 }
 
-/// Whether a stream is identified by destination, and its static entry names its ingress port.
+/// Returns whether a stream is identified by destination, and its static entry names its ingress port.
 fn is_sent_to_ingress(stream: &StreamEntry, statics: &[StaticEntry]) -> bool {
     match stream.kind {
         Kind::Null => statics
@@ -73,7 +73,7 @@ fn is_sent_to_ingress(stream: &StreamEntry, statics: &[StaticEntry]) -> bool {
     }
 }
 
-/// Whether the stream gate with number `number` is always closed.
+/// Returns whether the stream gate with number `number` is always closed; false if the plan lacks it.
 fn is_gate_closed<A: Allocator + Copy>(gates: &[(u32, GatePlan<A>)], number: u32) -> bool {
     for gate in gates {
         if gate.0 == number {
@@ -83,8 +83,8 @@ fn is_gate_closed<A: Allocator + Copy>(gates: &[(u32, GatePlan<A>)], number: u32
     false
 }
 
-/// Whether all filters of a handle are neither protected nor grouped, and have closed stream gates: they only refuse stray frames. Returns
-/// false without a filter.
+/// Returns whether all filters of a handle are neither protected nor grouped, and have closed stream gates: they only refuse stray frames.
+/// Returns false without a filter.
 fn are_strays<A: Allocator + Copy>(plan: &Plan<A>, handle: u32) -> bool {
     let mut is_asked = false;
     for filter in plan.filters() {
@@ -120,12 +120,12 @@ fn find_streams<A: Allocator + Copy>(
     Ok(())
 }
 
-/// Whether a stream gate is closed in all entries of a list.
+/// Returns whether a stream gate is closed in all these entries of its list.
 fn are_all_closed(entries: &[(GateEntry, u64)]) -> bool {
     entries.iter().all(|entry| !entry.0.lets)
 }
 
-/// Whether a stream gate is always closed, before and after a schedule change.
+/// Returns whether a stream gate is always closed, also after a schedule change.
 fn is_always_closed<A: Allocator + Copy>(gate: &GatePlan<A>) -> bool {
     match &gate.schedule {
         Schedule::Fixed { lets, .. } => !*lets,
@@ -137,8 +137,8 @@ fn is_always_closed<A: Allocator + Copy>(gate: &GatePlan<A>) -> bool {
     }
 }
 
-/// Returns the time in ns of the schedule change that closes a stream gate for ever. Returns `None` without a change, or if the gate opens
-/// after it, or never opened before.
+/// Returns the time in ns of the schedule change that closes a stream gate for ever. `None` without a change, if the gate opens after it,
+/// or never opened before.
 fn closing_time<A: Allocator + Copy>(gate: &GatePlan<A>) -> Option<u64> {
     match &gate.schedule {
         Schedule::Joined(joined) => {
@@ -165,7 +165,7 @@ fn tested_filter_with_gate(filters: &[(u32, FilterPlan)], gate: u32) -> Option<u
     None
 }
 
-/// Whether at least one filter uses stream gate `gate`.
+/// Returns whether at least one filter uses stream gate `gate`.
 fn is_used(filters: &[(u32, FilterPlan)], gate: u32) -> bool
     ensures { result ≡ spec.is_used gate filters.now }
 {
@@ -177,8 +177,8 @@ fn is_used(filters: &[(u32, FilterPlan)], gate: u32) -> bool
     false
 }
 
-/// Whether a filter uses stream gate `gate`, but no protected or grouped filter does. A planner may close such a gate to refuse stray
-/// frames, so it gives no warning.
+/// Returns whether a filter uses stream gate `gate`, but no protected or grouped filter does. Such a closed gate gives no warning: it may
+/// refuse stray frames.
 fn is_decision(filters: &[(u32, FilterPlan)], gate: u32) -> bool
     ensures { result ≡ spec.is_decision gate filters.now }
 {
@@ -213,7 +213,7 @@ fn find_gates<A: Allocator + Copy>(
     Ok(())
 }
 
-/// Adds a warning for each meter that never has enough tokens, or never refills.
+/// Adds a warning for each meter whose buckets are smaller than the shortest frame, or never refill.
 fn find_meters(found: &mut Vec<Warning>, meters: &[(u32, MeterPlan)]) -> Result<(), AllocError> {
     for (number, meter) in meters {
         if meter.cbs < SHORTEST && meter.ebs < SHORTEST {
@@ -239,7 +239,7 @@ fn find_filters<A: Allocator + Copy>(
     Ok(())
 }
 
-/// Adds a warning if the filter names a handle that no stream has: it matches no frame.
+/// Adds a warning if filter `number` names a handle that no stream has: then it matches no frame.
 fn find_unused_handle(
     found: &mut Vec<Warning>,
     streams: &[StreamEntry],
@@ -256,7 +256,7 @@ fn find_unused_handle(
     push_warning(found, Warning::NoStream { filter, handle })
 }
 
-/// Whether a filter with handle `one` matches each frame that a filter with handle `other` matches. `None` matches every handle.
+/// Returns whether a filter with handle `one` matches each frame that a filter with handle `other` matches. `None` matches every handle.
 fn covers_handle(one: Option<u32>, other: Option<u32>) -> bool
     ensures { result ≡ spec.covers one other }
 {
@@ -267,7 +267,8 @@ fn covers_handle(one: Option<u32>, other: Option<u32>) -> bool
     }
 }
 
-/// Whether a filter with priority `one` matches each frame that a filter with priority `other` matches. `None` matches every priority.
+/// Returns whether a filter with priority `one` matches each frame that a filter with priority `other` matches. `None` matches every
+/// priority.
 fn covers_priority(one: Option<u8>, other: Option<u8>) -> bool
     ensures { result ≡ spec.covers one other }
 {
@@ -278,7 +279,7 @@ fn covers_priority(one: Option<u8>, other: Option<u8>) -> bool
     }
 }
 
-/// Whether filter `one` matches each frame that `other` matches.
+/// Returns whether filter `one` matches each frame that filter `other` matches.
 fn covers_filter(one: &FilterPlan, other: &FilterPlan) -> bool
     ensures { result ≡ spec.covers_filter one.now other.now }
 {
@@ -301,7 +302,7 @@ fn first_hiding_filter(
     None
 }
 
-/// Whether a filter with this optional priority matches frames of `priority`. `None` matches every priority.
+/// Returns whether a filter with this optional priority matches frames of `priority`. `None` matches every priority.
 fn takes_value(own: Option<u8>, priority: u8) -> bool
     ensures { result ≡ is_priority_match own priority }
 {
@@ -331,7 +332,7 @@ fn taking_filter(
     None
 }
 
-/// Whether a filter with a lower number matches each frame of `filter` with priority `priority`.
+/// Returns whether a filter with a lower number matches each frame of `filter` with priority `priority`.
 fn is_priority_taken(
     filters: &[(u32, FilterPlan)],
     number: u32,
@@ -343,7 +344,7 @@ fn is_priority_taken(
     taking_filter(filters, number, filter, priority).is_some()
 }
 
-/// Whether filters with lower numbers match all frames of `filter`, for all priorities.
+/// Returns whether filters with lower numbers match all frames of `filter`, for all priorities.
 fn are_all_taken(filters: &[(u32, FilterPlan)], number: u32, filter: &FilterPlan) -> bool
     ensures { result ≡ spec.are_all_taken filter.now number filters.now }
 {
@@ -357,7 +358,8 @@ fn are_all_taken(filters: &[(u32, FilterPlan)], number: u32, filter: &FilterPlan
         & is_priority_taken(filters, number, filter, 7)
 }
 
-/// Returns for each priority, from 0, the filter with a lower number that matches the frames of `filter`; 0 if there is none.
+/// Returns for each priority, from 0, the number of the first filter below `number` that matches the frames of `filter`; 0 without such a
+/// filter.
 fn taking_filters(filters: &[(u32, FilterPlan)], number: u32, filter: &FilterPlan) -> [u32; 8] {
     let mut takers = [0u32; 8];
     for priority in 0..8u8 {
@@ -366,7 +368,7 @@ fn taking_filters(filters: &[(u32, FilterPlan)], number: u32, filter: &FilterPla
     takers
 }
 
-/// Adds a warning if one filter with a lower number, or several together, match all frames of `filter`.
+/// Adds a warning if one filter below `number`, or several together, match all frames of filter `number`.
 fn find_hidden_filter(
     found: &mut Vec<Warning>,
     filters: &[(u32, FilterPlan)],
@@ -390,7 +392,7 @@ fn find_hidden_filter(
     push_warning(found, Warning::TakenTogether(taken))
 }
 
-/// Adds a warning if every frame is longer than the filter's largest SDU, so that it refuses all.
+/// Adds a warning if the SDU of every frame is longer than the largest SDU of filter `number`. Then the filter refuses all frames.
 fn find_no_length(
     found: &mut Vec<Warning>,
     number: u32,
@@ -405,7 +407,7 @@ fn find_no_length(
     }
 }
 
-/// Returns the first octet limit of an open entry that is less than `sdu`, or `None`.
+/// Returns the first octet limit of an open entry that is less than `sdu` octets, or `None`.
 fn first_low_limit(entries: &[(GateEntry, u64)], sdu: u32) -> Option<u32>
     ensures { IfSome result (λ octets. octets < sdu) }
 {
@@ -421,7 +423,8 @@ fn first_low_limit(entries: &[(GateEntry, u64)], sdu: u32) -> Option<u32>
     None
 }
 
-/// Returns the first octet limit of a stream gate's open entries that is less than `sdu`, or `None`. The old list comes before the new one.
+/// Returns the first octet limit of a stream gate's open entries that is less than `sdu` octets, or `None`. The old list comes before the
+/// new list.
 fn low_schedule_limit<A: Allocator + Copy>(schedule: &Schedule<A>, sdu: u32) -> Option<u32>
     ensures { IfSome result (λ octets. octets < sdu) }
 {
@@ -451,7 +454,7 @@ fn low_gate_limit<A: Allocator + Copy>(
     None
 }
 
-/// Adds a warning if an entry of the filter's stream gate passes fewer octets than its longest frame has.
+/// Adds a warning if an open entry of filter `number`'s stream gate passes fewer octets than the filter's largest SDU.
 fn find_low_limit<A: Allocator + Copy>(
     found: &mut Vec<Warning>,
     gates: &[(u32, GatePlan<A>)],

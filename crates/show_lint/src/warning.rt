@@ -1,11 +1,11 @@
-//! Warnings about accepted plans.
+//! Warnings about accepted plans: the values that the searches find and `put_warning` writes.
 
 /// Warning about an accepted plan: a likely mistake. Lengths and limits are in octets, times in ns.
 #[derive(Clone, Copy)]
 pub enum Warning {
     /// A schedule change stands in line `line`, from 1, but no port or stream gate has a new list.
     IdleChange { line: usize },
-    /// No filter is protected.
+    /// No filter is protected or grouped.
     NoneProtected,
     /// A stream asks for untagged frames in a VLAN other than its port's VLAN.
     OtherVlan(OtherVlan),
@@ -13,7 +13,7 @@ pub enum Warning {
     OwnPort(StaticToIngress),
     /// A stream gate is always closed.
     ClosedGate { gate: u32 },
-    /// A protected filter's stream gate is closed from the schedule change on.
+    /// The stream gate of a protected or grouped filter is closed from the schedule change on.
     ClosedFrom(ClosedFrom),
     /// A meter never has enough tokens for the shortest frame.
     NoToken { meter: u32 },
@@ -41,9 +41,9 @@ pub enum Warning {
     NotForwarded(NotForwarded),
     /// A protected stream doesn't leave by a port of its static entry, because the port isn't a member of its VLAN.
     NonMemberPort(NonMemberPort),
-    /// The longest frames of a protected filter are always red.
+    /// The longest frames of a protected or grouped filter are always red.
     SmallBurst(SmallBurst),
-    /// A meter gets fewer tokens in a cycle of the stream gate than this gate passes.
+    /// The meter of a protected or grouped filter gets fewer tokens in a cycle of the stream gate than the gate passes octets.
     LowRate(LowRate),
     /// A protected filter's stream gate passes more frames in a cycle than a queue has time for.
     QueueOverload(QueueOverload),
@@ -92,7 +92,7 @@ pub struct OtherVlan {
     pub vid: u16,
 }
 
-/// Gate of a protected filter that never opens after the schedule change.
+/// Stream gate of a protected or grouped filter that never opens from the schedule change on.
 #[derive(Clone, Copy)]
 pub struct ClosedFrom {
     /// Number of the stream gate.
@@ -231,7 +231,7 @@ pub struct NonMemberPort {
     pub vid: u16,
 }
 
-/// Meter whose buckets are smaller than a protected filter's longest frame.
+/// Meter whose buckets are smaller than the longest frame of a protected or grouped filter.
 #[derive(Clone, Copy)]
 pub struct SmallBurst {
     /// Number of the protected filter.
@@ -248,7 +248,7 @@ pub struct SmallBurst {
     pub octets: u32,
 }
 
-/// Meter that gets fewer tokens in a cycle of the stream gate than this gate passes.
+/// Meter of a protected or grouped filter that gets fewer tokens in a cycle of the stream gate than the gate passes octets.
 #[derive(Clone, Copy)]
 pub struct LowRate {
     /// Schedule to which the stream gate's cycle belongs.

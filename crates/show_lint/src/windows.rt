@@ -1,4 +1,4 @@
-//! Finds the windows of a class at a port, and the longest frame that fits.
+//! Finds the windows of a class at a port, and the longest frame that fits, for descriptions and explanations of plans.
 ghost use Rattle.std.specs.Prelude.{◌↔◌, ◌<◌, ◌≡◌, true, IfSome};
 ghost use Rattle.bridge_cycle.specs.Runs.{Allows};
 ghost use Rattle.bridge_frame.specs.Link.{transmission_time};
@@ -15,7 +15,8 @@ const LENGTH_STEPS: [u32; 14] = [
     8192, 4096, 2048, 1024, 512, 256, 128, 64, 32, 16, 8, 4, 2, 1,
 ];
 
-/// Returns the text of a window from offset `{0}` to `{1}` in ns, by its index from 0. The first eight windows are listed.
+/// Returns the text of the window with index `place`, from 0: `{0}` is its start and `{1}` its end, offsets in ns. Only the first eight
+/// windows are listed.
 fn window_template(place: usize) -> &'static str {
     match place {
         0 => "open {0} to {1} ns",
@@ -25,12 +26,12 @@ fn window_template(place: usize) -> &'static str {
     }
 }
 
-/// Writes a window of a class by its index from 0. After eight windows, writes that there are more.
+/// Writes the window with index `place`, from 0, from offset `from` to `to` in ns. After eight windows, writes once that there are more.
 fn put_window(said: &mut LintText, place: usize, from: u64, to: u64) {
     said.put_template(window_template(place), &[from, to], &[]);
 }
 
-/// Writes the windows of a class in a list's cycle, at most eight.
+/// Writes the windows of a class in one cycle of a list, at most eight, and the cycle time.
 fn put_list_windows<A: Allocator + Copy>(said: &mut LintText, list: &CyclicList<u8, A>, class: u8)
     requires { class < 8 }
 {
@@ -56,7 +57,7 @@ fn put_list_windows<A: Allocator + Copy>(said: &mut LintText, list: &CyclicList<
     said.put_template(" of each {0} ns", &[cycle], &[]);
 }
 
-/// Writes the windows of a class at a port.
+/// Writes the windows of a class at a port; with a schedule change, those of the old list and of the new list.
 pub(crate) fn put_open_windows<A: Allocator + Copy>(
     said: &mut LintText,
     port: &PortPlan<A>,
@@ -80,15 +81,15 @@ pub(crate) fn put_open_windows<A: Allocator + Copy>(
     }
 }
 
-/// Whether a frame of `length` octets fits a run on a link with speed `speed`.
+/// Returns whether a window as long as `run` suffices for a frame of `length` octets on a link with speed `speed`.
 fn can_fit(run: Run, speed: Speed, length: u32) -> bool
     ensures { (result ≡ true) ↔ Allows run (transmission_time length speed) }
 {
     run.allows(occupation(length, speed))
 }
 
-/// Returns the length in octets, at most 9,216, of the longest frame that fits a run; `None` if no frame fits. Lengths exclude the frame
-/// check sequence.
+/// Returns the length in octets, at most 9,216, of the longest frame that fits a window as long as `run`. `None` if no frame fits. Lengths
+/// exclude the check sequence.
 pub(crate) fn longest_frame_in_run(run: Run, speed: Speed) -> Option<u32>
     ensures fits { IfSome result (λ length. Allows run (transmission_time length speed)) }
 {
@@ -105,7 +106,7 @@ pub(crate) fn longest_frame_in_run(run: Run, speed: Speed) -> Option<u32>
     Some(longest)
 }
 
-/// Returns the shorter of two runs: frames must fit before and after a schedule change.
+/// Returns the shorter of two longest windows: frames must fit before and after a schedule change.
 fn shorter_run(one: Run, other: Run) -> Run {
     match one {
         Run::Always => other,
