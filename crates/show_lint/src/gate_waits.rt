@@ -1,4 +1,4 @@
-//! Computes how long frames wait for the transmission gate if they arrive when a stream gate opens, for the warning `LongWait` and
+//! Computes how long frames wait for the transmission gate if they arrive when a stream gate opens, for the warnings `LongWait` and
 //! `SmallQueue`.
 ghost use Rattle.std.specs.Prelude.{◌≤◌, ◌<◌, ◌+◌};
 ghost use Rattle.bridge_cycle.specs.Fits.{IsFirstFit};

@@ -20,7 +20,7 @@ fn greatest_common_divisor(one: u64, other: u64) -> u64 {
     larger
 }
 
-/// Returns the number of cycles of `cycle` ns after which cycles of `round` and `cycle` ns begin together again; 0 if both are 0.
+/// Returns after how many cycles of `cycle` ns such a cycle and a cycle of `round` ns begin together again. Returns 0 if both are 0.
 pub(crate) fn cycles_until_aligned(round: u64, cycle: u64) -> u64 {
     let divisor = greatest_common_divisor(round, cycle);
     if divisor == 0 { 0 } else { round / divisor }

@@ -52,8 +52,8 @@ fn other_port(set: PortSet, own: u8) -> Option<u8> {
     None
 }
 
-/// Returns why a stream isn't forwarded, if its VLAN is the cause: the VLAN, its ingress port or a second port is missing. Otherwise
-/// returns `None`.
+/// Returns why a stream with ingress port `port` isn't forwarded, if its VLAN is the cause. The VLAN, this port or a second member may be
+/// missing.
 fn vlan_cause(members: Option<PortSet>, port: u8) -> Option<NotForwardedCause>
     requires from { 1 ≤ port }
     requires to { port ≤ 16 }

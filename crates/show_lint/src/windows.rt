@@ -133,7 +133,7 @@ pub(crate) fn class_run<A: Allocator + Copy>(port: &PortPlan<A>, class: u8) -> R
     }
 }
 
-/// Returns the length in octets of the longest frame that fits a class of a port, or `None` if no frame fits.
+/// Returns the length in octets of the longest frame that fits the longest window of a class at a port. Returns `None` if no frame fits.
 pub(crate) fn longest_frame_of_class<A: Allocator + Copy>(
     port: &PortPlan<A>,
     class: u8,

@@ -1,5 +1,5 @@
-//! Selects the frames of a run that its picture draws: departures, and refused or dropped frames. Each port and each part of the time has a
-//! share of both.
+//! Selects the frames of a run that its picture draws: frames that left, and refused or dropped frames. Each port and each part of the time
+//! has a share of both.
 use crate::picture::Picture;
 use crate::selection::Selection;
 use bridge_filter::Verdict;
@@ -14,7 +14,7 @@ const TIME_PARTS: usize = 100;
 /// Width of one of these parts on the page, in tenths of a pixel.
 const PART_WIDTH: u64 = AXIS_WIDTH / TIME_PARTS as u64;
 
-/// Frame of a filter at a port: a frame that left, a refused frame, or a dropped copy.
+/// Frame of a filter at a port, as `put_frame` or `put_mark` draws it: a frame that left, a refused frame, or a dropped copy.
 #[derive(Clone, Copy)]
 pub(crate) struct DrawnFrame {
     /// Number of the filter.
@@ -35,7 +35,7 @@ pub(crate) struct DrawnFrame {
     pub start: u64,
     /// End of transmission in ns; for a refused or dropped frame, the ns after its arrival.
     pub done: u64,
-    /// Reason of a refusal or drop; empty for a departure.
+    /// Reason of a refusal or drop; empty for a frame that left.
     pub cause: &'static str,
 }
 
@@ -46,8 +46,7 @@ struct Share {
     room: u64,
 }
 
-/// Purpose of a pass over all frames: finding the time span, counting frames, or selecting the frames of protected filters (`true`) or
-/// others.
+/// Purpose of a pass over all frames: find the time span, count frames, or select frames of protected filters (`true`) or others (`false`).
 #[derive(Clone, Copy)]
 enum Pass {
     FindSpan,
@@ -55,7 +54,7 @@ enum Pass {
     Select(bool),
 }
 
-/// Selected frames of one kind: departures, or refused and dropped frames.
+/// Selected frames of one kind: frames that left, or refused and dropped frames.
 #[derive(Drop)]
 pub(crate) struct DrawnGroup {
     /// Frames that the picture draws.
@@ -66,7 +65,7 @@ pub(crate) struct DrawnGroup {
     pub is_refused: bool,
 }
 
-/// Contents of a run's picture: its time span, the frames that left, and the marks of refused and dropped frames.
+/// Contents of a run's picture: its time span, the frames that left, and the marks of refused and dropped frames. `select_frames` makes it.
 #[derive(Drop)]
 pub(crate) struct FrameSelection {
     /// Purpose of the current pass over all frames.
@@ -109,7 +108,7 @@ impl DrawnGroup {
         }
     }
 
-    /// Counts a frame at position `x`, or selects it if its part's share isn't used up.
+    /// Counts a frame at position `x`, or selects it if its time part may have more frames. The current pass decides.
     fn add_frame(&mut self, pass: Pass, frame: DrawnFrame, x: u64) {
         let part = (x.saturating_sub(AXIS_LEFT) / PART_WIDTH) as usize;
         let place = usize::from(frame.port) * TIME_PARTS + part.min(TIME_PARTS - 1);
@@ -136,7 +135,7 @@ impl DrawnGroup {
         drawn
     }
 
-    /// Allots equal shares to all parts, so that at most `most` frames are drawn. The share grows by a quarter in each step; 128 steps
+    /// Allots equal shares to all time parts, so that at most `most` frames are drawn. The share grows by a quarter in each step; 128 steps
     /// exceed any count.
     fn allot_shares(&mut self, most: u64) {
         let mut each: u64 = 1;
@@ -152,7 +151,7 @@ impl DrawnGroup {
         }
     }
 
-    /// Returns two numbers for the note: the frames that aren't drawn, and all frames of the group.
+    /// Returns two numbers for the note in the picture: the frames of the group that aren't drawn, and all frames of the group.
     pub(crate) fn left_out(&self) -> (u64, u64) {
         let left_out = self.drawn_count(u64::MAX);
         let frames = self.frames.len() as u64;
@@ -178,7 +177,7 @@ impl Picture {
 
 impl FrameSelection {
     /// Visits a frame: completes its arrival time, then extends the span, counts the frame or selects it, by the current pass. Ignores
-    /// frames outside the requested part.
+    /// frames outside `part`.
     fn visit_frame(&mut self, part: &Selection, origins: &[StoredOrigin], frame: DrawnFrame) {
         let Some(stored) = origins.get(frame.own.saturating_sub(1) as usize) else {
             return;
@@ -213,7 +212,8 @@ impl FrameSelection {
         }
     }
 
-    /// Visits the frames of a filter: departures, refused frames and dropped copies. Each pass calls it for each filter.
+    /// Visits the frames of filter `filter`: frames that left, refused frames and dropped copies. `visit_frames` calls it for each selected
+    /// filter.
     fn visit_filter<B: Allocator>(
         &mut self,
         part: &Selection,
@@ -259,7 +259,7 @@ impl FrameSelection {
         }
     }
 
-    /// Visits all frames of the requested filters in a pass. Filters get colours 0 to 7 in turn.
+    /// Visits all frames of the filters that `part` selects, for the purpose `pass`. Filters get colours 0 to 7 in turn.
     fn visit_frames<B: Allocator>(&mut self, part: &Selection, outcome: &Outcome<B>, pass: Pass) {
         let mut colour: u64 = 0;
         self.pass = pass;
@@ -272,8 +272,8 @@ impl FrameSelection {
     }
 }
 
-/// Selects what a run's picture draws: the requested span, by default all frames, and at most 2,400 departures and 1,600 refused or dropped
-/// frames.
+/// Selects what a run's picture draws, for `draw_run`: the span that `part` requests, by default all frames. At most 2,400 frames that
+/// left, and 1,600 refused or dropped frames.
 pub(crate) fn select_frames<B: Allocator>(
     alloc: Global,
     outcome: &Outcome<B>,

@@ -1,4 +1,4 @@
-//! Lanes of ports and stream gates: bars for the times when a class or gate is open.
+//! Lanes of ports and stream gates: rows of bars for the times when a class or a stream gate is open.
 ghost use Rattle.std.specs.Prelude.{◌<◌};
 
 use crate::picture::Picture;
@@ -12,13 +12,13 @@ use bridge_ident::StreamEntry;
 use bridge_text::{AXIS_LEFT, AXIS_WIDTH, choose_word};
 use std::alloc::Allocator;
 
-/// Largest number of stream gates in a picture.
+/// Largest number of stream gates in a picture. Each has a lane.
 pub(crate) const MAX_GATES: usize = 128;
 
 /// Height of the bars in a lane, in tenths of a pixel.
 const BAR_HEIGHT: u64 = 130;
 
-/// Subject of a lane: a port and its class, a port that is always open, or a stream gate's number.
+/// Subject of a lane: a class of a port, a port that is always open, or a stream gate by its number.
 #[derive(Clone, Copy)]
 enum Lane {
     Class(u8, u8),
@@ -34,8 +34,8 @@ enum LaneTimes<'a, A: Allocator + Copy> {
     Gate(&'a Schedule<A>),
 }
 
-/// Interval of a lane from `from` to `to` in ns. `open` is `None` if closed, otherwise whether the interval is at fault, and its internal
-/// priority value.
+/// Interval of a lane from `from` to `to` in ns. `open` is `None` if closed, otherwise whether the interval is at fault, and the priority
+/// that the gate assigns.
 #[derive(Clone, Copy)]
 pub(crate) struct Window {
     from: u64,
@@ -43,12 +43,12 @@ pub(crate) struct Window {
     open: Option<(bool, Option<u8>)>,
 }
 
-/// Returns the number of decimal digits of `number`: its width in letters.
+/// Returns the number of decimal digits of `number`: its width in letters, for the space at lanes and in the legend.
 pub(crate) fn digit_count(number: u32) -> usize {
     number.checked_ilog10().unwrap_or(0) as usize + 1
 }
 
-/// Returns the template of a lane's name, the number in it, and the number of letters that fit next to the name.
+/// Returns the template of a lane's name, the number in it, and how many letters of filter numbers fit next to the name.
 fn lane_name(lane: Lane) -> (&'static str, u64, usize) {
     match lane {
         Lane::Class(_, class) => ("class {0}", u64::from(class), 11),
@@ -60,7 +60,7 @@ fn lane_name(lane: Lane) -> (&'static str, u64, usize) {
     }
 }
 
-/// Whether only one list applies from time `from` on. Then a state that lasts a whole cycle lasts for ever.
+/// Returns whether only one list applies from time `from` in ns on. Then a state that lasts a whole cycle lasts for ever.
 fn has_single_list<A: Allocator + Copy>(times: &LaneTimes<A>, from: u64) -> bool {
     match times {
         LaneTimes::Lists(Egress::Joined(joined)) => joined.change_time() <= from,
@@ -69,8 +69,8 @@ fn has_single_list<A: Allocator + Copy>(times: &LaneTimes<A>, from: u64) -> bool
     }
 }
 
-/// Whether frames with handle `handle` can enter at `port`. Without a handle (`None`), returns false: protected filters of an accepted plan
-/// have one.
+/// Returns whether frames with handle `handle` can enter at `port`. Without a handle (`None`), returns false: `add_gates` calls it for
+/// filters that have one.
 fn can_enter_port(streams: &[StreamEntry], handle: Option<u32>, port: u8) -> bool {
     for stream in streams {
         if stream.port == port && Some(stream.handle) == handle {
@@ -80,12 +80,12 @@ fn can_enter_port(streams: &[StreamEntry], handle: Option<u32>, port: u8) -> boo
     false
 }
 
-/// Whether a filter is protected or grouped: pictures show its windows and stream gate.
+/// Returns whether a filter is protected or grouped. Pictures show the windows and stream gates of such filters.
 fn is_shown(filter: &FilterPlan) -> bool {
     filter.protected || filter.group.is_some()
 }
 
-/// Whether the plan has a grouped filter. If so, `put_ports` writes the legend for groups.
+/// Returns whether the plan has a grouped filter. If so, `put_ports` writes the legend for groups.
 pub(crate) fn has_groups<A: Allocator + Copy>(plan: &Plan<A>) -> bool {
     for (_, filter) in plan.filters() {
         if filter.group.is_some() {
@@ -95,8 +95,8 @@ pub(crate) fn has_groups<A: Allocator + Copy>(plan: &Plan<A>) -> bool {
     false
 }
 
-/// Whether a lane names a filter. A stream gate's lane names the filters that use the gate. Other lanes name the protected and grouped
-/// filters that can reach them.
+/// Returns whether a lane names a filter. A stream gate's lane names its filters, other lanes the protected and grouped filters whose
+/// frames can wait there.
 fn is_filter_in_lane<A: Allocator + Copy>(plan: &Plan<A>, filter: &FilterPlan, lane: Lane) -> bool {
     let (port, first, last) = match lane {
         Lane::Gate(gate) => return filter.gate == gate,
@@ -113,8 +113,8 @@ fn is_filter_in_lane<A: Allocator + Copy>(plan: &Plan<A>, filter: &FilterPlan, l
 }
 
 impl Picture {
-    /// Adds to `gates` the stream gates of selected protected and grouped filters whose streams enter at selected ports. Their lanes follow
-    /// the lanes of the port.
+    /// Adds to `gates` the stream gates of selected protected and grouped filters whose streams enter at selected ports. `draw_run` calls
+    /// it; plans show all gates.
     pub(crate) fn add_gates<A: Allocator + Copy>(&mut self, plan: &Plan<A>, part: &Selection) {
         for port in plan.ports() {
             for (number, it) in plan.filters() {
@@ -126,7 +126,8 @@ impl Picture {
         }
     }
 
-    /// Shares 8,000 windows among the lanes. Each lane may have 24 to 250 windows; more can't be distinguished.
+    /// Shares 8,000 windows equally among the lanes, so that the picture has a limit. Each lane may have 24 to 250 windows; more can't be
+    /// distinguished.
     pub(crate) fn share_windows<A: Allocator + Copy>(&mut self, plan: &Plan<A>, part: &Selection) {
         let mut lanes = self.gates.len().min(MAX_GATES);
         for port in plan.ports() {
@@ -137,7 +138,7 @@ impl Picture {
         self.window_limit = (8_000 / lanes.max(1)).clamp(24, 250);
     }
 
-    /// Returns the interval of a lane that begins at time `from`, with its state.
+    /// Returns the interval of a lane that begins at time `from` in ns, with its state: open or closed, at fault, assigned priority.
     fn window_at_time<A: Allocator + Copy>(
         &self,
         lane: Lane,
@@ -165,7 +166,7 @@ impl Picture {
         Window { from, to, open }
     }
 
-    /// Adds an open interval to the windows, or extends the last window by it. Ignores a closed interval.
+    /// Adds an open interval to the current lane's windows, or extends the last window by it. Ignores a closed interval.
     fn append_window(&mut self, turn: Window) {
         match self.windows.last_mut() {
             _ if turn.open.is_none() => {}
@@ -174,8 +175,8 @@ impl Picture {
         }
     }
 
-    /// Collects the windows of a lane, at most one more than its limit. Returns whether they are complete. If one list applies, a state
-    /// that lasts for 20,000 intervals counts as permanent.
+    /// Collects the windows of a lane in the span, at most one more than its limit. Returns whether they are complete. Examines at most
+    /// 20,000 intervals.
     fn collect_windows<A: Allocator + Copy>(&mut self, lane: Lane, times: &LaneTimes<A>) -> bool {
         let (from, end) = (self.span.from, self.span.to.min(END_OF_TURNS));
         let mut at = from;
@@ -201,7 +202,7 @@ impl Picture {
         at >= end && self.windows.len() <= self.window_limit
     }
 
-    /// Draws a window. If it is wide enough, writes its internal priority value.
+    /// Draws a window of the current lane, in a colour of its own if it is at fault. If it is wide enough, writes the assigned priority.
     fn put_window(&mut self, style: &str, window: Window) {
         let (is_at_fault, value) = window.open.unwrap_or((false, None));
         let (x, width) = self.span.page_extent(window.from, window.to);
@@ -216,7 +217,7 @@ impl Picture {
         }
     }
 
-    /// Draws the windows of a lane. If `is_all` is false, there are too many, and a hatched band replaces them.
+    /// Draws the windows of the current lane. If `is_all` is false, there are too many windows, and a hatched band replaces them.
     fn put_windows(&mut self, style: &str, is_all: bool) {
         if is_all {
             for place in 0..self.windows.len() {
@@ -234,7 +235,7 @@ impl Picture {
         self.page.skip_height(BAR_HEIGHT + 20);
     }
 
-    /// Writes the numbers of the lane's filters that fit `room` letters, and how many more there are.
+    /// Writes the numbers of the current lane's filters that fit `room` letters, and how many more filters there are.
     fn put_filter_numbers(&mut self, room: usize) {
         let (mut room, mut more, mut gap) = (room, 0u64, "");
         for number in &self.named {
@@ -251,7 +252,8 @@ impl Picture {
         }
     }
 
-    /// Draws a lane with its name, its filters and its windows.
+    /// Draws a lane with its name, its filters and its windows, which `put_lane` has found. `is_all` is false if there are too many
+    /// windows.
     fn draw_lane(&mut self, lane: Lane, is_all: bool) {
         let (name, number, room) = lane_name(lane);
         let has_names = !self.named.is_empty();

@@ -1,4 +1,4 @@
-//! Legend of a picture.
+//! Legend of a picture of a plan or run: what lanes, colours and marks mean.
 use crate::lane::digit_count;
 use crate::picture::Picture;
 use bridge_text::{LegendRow, Sample};
@@ -49,7 +49,7 @@ const GROUP_LANES: &[LegendRow] = &[
     ),
 ];
 
-/// Legend rows of a plan's picture: stream gates.
+/// Legend rows of stream gates in a plan's picture.
 pub(crate) const GATES: &[LegendRow] = &[
     (
         Sample::Bar,
@@ -59,7 +59,7 @@ pub(crate) const GATES: &[LegendRow] = &[
     (Sample::Nothing, "", "number at a gate: its filter"),
 ];
 
-/// Legend rows of a run's picture: frames and marks.
+/// Legend rows of a run's picture: frames, marks and stream gates.
 pub(crate) const RUN: &[LegendRow] = &[
     (Sample::Waits, "grey", "arrival and wait"),
     (Sample::Due, "grey", "latest end by the bound"),
@@ -72,7 +72,7 @@ pub(crate) const RUN: &[LegendRow] = &[
     ),
 ];
 
-/// Legend rows of the picture of a run under a plan with groups.
+/// Legend rows of the picture of a run under a plan with groups: frames, marks and stream gates.
 pub(crate) const GROUP_RUN: &[LegendRow] = &[
     (Sample::Waits, "grey", "arrival and wait"),
     (Sample::Due, "grey", "latest end by the bound"),
@@ -105,7 +105,8 @@ impl Picture {
             .put_legend_row((Sample::Bar, style, words), letters, u64::from(filter));
     }
 
-    /// Writes the legend: lanes, `rows`, and if present the schedule change and the fault. `has_groups` says whether the plan has groups.
+    /// Writes the legend: lanes, `rows`, and if present the schedule change and the fault. `has_groups` is true if the plan has a grouped
+    /// filter.
     pub(crate) fn put_legend(&mut self, rows: &[LegendRow], has_groups: bool) {
         self.page.begin_legend();
         let lanes = if has_groups { GROUP_LANES } else { LANES };

@@ -1,7 +1,7 @@
 #![tactic(auto)]
 //! Draws pictures of plans and runs as SVG text: windows and stream gates by time, and frames that left each port.
 //!
-//! This crate computes positions, styles and words; `show_svg` writes the markup. Colours follow the reader's light or dark scheme.
+//! This crate computes positions, styles and words; `bridge_text` writes the markup. Colours follow the reader's light or dark scheme.
 
 mod frame_selection;
 mod lane;

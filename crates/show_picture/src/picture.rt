@@ -14,7 +14,7 @@ text{font:110px system-ui,sans-serif;fill:#222}.h{font-weight:700;font-size:150p
 .c0{fill:#2a7de1}.c1{fill:#e4572e}.c2{fill:#29a37a}.c3{fill:#a14fc4}.c4{fill:#d9a400}.c5{fill:#16a3b8}.c6{fill:#c2447a}.c7{fill:#7a7f3c}\
 @media(prefers-color-scheme:dark){text{fill:#e6e6e6}.s{fill:#a0a0a0}.page{fill:#16181c}.lane{fill:#22262c}.open{fill:#4a525e}.own{fill:#5c8a49}.gate{fill:#4b6a91}.h0{stroke:#fff}.e{stroke:#fff}}";
 
-/// Picture under construction.
+/// Picture of a plan or run under construction. The files of this crate add shapes to its page.
 #[derive(Drop)]
 pub(crate) struct Picture {
     /// Time of the schedule change in ns, if any.
@@ -56,7 +56,7 @@ impl Picture {
         }
     }
 
-    /// Returns the picture as SVG text of at most 2,000,000 octets. Fails if memory ran out at any step.
+    /// Returns the picture as SVG text of at most 2,000,000 octets. Returns `NoMemory` if memory ran out at any step.
     pub(crate) fn finish(self, alloc: Global) -> Result<String, NoMemory>
         ensures { IfOk result (λ text. length (string_bytes text) ≤ 2000000) }
     {

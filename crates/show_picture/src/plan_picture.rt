@@ -1,4 +1,4 @@
-//! Draws a plan, and the parts that pictures of plans and runs share.
+//! Draws a plan (`draw_plan`), and the parts that pictures of plans and runs share.
 ghost use Rattle.std.specs.Prelude.{◌≤◌, IfOk, length, string_bytes};
 
 use crate::frame_selection::FrameSelection;
@@ -48,7 +48,7 @@ fn fault_template(fault: CheckFault) -> (&'static str, u32, u8, u8) {
     }
 }
 
-/// Writes how much of the hypercycle the picture shows. For a selected part, writes only the hypercycle's length.
+/// Writes how much of the hypercycle the picture shows. If the arguments select a part of the time, writes only the hypercycle's length.
 fn put_hypercycle(page: &mut Page, times: Hypercycle, is_part: bool) {
     if times.length == 0 {
         return page.add_words("no gate control list");
@@ -65,7 +65,7 @@ fn put_hypercycle(page: &mut Page, times: Hypercycle, is_part: bool) {
 }
 
 impl Picture {
-    /// Begins the head of a picture with its name.
+    /// Begins the head of a picture with the word `name`: `plan` or `run`. The caller ends the line.
     pub(crate) fn begin_head(&mut self, name: &str) {
         self.page.put_text("h", 100, 220, name, &[]);
         self.page.begin_text_line("t", 220);
@@ -117,7 +117,7 @@ impl Picture {
         page.end_text();
     }
 
-    /// Writes why a plan is refused in the head, and stores the port and class at fault, whose lane is drawn in another colour.
+    /// Writes in the head why a plan is refused. Stores the port and class at fault, whose windows are drawn in another colour.
     fn put_fault(&mut self, alloc: Global, fault: CheckFault) {
         let (template, other, class, port) = fault_template(fault);
         let is_beside = matches!(fault, CheckFault::WindowShared { .. });
@@ -171,7 +171,7 @@ impl Picture {
         self.finish_ports(top);
     }
 
-    /// Draws the time axis below the lanes, and writes above them how many lanes are hatched.
+    /// Draws the time axis below the lanes, and writes above them how many lanes are hatched. `top` is the upper edge of the lanes.
     fn finish_ports(&mut self, top: u64) {
         self.page.put_axis(self.span, top, self.change);
         if self.hatched_lanes > 0 {

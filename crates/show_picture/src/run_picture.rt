@@ -1,4 +1,4 @@
-//! Draws a run.
+//! Draws a run (`draw_run`): each port's windows, the frames that left, and marks of refused and dropped frames.
 ghost use Rattle.std.specs.Prelude.{◌≤◌, IfOk, length, string_bytes};
 
 use crate::frame_selection::{DrawnFrame, FrameSelection, select_frames};
@@ -56,7 +56,7 @@ fn longest_group_delay(rows: &[SharedQueue], group: Option<u32>, port: u8) -> Op
     longest
 }
 
-/// Whether the picture draws at least one frame of a filter, an arrival or a departure. Only then the legend has the filter.
+/// Returns whether the span and ports of the picture show an arrival or a frame that left of a filter. Only then the legend has the filter.
 fn is_drawn(
     span: Span,
     part: &Selection,
@@ -79,7 +79,7 @@ fn is_drawn(
 }
 
 impl Picture {
-    /// Draws the arrival of a protected or grouped frame, its wait, and its latest end `by` in ns.
+    /// Draws the arrival of a frame with a delay bound, its wait, and its latest end `by` in ns. `put_frame` calls it.
     fn put_wait(&mut self, frame: &DrawnFrame, by: u64) {
         let (came, colour) = (frame.arrival, frame.colour);
         let (x, due) = self.span.page_extent(came, by);
@@ -92,8 +92,8 @@ impl Picture {
         self.page.put_bar(style, x, 225, waited, 14);
     }
 
-    /// Draws a frame that left, higher for a protected filter. If the delay bound `longest` is known, draws the latest end too. The bar
-    /// stays wide enough to be visible.
+    /// Draws a frame that left, higher for a protected filter, wide enough to be visible. If the delay bound `longest` is known, draws the
+    /// latest end too.
     fn put_frame(&mut self, frame: &DrawnFrame, longest: Option<u64>) {
         let (filter, own, came) = (u64::from(frame.filter), frame.own, frame.arrival);
         let (colour, start, done) = (frame.colour, frame.start, frame.done);
@@ -124,8 +124,8 @@ impl Picture {
         self.page.end_titled(bar);
     }
 
-    /// Draws the mark of a refused or dropped frame, larger and with an edge for a protected filter. The tip is above for a refused frame,
-    /// below for a dropped one.
+    /// Draws the mark of a refused or dropped frame, larger and with an edge for a protected filter. Its tip is up for a refused frame,
+    /// down for a dropped one.
     fn put_mark(&mut self, frame: &DrawnFrame) {
         let is_stopped = frame.is_stopped;
         let high = if frame.is_protected { 120 } else { 80 };
@@ -146,8 +146,8 @@ impl Picture {
         self.page.end_titled(mark);
     }
 
-    /// Draws the link of a port with the frames that left, and below it the refused and dropped frames. Hatches parts with omitted frames.
-    /// `rows` has the shared queues of all groups.
+    /// Draws the link of a port with the frames that left, and below it the refused and dropped frames. Hatches time parts with omitted
+    /// frames. `put_ports` calls it.
     pub(crate) fn put_port_link<A: Allocator + Copy>(
         &mut self,
         accepted: &Accepted<A>,
@@ -179,7 +179,7 @@ impl Picture {
         self.page.skip_height(170);
     }
 
-    /// Writes how many frames and marks aren't drawn, if any, and a legend row for each filter with drawn frames.
+    /// Writes how many frames and marks aren't drawn, if any, and a legend row for each filter with frames in the picture.
     fn put_shown_filters<A: Allocator + Copy, B: Allocator>(
         &mut self,
         plan: &Plan<A>,

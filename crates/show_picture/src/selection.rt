@@ -1,4 +1,4 @@
-//! The time span of a picture.
+//! The part of a plan or run that a picture shows: its time span, ports and filters.
 
 use bridge_text::Span;
 use show_lint::Hypercycle;
@@ -6,7 +6,7 @@ use show_lint::Hypercycle;
 /// Longest time in ns that a plan's picture shows before or after a schedule change. A longer hypercycle is cut.
 pub const LONGEST_HYPERCYCLE: u64 = 1_000_000_000;
 
-/// Requested part of a plan or run: its start and end in ns, its ports and its filters. Empty lists stand for all.
+/// Requested part of a plan or run: start and end in ns, ports and filters. `None` stands for the default, an empty list for all.
 #[derive(Clone, Copy)]
 pub struct Selection<'a> {
     pub from: Option<u64>,
@@ -16,12 +16,12 @@ pub struct Selection<'a> {
 }
 
 impl Selection<'_> {
-    /// Whether the picture shows port `port`: the arguments name it, or no port.
+    /// Returns whether the picture shows port `port`: the arguments name it, or no port.
     pub(crate) fn has_port(&self, port: u8) -> bool {
         self.ports.is_empty() || self.ports.contains(&u32::from(port))
     }
 
-    /// Whether the picture shows filter `filter`: the arguments name it, or no filter.
+    /// Returns whether the picture shows filter `filter`: the arguments name it, or no filter.
     pub(crate) fn has_filter(&self, filter: u32) -> bool {
         self.filters.is_empty() || self.filters.contains(&filter)
     }
@@ -34,7 +34,7 @@ impl Selection<'_> {
     }
 }
 
-/// Returns how much of a hypercycle a picture shows, in ns; 1 ms without a list.
+/// Returns how much of a hypercycle a picture shows before or after a schedule change, in ns; 1 ms without a list.
 pub(crate) fn shown_length(times: Hypercycle) -> u64 {
     match times.length {
         0 => 1_000_000,
@@ -42,7 +42,8 @@ pub(crate) fn shown_length(times: Hypercycle) -> u64 {
     }
 }
 
-/// Returns the span of a plan's picture: one hypercycle from 0, or one before and one after the schedule change.
+/// Returns the default span of a plan's picture: one hypercycle from 0, or one before and one after the schedule change. Each lasts at most
+/// 1 s.
 pub(crate) fn plan_span(times: Hypercycle) -> Span {
     let (at, shown) = (times.change.unwrap_or(0), shown_length(times));
     let (from, to) = (at.saturating_sub(shown), at.saturating_add(shown));
