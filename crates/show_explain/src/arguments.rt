@@ -8,7 +8,7 @@ use bridge_limits::NoMemory;
 use bridge_text::{Said, TextBuilder, fill_with_word, finish_with_path, nearest_name, put_text};
 use std::alloc::Global;
 
-/// Returns the name of an option, with its `--`; `None` if the argument isn't an option.
+/// Returns the name of an option, with its `--` and without `=` and its value. Returns `None` if the argument isn't an option.
 fn option_name(word: &str) -> Option<&str> {
     if !word.starts_with("--") || word == "--" {
         return None;
@@ -19,7 +19,8 @@ fn option_name(word: &str) -> Option<&str> {
     }
 }
 
-/// Explains why the arguments are refused: the first fault, and the command's usage.
+/// Explains why the arguments are refused: the first fault, and the command's usage. `clap` has refused them before. `--explain` prints the
+/// explanation.
 pub fn explain_arguments(alloc: Global, words: &[String]) -> Result<String, NoMemory>
     ensures { IfOk result (λ said. StartsWithName (codes "command line: ") (string_bytes said)) }
 {
@@ -36,8 +37,7 @@ pub fn explain_arguments(alloc: Global, words: &[String]) -> Result<String, NoMe
 const PART_OF_NETWORK: &str =
     ": This file describes a network. The options --from, --to and --ports are for plans: `tsnbridge picture PLAN FILE` and `tsnbridge run PLAN IN OUT --picture FILE` take them.\nWithout these options, `tsnbridge picture {a} FILE` draws the network.\n";
 
-/// Explains why part of a network's picture is refused: the file is a network, and other commands have these options. The explanation
-/// begins with `path`.
+/// Explains why `picture` refuses to draw part of a network: only plans have the options for a part. The explanation begins with `path`.
 pub fn explain_part(alloc: Global, path: &str) -> Result<String, NoMemory>
     ensures { IfOk result (λ said. StartsWithName path.now (string_bytes said)) }
 {
@@ -54,7 +54,7 @@ fn has_option_value(name: &str) -> Option<bool> {
     }
 }
 
-/// Returns the first option that no command has, or `None`. Arguments after `--` aren't options.
+/// Returns the first option among the arguments that no command has, or `None`. Arguments after `--` aren't options.
 fn unknown_option(words: &[String]) -> Option<&str> {
     for word in words {
         if word.as_str() == "--" {
@@ -69,7 +69,7 @@ fn unknown_option(words: &[String]) -> Option<&str> {
     None
 }
 
-/// Returns the first argument that isn't an option, or `None`: it should be a command.
+/// Returns the first argument that isn't an option: it should be a command. Returns `None` if all arguments are options.
 fn first_operand(words: &[String]) -> Option<&str> {
     for word in words {
         if option_name(word.as_str()).is_none() {
@@ -115,7 +115,7 @@ fn put_usages(alloc: Global, said: &mut Said, word: Option<&str>) {
     }
 }
 
-/// Writes the usage of the command with name `name` by a template. Writes nothing for an unknown name.
+/// Writes `template` with the usage of the command with name `name`. Writes nothing for an unknown name.
 fn put_usage(said: &mut Said, template: &str, name: &str) {
     if let Some(call) = find_usage(name) {
         fill_with_word(said, template, 0, call.line);
@@ -157,7 +157,7 @@ enum OptionFault {
 /// Start of the reasons of most usages, which applies to any option. A sentence about one option replaces it.
 const ANY_OPTION: &str = "An option is unknown here, repeated, or lacks its value.\n";
 
-/// Returns the name of the option at the start of `part`, without its `--`. `part` is the rest of a command's usage after `[--`.
+/// Returns the name, without its `--`, of the option at the start of `part`: the rest of a command's usage line after `[--`.
 fn called_option(part: &str) -> &str {
     let front = match part.split_once(']') {
         Some((front, _)) => front,
@@ -169,7 +169,7 @@ fn called_option(part: &str) -> &str {
     }
 }
 
-/// Whether a command has option `name`, with its `--`, by its usage. Every command has `--explain`.
+/// Returns whether a command has option `name`, with its `--`, by its usage line. Every command has `--explain`.
 fn has_option(call: &Usage, name: &str) -> bool {
     if name == "--explain" {
         return true;
@@ -185,7 +185,7 @@ fn has_option(call: &Usage, name: &str) -> bool {
     false
 }
 
-/// Whether one of the arguments is option `name`, with or without `=` and a value.
+/// Returns whether one of the arguments is option `name`, with or without `=` and a value. `option_fault` finds repeated options by it.
 fn has_word(words: &[String], name: &str) -> bool {
     for word in words {
         if option_name(word.as_str()) == Some(name) {
@@ -195,7 +195,7 @@ fn has_word(words: &[String], name: &str) -> bool {
     false
 }
 
-/// Whether an argument can be the value of the option before it: it exists and isn't an option.
+/// Returns whether an argument can be the value of the option before it: it exists and isn't an option.
 fn is_value(word: Option<&String>) -> bool {
     match word {
         Some(word) => option_name(word.as_str()).is_none(),
@@ -203,7 +203,7 @@ fn is_value(word: Option<&String>) -> bool {
     }
 }
 
-/// Returns why option `name` at index `place` is refused, or `None`. `is_early` is true if the command comes later.
+/// Returns why option `name`, the argument with index `place`, is refused, or `None`. `is_early` is true if the command comes later.
 fn option_fault(
     words: &[String],
     place: usize,
@@ -253,7 +253,7 @@ fn wrong_option<'a>(words: &'a [String], call: &Usage) -> Option<(&'a str, Optio
     None
 }
 
-/// Writes the options of a command, each once. `strict` has a sentence of its own.
+/// Writes the options of a command, each once, for the explanation of an option that it doesn't have.
 fn put_options(said: &mut Said, call: &Usage) {
     fill_with_word(said, "The options of `{a}` are --explain", 0, call.name);
     let mut last = "";
@@ -295,7 +295,7 @@ fn reason_alone(reason: &'static str) -> &'static str {
     }
 }
 
-/// Writes why arguments of the right number are refused: an option at fault, otherwise the command's reason.
+/// Writes why arguments of the right number are refused: the option at fault or, without one, the command's own reason.
 fn put_reason(said: &mut Said, words: &[String], call: &Usage) {
     match wrong_option(words, call) {
         Some((name, fault)) => put_wrong(said, call, name, fault),
@@ -303,7 +303,8 @@ fn put_reason(said: &mut Said, words: &[String], call: &Usage) {
     }
 }
 
-/// Writes why a command's arguments are refused, or that the command is unknown.
+/// Writes why the arguments of command `word` are refused: a wrong number of operands, otherwise its reason. If `word` is no command,
+/// writes usages.
 fn put_command_refusal(alloc: Global, said: &mut Said, words: &[String], word: &str) {
     let Some(call) = find_usage(word) else {
         return put_usages(alloc, said, Some(word));

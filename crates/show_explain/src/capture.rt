@@ -11,7 +11,7 @@ use std::alloc::Global;
 /// Length of a capture's header in octets.
 const HEADER_LENGTH: u64 = 24;
 
-/// Whether all octets are printable text: the user may have given a text file as capture.
+/// Returns whether all octets are printable text: the user may have given a text file as capture.
 fn is_text(octets: &[u8]) -> bool {
     for octet in octets {
         if !matches!(*octet, b' '..=b'~' | b'\n' | b'\r' | b'\t') {
@@ -32,8 +32,8 @@ fn file_kind(octets: &[u8]) -> Option<&'static str> {
     }
 }
 
-/// Explains why a capture is refused, by its first octets and the fault: the kind of the file, and a command that converts it. The
-/// explanation begins with `path`.
+/// Explains why a capture is refused, by its first octets and the fault: the file's kind, and a command that converts it. The explanation
+/// begins with `path`.
 pub fn explain_capture(
     alloc: Global,
     path: &str,
@@ -59,8 +59,8 @@ pub fn explain_capture(
     finish_with_path(alloc, path, said)
 }
 
-/// Returns the sentence for a capture's fault, with path `{a}`, kind `{b}`, lengths `{0}` of the file and `{1}` of a header, record `{2}`,
-/// version `{3}.{4}` and link type `{5}`.
+/// Returns the sentence for a capture's fault. Marks: path `{a}`, kind `{b}`, lengths of file `{0}` and header `{1}`, record `{2}`, version
+/// `{3}.{4}`, link type `{5}`.
 fn capture_sentence(octets: &[u8], fault: &CaptureFault) -> &'static str {
     match fault {
         CaptureFault::BadMagic if file_kind(octets).is_some() =>
@@ -102,7 +102,7 @@ fn capture_sentence(octets: &[u8], fault: &CaptureFault) -> &'static str {
     }
 }
 
-/// Returns the record number of a fault; 0 if it has none.
+/// Returns the number, from 1, of the record that a fault names; 0 if it names none.
 fn fault_record(fault: &CaptureFault) -> u64 {
     match fault {
         CaptureFault::RecordCut(n)
@@ -114,7 +114,7 @@ fn fault_record(fault: &CaptureFault) -> u64 {
     }
 }
 
-/// Returns the link type of a capture, and the upper half of its word, which must be 0.
+/// Returns two numbers from a capture's header: the link type, and the upper half of its word, which must be 0.
 fn link_type(octets: &[u8]) -> (u64, u64) {
     let (one, other) = (read_u16(octets, 20), read_u16(octets, 22));
     if is_little_endian(octets) {
@@ -124,12 +124,12 @@ fn link_type(octets: &[u8]) -> (u64, u64) {
     }
 }
 
-/// Whether numbers in the capture begin with their lowest octet, by the first octet of the file.
+/// Returns whether numbers in the capture's headers begin with their lowest octet, by the first octet of the file.
 fn is_little_endian(octets: &[u8]) -> bool {
     octets.first() == Some(&0xD4) || octets.first() == Some(&0x4D)
 }
 
-/// Returns the number in two octets at offset `place`, in the byte order of the capture. Missing octets count as 0.
+/// Returns the number in the two octets from index `place` on, in the byte order of the capture. Missing octets count as 0.
 fn read_u16(octets: &[u8], place: usize) -> u64 {
     let one = octets.get(place).copied().unwrap_or(0);
     let other = octets.get(place.saturating_add(1)).copied().unwrap_or(0);

@@ -1,4 +1,4 @@
-//! The text of a plan or of commands, and the instances of its sections.
+//! The text of a plan or of commands, and the instances of its sections. Explanations of plan faults look up positions and values here.
 
 use bridge_schema::{Field, Section, identifying_key};
 use bridge_text::{Document, Instance, Said};
@@ -26,7 +26,7 @@ impl<'a> SourceText<'a> {
         }
     }
 
-    /// Returns instance `index`, counted from 1, of a section, as `bridge_text` names it to find positions.
+    /// Returns instance `index`, from 1, of a section, in the form in which `bridge_text` finds its position.
     pub(crate) fn instance(self, section: Section, index: u32) -> Instance<'a> {
         Instance {
             document: self.document(),
@@ -41,7 +41,7 @@ pub(crate) fn section_items<'a>(document: &'a Table, section: Section) -> &'a [V
     bridge_text::section_instances(document, section.name())
 }
 
-/// Returns the table of instance `index`, counted from 1, or `None` if it is missing or no table.
+/// Returns the table of instance `index`, from 1, of a section. Returns `None` if it is missing or isn't a table.
 pub(crate) fn instance_table<'a>(
     document: &'a Table,
     section: Section,
@@ -55,7 +55,7 @@ pub(crate) fn key_value<'a>(table: Option<&'a Table>, key: Field) -> Option<&'a 
     bridge_text::table_value(table, key.key())
 }
 
-/// Writes the position of an instance, or of its key `key`, and which instance it is.
+/// Writes the position of instance `index`, from 1, of a section, or of its key `key`, and the instance's number or address.
 pub(crate) fn put_instance_position(
     said: &mut Said,
     source: SourceText<'_>,

@@ -13,7 +13,7 @@ use bridge_text::{
 use std::alloc::Global;
 use toml::{Table, Value};
 
-/// Whether all items are numbers in a range.
+/// Returns whether all items are numbers in a range.
 fn are_in_range(items: &[Value], range: &NumberRange) -> bool {
     for item in items {
         if range.read(item).is_err() {
@@ -23,7 +23,7 @@ fn are_in_range(items: &[Value], range: &NumberRange) -> bool {
     true
 }
 
-/// Whether a value is allowed for a key of a list's entry.
+/// Returns whether a value is allowed for a key of a list's entry. Kinds of values that no entry has are never allowed.
 fn is_allowed(allowed: AllowedValue, value: &Value) -> bool {
     match (allowed, value) {
         (AllowedValue::Between(range), _) => range.read(value).is_ok(),
@@ -34,7 +34,8 @@ fn is_allowed(allowed: AllowedValue, value: &Value) -> bool {
     }
 }
 
-/// Returns the first key of an entry that is missing or whose value isn't allowed. Returns `None` if the entry is sound.
+/// Returns the first of `keys` that an entry lacks although it is required, or whose value isn't allowed. Returns `None` if the entry is
+/// sound.
 fn first_flawed_key(keys: &'static [KeyRule], entry: &Table) -> Option<&'static KeyRule> {
     for key in keys {
         let KeyRule(field, allowed, presence) = *key;
@@ -49,7 +50,8 @@ fn first_flawed_key(keys: &'static [KeyRule], entry: &Table) -> Option<&'static 
     None
 }
 
-/// Writes which item of a list isn't a table; otherwise the first entry with a wrong key, its value and the allowed values.
+/// Writes the first item of list `list` that isn't a table. Without such an item, writes the first wrong key of an entry, its value and the
+/// allowed values.
 pub(crate) fn put_entry_flaws(
     said: &mut Said,
     keys: &'static [KeyRule],
@@ -85,12 +87,13 @@ fn put_flaw(said: &mut Said, number: u64, list: &str, key: KeyRule, entry: &Tabl
     put_allowed(said, allowed);
 }
 
-/// Returns the interval of an entry in ns; 0 if it has none.
+/// Returns the interval (key `ns`) of a list's entry in ns; 0 if it has none.
 fn entry_interval(entry: &Value) -> u64 {
     unsigned_number(key_value(entry.as_table(), Field::Ns)).unwrap_or(0)
 }
 
-/// Whether the list of an instance with keys `keys` is refused for `fault`. An instance can have several lists; the fault doesn't name one.
+/// Returns whether the list with keys `keys` in an instance's table is refused for `fault`. An instance can have several lists, and the
+/// fault doesn't name one.
 fn is_list_refused(
     alloc: Global,
     said: &mut Said,
@@ -113,7 +116,7 @@ fn is_list_refused(
     }
 }
 
-/// Writes why a list of an instance is refused: finds the list at fault, then its position and its values.
+/// Writes why a list of instance `index` is refused. Finds the list with this fault; without one, takes the section's first list.
 pub(crate) fn put_refused_list(
     alloc: Global,
     said: &mut Said,
@@ -143,8 +146,8 @@ pub(crate) fn put_refused_list(
     put_list_refusal(said, *keys, cycle, items, fault);
 }
 
-/// Returns the sentence for a refused list, with keys `{a}` and `{b}`, entries `{0}` of at most `{1}`, cycle `{2}` of at most `{3}`, first
-/// empty entry `{4}` and total `{5}` in ns.
+/// Returns the sentence for a refused list. Marks: keys `{a}` and `{b}`, entries `{0}`, at most `{1}`, cycle `{2}`, at most `{3}`, first
+/// empty entry `{4}`, total `{5}`.
 fn refusal_sentence(fault: ListFault) -> &'static str {
     match fault {
         ListFault::Empty => "`{a}` has no entry.\nIt must have 1 to {1}.\n",

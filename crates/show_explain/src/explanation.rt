@@ -1,7 +1,7 @@
-//! Fills templates: numbers and words replace placeholders in braces.
+//! Fills templates with two words: numbers and words replace marks in braces.
 use bridge_text::Said;
 
-/// Writes a template: numbers replace `{0}` and so on, and the two words replace `{a}` and `{b}`.
+/// Writes a template: numbers replace `{0}`, `{1}` and so on; `one` replaces `{a}`, and `other` replaces `{b}`.
 pub(crate) fn fill_with_two_words<'a>(
     said: &mut Said,
     template: &str,

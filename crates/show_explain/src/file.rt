@@ -11,7 +11,8 @@ use std::alloc::{Allocator, Global};
 const EMPTY_PATH: &str =
     "A path is empty. Name the file or the folder, for example . for the current folder.\n";
 
-/// Explains why a file can't be opened, created, read or written. The explanation begins with `path`.
+/// Explains why a file can't be opened, created, read or written, with a remedy. The explanation begins with `path`. It answers
+/// `--explain`.
 pub fn explain_file(alloc: Global, path: &str, cause: Cause) -> Result<String, NoMemory>
     ensures { IfOk result (λ said. StartsWithName path.now (string_bytes said)) }
 {
@@ -49,7 +50,7 @@ fn cause_sentence(cause: Cause) -> &'static str {
     }
 }
 
-/// Writes a warning that a capture isn't read because the plan lacks its port.
+/// Writes a warning that the run doesn't read a capture in its folder, because the plan lacks port `port`.
 pub fn warn_unread_capture<A: Allocator>(said: &mut TextBuilder<A>, path: &str, port: u8) {
     said.put_template(
         "Warning: {a} is not read: the plan has no port {0}.\n",

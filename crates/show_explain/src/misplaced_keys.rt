@@ -1,4 +1,4 @@
-//! Explains keys that aren't allowed in their tables.
+//! Explains keys that aren't allowed in their tables: unknown keys, and keys that conflict with others.
 
 use crate::document::{SourceText, instance_table, put_instance_position, section_items};
 use bridge_schema::{
@@ -11,7 +11,7 @@ use bridge_text::{
 use std::alloc::Global;
 use toml::{Table, Value};
 
-/// Returns the rule of the key with this spelling, or `None` if the table has no such key.
+/// Returns the rule in `keys` of the key with spelling `name`, or `None` if the table has no such key.
 pub(crate) fn find_key(keys: &'static [KeyRule], name: &str) -> Option<&'static KeyRule> {
     for key in keys {
         if key.0.key() == name {
@@ -33,7 +33,7 @@ fn put_nearest_key(alloc: Global, said: &mut Said, word: &str, keys: &'static [K
     put_nearest(alloc, said, word, &names, KEYS);
 }
 
-/// Writes which key at the top level of the file is unknown, and the nearest section.
+/// Writes which key at the top of a plan or of commands is unknown, and the nearest section.
 pub(crate) fn put_top_key(alloc: Global, said: &mut Said, source: SourceText<'_>) {
     let sections: &'static [Section] = if source.is_commands {
         &COMMAND_SECTIONS
@@ -87,7 +87,8 @@ fn first_misplaced_entry_key<'a>(
     None
 }
 
-/// Writes which key of an instance is unknown and the nearest key, or why a known key isn't allowed there.
+/// Writes which key of instance `index` is unknown, with the nearest key, or why a known key isn't allowed there. Looks at the entries of
+/// its lists last.
 pub(crate) fn put_misplaced_key(
     alloc: Global,
     said: &mut Said,

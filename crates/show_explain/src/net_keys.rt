@@ -1,4 +1,4 @@
-//! Explains values of keys in networks and traffic, and the allowed values.
+//! Explains values of keys in network files and traffic files, and the allowed values.
 
 use bridge_schema::NumberRange;
 use bridge_text::{
@@ -24,7 +24,7 @@ pub(crate) fn net_instance<'a>(
     }
 }
 
-/// Writes the position of an instance, or of its key `key`, and which instance it is.
+/// Writes the position of instance `index`, from 1, of a section, or of its key `key`, and the instance's name, ends or filter.
 pub(crate) fn put_net_place(
     said: &mut Said,
     document: Document<'_>,
@@ -55,7 +55,7 @@ pub(crate) fn example_bridge<'a>(document: Document<'a>) -> &'a str {
     }
 }
 
-/// Writes the value of an instance's key, and the allowed values.
+/// Writes the value of an instance's key and the allowed values. If a talker's key is missing, writes which keys it needs.
 pub(crate) fn put_key_value(
     said: &mut Said,
     instance: Instance<'_>,
@@ -75,12 +75,12 @@ pub(crate) fn put_key_value(
     }
 }
 
-/// Whether a key is `period`, `from` or `to`, the keys of a row of traffic that state its phases.
+/// Returns whether a key is `period`, `from` or `to`. Only a row of periodic traffic needs all three.
 fn is_of_phases(field: NetField) -> bool {
     matches!(field, NetField::Period | NetField::From | NetField::To)
 }
 
-/// Whether a key is a key of a stream's talker.
+/// Returns whether a key is a key of a stream's talker.
 fn is_of_talker(field: NetField) -> bool {
     for key in &TALKER_KEYS {
         if *key == field {
@@ -90,7 +90,7 @@ fn is_of_talker(field: NetField) -> bool {
     false
 }
 
-/// Writes that a stream has all keys of a talker or none.
+/// Writes that a stream has all keys of a talker or none of them, because one is missing.
 fn put_talker_keys(said: &mut Said) {
     let mut template = "A stream has all of `{a}`";
     for key in &TALKER_KEYS {
@@ -100,7 +100,7 @@ fn put_talker_keys(said: &mut Said) {
     said.put(", or none of these keys.\n");
 }
 
-/// Writes the allowed values for a key of an instance.
+/// Writes the allowed values for key `field` of an instance. Numbers also depend on other keys of the instance.
 fn put_allowed(said: &mut Said, instance: Instance<'_>, field: NetField) {
     let example = example_bridge(instance.document);
     match allowed_value(field) {
@@ -155,8 +155,8 @@ fn allowed_number(instance: Instance<'_>, field: NetField) -> Option<u64> {
     }
 }
 
-/// Returns the key that limits `field` from below, its value, and the least allowed value of `field`. Returns `None` if there is no such
-/// key, or its value isn't allowed. `put_range` calls it.
+/// Returns the key that limits `field` from below, its value, and the least value of `field`. Returns `None` without such a key or an
+/// allowed value of it.
 fn lower_limit(instance: Instance<'_>, field: NetField) -> Option<(NetField, u64, u64)> {
     let (key, more) = match field {
         NetField::Period => (NetField::From, 1),
@@ -168,8 +168,8 @@ fn lower_limit(instance: Instance<'_>, field: NetField) -> Option<(NetField, u64
     Some((key, value, value.saturating_add(more)))
 }
 
-/// Returns the key that limits another key from above, if any, with its value and the greatest value that it allows: phases are less than
-/// the period, and a burst holds a frame.
+/// Returns the key that limits `field` from above, its value, and the greatest value of `field`. Phases are below the period; a burst must
+/// contain the frame.
 fn upper_limit(instance: Instance<'_>, field: NetField) -> Option<(NetField, u64, u64)> {
     let (key, less) = match field {
         NetField::From | NetField::To => (NetField::Period, 1),
@@ -184,7 +184,7 @@ fn upper_limit(instance: Instance<'_>, field: NetField) -> Option<(NetField, u64
     Some((key, value, most))
 }
 
-/// Writes the range of a key's allowed numbers, in its unit, and the other keys that limit it.
+/// Writes the range of the allowed numbers of key `field`, in `unit`, and the other keys that limit it. Says if no number fits.
 fn put_range(
     said: &mut Said,
     instance: Instance<'_>,

@@ -1,4 +1,4 @@
-//! Explains names of bridges in a network's links and hops.
+//! Explains the names of ports and filters in a network's links and hops.
 
 use crate::net_keys::{example_bridge, net_instance};
 use bridge_schema::NUMBER;
@@ -10,12 +10,12 @@ use net_file::{MAX_HOPS, NetField, NetKeyLocation, NetSection, is_numbered_name}
 use std::alloc::Global;
 use toml::Value;
 
-/// Whether a value is a text, such as the name of a hop.
+/// Returns whether a value is a text, which each hop of a stream must be.
 fn is_text(value: &Value) -> bool {
     matches!(value, Value::String(_))
 }
 
-/// Whether a value is a text that ends in a dot and a filter number, such as `left.10`.
+/// Returns whether a value is a text that ends in a dot and a filter number, such as `left.10`.
 fn is_hop(value: &Value) -> bool {
     match value {
         Value::String(text) => is_numbered_name(text.as_str(), 0, u32::MAX),
@@ -43,7 +43,7 @@ pub(crate) fn put_hops(said: &mut Said, document: Document<'_>, items: &[Value])
     }
 }
 
-/// Writes an item of an array of hops that isn't a hop, and its required form.
+/// Writes item `number`, from 1, of an array of hops, which isn't a hop, and the form of a hop.
 fn put_hop(said: &mut Said, document: Document<'_>, number: u64, item: &Value) {
     let key = NetField::Hops.key();
     put_value_sentence(said, "Item {0} of `{a}` is ", number, key, Some(item), "");

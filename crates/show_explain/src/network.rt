@@ -20,8 +20,8 @@ use net_file::{
 use std::alloc::Global;
 use toml::{Table, Value};
 
-/// Explains why a network file is refused: the position of the fault, the value there, the allowed values, and what to change. The
-/// explanation begins with `path`.
+/// Explains why a network file is refused: position of the fault, value there, allowed values, and what to change. The explanation begins
+/// with `path`.
 pub fn explain_network_text(
     alloc: Global,
     path: &str,
@@ -37,8 +37,8 @@ pub fn explain_network_text(
     )
 }
 
-/// Explains why a traffic file is refused: the position of the fault, the value there, the allowed values, and what to change. The
-/// explanation begins with `path`.
+/// Explains why a traffic file is refused: position of the fault, value there, allowed values, and what to change. The explanation begins
+/// with `path`.
 pub fn explain_traffic_text(
     alloc: Global,
     path: &str,
@@ -85,7 +85,7 @@ fn file_explanation(
     said
 }
 
-/// Writes the explanation of a fault by the function for its kind, after the path.
+/// Writes the explanation of a network or traffic file's fault, to follow the path. Calls the function for its kind.
 fn put_fault(
     alloc: Global,
     said: &mut Said,
@@ -147,7 +147,7 @@ fn put_top_key(alloc: Global, said: &mut Said, document: Document<'_>, kind: Fil
     }
 }
 
-/// Whether a word is the spelling of one of these keys.
+/// Returns whether a word is the spelling of one of these keys.
 fn is_known(keys: &[NetField], word: &str) -> bool {
     for key in keys {
         if key.key() == word {
@@ -157,7 +157,7 @@ fn is_known(keys: &[NetField], word: &str) -> bool {
     false
 }
 
-/// Writes which key of an instance is unknown, and the nearest key.
+/// Writes which key of instance `index` is unknown, and the nearest key. If all keys are known, writes which key another one excludes.
 fn put_stray_key(
     alloc: Global,
     said: &mut Said,
@@ -181,7 +181,7 @@ fn put_stray_key(
     put_excluded_key(said, document, section, index, table);
 }
 
-/// Writes which key of a row of traffic another key excludes. The row has only known keys.
+/// Writes which key of a traffic row another key excludes. `put_stray_key` calls it if the row has only known keys.
 fn put_excluded_key(
     said: &mut Said,
     document: Document<'_>,
@@ -202,8 +202,8 @@ fn put_excluded_key(
     );
 }
 
-/// Returns the first key in a row of traffic that the row's limit (burst or frames) excludes, and the first key of this limit. Returns
-/// `None` if the limit excludes no key.
+/// Returns the first key of a traffic row that its limit (burst or frames) excludes, and the first key of this limit. `None` if no key is
+/// excluded.
 fn excluded_key(table: &Table) -> Option<(NetField, NetField)> {
     let limit = first_present(table, &LIMIT_KEYS)?;
     let allowed: &[NetField] = if let NetField::Frames = limit {
@@ -241,7 +241,7 @@ fn put_nearest_key(alloc: Global, said: &mut Said, word: &str, keys: &[NetField]
     put_nearest(alloc, said, word, &names, KEYS);
 }
 
-/// Writes the value of an instance's key, and the allowed values or the wrong hop.
+/// Writes the position and value of an instance's key with the allowed values. For an array of hops, writes its first wrong hop.
 fn put_key_explanation(said: &mut Said, document: Document<'_>, place: NetKeyLocation) {
     let key = place.field.key();
     put_net_place(said, document, place.section, place.index, Some(key));
@@ -252,7 +252,7 @@ fn put_key_explanation(said: &mut Said, document: Document<'_>, place: NetKeyLoc
     }
 }
 
-/// Writes which earlier instance of a section an instance repeats.
+/// Writes which earlier instance of the section has the name or filter of instance `index`.
 fn put_duplicate(said: &mut Said, document: Document<'_>, section: NetSection, index: u32) {
     let key = match section {
         NetSection::Traffic => NetField::Filter.key(),

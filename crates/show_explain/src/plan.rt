@@ -1,4 +1,4 @@
-//! Explains why a text isn't a plan.
+//! Explains why a file isn't a plan, or has no commands for a plan's bridge.
 ghost use Rattle.std.specs.Prelude.{IfOk, string_bytes};
 ghost use Rattle.bridge_text.specs.PathPrefix.{StartsWithName};
 
@@ -10,7 +10,8 @@ use bridge_schema::PlanFault;
 use bridge_text::{FileKind, Said, TextBuilder, finish_with_path, put_other_kind};
 use std::alloc::Global;
 
-/// Explains why a file isn't a plan: the position of the fault, the value there and the allowed values. The explanation begins with `path`.
+/// Explains why a file isn't a plan: position of the fault, value there, allowed values. The explanation begins with `path`. `--explain`
+/// prints it.
 pub fn explain_plan(
     alloc: Global,
     path: &str,
@@ -26,7 +27,7 @@ pub fn explain_plan(
     )
 }
 
-/// Explains why a file has no commands for the bridge of a plan, by the fault and the plan's text. The explanation begins with `path`.
+/// Explains why the file at `path` has no commands for the bridge of a plan. `text` has the commands, `plan` is the plan's text.
 pub fn explain_commands(
     alloc: Global,
     path: &str,

@@ -1,4 +1,4 @@
-//! Writes the explanation of each fault of a plan or of commands.
+//! Writes the explanation of each fault of a plan or of commands, by position, value and allowed values.
 
 use crate::document::{
     SourceText, instance_table, key_value, put_instance_position, section_items,
@@ -21,7 +21,7 @@ use toml::{Table, Value};
 /// Largest number of instance numbers in an explanation.
 const MAX_NUMBERS: usize = 16;
 
-/// Writes the explanation of a fault by the function for its kind, after the path.
+/// Writes the explanation of a fault of a plan or of commands, to follow the path. Calls the function for its kind.
 pub(crate) fn put_fault(alloc: Global, said: &mut Said, source: SourceText<'_>, fault: &PlanFault) {
     match *fault {
         PlanFault::UnknownKey(Section::Top, _) => put_top_key(alloc, said, source),
@@ -52,7 +52,7 @@ pub(crate) fn put_fault(alloc: Global, said: &mut Said, source: SourceText<'_>, 
     }
 }
 
-/// Writes the value of an instance's key and the allowed values, or the wrong entry of a list.
+/// Writes the position and value of an instance's key with the allowed values. For a list of tables, writes its first wrong entry.
 fn put_key_fault(said: &mut Said, source: SourceText<'_>, place: KeyLocation) {
     let key = place.field.key();
     put_instance_position(said, source, place.section, place.index, Some(key));
@@ -74,7 +74,7 @@ fn put_key_fault(said: &mut Said, source: SourceText<'_>, place: KeyLocation) {
     }
 }
 
-/// Returns the section whose instance a command names, by the flag that it clears. Returns `None` for an unknown flag.
+/// Returns the section whose instance a command names, by the flag `value` that it clears. Returns `None` for an unknown flag.
 fn cleared_section(value: Option<&Value>) -> Option<Section> {
     let Some(Value::String(flag)) = value else {
         return None;
@@ -87,13 +87,13 @@ fn cleared_section(value: Option<&Value>) -> Option<Section> {
     }
 }
 
-/// Returns the time in ns of the command before command `index`; 0 if there is none.
+/// Returns the time in ns of the command before command `index`, from 1; 0 if there is none or it has no time.
 fn previous_command_time(source: SourceText<'_>, index: u32) -> u64 {
     let before = instance_table(source.document, Section::Command, index.saturating_sub(1));
     unsigned_number(key_value(before, Field::At)).unwrap_or(0)
 }
 
-/// Returns the allowed values of a key. For commands they also depend on the command's flag and the time before.
+/// Returns the allowed values of a key. A command's time isn't before the previous one, and its number depends on its flag.
 fn allowed_value(
     source: SourceText<'_>,
     place: KeyLocation,
@@ -118,7 +118,7 @@ fn allowed_value(
     }
 }
 
-/// Writes the times of a command and of the command before it, if they aren't in order. Writes nothing without a time.
+/// Writes the times of command `index` and of the command before it, if they aren't in order. Writes nothing without a time `at`.
 fn put_falling_times(said: &mut Said, source: SourceText<'_>, index: u32, at: Option<u64>) {
     let before = previous_command_time(source, index);
     let Some(at) = at else {
@@ -134,7 +134,7 @@ fn put_falling_times(said: &mut Said, source: SourceText<'_>, index: u32, at: Op
     }
 }
 
-/// Returns the sentence for allowed values: numbers from `{0}` to `{1}`, lengths up to `{2}`, the key `{a}` of a `{b}`.
+/// Returns the sentence for allowed values. Marks: numbers from `{0}` to `{1}`, lengths up to `{2}`, the key `{a}` of a `{b}`.
 fn allowed_sentence(allowed: AllowedValue) -> &'static str {
     match allowed {
         AllowedValue::Between(_) => "It must be a whole number from {0} to {1}.\n",
@@ -182,7 +182,7 @@ fn referenced_section(allowed: AllowedValue) -> Option<Section> {
     }
 }
 
-/// Writes the numbers of a section's first sixteen instances.
+/// Writes the numbers (key `own`) of a section's first sixteen instances.
 fn put_instance_numbers(said: &mut Said, items: &[Value], own: Field) {
     let mut template = "{0}";
     for item in first_items(items, MAX_NUMBERS) {
@@ -216,7 +216,7 @@ fn put_allowed_instances(said: &mut Said, source: SourceText<'_>, allowed: Allow
     said.put(".\n");
 }
 
-/// Writes which earlier instance of a section an instance repeats.
+/// Writes which earlier instance of the section has the number, VLAN or address of instance `index`.
 fn put_duplicate(said: &mut Said, source: SourceText<'_>, section: Section, index: u32) {
     let (own, address) = (identifying_key(section).key(), Field::Address.key());
     let table = instance_table(source.document, section, index);
@@ -233,7 +233,7 @@ fn put_duplicate(said: &mut Said, source: SourceText<'_>, section: Section, inde
     put_twin(said, section.name(), twin, keys);
 }
 
-/// Writes which earlier instance `twin`, from 1, has equal values of `keys`.
+/// Writes that instance `twin`, from 1, of the section has equal values of `keys`, and that they must differ.
 pub(crate) fn put_twin(said: &mut Said, section: &str, twin: u64, keys: &str) {
     said.put_template(
         "`{a}` {0} of the file has the same {b}. Each `{a}` needs a {b} of its own.\n",

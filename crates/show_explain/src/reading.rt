@@ -1,11 +1,11 @@
-//! Reads the document of a file, or explains why there is none.
+//! Reads the TOML document of a file, or explains why it has none.
 
 use bridge_text::{Said, fill_with_word, position_at_offset, put_position};
 use std::alloc::Global;
 use toml::Table;
 use toml::de::Error;
 
-/// Returns the text and document of octets. If they aren't UTF-8 or TOML, writes where and why, and returns `None`.
+/// Returns the text and the document in these octets. If they aren't UTF-8 or TOML, writes where and why, and returns `None`.
 pub(crate) fn read_document<'a>(
     alloc: Global,
     said: &mut Said,
@@ -28,7 +28,7 @@ pub(crate) fn read_document<'a>(
     }
 }
 
-/// Writes where and why a text isn't a TOML document, with a hint for a word in place of a value.
+/// Writes where and why a text isn't a TOML document. Adds a hint if a word stands where a value is expected, or a key is repeated.
 fn put_syntax_error(said: &mut Said, text: &str, error: &Error) {
     let message = error.message();
     let Some(span) = error.span() else {
@@ -47,7 +47,8 @@ fn put_syntax_error(said: &mut Said, text: &str, error: &Error) {
     fill_with_word(said, template, 0, word);
 }
 
-/// Returns the word at offset `place`, and the last octet before it that is no blank. That octet is `None` at the start of the text.
+/// Returns the word at offset `place` in the text, and the last octet before it that isn't blank. This octet is `None` at the start of the
+/// text.
 fn word_with_context(text: &str, place: usize) -> (Option<u8>, &str) {
     let mut start = 0usize;
     let mut end = 0usize;
@@ -65,7 +66,7 @@ fn word_with_context(text: &str, place: usize) -> (Option<u8>, &str) {
     (before, text.get(start..end).unwrap_or(""))
 }
 
-/// Returns a hint for a word in place of a value: the quoted word, if it begins as a name or an address.
+/// Returns a hint for a word that stands where a value is expected: how to write true, false or a text. Empty for other words.
 fn quoting_hint(word: &str) -> &'static str {
     let first = word.as_bytes().first().copied().unwrap_or(b'-');
     if word.eq_ignore_ascii_case("true") || word.eq_ignore_ascii_case("yes") {

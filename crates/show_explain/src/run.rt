@@ -1,4 +1,4 @@
-//! Explains why a run stopped, or a text wasn't run.
+//! Explains why a run stopped, or why the text of standard input wasn't run.
 ghost use Rattle.std.specs.Prelude.{IfOk, codes, string_bytes};
 ghost use Rattle.bridge_text.specs.PathPrefix.{StartsWithName};
 
@@ -9,7 +9,8 @@ use bridge_limits::NoMemory;
 use bridge_text::text_with_path;
 use std::alloc::Global;
 
-/// Explains why a run stopped, by a capture's path and first octets. The explanation begins with `path`.
+/// Explains why a run stopped, by the path and first octets of the capture at fault. The explanation begins with `path`. `--explain` prints
+/// it.
 pub fn explain_run(
     alloc: Global,
     path: &str,
@@ -29,7 +30,7 @@ pub fn explain_run(
     }
 }
 
-/// Explains why the text of standard input wasn't run. The explanation begins with `-`, which stands for standard input.
+/// Explains why the octets of standard input weren't run. The explanation begins with `-`, which stands for standard input.
 pub fn explain_text(alloc: Global, fault: &TextFault) -> Result<String, NoMemory>
     ensures { IfOk result (λ said. StartsWithName (codes "-") (string_bytes said)) }
 {
