@@ -29,12 +29,12 @@ abbrev pub figure_fields : List ℕ → List ℕ
 figure_fields [] = codes ",,,,"
 figure_fields (d ∷ ds) = field (least_of (d ∷ ds)) ++ (field (sum (d ∷ ds) / length (d ∷ ds)) ++ (field (greatest_of (d ∷ ds)) ++ field (greatest_of (d ∷ ds) - least_of (d ∷ ds))))
 
--- The field of a bound; an empty field if there is none.
+-- The field of a delay bound; an empty field without a bound.
 abbrev pub bound_field : Option ℕ → List ℕ
 bound_field None = codes ","
 bound_field (Some b) = field b
 
--- The row of a filter at a port, with these delays.
+-- The row of filter `filter` at port `port`, with its delays there, its bound and its losses.
 unfoldable pub port_row : {A : Type 0} → ℕ → View A → ℕ → Option ℕ → List ℕ → List ℕ
 port_row filter v port bound delays = field filter ++ (field port ++ (field (length delays) ++ (figure_fields delays ++ (bound_field bound
     ++ loss_fields v.verdicts.items (count_full_on_port port v.drops.items) (count_never_on_port port v.drops.items)))))
@@ -52,7 +52,7 @@ row_if_any filter v port bound (d ∷ ds) = port_row filter v port bound (d ∷ 
 abbrev pub row_of_port : {A : Type 0} → ℕ → View A → List (Option ℕ) → ℕ → List ℕ
 row_of_port filter v bounds port = row_if_any filter v port (bound_by_port bounds port) (port_delays v.origins.items port v.departures.items)
 
--- The rows of a filter by rising port, 1 to 16.
+-- The rows of a filter by rising port, 1 to 16, for ports by which copies of its frames left.
 abbrev pub port_rows : {A : Type 0} → ℕ → View A → List (Option ℕ) → List ℕ
 port_rows filter v bounds = flat_map (row_of_port filter v bounds) (range_with_len 1 16)
 

@@ -14,7 +14,7 @@ use Rattle.show_tables.specs.GroupBounds.{group_bound}
 use Rattle.bridge_groups.specs.declared.shared_queues.SharedQueue.{SharedQueue}
 use Rattle.show_tables.specs.DelayTable.{port_delays, figure_fields, port_row, unsent_row}
 
--- The origin of frames of 64 octets that arrived at port 1 at 1,000 Mb/s, by arrival time.
+-- The origin of a frame that arrived on port 1 at time `at`.
 abbrev came : ℕ → Origin
 came at = record { port = 1; at = at }
 

@@ -37,7 +37,7 @@ lone_row f = row_start f ++ codes ",,,,\n"
 abbrev pub port_departure_row : FilterFrame → ℕ → Departure → List ℕ
 port_departure_row f port d = if nat_eq d.port port then departure_row f d else []
 
--- The row of drop `d`, if `port` dropped it; otherwise the empty text.
+-- The row of dropped copy `d`, if `port` dropped it; otherwise the empty text.
 abbrev pub port_drop_row : FilterFrame → ℕ → Dropped → List ℕ
 port_drop_row f port d = if nat_eq d.port port then drop_row f d else []
 
@@ -62,19 +62,19 @@ abbrev pub rows_or_lone : FilterFrame → List ℕ → List ℕ
 rows_or_lone f [] = lone_row f
 rows_or_lone f (octet ∷ more) = octet ∷ more
 
--- The rows of a frame by its own departures and drops.
+-- The rows of a frame, from the frame's own departures and dropped copies.
 abbrev pub copies_or_lone_row : FilterFrame → List Departure → List Dropped → List ℕ
 copies_or_lone_row f departures drops = rows_or_lone f (copy_rows f departures drops)
 
--- The departures of frame number `own` among those of its filter.
+-- The departures of the frame with number `own`, from the departures of its filter's frames.
 abbrev pub frame_departures : ℕ → List Departure → List Departure
 frame_departures own departures = filter (λ d. nat_eq d.own own) departures
 
--- The drops of frame number `own` among those of its filter.
+-- The dropped copies of the frame with number `own`, from the dropped copies of its filter's frames.
 abbrev pub frame_drops : ℕ → List Dropped → List Dropped
 frame_drops own drops = filter (λ d. nat_eq d.own own) drops
 
--- The rows of a frame, by the departures and drops of all frames of its filter.
+-- The rows of a frame, from the departures and dropped copies of all frames of its filter.
 abbrev pub frame_rows : FilterFrame → List Departure → List Dropped → List ℕ
 frame_rows f departures drops = copies_or_lone_row f (frame_departures f.own departures) (frame_drops f.own drops)
 

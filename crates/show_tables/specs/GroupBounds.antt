@@ -12,7 +12,7 @@ abbrev pub group_of : Option FilterPlan → Option ℕ
 group_of None = None
 group_of (Some f) = f.group
 
--- The bound of a shared queue in ns, if it is a queue of the group at port `q`.
+-- The bound of shared queue `s` in ns if it is a queue of the group at port `q`, otherwise `None`.
 abbrev pub bound_at : ℕ → ℕ → SharedQueue → Option ℕ
 bound_at group q s = if nat_eq s.group group && nat_eq s.port q then Some s.bound else None
 

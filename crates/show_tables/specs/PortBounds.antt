@@ -22,7 +22,7 @@ IsClassBound p n q c b = MatchOption b (HasNoBound p n q c) (IsTightBound p n q 
 abbrev pub AreBoundsByClass : {A : Type 0} → Plan A → ℕ → ℕ → List (Option ℕ) → Type 0
 AreBoundsByClass p n q bounds = (c : ℕ) (b : Option ℕ) → slice_get bounds c ≡ Some b → IsClassBound p n q c b
 
--- Holds if the list has the tight bounds of the first `classes` classes of port `q`.
+-- Holds if the list has the tight bounds of filter `n` for the first `classes` classes of port `q`.
 pub record AreClassBounds {A : Type 0} (p : Plan A) (n q classes : ℕ) (bounds : List (Option ℕ)) : Type 0 where
   pub many : length bounds ≡ classes
   pub each : AreBoundsByClass p n q bounds
@@ -37,7 +37,7 @@ pub record IsGreatestBound {A : Type 0} (p : Plan A) (n q classes : ℕ) (bound 
 abbrev pub IsPortBound : {A : Type 0} → Plan A → ℕ → ℕ → Option ℕ → Type 0
 IsPortBound p n q bound = IsGreatestBound p n q 8 bound
 
--- Holds if the list has the delay bound of each port, from 1.
+-- Holds if the list has the delay bound for filter `n` of each port, from 1.
 abbrev pub AreBoundsByPort : {A : Type 0} → Plan A → ℕ → List (Option ℕ) → Type 0
 AreBoundsByPort p n bounds = (i : ℕ) (b : Option ℕ) → slice_get bounds i ≡ Some b → IsPortBound p n (i + 1) b
 
@@ -46,7 +46,7 @@ pub record ArePortBounds {A : Type 0} (p : Plan A) (n : ℕ) (bounds : List (Opt
   pub many : length bounds ≡ 16
   pub all : AreBoundsByPort p n bounds
 
--- The bound if an optional entry is present and has one, otherwise `None`.
+-- The bound in a nested option; `None` if either level is missing.
 abbrev pub flatten_bound : Option (Option ℕ) → Option ℕ
 flatten_bound None = None
 flatten_bound (Some b) = b

@@ -1,4 +1,4 @@
-//! Copies of a filter's frames, sorted by frame number. The record lists copies in the order of the run, the table of frames by frame.
+//! Copies of a filter's frames, sorted by frame number. The record lists copies in the order of the run, but the table of frames by frame.
 ghost use Rattle.std.specs.Prelude.{◌≡◌, ℕ, IfOk};
 ghost use Rattle.std.specs.List.Sorted.{IsNonDecreasingBy};
 ghost use Rattle.show_tables.specs.FrameTable.{frame_drops, frame_departures};
@@ -9,7 +9,7 @@ use bridge_semantics::{
 };
 use std::alloc::Allocator;
 
-/// Returns the departures sorted by rising frame number. Departures of one frame keep their order.
+/// Returns the departures of a filter, sorted by rising frame number. Departures of one frame keep their order.
 pub(crate) fn departures_by_frame<A: Allocator>(
     alloc: A,
     departures: &[StoredDeparture],
@@ -23,7 +23,7 @@ pub(crate) fn departures_by_frame<A: Allocator>(
     Ok(sorted)
 }
 
-/// Returns the drops sorted by rising frame number. Drops of one frame keep their order.
+/// Returns the dropped copies of a filter, sorted by rising frame number. Dropped copies of one frame keep their order.
 pub(crate) fn drops_by_frame<A: Allocator>(
     alloc: A,
     drops: &[StoredDrop],
@@ -36,7 +36,7 @@ pub(crate) fn drops_by_frame<A: Allocator>(
     Ok(sorted)
 }
 
-/// Returns the departures of frame `own`. The list must rise by frame number, so a binary search finds them.
+/// Returns the departures of the frame with number `own`. The list must rise by frame number, so a binary search finds them.
 pub(crate) fn frame_departures(sorted: &[Departure], own: u64) -> &[Departure]
     requires { IsNonDecreasingBy (λ (d : Departure). d.own) sorted.now }
     ensures { result.now ≡ frame_departures own sorted.now }
@@ -46,7 +46,7 @@ pub(crate) fn frame_departures(sorted: &[Departure], own: u64) -> &[Departure]
     &sorted[first..end]
 }
 
-/// Returns the drops of frame `own`. The list must rise by frame number, so a binary search finds them.
+/// Returns the dropped copies of the frame with number `own`. The list must rise by frame number, so a binary search finds them.
 pub(crate) fn frame_drops(sorted: &[Dropped], own: u64) -> &[Dropped]
     requires { IsNonDecreasingBy (λ (d : Dropped). d.own) sorted.now }
     ensures { result.now ≡ frame_drops own sorted.now }

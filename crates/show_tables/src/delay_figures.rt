@@ -1,4 +1,4 @@
-//! Delays of copies that left a port, and their figures.
+//! Delays of copies that left a port, and their figures (least, mean, greatest, jitter), for the table of delays.
 ghost use Rattle.std.specs.Prelude.{◌≡◌, ◌++◌, IfOk, OnOk};
 ghost use Rattle.bridge_text.specs.Growth.{HasGrown};
 ghost use Rattle.show_tables.specs.DelayTable as spec;
@@ -10,7 +10,7 @@ use bridge_semantics::{Departure, StoredDeparture, StoredOrigin};
 use bridge_text::TextBuilder;
 use std::alloc::Allocator;
 
-/// Appends the delay of a copy in ns to `delays`, if the copy left by `port`.
+/// Appends the delay of a copy in ns, from the frame's arrival, to `delays`, if the copy left by `port`.
 fn push_delay<A: Allocator>(
     delays: &mut Vec<u64, A>,
     origins: &[StoredOrigin],
@@ -26,8 +26,8 @@ fn push_delay<A: Allocator>(
     Ok(())
 }
 
-/// Returns the delays of a filter's copies that left by `port`, in ns from arrival to the end of transmission. The filter's row in the
-/// table of `run --delays` needs them.
+/// Returns the delays in ns, from arrival to end of transmission, of a filter's copies that left by `port`. The filter's row for this port
+/// needs them.
 pub(crate) fn port_delays<A: Allocator>(
     alloc: A,
     origins: &[StoredOrigin],
@@ -43,7 +43,7 @@ pub(crate) fn port_delays<A: Allocator>(
     Ok(delays)
 }
 
-/// Writes the fields of the least, mean and greatest delay, and of the jitter; empty fields if `delays` is empty.
+/// Writes the fields of the least, mean (rounded down) and greatest delay in ns, and of the jitter; empty fields if `delays` is empty.
 pub(crate) fn put_figures<A: Allocator>(text: &mut TextBuilder<A>, delays: &[u64])
     ensures { HasGrown text.old (spec.figure_fields delays.now) text.new }
 {

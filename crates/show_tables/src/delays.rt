@@ -1,4 +1,4 @@
-//! The table of delays: the delays of each filter's frames at each egress port, and its losses.
+//! The table of `run --delays`: the delays of each filter's frames at each egress port, and its losses.
 ghost use Rattle.std.specs.Prelude.{IfOk, OnOk, List, ℕ, string_bytes};
 ghost use Rattle.bridge_text.specs.Growth.{HasGrown};
 ghost use Rattle.bridge_groups.specs.GroupRows.{AreSharedQueues};
@@ -88,7 +88,7 @@ fn put_row_if_any<A: Allocator>(
     }
 }
 
-/// Writes the row of a filter at a port, if copies of its frames left there.
+/// Writes the row of a filter at port `port`, if copies of its frames left there. `bounds` has the delay bounds of all ports.
 fn put_row_of_port<A: Allocator + Copy>(
     alloc: A,
     text: &mut TextBuilder<A>,
@@ -112,7 +112,7 @@ fn put_row_of_port<A: Allocator + Copy>(
     }
 }
 
-/// Writes the rows of a filter, by rising port.
+/// Writes the rows of a filter by rising port, for ports by which copies of its frames left. `bounds` has the delay bounds of all ports.
 fn put_port_rows<A: Allocator + Copy>(
     alloc: A,
     text: &mut TextBuilder<A>,
@@ -146,7 +146,7 @@ fn put_filter_rows<A: Allocator + Copy>(
     }
 }
 
-/// Writes the rows of a filter to the table of delays. Computes the delay bounds of its ports first.
+/// Writes the rows of a filter to the table of delays. Computes the delay bounds of its ports first; `queues` has the plan's shared queues.
 fn put_filter_with_bounds<A: Allocator + Copy>(
     alloc: A,
     accepted: &Accepted<A>,
@@ -164,7 +164,7 @@ fn put_filter_with_bounds<A: Allocator + Copy>(
     Ok(())
 }
 
-/// Writes the rows of `filters`, in list order.
+/// Writes the rows of `filters`, in list order. `queues` has the plan's shared queues, from which the bounds of groups come.
 fn put_filters<A: Allocator + Copy>(
     alloc: A,
     accepted: &Accepted<A>,
@@ -184,8 +184,8 @@ fn put_filters<A: Allocator + Copy>(
     Ok(())
 }
 
-/// Returns the table of delays as CSV: a header line, then rows by rising filter and egress port. A filter with frames but without
-/// departures has one row; a filter without frames has none.
+/// Returns the table of `run --delays` as CSV: a header line, then rows by filter and port. A filter with frames but without departures has
+/// one row.
 pub fn delay_table<A: Allocator + Copy>(
     alloc: A,
     accepted: &Accepted<A>,

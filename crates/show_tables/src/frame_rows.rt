@@ -1,4 +1,4 @@
-//! Rows of the table of frames.
+//! Rows of the table of `run --frames`.
 ghost use Rattle.std.specs.Prelude.{◌++◌, codes, decimal};
 ghost use Rattle.bridge_text.specs.Growth.{HasGrown};
 ghost use Rattle.show_tables.specs.FrameTable as spec;
@@ -14,7 +14,7 @@ use std::alloc::Allocator;
 pub const FRAMES_HEADER: &str =
     "filter,frame,ingress,arrival,verdict,port,start,done,delay,refusal\n";
 
-/// Frame of a filter: its number from 1, its origin and its verdict.
+/// Frame of a filter, as a row shows it: filter, frame number from 1, origin and verdict.
 #[derive(Clone, Copy)]
 pub(crate) struct FilterFrame {
     pub filter: u32,
@@ -51,7 +51,7 @@ fn put_row_start<A: Allocator>(text: &mut TextBuilder<A>, frame: &FilterFrame)
     text.put(",");
 }
 
-/// Writes the row of a frame without copies: its fields of a copy are empty.
+/// Writes the row of a frame without copies: the fields of a copy are empty.
 pub(crate) fn put_lone_row<A: Allocator>(text: &mut TextBuilder<A>, frame: &FilterFrame)
     ensures { HasGrown text.old (spec.lone_row frame.now) text.new }
 {
@@ -59,7 +59,7 @@ pub(crate) fn put_lone_row<A: Allocator>(text: &mut TextBuilder<A>, frame: &Filt
     text.put(",,,,\n");
 }
 
-/// Writes the row of a copy that left: egress port, start, end and delay.
+/// Writes the row of a copy that left: egress port, start and end of its transmission, and delay since the frame's arrival, in ns.
 fn put_departure_row<A: Allocator>(
     text: &mut TextBuilder<A>,
     frame: &FilterFrame,
@@ -92,7 +92,7 @@ fn put_drop_row<A: Allocator>(text: &mut TextBuilder<A>, frame: &FilterFrame, dr
     text.put("\n");
 }
 
-/// Writes the row of a departure, if the copy left by `port`.
+/// Writes the row of a copy that left, if it left by `port`.
 fn put_port_departure<A: Allocator>(
     text: &mut TextBuilder<A>,
     frame: &FilterFrame,
@@ -106,7 +106,7 @@ fn put_port_departure<A: Allocator>(
     }
 }
 
-/// Writes the row of a drop, if `port` dropped the copy.
+/// Writes the row of a dropped copy, if `port` dropped it.
 fn put_port_drop<A: Allocator>(
     text: &mut TextBuilder<A>,
     frame: &FilterFrame,
@@ -120,7 +120,7 @@ fn put_port_drop<A: Allocator>(
     }
 }
 
-/// Writes the rows of the copies that left by `port`.
+/// Writes the rows of those copies in `departures` that left by `port`. All belong to the frame `frame`.
 fn put_departure_rows<A: Allocator>(
     text: &mut TextBuilder<A>,
     frame: &FilterFrame,
@@ -134,7 +134,7 @@ fn put_departure_rows<A: Allocator>(
     }
 }
 
-/// Writes the rows of the copies that `port` dropped.
+/// Writes the rows of those copies in `drops` that `port` dropped. All belong to the frame `frame`.
 fn put_drop_rows<A: Allocator>(
     text: &mut TextBuilder<A>,
     frame: &FilterFrame,
@@ -162,7 +162,7 @@ fn put_port_copies<A: Allocator>(
     put_drop_rows(text, frame, port, drops);
 }
 
-/// Writes the rows of a frame's copies, by rising port.
+/// Writes the rows of a frame's copies, by rising port. `departures` and `drops` are the frame's own.
 pub(crate) fn put_copies<A: Allocator>(
     text: &mut TextBuilder<A>,
     frame: &FilterFrame,

@@ -1,4 +1,4 @@
-//! The table of frames: verdict of each frame, and fate of each copy.
+//! The table of `run --frames`: verdict of each frame, and fate of each copy.
 ghost use Rattle.std.specs.Prelude.{◌≡◌, IfOk, string_bytes};
 ghost use Rattle.bridge_text.specs.Growth.{HasGrown};
 ghost use Rattle.std.specs.List.Sorted.{IsNonDecreasingBy};
@@ -11,7 +11,7 @@ use bridge_semantics::{Departure, Dropped, Outcome, StoredOrigin, StoredVerdict,
 use bridge_text::TextBuilder;
 use std::alloc::Allocator;
 
-/// Writes the rows of a frame. `departures` and `drops` are the frame's own; without both, the frame gets one row.
+/// Writes the rows of a frame. `departures` and `drops` are the frame's own; without any copy, the frame gets one row.
 fn put_frame<A: Allocator>(
     text: &mut TextBuilder<A>,
     frame: &FilterFrame,
@@ -79,7 +79,7 @@ fn put_frames<A: Allocator>(
     }
 }
 
-/// Writes the rows of a filter's frames. If memory runs out while copies are sorted, the whole text is discarded.
+/// Writes the rows of a filter's frames, from its record `view`. If memory runs out while copies are sorted, the whole text is discarded.
 fn put_filter_frames<A: Allocator + Copy>(
     alloc: A,
     text: &mut TextBuilder<A>,
@@ -106,8 +106,7 @@ fn put_filter_frames<A: Allocator + Copy>(
     );
 }
 
-/// Returns the table of frames as CSV: a header line, then rows by filter, frame and port. Departures have start, end and delay, drops their
-/// reason. A frame without copies has one row.
+/// Returns the table of `run --frames` as CSV: a header line, then rows by filter, frame and port. A frame without copies has one row.
 pub fn frame_table<A: Allocator + Copy>(
     alloc: A,
     outcome: &Outcome<A>,

@@ -22,7 +22,7 @@ fn filter_group(filters: &[(u32, FilterPlan)], filter: u32) -> Option<u32>
     }
 }
 
-/// Returns the bound of a shared queue in ns, if it is a queue of the group at `port`.
+/// Returns the bound of a shared queue in ns if it is a queue of group `group` at port `port`, otherwise `None`.
 fn bound_at(queue: &SharedQueue, group: u32, port: u8) -> Option<u64>
     ensures { result ≡ spec.bound_at group port queue.now }
 {
@@ -59,7 +59,7 @@ fn group_bounds<A: Allocator>(
     Ok(bounds)
 }
 
-/// Returns the delay bounds in ns of ports 1 to 16 for a filter; `None` for a port without one. `queues` are the plan's shared queues.
+/// Returns the delay bounds in ns of ports 1 to 16 for a filter; `None` for a port without bound. `queues` are the plan's shared queues.
 pub(crate) fn filter_bounds<A: Allocator + Copy>(
     alloc: A,
     accepted: &Accepted<A>,

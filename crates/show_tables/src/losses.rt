@@ -1,4 +1,4 @@
-//! Counts a filter's refused frames and dropped copies, and writes their fields.
+//! Counts a filter's refused frames and dropped copies, and writes their fields in the table of delays.
 ghost use Rattle.std.specs.Prelude.{◌≡◌};
 ghost use Rattle.bridge_text.specs.Growth.{HasGrown};
 ghost use Rattle.bridge_report.specs.Losses.{refused_for};
@@ -12,7 +12,7 @@ use bridge_semantics::{StoredDrop, StoredVerdict};
 use bridge_text::TextBuilder;
 use std::alloc::Allocator;
 
-/// Returns how many copies `port` dropped because their queues were full.
+/// Returns the number of copies that `port` dropped because their queues were full.
 pub(crate) fn count_full_on_port(port: u8, drops: &[StoredDrop]) -> usize
     ensures { result ≡ spec.count_full_on_port port drops.now }
 {
@@ -23,7 +23,7 @@ pub(crate) fn count_full_on_port(port: u8, drops: &[StoredDrop]) -> usize
         .count()
 }
 
-/// Returns how many copies `port` dropped because they fit no window.
+/// Returns the number of copies that `port` dropped because they fit no window.
 pub(crate) fn count_never_on_port(port: u8, drops: &[StoredDrop]) -> usize
     ensures { result ≡ spec.count_never_on_port port drops.now }
 {

@@ -1,4 +1,4 @@
-//! Delay bounds of the ports by which a filter's frames can leave.
+//! Delay bounds of the ports by which the frames of a protected filter can leave.
 ghost use Rattle.std.specs.Prelude.{◌≡◌, ◌≤◌, IfOk};
 ghost use Rattle.show_tables.specs.PortBounds as spec;
 
@@ -18,8 +18,8 @@ pub(crate) fn greater_bound(one: Option<u64>, other: Option<u64>) -> Option<u64>
     }
 }
 
-/// Returns the delay bound in ns of `port` for a filter: the greatest tight bound of its classes. Returns `None` if the filter is
-/// unprotected or can't reach the port.
+/// Returns the delay bound in ns of `port` for a filter: the greatest tight bound of its classes. `None` if the filter is unprotected or
+/// has no queue there.
 fn port_bound<A: Allocator + Copy>(accepted: &Accepted<A>, filter: u32, port: u8) -> Option<u64>
     requires from { 1 ≤ port }
     requires to { port ≤ 16 }
@@ -32,7 +32,8 @@ fn port_bound<A: Allocator + Copy>(accepted: &Accepted<A>, filter: u32, port: u8
     bound
 }
 
-/// Returns the delay bounds in ns of ports 1 to 16 for a filter; `None` for a port that it can't reach.
+/// Returns the delay bounds in ns of ports 1 to 16 for a filter. `None` for a port at which the filter has no queue, or an unprotected
+/// filter.
 pub(crate) fn port_bounds<A: Allocator + Copy>(
     alloc: A,
     accepted: &Accepted<A>,
@@ -47,7 +48,7 @@ pub(crate) fn port_bounds<A: Allocator + Copy>(
     Ok(bounds)
 }
 
-/// Returns the bound of `port`, from a list of bounds by port from 1. Returns `None` without a bound or for a number outside the list.
+/// Returns the bound of port `port` from `bounds`, the bounds of ports 1 to 16. Returns `None` without a bound or for another number.
 pub(crate) fn bound_by_port(bounds: &[Option<u64>], port: u8) -> Option<u64>
     ensures { result ≡ spec.bound_by_port bounds.now port }
 {
