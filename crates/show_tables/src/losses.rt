@@ -71,7 +71,8 @@ fn put_meter_losses<A: Allocator>(text: &mut TextBuilder<A>, verdicts: &[StoredV
     put_refused_count(text, Reason::YellowDropped, verdicts);
 }
 
-/// Writes the end of a row: fields of refused frames and dropped copies.
+/// Writes the end of a row: numbers of refused frames by reason. The last fields are `full` and `never`: copies dropped by full queues, and
+/// copies that fit no window.
 pub(crate) fn put_losses<A: Allocator>(
     text: &mut TextBuilder<A>,
     verdicts: &[StoredVerdict],
