@@ -56,7 +56,7 @@ HasReachableQueues {A} plans hops queues =
     → reaches_queue p f q c ≡ true
     → IsMember (record { hop = h; port = q; class = c }) queues
 
--- Holds if the inputs `commands` of each bridge are commands.
+-- Holds if, for each bridge, all inputs in `commands` are commands.
 abbrev pub AreCommands : (ℕ → List Input) → Type 0
 AreCommands commands = (b : ℕ) (x : Input) → IsMember x (commands b) → IsCommand x
 
@@ -92,8 +92,7 @@ pub record KeepsTalkerTraffic {A : Type 0} (n : NetworkParts A) (captures : ℕ 
 
 -- THE PATH OF A FRAME
 
--- Holds if a bridge with plan `p` forwards a frame from port `r` to port `q`. Forwarding doesn't depend on the arrival
--- time.
+-- Holds if a bridge with plan `p` forwards a frame that arrives on port `r` by port `q`. Forwarding doesn't depend on the arrival time.
 pub record IsForwardedByPort {A : Type 0} (p : Plan A) (octets : List ℕ) (len r q : ℕ) : Type 0 where
   pub ports : ℕ
   pub input : FilterInput
@@ -152,7 +151,8 @@ HaveSameCopies x [] y [] = x.copy ≡ y.copy
 HaveSameCopies x (v ∷ vs) y (w ∷ ws) = (x.copy ≡ y.copy) × HaveSameCopies v.1 vs w.1 ws
 HaveSameCopies x vs y ws = ⊥
 
--- Holds if a frame that arrives at time `at` and ends its last transmission at time `end` keeps the delays `r`. The end lies between the phases of a period.
+-- Holds if a frame that arrives at time `at` and ends its last transmission at time `end` keeps the delays and phases `r`. The phases count
+-- from the start of some period.
 pub record IsWithinStreamLatency (period at end : ℕ) (r : StreamLatency) : Type 0 where
   pub best : at + r.best ≤ end
   pub worst : end ≤ at + r.worst

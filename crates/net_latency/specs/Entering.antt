@@ -24,13 +24,13 @@ is_talker_port links b p handle [] r = false
 is_talker_port links b p handle (on ∷ more) r =
     if is_entry_port links b p handle on then nat_eq on.number r else is_talker_port links b p handle more r
 
--- True if frames of other devices can get the handle at port `on`: it is open, has an entry, and isn't the talker's port. Only the first hop has a talker's
--- port.
+-- True if frames of other devices can get the handle at port `on`. It is open, has an entry, and isn't the talker's port, which only the
+-- first hop (`true`) has.
 abbrev pub also_enters : {A : Type 0} → List Link → Bool → ℕ → Plan A → ℕ → PortPlan A → Bool
 also_enters links true b p handle on = is_entry_port links b p handle on && not (is_talker_port links b p handle p.ports on.number)
 also_enters links false b p handle on = is_entry_port links b p handle on
 
--- `also_enters` for the optional handle of the hop's filter; false without a handle.
+-- True if `also_enters` holds for the optional handle of the hop's filter; false without a handle.
 abbrev pub also_enters_by : {A : Type 0} → List Link → Bool → ℕ → Plan A → Option ℕ → PortPlan A → Bool
 also_enters_by links is_first b p None on = false
 also_enters_by links is_first b p (Some handle) on = also_enters links is_first b p handle on
@@ -59,17 +59,17 @@ come_in_once plans links is_first (h ∷ hs) =
 
 -- FRAMES FOR THE NEXT HOP
 
--- True if each frame that leaves the queue gets the filter of the optional hop at the link's end `e`. True without a hop.
+-- True if each frame that leaves queue `x` gets the filter of the optional hop at the link's end `e`. True without a hop.
 abbrev pub hands_to_hop : {A : Type 0} → List (Plan A) → HopQueue → End → Option StreamHop → Bool
 hands_to_hop plans x e None = true
 hands_to_hop plans x e (Some h) = hands_over plans x.hop.bridge x.hop.filter x.port e h.filter
 
--- `hands_to_hop` for the far end of the queue's port; true if the port is open.
+-- True if `hands_to_hop` holds for the other end of the link of queue `x`'s port; true if the port is open.
 abbrev pub hands_to_end : {A : Type 0} → List (Plan A) → List StreamHop → HopQueue → Option Sender → Bool
 hands_to_end plans hops x None = true
 hands_to_end plans hops x (Some s) = hands_to_hop plans x s.from (hop_at_bridge hops s.from.bridge)
 
--- True if each frame that leaves the queue gets the filter of the stream's next hop, if the queue leads to one.
+-- True if each frame that leaves queue `x` gets the filter of the stream's next hop. True if the queue leads to no hop.
 abbrev pub is_handed : {A : Type 0} → List (Plan A) → List Link → List StreamHop → HopQueue → Bool
 is_handed plans links hops x = hands_to_end plans hops x (sender (map link_value links) x.hop.bridge x.port)
 
@@ -79,7 +79,7 @@ are_handed plans links hops queues = list_all (is_handed plans links hops) queue
 
 -- THE DELAYS OF A STREAM
 
--- The delays with the flag `passes` cleared if `handed` is false.
+-- The delays `x`, with the flag `passes` cleared if `handed` is false.
 abbrev pub handed_course : Bool → StreamLatency → StreamLatency
 handed_course handed x = record { passes = x.passes && handed; worst = x.worst; best = x.best; phases = x.phases }
 

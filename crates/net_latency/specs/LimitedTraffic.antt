@@ -44,7 +44,7 @@ abbrev pub KeepsRate : ℕ → ℕ → List SentFrame → Type 0
 KeepsRate burst rate [] = Unit {0}
 KeepsRate burst rate (x ∷ xs) = ((u w : ℕ) → x.at ≡ u + w → recent_sent_octets u (x ∷ xs) * octet_units ≤ burst * octet_units + rate * w) × KeepsRate burst rate xs
 
--- Holds if frames of at most `longest` octets keep a limit.
+-- Holds if the frames `xs`, newest first, keep a limit. `longest` is the greatest length of a frame in octets.
 abbrev pub KeepsLimit : FrameLimit → ℕ → List SentFrame → Type 0
 KeepsLimit (limit.Rate burst rate) longest xs = KeepsRate burst rate xs
 KeepsLimit (limit.Count frames period) longest xs = HasFrameLimit frames (metered_octets longest) period xs
@@ -86,7 +86,7 @@ abbrev pub admits_row : {A : Type 0} → Plan A → LimitedRow → Option Filter
 admits_row p r None = false
 admits_row p r (Some f) = admits_talker p f (longest_sdu p f.handle r.longest) (limit_burst r.limit r.longest) (limit_rate r.limit r.longest)
 
--- True if an optional filter is in the group of shared queue `s`, and can reach this queue.
+-- True if the optional filter is in the group of shared queue `s`, and its frames can enter this queue.
 abbrev pub shares_queue : {A : Type 0} → Plan A → SharedQueue → Option FilterPlan → Bool
 shares_queue p s None = false
 shares_queue p s (Some f) = is_sharer p s.group s.port s.class f
@@ -106,7 +106,7 @@ pub record IsLimitedTiming {A : Type 0} (p : Plan A) (index : ℕ) (r : LimitedR
   pub phases : x.timing.phases ≡ None
   pub passes : x.passes ≡ (admits_row p r (lookup (nat_eq r.filter) p.filters) && not (is_lossy s.room s.capacity))
 
--- Holds if `xs` has the delays of a row, one for each shared queue that its filter can reach, in order.
+-- Holds if `xs` has the delays of row `r`, one item for each shared queue that frames of its filter can enter, in order.
 abbrev pub AreLimitedTimings : {A : Type 0} → Plan A → ℕ → LimitedRow → List SharedQueue → List QueueTiming → Type 0
 AreLimitedTimings p index r [] xs = xs ≡ []
 AreLimitedTimings p index r (s ∷ ss) xs =

@@ -27,13 +27,13 @@ use Rattle.net_latency.specs.Ways.{RouteHop, hop_end, last_hop}
 
 -- ARRIVALS OF THE STREAM
 
--- Holds if the filter's frames that arrive at the bridge of the route hop `leg` keep the traffic.
+-- Holds if the frames of the filter of route hop `leg` that arrive at its bridge keep the traffic.
 abbrev pub KeepsTrafficAtHop : {A : Type 0} → (ℕ → List Input) → Traffic → RouteHop A → Type 0
 KeepsTrafficAtHop inputs t leg =
     (f : FilterPlan) → lookup (nat_eq leg.filter) leg.plan.filters ≡ Some f
     → KeepsTraffic t (own_events leg.plan leg.filter f (input_events (inputs leg.bridge)))
 
--- Holds if input `x` is a copy from the queue of `leg`, `delay` ns after its end of transmission.
+-- Holds if input `x` at port `port` is a copy from the queue of `leg`, `delay` ns after its end of transmission.
 pub record IsForwardedCopy {A : Type 0} (lists : ℕ → ℕ → List (Copy CarriedFrame)) (leg : RouteHop A) (port delay : ℕ) (x : Input) : Type 0 where
   pub copy : Copy CarriedFrame
   pub start : ℕ
@@ -69,7 +69,7 @@ AreFedInTurn n inputs lists leg (x ∷ more) = IsFedByHop n inputs lists leg x.1
 
 -- DELAYS AND PHASES OF A ROUTE
 
--- Holds if `x` has the delays in the queue of `leg` for arrival `a`, with the phases `done`.
+-- Holds if `x` has the delays in the queue of `leg` for frames that arrive as `a` says, and `done` its phases.
 pub record HasHopTiming {A : Type 0} (leg : RouteHop A) (a : HopArrival) (x : Timing) (done : Phases) : Type 0 where
   pub timing : IsTiming leg.plan leg.filter leg.port leg.copy.class a.traffic x
   pub phases : x.phases ≡ Some done
@@ -94,11 +94,11 @@ pub record IsWithinRouteLatency (period at end : ℕ) (r : StreamLatency) (done 
 
 -- A ROUTE OF A STREAM
 
--- The route hop as a hop of `net_model`.
+-- The hop of `net_model` with the bridge and the filter of route hop `leg`.
 abbrev pub stream_hop : {A : Type 0} → RouteHop A → StreamHop
 stream_hop leg = record { bridge = leg.bridge; filter = leg.filter }
 
--- The route hop as a reachable queue of a stream.
+-- The reachable queue of a stream in which route hop `leg` has its copy.
 abbrev pub queue_of_route_hop : {A : Type 0} → RouteHop A → HopQueue
 queue_of_route_hop leg = record { hop = stream_hop leg; port = leg.port; class = leg.copy.class }
 

@@ -8,11 +8,11 @@ use Rattle.bridge_groups.specs.GroupRows.{AreSharedQueues}
 use Rattle.net_latency.specs.Bounds.{AreTightBounds}
 use Rattle.net_latency.specs.SharedLines.{shared_text}
 
--- The mark ` coarse` of a bound that allows for any arrival time, or nothing.
+-- The mark ` coarse` of a bound that allows for any arrival time; empty for other bounds.
 abbrev pub coarse_mark : Bool → List ℕ
 coarse_mark coarse = if coarse then codes " coarse" else []
 
--- The bound for frames of at least 60 octets, such as ` padded 1283`, or nothing.
+-- The bound for frames of at least 60 octets, such as ` padded 1283`; empty without this bound.
 abbrev pub padded_figure : Option ℕ → List ℕ
 padded_figure None = []
 padded_figure (Some b) = codes " padded " ++ decimal b

@@ -63,7 +63,8 @@ latency_at_last_queue from a x done passes = record {
 abbrev pub whole_periods : ℕ → ℕ → ℕ
 whole_periods period phase = phase - phase % period
 
--- The arrival over a link: phases `delay` ns after the ends of transmission, counted from the start of their period.
+-- The arrival at the next hop over a link. Its phases lie `delay` ns after the phases `done`, counted from the start of the first one's
+-- period.
 abbrev pub arrival_over_link : HopArrival → Timing → Phases → ℕ → Bool → HopArrival
 arrival_over_link a x done delay passes = record {
   traffic = record {
@@ -79,16 +80,16 @@ arrival_over_link a x done delay passes = record {
   passes = a.passes && passes;
 }
 
--- True if the phases of arrival lie in one period.
+-- True if the traffic's phases are ordered and lie in one period.
 abbrev pub is_in_one_period : Traffic → Bool
 is_in_one_period t = nat_le t.from t.to && nat_lt t.to t.period
 
--- The arrival over a link if its phases lie in one period, otherwise `None`.
+-- The arrival at the next hop over a link of `delay` ns if its phases lie in one period, otherwise `None`.
 abbrev pub next_hop_arrival : HopArrival → Timing → Phases → ℕ → Bool → Option HopArrival
 next_hop_arrival a x done delay passes =
     if is_in_one_period (arrival_over_link a x done delay passes).traffic then Some (arrival_over_link a x done delay passes) else None
 
--- The next step of frames to a hop, or `None` if their arrival there is unknown.
+-- The next step of frames to hop `h`, or `None` if their arrival there is unknown.
 abbrev pub exit_to_hop : StreamHop → Option HopArrival → Option QueueExit
 exit_to_hop h None = None
 exit_to_hop h (Some a) = Some (stop.Next h a)
@@ -98,24 +99,25 @@ abbrev pub exit_over_link : ℕ → HopArrival → Timing → Phases → Bool �
 exit_over_link from a x done passes None = Some (stop.Last (latency_at_last_queue from a x done passes))
 exit_over_link from a x done passes (Some o) = exit_to_hop o.hop (next_hop_arrival a x done o.delay passes)
 
--- The next step of frames; `None` if their phases are unknown.
+-- The next step of frames that leave a queue; `None` if their phases are unknown.
 abbrev pub exit_by_phases : ℕ → HopArrival → Timing → Option Phases → Bool → Option NextHop → Option QueueExit
 exit_by_phases from a x None passes o = None
 exit_by_phases from a x (Some done) passes o = exit_over_link from a x done passes o
 
--- The next step of frames with these delays at a queue.
+-- The next step of frames with arrival `a` at queue `x`, by their optional delays there; `None` without delays.
 abbrev pub exit_by_timing : {A : Type 0} → StreamModel A → HopQueue → HopArrival → Bool → Option Timing → Option QueueExit
 exit_by_timing n x a passes None = None
 exit_by_timing n x a passes (Some t) = exit_by_phases n.from a t t.phases passes (next_hop n.links n.hops x.hop.bridge x.port)
 
--- Holds if `s` is the next step of frames at a queue of the bridge with the optional plan.
+-- Holds if `s` is the next step of frames with arrival `a` at queue `x`. The optional plan is the plan of its bridge; without a plan there
+-- is no step.
 abbrev pub IsQueueExitOfPlan : {A : Type 0} → Option (Plan A) → StreamModel A → HopQueue → HopArrival → Bool → Option QueueExit → Type 0
 IsQueueExitOfPlan None n x a passes s = s ≡ None
 IsQueueExitOfPlan (Some p) n x a passes s =
     (t : Option Timing) × MatchOption t (HasNoBound p x.hop.filter x.port x.class) (IsTiming p x.hop.filter x.port x.class a.traffic)
     × (s ≡ exit_by_timing n x a passes t)
 
--- Holds if `s` is the next step of frames with arrival `a` at a queue.
+-- Holds if `s` is the next step of frames with arrival `a` at queue `x` of the stream.
 abbrev pub IsQueueExit : {A : Type 0} → StreamModel A → HopQueue → HopArrival → Bool → Option QueueExit → Type 0
 IsQueueExit n x a passes s = IsQueueExitOfPlan (slice_get n.plans x.hop.bridge) n x a passes s
 
@@ -139,14 +141,14 @@ combine a b = record {
   phases = both_phases a.phases b.phases;
 }
 
--- Holds if delays and phases `x` lie within `y`.
+-- Holds if the delays and phases `x` lie within the delays and phases `y`.
 pub record IsLatencyWithinOther (x y : StreamLatency) : Type 0 where
   pub worst : x.worst ≤ y.worst
   pub best : y.best ≤ x.best
   pub from : y.phases.from ≤ x.phases.from
   pub to : x.phases.to ≤ y.phases.to
 
--- The delays of two routes together, if both are known.
+-- The delays that hold for two routes, if both routes' delays are known.
 abbrev pub combine_if_both : Option StreamLatency → Option StreamLatency → Option StreamLatency
 combine_if_both None b = None
 combine_if_both (Some a) None = None
@@ -162,7 +164,7 @@ abbrev pub known_latency : CombinedLatency → Option StreamLatency
 known_latency gathered.NoQueue = None
 known_latency (gathered.Latency x) = x
 
--- The delays of all queues, if there is a queue and all are known.
+-- The delays that hold for all queues, if there is a queue and all delays are known.
 abbrev pub combine_all : List (Option StreamLatency) → Option StreamLatency
 combine_all rs = known_latency (fold add_latency gathered.NoQueue rs)
 
@@ -182,7 +184,7 @@ IsLatencyAfterExit T None r = r ≡ None
 IsLatencyAfterExit T (Some (stop.Last x)) r = r ≡ Some x
 IsLatencyAfterExit T (Some (stop.Next h a)) r = T h a r
 
--- Holds if `r` has the delays of the routes from a queue on.
+-- Holds if `r` has the delays of the routes from queue `x` on; `T` gives the delays from the next hop on.
 abbrev pub IsQueueLatency : {A : Type 0} → (StreamHop → HopArrival → Option StreamLatency → Type 0) → StreamModel A → HopArrival → Bool → HopQueue → Option StreamLatency → Type 0
 IsQueueLatency T n a passes x r = (s : Option QueueExit) × IsQueueExit n x a passes s × IsLatencyAfterExit T s r
 
@@ -192,7 +194,7 @@ abbrev pub AddsQueueLatency : {A : Type 0} → (StreamHop → HopArrival → Opt
 AddsQueueLatency T n h a passes x before after =
     IfElse (is_queue_of_hop h x) ((r : Option StreamLatency) × IsQueueLatency T n a passes x r × (after ≡ add_latency before r)) (after ≡ before)
 
--- Holds if `r` has the delays of all queues of a hop together.
+-- Holds if `r` has the delays that hold for all queues of hop `h`; `T` gives the delays from the next hop on.
 pub record IsHopLatencyByQueues {A : Type 0} (T : StreamHop → HopArrival → Option StreamLatency → Type 0) (n : StreamModel A) (h : StreamHop) (a : HopArrival) (r : Option StreamLatency) : Type 0 where
   pub passes : Bool
   pub is_passing : (passes ≡ true) ↔ HopPasses (slice_get n.plans h.bridge) h.filter a.traffic
@@ -200,22 +202,22 @@ pub record IsHopLatencyByQueues {A : Type 0} (T : StreamHop → HopArrival → O
   pub each : Pairwise (IsQueueLatency T n a passes) (filter (is_queue_of_hop h) n.queues) figures
   pub all : r ≡ combine_all figures
 
--- Holds if `r` has the delays of all routes from a hop on, through at most a given number of hops.
+-- Holds if `r` has the delays of all routes from hop `h` on, through at most the given number of hops. They are unknown for the number 0.
 abbrev pub IsHopLatency : {A : Type 0} → StreamModel A → ℕ → StreamHop → HopArrival → Option StreamLatency → Type 0
 IsHopLatency n zero h a r = r ≡ None
 IsHopLatency n (suc k) h a r = IsHopLatencyByQueues (IsHopLatency n k) n h a r
 
--- The arrival of a talker's frames at the first hop.
+-- The arrival of a talker's frames at the first hop: no delay yet, and all frames passed.
 abbrev pub first_hop_arrival : Traffic → HopArrival
 first_hop_arrival t = record { traffic = t; later = 0; worst = 0; best = 0; passes = true }
 
--- Holds if `r` has the delays of all routes from the first hop. They are unknown if the hops are no tree.
+-- Holds if `r` has the delays of all routes from the optional first hop. They are unknown without a first hop, or if the hops are no tree.
 abbrev pub IsStreamLatencyFromHop : {A : Type 0} → StreamModel A → Traffic → Option StreamHop → Option StreamLatency → Type 0
 IsStreamLatencyFromHop n t None r = r ≡ None
 IsStreamLatencyFromHop n t (Some first) r =
     IfElse (is_tree n.links n.hops n.queues first) (IsHopLatency n (length n.hops) first (first_hop_arrival t) r) (r ≡ None)
 
--- Holds if `r` has the delays of a stream with a periodic talker.
+-- Holds if `r` has the delays of all routes of a stream with a periodic talker.
 abbrev pub IsStreamLatency : {A : Type 0} → List (Plan A) → List Link → List StreamHop → List HopQueue → Traffic → Option StreamLatency → Type 0
 IsStreamLatency plans links hops queues t r =
     IsStreamLatencyFromHop (record { plans = plans; links = links; hops = hops; queues = queues; from = t.from }) t (slice_get hops 0) r

@@ -24,7 +24,8 @@ use Rattle.net_latency.specs.Traffic.{AreRowTimings, row_fault, row_figures, row
 
 -- FAULTS
 
--- The fault of a row with a limit compared with the plan: the filter is missing, or belongs to no group.
+-- The fault of row `index`, which has a limit, compared with the plan: its optional filter is missing or belongs to no group. Otherwise
+-- `None`.
 abbrev pub group_fault : ℕ → Option FilterPlan → Option TrafficFault
 group_fault index None = Some (fault.Text (net.Unresolved (row_key index field.Filter)))
 group_fault index (Some f) = if is_some f.group then None else Some (fault.NotGrouped index)

@@ -33,12 +33,12 @@ abbrev pub suits_hop : {A : Type 0} → Option (Plan A) → ℕ → ℕ → Bool
 suits_hop None n period = true
 suits_hop (Some p) n period = suits_filter p period (lookup (nat_eq n) p.filters)
 
--- True if the period of an optional talker suits each hop of its stream.
+-- True if the period of an optional talker suits each hop of its stream. True without a talker.
 abbrev pub suits_hops : {A : Type 0} → List (Plan A) → Option Talker → List (ℕ × ℕ) → Bool
 suits_hops plans None hops = true
 suits_hops plans (Some t) hops = list_all (λ (h : ℕ × ℕ). suits_hop (slice_get plans h.0) h.1 t.period) hops
 
--- The fault of the first stream, counted from `index`, whose period doesn't suit a hop, or `None`.
+-- The fault of the first stream whose period doesn't suit a hop, or `None`. The first stream has number `index`.
 abbrev pub first_misfit : {A : Type 0} → List (Plan A) → ℕ → List Stream → Option NetFault
 first_misfit plans index [] = None
 first_misfit plans index (s ∷ ss) =
@@ -71,7 +71,7 @@ queues_of_hop bounds h = filter_queues (bounds_if_any (slice_get bounds h.bridge
 abbrev pub hop_queues : {A : Type 0} → List (Vec QueueBound A) → List StreamHop → List HopQueue
 hop_queues bounds hops = flat_map (queues_of_hop bounds) hops
 
--- Holds if `r` has the delays of a stream's frames; `None` without a periodic talker.
+-- Holds if `r` has the delays of the frames of a stream with an optional periodic talker; `None` without a talker.
 abbrev pub IsTalkerLatency : {A : Type 0} → List (Plan A) → List Link → List (Vec QueueBound A) → Option Talker → List StreamHop → Option StreamLatency → Type 0
 IsTalkerLatency plans links bounds None hops r = r ≡ None
 IsTalkerLatency plans links bounds (Some t) hops r = IsStreamCourse plans links hops (hop_queues bounds hops) (talker_traffic t) r

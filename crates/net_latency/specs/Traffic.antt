@@ -131,7 +131,7 @@ abbrev pub IfElse : Bool → Type 0 → Type 0 → Type 0
 IfElse true A B = A
 IfElse false A B = B
 
--- Holds if `xs` has the delays of a row, one for each queue of its filter, in order.
+-- Holds if `xs` has the delays of row `r`, one item for each bound of its filter's queues, in order.
 abbrev pub AreRowTimings : {A : Type 0} → Plan A → ℕ → TrafficRow → List QueueBound → List QueueTiming → Type 0
 AreRowTimings p index r [] xs = xs ≡ []
 AreRowTimings p index r (b ∷ bs) xs =

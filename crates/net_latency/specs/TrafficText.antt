@@ -19,7 +19,7 @@ use Rattle.net_latency.specs.Printing.{AreBoundLines}
 use Rattle.net_latency.specs.TalkerRows.{AreTimings, first_row_fault}
 use Rattle.net_latency.specs.Traffic.{are_in_time, is_met}
 
--- The word for frames that all pass or may be refused.
+-- The word for a row's frames in a queue: `passes` if each frame passes, otherwise `refusable`.
 abbrev pub passing_word : Bool → List ℕ
 passing_word true = codes "passes"
 passing_word false = codes "refusable"
@@ -71,8 +71,7 @@ timings_text xs = flat_map figures_line xs
 
 -- THE COMMAND `bounds --traffic`
 
--- Holds if a file with the octets `words` has these rows. At most 1,048,577 octets are read, because a longer file is
--- refused.
+-- Holds if the first 1,048,577 octets of a file with the octets `words` have these rows. Longer files are refused.
 abbrev pub ReadsRows : List ℕ → List TalkerRow → Type 0
 ReadsRows words rows = rows_of_text (take 1048577 words) ≡ Ok rows
 
@@ -94,17 +93,17 @@ pub record PrintsTraffic (A : Type 0) (input words lines : List ℕ) (kept : Boo
   pub reads : ReadsRows words rows
   pub are_lines : AreLinesOfTraffic plan rows lines kept
 
--- Holds if the program's fault has the line of this traffic fault, or memory ran out.
+-- Holds if the program's fault is `NoMemory`, or has the fault line of traffic fault `e`.
 abbrev pub IsTrafficFailure : TrafficFault → Failure → Type 0
 IsTrafficFailure e (fault.Network line) = string_bytes line ≡ traffic_line e
 IsTrafficFailure e fault.NoMemory = Unit {0}
 IsTrafficFailure e f = ⊥
 
--- Holds if fault `f` is a reason to read no rows from the file `words`: its contents are refused, or memory ran out.
+-- Holds if fault `f` is a reason to read no rows from the file `words`: `NoMemory`, or the fault of its contents.
 abbrev pub RefusesRows : List ℕ → Failure → Type 0
 RefusesRows words f = (f ≡ fault.NoMemory) ⊎ ((e : NetFault) × (rows_of_text (take 1048577 words) ≡ Err e) × IsTrafficFailure (text.Text e) f)
 
--- Holds if fault `f` is a reason to print no delays of these rows: one doesn't suit the plan, or memory ran out.
+-- Holds if fault `f` is a reason to print no delays of these rows: `NoMemory`, or the first row that doesn't suit the plan.
 abbrev pub RefusesTimings : {A : Type 0} → Plan A → List TalkerRow → Failure → Type 0
 RefusesTimings p rows f = (f ≡ fault.NoMemory) ⊎ ((e : TrafficFault) × (first_row_fault p 1 rows ≡ Some e) × IsTrafficFailure e f)
 
@@ -115,13 +114,13 @@ EndsRows p file words f =
     ⊎ (RefusesRows words f
     ⊎ ((rows : List TalkerRow) × ReadsRows words rows × RefusesTimings p rows f))
 
--- Holds if fault `f` ends the command. It is a fault of the plan, or a fault of the traffic for an accepted plan.
+-- Holds if fault `f` ends `bounds --traffic`: a fault of the plan file, or of the traffic file for an accepted plan.
 abbrev pub EndsTraffic : (A : Type 0) → List ℕ → List ℕ → List ℕ → List ℕ → Failure → Type 0
 EndsTraffic A path input file words f = EndsCheck A path input f ⊎ ((plan : Plan A) × Accepts input plan × EndsRows plan file words f)
 
 -- THE TEXTS THAT WERE READ
 
--- Holds if `lines` and `kept` are the output for the plan of `input` and the traffic of `words`, which was read whole.
+-- Holds if `lines` and `kept` are the output for the plan file `input` and a traffic file whose whole text is `words`.
 pub record PrintsRows (A : Type 0) (input words lines : List ℕ) (kept : Bool) : Type 0 where
   pub plan : Plan A
   pub accepts : Accepts input plan
@@ -129,7 +128,7 @@ pub record PrintsRows (A : Type 0) (input words lines : List ℕ) (kept : Bool) 
   pub reads : rows_of_text words ≡ Ok rows
   pub are_lines : AreLinesOfTraffic plan rows lines kept
 
--- Holds if the fault `f` says why the traffic of the text `words` gives no rows, or memory ran out.
+-- Holds if fault `f` is `NoMemory`, or says why the traffic text `words` gives no rows.
 abbrev pub RefusesWords : List ℕ → Failure → Type 0
 RefusesWords words f = (f ≡ fault.NoMemory) ⊎ ((e : NetFault) × (rows_of_text words ≡ Err e) × IsTrafficFailure (text.Text e) f)
 
@@ -140,6 +139,6 @@ EndsWords p file words f =
     ⊎ (RefusesWords words f
     ⊎ ((rows : List TalkerRow) × (rows_of_text words ≡ Ok rows) × RefusesTimings p rows f))
 
--- Holds if fault `f` ends the command. It is a fault of the plan, or a fault of the traffic for an accepted plan.
+-- Holds if fault `f` ends `bounds --traffic` over traffic text `words`: a fault of the plan file, or of the traffic for an accepted plan.
 abbrev pub EndsTexts : (A : Type 0) → List ℕ → List ℕ → List ℕ → List ℕ → Failure → Type 0
 EndsTexts A path input file words f = EndsCheck A path input f ⊎ ((plan : Plan A) × Accepts input plan × EndsWords plan file words f)

@@ -26,15 +26,15 @@ abbrev pub has_filter : StreamHop → Option StreamHop → Bool
 has_filter h None = false
 has_filter h (Some g) = nat_eq g.filter h.filter
 
--- True if the first of these hops at the bridge of `h` has the filter of `h`.
+-- True if the first of `hops` at the bridge of hop `h` has the filter of `h`.
 abbrev pub is_first_at_bridge : List StreamHop → StreamHop → Bool
 is_first_at_bridge hops h = has_filter h (hop_at_bridge hops h.bridge)
 
--- True if each hop is the first at its bridge.
+-- True if each hop is the first at its bridge, so that no bridge has two hops.
 abbrev pub have_distinct_bridges : List StreamHop → Bool
 have_distinct_bridges hops = list_all (is_first_at_bridge hops) hops
 
--- True if at most one queue leads to each hop.
+-- True if at most one of the queues leads to the bridge of each hop.
 abbrev pub have_single_feeders : List Link → List StreamHop → List HopQueue → Bool
 have_single_feeders links hops queues = list_all (λ (h : StreamHop). nat_le (count_feeders links queues h.bridge) 1) hops
 

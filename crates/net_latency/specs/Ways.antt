@@ -34,7 +34,7 @@ pub record IsRouteHop {A : Type 0} (n : Network A) (lists : ℕ → ℕ → List
   pub started : leg.copy.fate ≡ Started leg.start
   pub bound : IsQueueBound leg.plan leg.filter leg.port leg.copy.class leg.bound
 
--- Holds if the frame arrives at the next hop over a link, `delay` ns after its end of transmission at `leg`.
+-- Holds if the copy of `next` arrives over a link, `delay` ns after the end of transmission of the copy of `leg`.
 pub record IsNextHop {A : Type 0} (n : Network A) (leg next : RouteHop A) (delay : ℕ) : Type 0 where
   pub port : ℕ
   pub linked : sender n.links next.bridge port ≡ Some (record { from = record { bridge = leg.bridge; port = leg.port }; delay = delay })

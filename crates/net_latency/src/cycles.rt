@@ -1,4 +1,4 @@
-//! Explanations of refused traffic rows and of periods that aren't multiples of the cycles in the plans. They list filters or cycle times,
+//! Explanations of refused traffic rows, and of periods that aren't multiples of the plans' cycle times. They list filters or cycle times,
 //! and a remedy.
 
 use crate::hop_faults::{put_grouped, put_protected};
@@ -21,7 +21,7 @@ use std::fs;
 use std::rt::Files;
 use toml::Table;
 
-/// A traffic file that was read again for an explanation, and the path of its plan.
+/// A traffic file that was read again for an explanation, and the path of its plan. The functions below take it as `asked`.
 #[derive(Clone, Copy)]
 struct TrafficText<'a> {
     /// Path of the traffic file.
@@ -32,8 +32,8 @@ struct TrafficText<'a> {
     plan: &'a str,
 }
 
-/// Explains why a row of the traffic file doesn't suit the plan, for `--explain`. Reads both files again. Returns `None` if a file can't be
-/// read or memory runs out.
+/// Explains why a row of the traffic file doesn't suit the plan, for `--explain`. Reads both files again. Returns `None` if this fails or
+/// memory runs out.
 pub fn explain_traffic<H: AllocGlobal + Files>(
     rt: &H,
     plan: &str,
@@ -59,7 +59,7 @@ pub fn explain_traffic<H: AllocGlobal + Files>(
     said
 }
 
-/// Bundles the traffic file and the path of its plan in one value.
+/// Returns the traffic file (`path`, `text`, `table`) and the path of its plan in one value.
 fn traffic_text<'a>(
     plan: &'a str,
     path: &'a str,
@@ -74,7 +74,7 @@ fn traffic_text<'a>(
     }
 }
 
-/// Appends the path of the traffic file and the position of the key `field` in row `index`, counted from 1.
+/// Appends the path of the traffic file, and the position of the key `field` in row `index`, from 1.
 fn put_place(said: &mut TextBuilder<Global>, asked: TrafficText<'_>, index: u32, field: NetField) {
     let row = Instance {
         document: asked.document,
@@ -85,7 +85,8 @@ fn put_place(said: &mut TextBuilder<Global>, asked: TrafficText<'_>, index: u32,
     put_position(said, row.position(Some(field.key())));
 }
 
-/// Explains the first row that doesn't suit the plan, because only this row is in the fault line. Returns `None` without such a row.
+/// Explains the first row that doesn't suit the plan; only this row is in the fault line. Returns `None` without such a row or without
+/// memory.
 fn explain_rows(
     alloc: Global,
     asked: TrafficText<'_>,
@@ -109,7 +110,8 @@ fn explain_rows(
     None
 }
 
-/// Explains row `index`, with periodic traffic. The fault is its period, or its filter is missing, unprotected or in a group.
+/// Explains the fault of row `index`, with periodic traffic. Its period isn't a multiple of a cycle time, or its filter is missing, grouped
+/// or unprotected.
 fn explain_periodic_row(
     alloc: Global,
     asked: TrafficText<'_>,
@@ -128,7 +130,7 @@ fn explain_periodic_row(
     }
 }
 
-/// Explains a row with periodic traffic whose filter belongs to a group. Names the frame limit that the row can have instead: `frames` and
+/// Explains a row with periodic traffic whose filter belongs to group `group`. Names the limit that the row can have instead: `frames` and
 /// `period`.
 fn explain_grouped_filter(
     alloc: Global,
@@ -153,7 +155,7 @@ fn explain_grouped_filter(
     said.finish().ok()
 }
 
-/// Explains a row with a limit of its frames: its filter is missing, protected, or in no group.
+/// Explains row `index`, with a limit of its frames: its filter `number` is missing, protected, or in no group. Lists the grouped filters.
 fn explain_limited_row(
     alloc: Global,
     asked: TrafficText<'_>,
@@ -187,8 +189,7 @@ fn explain_limited_row(
     said.finish().ok()
 }
 
-/// Explains a row with periodic traffic whose filter is missing or unprotected in the plan. Lists the protected filters. The period of such
-/// a row isn't tested.
+/// Explains row `index`, with periodic traffic: its filter `number` is missing or unprotected. Lists the protected filters.
 fn explain_unusable_filter(
     alloc: Global,
     asked: TrafficText<'_>,
@@ -218,14 +219,14 @@ fn explain_unusable_filter(
     said.finish().ok()
 }
 
-/// Cycle times on a route, and the period that must be a multiple of each.
+/// Cycle times on a route that an explanation has listed so far, and the period that must be a multiple of each.
 #[derive(Clone, Copy)]
 struct Cycles<'a> {
     /// Period of the talker in ns.
     period: u64,
     /// Name of the bridge; empty for a plan without network.
     bridge: &'a str,
-    /// A cycle time in ns that is a multiple of every cycle time so far: 1 before the first one. It is 0 once no cycle time was such a
+    /// A cycle time in ns that is a multiple of every cycle time so far; 1 before the first one. It is 0 once no cycle time was such a
     /// multiple.
     common: u64,
 }
@@ -257,7 +258,7 @@ impl<'a> Cycles<'a> {
         );
     }
 
-    /// Appends the cycle times of the stream gate with this number: none for a fixed gate, two if its list changes.
+    /// Appends the cycle times of stream gate `number`: none for a fixed or missing gate, two if a schedule change replaces its list.
     fn put_gate(&mut self, said: &mut TextBuilder<Global>, plan: &Plan<Global>, number: u32) {
         let Some(gate) = find_gate(plan.gates(), number) else {
             return;
@@ -273,7 +274,7 @@ impl<'a> Cycles<'a> {
         }
     }
 
-    /// Appends the cycle times of the port's gate control lists: none without a list, two if the list changes.
+    /// Appends the cycle times of port `number`: none without a list, two if a schedule change replaces its list.
     fn put_port_cycles(&mut self, said: &mut TextBuilder<Global>, plan: &Plan<Global>, number: u8) {
         let Some(port) = plan.port(number) else {
             return;
@@ -305,8 +306,8 @@ impl<'a> Cycles<'a> {
         }
     }
 
-    /// Appends the cycle times on the route of a filter's frames: its stream gate, then its ports. Appends nothing if the filter is
-    /// missing.
+    /// Appends the cycle times on the route of the frames of filter `number`: its stream gate, then its ports. Appends nothing if the
+    /// filter is missing.
     fn put_route(&mut self, said: &mut TextBuilder<Global>, plan: &Plan<Global>, number: u32) {
         if let Some(filter) = find_filter(plan.filters(), number) {
             self.put_gate(said, plan, filter.gate);
@@ -323,7 +324,7 @@ impl<'a> Cycles<'a> {
     }
 }
 
-/// Explains row `index`, whose period isn't a multiple of each cycle time on its filter's route: lists these cycle times and a remedy.
+/// Explains row `index`, whose period isn't a multiple of each cycle time on its filter's route. Lists these cycle times and a remedy.
 fn explain_row(
     alloc: Global,
     asked: TrafficText<'_>,
@@ -348,7 +349,8 @@ fn explain_row(
     said.finish().ok()
 }
 
-/// Explains why the period of stream `index`, counted from 1, isn't a multiple of each cycle time on its route.
+/// Explains why the period of stream `index`, from 1, isn't a multiple of each cycle time on its route. `explain_plans` of net_check calls
+/// it.
 pub fn explain_period(
     alloc: Global,
     asked: NetworkText<'_>,

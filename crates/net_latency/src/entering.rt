@@ -1,4 +1,5 @@
-//! Two tests of a stream: only frames from the talker's port get the handles of its hops, and each hop's frames get the next hop's filter.
+//! Two tests of a periodic talker's stream. Only frames from the talker's port get the handles of its hops, and each hop's frames get the
+//! next hop's filter.
 ghost use Rattle.std.specs.Prelude.{◌≡◌, ◌≤◌, All, length, slice_get, true};
 ghost use Rattle.net_model.specs.Faults.{is_entry_port};
 ghost use Rattle.bridge_bounds.specs.Traffic.{IsTraffic};
@@ -17,7 +18,8 @@ use net_model::{
 };
 use std::alloc::Allocator;
 
-/// Whether port `on` is open and has a stream entry with this handle. Then devices outside the network can send frames that get the handle.
+/// Returns whether port `on` is open and has a stream entry with this handle. Then devices outside the network can send frames that get the
+/// handle.
 fn enters<A: Allocator + Copy>(
     links: &[Link],
     bridge: u16,
@@ -33,7 +35,7 @@ fn enters<A: Allocator + Copy>(
     has_entry(plan, on.number, handle)
 }
 
-/// Whether a port is the talker's port: the first open port in the plan's order that has a stream entry with this handle.
+/// Returns whether port `port` is the talker's port: the first open port, in the plan's order, that has a stream entry with this handle.
 fn is_talker_port<A: Allocator + Copy>(
     links: &[Link],
     bridge: u16,
@@ -51,8 +53,8 @@ fn is_talker_port<A: Allocator + Copy>(
     false
 }
 
-/// Whether frames of other devices can get the handle at port `on`. The port is open, has an entry, and isn't the talker's port, which only
-/// the first hop has.
+/// Returns whether frames of other devices can get the handle at port `on`. It is open and has an entry, and isn't the first hop's talker
+/// port.
 fn is_other_entry_port<A: Allocator + Copy>(
     links: &[Link],
     is_first: bool,
@@ -69,8 +71,8 @@ fn is_other_entry_port<A: Allocator + Copy>(
     !is_first || !is_talker_port(links, bridge, plan, handle, on.number)
 }
 
-/// Whether frames of other devices than the talker can get the hop's handle at port `on` of its bridge. Explanations and warnings of `net
-/// check` also use it.
+/// Returns whether frames of other devices than the talker can get the hop's handle at port `on` of its bridge. Warnings and explanations
+/// of net_check call it too.
 pub fn can_others_enter<A: Allocator + Copy>(
     links: &[Link],
     is_first: bool,
@@ -87,7 +89,8 @@ pub fn can_others_enter<A: Allocator + Copy>(
     }
 }
 
-/// Whether no port of the hop's bridge lets frames of other devices get the hop's handle. Otherwise delays would depend on these devices.
+/// Returns whether no port of the hop's bridge lets frames of other devices get the hop's handle. Otherwise delays would depend on these
+/// devices.
 fn is_entry_exclusive<A: Allocator + Copy>(
     links: &[Link],
     is_first: bool,
@@ -104,7 +107,8 @@ fn is_entry_exclusive<A: Allocator + Copy>(
     true
 }
 
-/// Whether only the talker's frames can get the handle of a hop from outside the network. Returns true if the hop's bridge is missing.
+/// Returns whether only the talker's frames can get the handle of a hop from outside the network. Returns true if the hop's bridge is
+/// missing.
 fn is_single_entry<A: Allocator + Copy>(
     plans: &[Accepted<A>],
     links: &[Link],
@@ -119,8 +123,8 @@ fn is_single_entry<A: Allocator + Copy>(
     }
 }
 
-/// Whether only the talker's frames can get the handles of the stream's hops from outside the network. Otherwise `checked_stream_latency`
-/// returns `None`.
+/// Returns whether only the talker's frames can get the handles of the stream's hops from outside the network. Otherwise
+/// `checked_stream_latency` returns `None`.
 fn are_single_entries<A: Allocator + Copy>(
     plans: &[Accepted<A>],
     links: &[Link],
@@ -138,7 +142,7 @@ fn are_single_entries<A: Allocator + Copy>(
     true
 }
 
-/// Whether each frame that leaves a queue gets the filter of the stream's next hop. Returns true if no hop follows the queue.
+/// Returns whether each frame that leaves queue `queue` gets the filter of the stream's next hop. True if the queue's port leads to no hop.
 fn is_handed<A: Allocator + Copy>(
     plans: &[Accepted<A>],
     links: &[Link],
@@ -157,7 +161,8 @@ fn is_handed<A: Allocator + Copy>(
     }
 }
 
-/// Whether each frame that leaves a queue of the stream gets the filter of the next hop. Otherwise the stream's line says `refusable`.
+/// Returns whether each frame that leaves a queue of the stream gets the filter of the next hop. Otherwise the stream's line says
+/// `refusable`.
 fn are_handed<A: Allocator + Copy>(
     plans: &[Accepted<A>],
     links: &[Link],
@@ -175,7 +180,7 @@ fn are_handed<A: Allocator + Copy>(
     true
 }
 
-/// Returns the delays `course`, with the flag `passes` cleared if frames of a hop may miss the next hop's filter (`handed` is false).
+/// Returns the delays `course`. Clears their flag `passes` if frames of a hop may miss the next hop's filter (`handed` is false).
 fn handed_course(handed: bool, course: StreamLatency) -> StreamLatency
     ensures { result ≡ spec.handed_course handed course }
 {
@@ -187,8 +192,8 @@ fn handed_course(handed: bool, course: StreamLatency) -> StreamLatency
     }
 }
 
-/// Returns the delays of a stream with a periodic talker, and whether each frame passes. Returns `None` if frames of other devices may get
-/// a hop's handle. Allocates no memory.
+/// Returns the delays of a periodic talker's frames, and whether each frame passes. `None` if other devices' frames may get a hop's handle,
+/// or the delays are unknown.
 pub fn checked_stream_latency<A: Allocator + Copy>(
     plans: &[Accepted<A>],
     links: &[Link],
@@ -207,8 +212,8 @@ pub fn checked_stream_latency<A: Allocator + Copy>(
     tested_course(once, handed, course)
 }
 
-/// Returns the delays `course` of a stream after the two tests. Returns `None` if they are unknown, or other devices' frames can get its
-/// handles (`once` is false).
+/// Returns the delays `course` after both tests. Returns `None` if they are unknown, or other devices' frames can get a handle of the
+/// stream (`once` is false).
 fn tested_course(once: bool, handed: bool, course: Option<StreamLatency>) -> Option<StreamLatency>
     ensures { result ≡ spec.tested_course once handed course }
 {

@@ -23,8 +23,8 @@ struct RefusedHop<'a> {
     bridge: &'a BridgeRow<Global>,
 }
 
-/// Explains why `refused` has a fault at a hop: hop `place` of stream `stream`, both counted from 1. Returns `None` if the hop is missing
-/// or memory runs out.
+/// Explains the fault of `refused` at hop `place` of stream `stream`, both from 1. `explain_refusal` of net_check calls it. `None` if the
+/// hop is missing or memory runs out.
 pub fn explain_hop_fault(
     alloc: Global,
     asked: NetworkText<'_>,
@@ -59,7 +59,7 @@ fn bridge_plan(refused: &RefusedNetwork<Global>, bridge: u16) -> Option<&Accepte
     refused.plans.get(bridge as usize)
 }
 
-/// Returns the name of stream `stream`, counted from 1, or an empty text if the file lacks the stream.
+/// Returns the name of stream `stream`, from 1, or an empty text if the file lacks the stream.
 fn stream_name<'a>(asked: NetworkText<'a>, stream: usize) -> &'a str {
     match asked.file.streams().get(stream.wrapping_sub(1)) {
         Some(row) => row.name(),
@@ -79,7 +79,8 @@ fn put_hop(said: &mut TextBuilder<Global>, asked: NetworkText<'_>, found: Refuse
     );
 }
 
-/// Appends that the hop's filter is missing or unprotected in the plan of its bridge, then the protected filters of this plan and a remedy.
+/// Appends that the hop's filter is missing or unprotected in the plan of its bridge. Then appends the protected filters of this plan and a
+/// remedy.
 fn put_filters(
     alloc: Global,
     said: &mut TextBuilder<Global>,
@@ -147,7 +148,7 @@ pub(crate) fn put_grouped(
     said.put(".\n");
 }
 
-/// Returns the number, from 1, of the first hop in `hops` that equals `hop`, or 0 if none does.
+/// Returns the number, from 1, of the first hop in `hops` with the bridge and filter of `hop`, or 0 if there is none.
 fn hop_index(hops: &[StreamHop], hop: StreamHop) -> u64 {
     let mut place = 0u64;
     for other in hops {
@@ -159,7 +160,7 @@ fn hop_index(hops: &[StreamHop], hop: StreamHop) -> u64 {
     0
 }
 
-/// Appends which earlier hop has the refused hop's bridge and filter: its number, and the name of its stream. Then appends a remedy.
+/// Appends which earlier hop has the refused hop's bridge and filter: its number and its stream. Then appends a remedy.
 fn put_twice(
     said: &mut TextBuilder<Global>,
     asked: NetworkText<'_>,
@@ -203,7 +204,7 @@ fn put_no_entry(
     );
 }
 
-/// Whether a link joins a bridge to the bridge of one of these hops.
+/// Returns whether a link joins a bridge to the bridge of one of these hops.
 fn is_joined(links: &[Link], hops: &[StreamHop], bridge: u16) -> bool {
     for link in links {
         let (one, other) = (link.one.bridge, link.other.bridge);
@@ -216,8 +217,8 @@ fn is_joined(links: &[Link], hops: &[StreamHop], bridge: u16) -> bool {
     false
 }
 
-/// Appends why no frame of another hop in `hops` can reach the refused hop: no link joins their bridges, or the refused hop's filter
-/// accepts no such frame.
+/// Appends why no frame of another hop in `hops` can reach the refused hop. No link joins their bridges, or its filter accepts no such
+/// frame.
 fn put_unfed(
     said: &mut TextBuilder<Global>,
     links: &[Link],

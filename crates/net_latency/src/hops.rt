@@ -6,7 +6,8 @@ use bridge_limits::NoMemory;
 use net_model::StreamHop;
 use std::alloc::Allocator;
 
-/// Converts the hops of a network file to the hops of `net_model`: pairs become values of `StreamHop`.
+/// Returns the hops of a network file's stream as hops of `net_model`: pairs become values of `StreamHop`. Checks and computations of
+/// delays need this form.
 pub fn stream_hops<A: Allocator + Copy>(
     alloc: A,
     rows: &[(u16, u32)],

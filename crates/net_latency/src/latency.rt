@@ -24,7 +24,7 @@ pub struct StreamLatency {
     pub phases: Phases,
 }
 
-/// Delays over the routes from one hop on. `hop_latency` adds the hop's queues one after the other.
+/// Delays over the routes from one hop on. `hop_latency` adds the hop's queues to it, one after the other.
 #[derive(Clone, Copy)]
 pub(crate) enum CombinedLatency {
     /// No queue was added.
@@ -33,7 +33,7 @@ pub(crate) enum CombinedLatency {
     Latency(Option<StreamLatency>),
 }
 
-/// Returns the least range of phases that includes both ranges. `combine` merges the phases of two routes by it.
+/// Returns the least range of phases that includes both ranges. `combine` calls it for two routes.
 fn both_phases(a: Phases, b: Phases) -> Phases
     ensures { result ≡ spec.both_phases a b }
 {
@@ -43,7 +43,7 @@ fn both_phases(a: Phases, b: Phases) -> Phases
     }
 }
 
-/// Returns delays that hold for two routes `a` and `b`: the greater worst and the lesser best delay.
+/// Returns delays that hold for two routes with delays `a` and `b`: the greater worst and the lesser best delay.
 fn combine(a: StreamLatency, b: StreamLatency) -> StreamLatency
     ensures { result ≡ spec.combine a b }
 {
@@ -55,7 +55,7 @@ fn combine(a: StreamLatency, b: StreamLatency) -> StreamLatency
     }
 }
 
-/// Returns delays that hold for two routes, or `None` if the delays of one are unknown.
+/// Returns delays that hold for two routes. Returns `None` if the delays of at least one route are unknown.
 fn combine_if_both(a: Option<StreamLatency>, b: Option<StreamLatency>) -> Option<StreamLatency>
     ensures { result ≡ spec.combine_if_both a b }
 {
@@ -87,7 +87,7 @@ fn known_latency(gathered: CombinedLatency) -> Option<StreamLatency>
     }
 }
 
-/// Whether a queue belongs to a hop. It compares only bridges, because each hop of a tree is at another bridge.
+/// Returns whether a queue belongs to hop `hop`. Compares only bridges: the hops of a tree are at different bridges.
 fn is_queue_of_hop(hop: StreamHop, queue: &HopQueue) -> bool
     ensures { result ≡ spec.is_queue_of_hop hop queue.now }
 {
@@ -118,8 +118,8 @@ fn queue_latency<A: Allocator + Copy>(
     }
 }
 
-/// Returns `gathered` with the delays of `queue` added if the queue belongs to `hop`, otherwise `gathered`. `came` says how frames arrive at
-/// the hop, and `depth` how many more hops are followed. `hop_latency` calls it for each queue.
+/// Returns `gathered`, with the delays of `queue` added if it belongs to `hop`. `depth` is the number of hops that may follow.
+/// `hop_latency` calls it for each queue.
 #[cycle(hop_latency)]
 fn add_queue_latency<A: Allocator + Copy>(
     case: &StreamContext<'_, A>,
@@ -144,8 +144,8 @@ fn add_queue_latency<A: Allocator + Copy>(
     add_latency(gathered, told)
 }
 
-/// Returns the delays over all routes that begin at `hop` and have at most `depth` hops. `depth` ends the recursion. Returns `None` if the
-/// delays are unknown.
+/// Returns the delays over all routes that begin at `hop`, where frames arrive as `came` says, and have at most `depth` hops. `None` if
+/// they are unknown.
 #[cycle(hop_latency)]
 fn hop_latency<A: Allocator + Copy>(
     case: &StreamContext<'_, A>,
@@ -183,8 +183,8 @@ fn first_hop_arrival(traffic: &Traffic) -> HopArrival
     }
 }
 
-/// Returns the delays over all routes of a stream with this periodic talker. Returns `None` if the hops are no tree, a hop has no queue, or
-/// phases are unknown or lie in two periods.
+/// Returns the delays of a periodic talker's frames over all routes. `None` if the hops are no tree, a hop has no queue, or phases are
+/// unknown.
 pub fn stream_latency<A: Allocator + Copy>(
     plans: &[Accepted<A>],
     links: &[Link],

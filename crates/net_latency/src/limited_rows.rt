@@ -1,4 +1,5 @@
-//! Delays of a group's talkers in shared queues, and the test whether their filters' gates and meters admit the talkers.
+//! Delays of a group's talkers in shared queues, and the test whether their filters' gates and meters admit the talkers. `bounds --traffic`
+//! prints them.
 ghost use Rattle.std.specs.Prelude.{◌≡◌, ◌*◌, ◌++◌, ◌∷◌, ◌≤◌, IfOk, List, OnOk, Some, [], nat_eq};
 ghost use Rattle.std.specs.Int.{div_ceil};
 ghost use Rattle.std.specs.Map.{lookup};
@@ -27,7 +28,7 @@ use bridge_meter::UNITS_PER_OCTET;
 use net_file::{FrameLimit, LimitedRow};
 use std::alloc::Allocator;
 
-/// Returns the metered octets of `frames` frames of `longest` octets each: with padding to 60 octets and the check sequence.
+/// Returns the metered octets of `frames` frames of `longest` octets: each is padded to 60 octets and has a check sequence of 4.
 fn metered_frames(frames: u64, longest: u32) -> u64
     requires frames { frames ≤ 1024 }
     requires longest { longest ≤ LONGEST_FRAME }
@@ -37,7 +38,8 @@ fn metered_frames(frames: u64, longest: u32) -> u64
     u64::from(longest.max(60) + 4) * frames
 }
 
-/// Returns the largest burst, in metered octets, of a talker that keeps `limit` with frames of at most `longest` octets.
+/// Returns the largest burst, in metered octets, of a talker that keeps `limit` with frames of at most `longest` octets. Its filter's meter
+/// must pass this burst.
 pub(crate) fn limit_burst(limit: FrameLimit, longest: u32) -> u64
     requires limit { IsFrameLimit limit }
     requires longest { longest ≤ LONGEST_FRAME }
@@ -58,7 +60,8 @@ fn least_rate(octets: u64, period: u64) -> u64
     (octets * UNITS_PER_OCTET as u64).div_ceil(period)
 }
 
-/// Returns the least rate in bit/s that suffices for a talker that keeps `limit` with frames of at most `longest` octets.
+/// Returns the least rate in bit/s that suffices for a talker that keeps `limit` with frames of at most `longest` octets. Its filter's
+/// meter must have this rate.
 pub(crate) fn limit_rate(limit: FrameLimit, longest: u32) -> u64
     requires limit { IsFrameLimit limit }
     requires longest { longest ≤ LONGEST_FRAME }
@@ -70,7 +73,7 @@ pub(crate) fn limit_rate(limit: FrameLimit, longest: u32) -> u64
     }
 }
 
-/// Whether a filter passes each frame of a row's talker, by the filter's gate, SDU limit and meter.
+/// Returns whether a filter passes each frame of a row's talker, by the filter's gate, SDU limit and meter.
 fn admits_row<A: Allocator + Copy>(plan: &Plan<A>, row: &LimitedRow, filter: &FilterPlan) -> bool
     requires row { IsLimitedRow row.now }
     ensures { result ≡ spec.admits_row plan.now row.now (Some filter.now) }
@@ -81,7 +84,7 @@ fn admits_row<A: Allocator + Copy>(plan: &Plan<A>, row: &LimitedRow, filter: &Fi
     admits_talker(plan, filter, most, burst, rate)
 }
 
-/// Whether a filter is in the group of a shared queue, and can reach this queue. `reach` is the filter's reach.
+/// Returns whether a filter is in the group of a shared queue, and its frames can enter this queue. `reach` is the filter's reach.
 fn shares_queue<A: Allocator + Copy>(
     plan: &Plan<A>,
     shared: &SharedQueue,
@@ -115,7 +118,7 @@ struct TestedRow {
     admits: bool,
 }
 
-/// Appends to `made` the delays of a row in a shared queue, if its filter can reach the queue.
+/// Appends the delays of a tested row in a shared queue to `made`, if frames of the row's filter can enter the queue.
 fn push_limited_timing<A: Allocator + Copy>(
     accepted: &Accepted<A>,
     shared: &SharedQueue,
@@ -153,7 +156,7 @@ fn push_limited_timing<A: Allocator + Copy>(
     Ok(())
 }
 
-/// Returns the delays of a tested row, one for each shared queue that its filter can reach.
+/// Returns the delays of a tested row, one item for each shared queue that frames of its filter can enter.
 fn tested_timings<A: Allocator + Copy>(
     alloc: A,
     accepted: &Accepted<A>,
@@ -175,8 +178,8 @@ fn tested_timings<A: Allocator + Copy>(
     Ok(made)
 }
 
-/// Returns the delays of row `index`, one for each shared queue that its filter can reach. Returns an empty list if the plan lacks the
-/// filter.
+/// Returns the delays of row `index`, one item for each shared queue that frames of its filter can enter. Returns an empty list if the plan
+/// lacks the filter.
 #[tactic(auto, using(crate::proofs::LimitedRows::limited_none))]
 pub(crate) fn limited_timings<A: Allocator + Copy>(
     alloc: A,

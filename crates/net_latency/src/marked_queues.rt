@@ -1,4 +1,4 @@
-//! Warnings about queues that groups share: queues that may drop copies as full, and queues that only their capacity bounds.
+//! Warnings of `bounds` about queues that groups share: queues that may drop copies as full, and queues that only their capacity bounds.
 ghost use Rattle.std.specs.Prelude.{◌≡◌, ◌++◌, IfOk, OnOk, string_bytes};
 ghost use Rattle.net_latency.specs.SharedWarnings.{AreSharedWarnings, lossy_warning, shared_warning, shared_warnings, unmetered_warning};
 
@@ -56,7 +56,7 @@ fn push_lossy_warning<A: Allocator + Copy>(
     }
 }
 
-/// Appends the warning of a shared queue. Appends nothing for a queue without a mark.
+/// Appends the warning about a shared queue, at most one. Appends nothing for a queue without a mark.
 fn push_shared_warning<A: Allocator + Copy>(
     text: &mut String<A>,
     row: &SharedQueue,
@@ -85,8 +85,8 @@ fn rows_warnings<A: Allocator + Copy>(alloc: A, rows: &[SharedQueue]) -> Result<
     Ok(text)
 }
 
-/// Returns one warning for each shared queue of an accepted plan that may drop copies as full, or that only its capacity bounds. Returns
-/// the empty text if there is none.
+/// Returns one warning for each shared queue of an accepted plan that may drop copies as full, or that only its capacity bounds. Empty
+/// without such a queue.
 pub fn shared_warnings<A: Allocator + Copy>(
     alloc: A,
     accepted: &Accepted<A>,

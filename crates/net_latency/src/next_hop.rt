@@ -1,4 +1,4 @@
-//! Search for the other end of a port's link, and for the hop of a stream there.
+//! Search for the other end of a port's link, and for the hop of a stream there. Delays follow a stream's route by it.
 ghost use Rattle.std.specs.Prelude.{◌≡◌, map, option_map};
 ghost use Rattle.net_model.specs.Networks.{sender};
 ghost use Rattle.net_model.specs.NetworkParts.{link_value};
@@ -15,7 +15,7 @@ pub(crate) struct FarEnd {
     pub delay: u64,
 }
 
-/// Next hop on a frame's route, and the delay of the link that leads there.
+/// Next hop on the route of a stream's frames, and the delay of the link that leads there.
 #[derive(Clone, Copy)]
 pub(crate) struct NextHop {
     /// Hop of the stream.
@@ -24,7 +24,7 @@ pub(crate) struct NextHop {
     pub delay: u64,
 }
 
-/// Returns the other end of the port's first link. Returns `None` for an open port.
+/// Returns the other end of the link of port `port`, with the link's delay. Returns `None` for an open port.
 pub(crate) fn far_end(links: &[Link], bridge: u16, port: u8) -> Option<FarEnd>
     ensures { option_map sender_of_far_end result ≡ sender (map link_value links.now) bridge port }
 {

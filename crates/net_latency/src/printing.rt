@@ -19,7 +19,7 @@ fn coarse_mark(coarse: bool) -> &'static str
     if coarse { " coarse" } else { "" }
 }
 
-/// Appends the bound for frames of at least 60 octets, or nothing.
+/// Appends the bound for frames of at least 60 octets, or nothing if there is no such bound.
 fn push_padded_figure<A: Allocator + Copy>(
     text: &mut String<A>,
     padded: Option<u64>,
@@ -57,7 +57,7 @@ fn push_bound_line<A: Allocator + Copy>(
     text.push_str("\n")
 }
 
-/// Returns one line for each delay bound, in the order of `rows`.
+/// Returns one line for each delay bound, in the order of `rows`. `bound_lines` calls it.
 pub fn bounds_text<A: Allocator + Copy>(
     alloc: A,
     rows: &[TightBound],
@@ -96,8 +96,8 @@ pub(crate) fn bound_lines<A: Allocator + Copy>(
     Ok(text)
 }
 
-/// Returns the output of `bounds` for a plan: a line for each reachable queue of protected filters, and for each shared queue. Reads at
-/// most 1,048,577 octets. Faults are the faults of a plan's check.
+/// Returns the output of `bounds`: a line for each reachable queue of protected filters, and for each shared queue. Its faults are those of
+/// `check`.
 pub fn bounds_job<R: Read + Drop, A: Allocator + Copy>(
     alloc: A,
     heap: Global,

@@ -12,7 +12,8 @@ use bridge_check::Accepted;
 use net_model::{Link, StreamHop};
 use std::alloc::Allocator;
 
-/// Everything that the delays of one stream depend on: plans and links, its hops, their reachable queues, and its talker's first phase.
+/// Everything that the delays of one stream depend on: plans, links, hops, reachable queues (`queues`), and the talker's first phase in ns
+/// (`from`).
 #[derive(Clone, Copy)]
 pub(crate) struct StreamContext<'a, A: Allocator + Copy> {
     pub plans: &'a [Accepted<A>],
@@ -37,10 +38,10 @@ pub struct HopArrival {
     pub passes: bool,
 }
 
-/// Next step of frames that have left a queue. The phases of their arrival decide how long they wait at the next hop.
+/// Next step of frames that have left a queue of a hop: the route ends there, or leads over a link to the next hop.
 #[derive(Clone, Copy)]
 pub(crate) enum QueueExit {
-    /// The queue's port leads to no hop of the stream: the delays of the whole route.
+    /// The queue's port leads to no hop of the stream, so the route ends: the delays of the whole route.
     Last(StreamLatency),
     /// The next hop, and the arrival of the frames there.
     Next(StreamHop, HopArrival),
@@ -56,7 +57,7 @@ fn accepted_plan<'a, A: Allocator + Copy>(
     plans.get(bridge as usize)
 }
 
-/// Whether each frame of the traffic passes the filter of a hop. Returns false if the bridge or the filter is missing.
+/// Returns whether each frame of the traffic passes the filter of a hop. Returns false if the bridge or the filter is missing.
 pub(crate) fn hop_passes<A: Allocator + Copy>(
     plans: &[Accepted<A>],
     hop: StreamHop,
@@ -75,8 +76,8 @@ pub(crate) fn hop_passes<A: Allocator + Copy>(
     }
 }
 
-/// Returns the delays of a route that ends at a queue. Worst: the lesser of summed worst delays and time from the talker's first phase
-/// `from` to the last of `done`. Best: summed best delays.
+/// Returns the delays of a route that ends at a queue. `worst` is the lesser of two limits: summed worst delays, and time from phase `from`
+/// to the last of `done`.
 fn latency_at_last_queue(
     from: u64,
     came: &HopArrival,
@@ -96,7 +97,8 @@ fn latency_at_last_queue(
     }
 }
 
-/// Returns the arrival at the next hop, over a link with a delay of `delay` ns. Returns `None` if the phases of arrival lie in two periods.
+/// Returns the arrival at the next hop over a link of `delay` ns. `x` and `done` are the queue's delays and phases. `None` if phases of
+/// arrival lie in two periods.
 fn next_hop_arrival(
     came: &HopArrival,
     x: &Timing,
@@ -134,8 +136,8 @@ fn next_hop_arrival(
     })
 }
 
-/// Returns the next step of frames that leave a queue between the phases `done`. If `onward` is `None`, the route ends at this queue.
-/// Returns `None` if the phases of arrival lie in two periods.
+/// Returns the next step of frames that leave a queue in the phases `done`. `onward` is the next hop; `None` ends the route. `None` if
+/// phases lie in two periods.
 fn exit_over_link(
     from: u64,
     came: &HopArrival,
@@ -158,8 +160,8 @@ fn exit_over_link(
     }
 }
 
-/// Returns the next step of frames with arrival `came` at the queue's hop. Returns `None` if the bridge is missing, or phases are unknown
-/// or lie in two periods.
+/// Returns the next step of frames that leave `queue`; `came` is their arrival at its hop. `None` if phases are unknown or lie in two
+/// periods, or the bridge is missing.
 pub(crate) fn queue_exit<A: Allocator + Copy>(
     case: &StreamContext<'_, A>,
     queue: &HopQueue,

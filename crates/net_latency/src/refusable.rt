@@ -24,8 +24,8 @@ use std::rt::Files;
 /// Octets of a frame check sequence. The lengths in traffic rows don't include it.
 const CHECK_OCTETS: u32 = 4;
 
-/// Explains why frames of a traffic file may be refused, for each queue whose line says `refusable`; reads both files again. Returns `None`
-/// if this fails or memory runs out.
+/// Explains why frames of a traffic file may be refused, for each queue whose line says `refusable`. Reads both files again. Returns `None`
+/// if this fails.
 pub fn explain_refusable<H: AllocGlobal + Files>(
     rt: &H,
     plan: &str,
@@ -66,7 +66,8 @@ fn explain_refusable_rows(
     said.finish().ok()
 }
 
-/// Appends a sentence for each queue in which frames of row `index` may be refused. `timings` has the results of all rows.
+/// Appends a sentence for each queue in which frames of row `index` may be refused. `timings` has the results of all rows, `shared` the
+/// shared queues.
 fn put_row(
     said: &mut TextBuilder<Global>,
     plan: &Plan<Global>,
@@ -86,7 +87,7 @@ fn put_row(
     }
 }
 
-/// Appends a sentence: the traffic row, its filter, the port at which frames may be refused, and the first condition that fails.
+/// Appends a sentence: the traffic row, its filter, the queue's port, and the first condition that fails there.
 fn put_queue(
     said: &mut TextBuilder<Global>,
     plan: &Plan<Global>,
@@ -114,8 +115,8 @@ fn put_queue(
     }
 }
 
-/// Appends the first condition that fails for a talker of a group. It concerns its filter's gate, SDU limit or meter, or the queue's
-/// capacity.
+/// Appends the first condition that fails for a talker of a group. It concerns its filter's gate, SDU limit or meter, or the capacity of
+/// the queue.
 fn put_limited_reason(
     said: &mut TextBuilder<Global>,
     plan: &Plan<Global>,
@@ -144,7 +145,7 @@ fn put_limited_reason(
     }
 }
 
-/// Appends that the SDU of the longest frame is longer than the filter allows.
+/// Appends that the longest frame's SDU has `octets` octets, more than `most`, the filter's `max_sdu`.
 fn put_long(said: &mut TextBuilder<Global>, octets: u32, most: u32) {
     said.put_template(
         "the SDU of its longest frame has {0} octets, and `max_sdu` is {1}.",
@@ -153,8 +154,8 @@ fn put_long(said: &mut TextBuilder<Global>, octets: u32, most: u32) {
     );
 }
 
-/// Appends that the filter's meter has too small a burst size or rate for the talker, or is missing. Returns whether it appended a
-/// sentence.
+/// Appends why the filter's meter doesn't suffice for the talker: it is missing, or its burst size or rate is too small. Returns whether it
+/// appended a sentence.
 fn put_lacking_tokens(
     said: &mut TextBuilder<Global>,
     plan: &Plan<Global>,
@@ -191,7 +192,7 @@ fn put_lacking_tokens(
     true
 }
 
-/// Appends that a shared queue has less capacity than suffices, or that no capacity is known to suffice.
+/// Appends that the shared queue's capacity doesn't suffice, or that no capacity is known to suffice, and a remedy.
 fn put_lacking_room(said: &mut TextBuilder<Global>, shared: &[SharedQueue], queue: &QueueTiming) {
     for row in shared {
         if row.port == queue.port && row.class == queue.class {
@@ -217,8 +218,8 @@ fn put_lacking_room(said: &mut TextBuilder<Global>, shared: &[SharedQueue], queu
     }
 }
 
-/// Appends the first condition that fails for periodic traffic at a filter and its queue of class `class`. Explanations of `net check` also
-/// call it, for the hops of streams.
+/// Appends the first condition that fails for periodic traffic at a filter and its queue of class `class`. Explanations of `net check` call
+/// it for hops of streams.
 pub fn put_reason(
     said: &mut TextBuilder<Global>,
     plan: &Plan<Global>,
@@ -274,7 +275,7 @@ fn put_gate(
     put_hint(said, is_shorter_passing(plan, filter, traffic));
 }
 
-/// Whether each frame would pass if it were shorter by a frame check sequence.
+/// Returns whether the filter would pass each frame if it were shorter by a frame check sequence of 4 octets.
 fn is_shorter_passing(plan: &Plan<Global>, filter: &FilterPlan, traffic: &Traffic) -> bool
     requires traffic { IsTraffic traffic.now }
 {
@@ -291,7 +292,7 @@ fn is_shorter_passing(plan: &Plan<Global>, filter: &FilterPlan, traffic: &Traffi
     passes(plan, filter, &shorter)
 }
 
-/// Appends a hint if the frame would pass without 4 octets: the lengths may include the frame check sequence. Ends the line in any case.
+/// Appends a hint if frames would pass without 4 octets: their lengths may include the frame check sequence. Ends the line in any case.
 fn put_hint(said: &mut TextBuilder<Global>, is_shorter_passing: bool) {
     if is_shorter_passing {
         said.put(

@@ -1,4 +1,4 @@
-//! The command `bounds --traffic`: a plan and the traffic of its talkers.
+//! The command `bounds --traffic`: delay bounds of a plan, and the delays of its talkers.
 ghost use Rattle.std.specs.Prelude.{◌≡◌, ◌⊎◌, ◌≤◌, All, IfErr, IfOk, List, Ok, Some, length, string_bytes, take, ℕ, None};
 ghost use Rattle.app_failure.specs.Reading.{IsFileFault};
 ghost use Rattle.net_file.specs.TrafficRows.{IsTalkerRow};
@@ -28,7 +28,7 @@ pub struct TrafficReport<A: Allocator + Copy> {
     pub kept: bool,
 }
 
-/// Returns the program's fault for refused traffic. Returns the fault `no memory` if memory runs out for the fault line.
+/// Returns the program's fault for refused traffic, with the fault line of `fault`. Returns `NoMemory` if memory runs out for the line.
 fn traffic_refusal(heap: Global, fault: &TrafficFault) -> Failure
     ensures { IsTrafficFailure fault.now result }
 {
@@ -38,7 +38,8 @@ fn traffic_refusal(heap: Global, fault: &TrafficFault) -> Failure
     }
 }
 
-/// Returns the rows of a traffic file with the contents `text`. For refused contents, returns the program's fault with the fault line.
+/// Returns the rows of a traffic file with the contents `text`. For refused contents, returns the program's fault with the fault line, or
+/// `NoMemory`.
 fn parse_rows<A: Allocator + Copy>(
     alloc: A,
     heap: Global,
@@ -126,8 +127,8 @@ fn check_and_report<A: Allocator + Copy>(
     }
 }
 
-/// Returns the output of `bounds --traffic`: lines of bounds, then a line for each queue of each row. Faults come in this order: plan,
-/// traffic file, rows compared with the plan.
+/// Returns the output of `bounds --traffic`: lines of bounds, then a line for each queue of each row. Faults: plan, then traffic file, then
+/// rows compared with the plan.
 pub fn traffic_job<R: Read + Drop, S: Read + Drop, A: Allocator + Copy>(
     alloc: A,
     heap: Global,

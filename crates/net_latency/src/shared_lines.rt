@@ -6,8 +6,8 @@ use bridge_groups::SharedQueue;
 use bridge_limits::NoMemory;
 use std::alloc::{AllocError, Allocator};
 
-/// Whether a queue may drop copies as full. `room` is the capacity that suffices, or `None` if none is known. `capacity` is the queue's own
-/// capacity.
+/// Returns whether a queue may drop copies as full. `room` is the capacity that suffices (`None` if none is known), `capacity` the queue's
+/// own capacity.
 pub(crate) fn is_lossy(room: Option<u16>, capacity: u16) -> bool
     ensures { result ≡ is_lossy room capacity }
 {
@@ -17,7 +17,8 @@ pub(crate) fn is_lossy(room: Option<u16>, capacity: u16) -> bool
     }
 }
 
-/// Returns the mark of a shared queue, with a blank before it; empty for a queue that is metered and loses no copy.
+/// Returns the mark of a shared queue's line, with a blank before it: ` unmetered` or ` lossy`. Empty for a queue that is metered and drops
+/// no copy as full.
 fn shared_mark(row: &SharedQueue) -> &'static str
     ensures { result.now ≡ shared_mark row.now }
 {
@@ -71,7 +72,7 @@ fn push_shared_line<A: Allocator + Copy>(
     text.push_str("\n")
 }
 
-/// Appends one line for each shared queue, in the order of `rows`.
+/// Appends one line for each shared queue, in the order of `rows`. `bound_lines` calls it after the lines of bounds.
 pub(crate) fn push_shared_text<A: Allocator + Copy>(
     text: &mut String<A>,
     rows: &[SharedQueue],

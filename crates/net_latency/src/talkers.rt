@@ -27,7 +27,7 @@ use net_file::{NetFault, NetField, NetKeyLocation, NetSection, StreamRow, Talker
 use net_model::{Link, StreamHop};
 use std::alloc::Allocator;
 
-/// Whether the period is a multiple of each cycle time on the route of the filter with this number. Returns true if the filter is missing.
+/// Returns whether the period is a multiple of each cycle time on the route of filter `filter`'s frames. True if the filter is missing.
 fn suits_filter<A: Allocator + Copy>(plan: &Plan<A>, filter: u32, period: u64) -> bool
     ensures { result ≡ spec.suits_filter plan.now period (lookup (nat_eq filter) plan.now.filters) }
 {
@@ -44,8 +44,8 @@ fn accepted_plan<A: Allocator + Copy>(plans: &[Accepted<A>], bridge: u16) -> Opt
     plans.get(bridge as usize)
 }
 
-/// Whether the period suits a hop's filter (`suits_filter`). `hop` has the index of its bridge and the number of its filter. Returns true
-/// if the bridge is missing.
+/// Returns whether the period suits a hop's filter (`suits_filter`). `hop` has bridge index and filter number. True if the bridge is
+/// missing.
 fn suits_hop<A: Allocator + Copy>(plans: &[Accepted<A>], hop: (u16, u32), period: u64) -> bool
     ensures { result ≡ spec.suits_hop (slice_get plans.now hop.0) hop.1 period }
 {
@@ -55,14 +55,14 @@ fn suits_hop<A: Allocator + Copy>(plans: &[Accepted<A>], hop: (u16, u32), period
     }
 }
 
-/// Whether the period suits all of these hops.
+/// Returns whether the period suits all of these hops.
 fn suits_each<A: Allocator + Copy>(plans: &[Accepted<A>], hops: &[(u16, u32)], period: u64) -> bool
     ensures { result ≡ list_all (λ (h : ℕ × ℕ). spec.suits_hop (slice_get plans.now h.0) h.1 period) hops.now }
 {
     hops.iter().all(|h| suits_hop(plans, *h, period))
 }
 
-/// Whether the talker's period suits all hops of its stream. Returns true without a periodic talker.
+/// Returns whether the talker's period suits all hops of its stream. Returns true without a periodic talker.
 fn suits_hops<A: Allocator + Copy>(
     plans: &[Accepted<A>],
     talker: Option<Talker>,
@@ -76,8 +76,8 @@ fn suits_hops<A: Allocator + Copy>(
     }
 }
 
-/// Returns the fault of the first stream whose period isn't a multiple of each cycle time on its route, or `None`. Cycles belong to stream
-/// gates and ports with reachable queues.
+/// Returns the fault of the first stream whose period isn't a multiple of each cycle time on its route, or `None`. `check_periods` of
+/// net_check refuses the network by it.
 pub fn first_misfit<A: Allocator + Copy>(
     plans: &[Accepted<A>],
     streams: &[StreamRow<A>],
@@ -99,7 +99,7 @@ pub fn first_misfit<A: Allocator + Copy>(
     None
 }
 
-/// Converts a talker of a network file to the traffic of `bridge_bounds`, which computes delays.
+/// Returns a talker of a network file as traffic of `bridge_bounds`, which computes delays.
 fn talker_traffic(talker: &Talker) -> Traffic
     requires { IsTalker talker.now }
     ensures traffic { result ≡ spec.talker_traffic talker.now }
@@ -170,8 +170,7 @@ fn put_queues<A: Allocator + Copy>(
     put_filter_queues(bounds_of_bridge(bounds, hop.bridge), hop, queues)
 }
 
-/// Returns the reachable queues of all hops, hop by hop. It finds them in the delay bounds `bounds`, because these list each reachable
-/// queue.
+/// Returns the reachable queues of all hops, hop by hop. `bounds` has an item for each reachable queue.
 fn hop_queues<A: Allocator + Copy>(
     alloc: A,
     bounds: &[Vec<QueueBound, A>],
@@ -190,8 +189,8 @@ fn hop_queues<A: Allocator + Copy>(
     Ok(queues)
 }
 
-/// Returns the delays of a talker's frames through these hops, or `None` if they are unknown. Explanations of `net check` call it with the
-/// first hops of a stream to find a refusable hop.
+/// Returns the delays of a talker's frames through these hops, or `None` if they are unknown. Explanations of `net check` pass a stream's
+/// first hops.
 pub fn latency_through_hops<A: Allocator + Copy>(
     alloc: A,
     plans: &[Accepted<A>],
@@ -213,7 +212,8 @@ pub fn latency_through_hops<A: Allocator + Copy>(
     Ok(checked_stream_latency(plans, links, hops, &queues, &traffic))
 }
 
-/// Returns the delays of a stream's frames. Returns `None` without a periodic talker, or if the delays are unknown.
+/// Returns the delays of a stream's frames, for its line and its pictures. Returns `None` without a periodic talker, or if the delays are
+/// unknown.
 pub fn talker_latency<A: Allocator + Copy>(
     alloc: A,
     plans: &[Accepted<A>],

@@ -7,8 +7,8 @@ use std::alloc::Global;
 use std::fs;
 use std::rt::Files;
 
-/// Reads a file's contents again for an explanation, because a command doesn't keep them. Returns `None` if the file can't be read or is a
-/// pipe, which gives its contents only once.
+/// Returns the contents of a file, read again for an explanation. Returns `None` if this fails or the file is a pipe, which gives its
+/// contents only once.
 pub fn reread_text<H: AllocGlobal + Files>(rt: &H, path: &str) -> Option<Vec<u8>> {
     if !fs::metadata(rt, path).ok()?.is_file() {
         return None;
@@ -29,12 +29,12 @@ pub struct NetworkText<'a> {
 }
 
 impl<'a> NetworkText<'a> {
-    /// Returns the bridge of the network file with this index, from 0, or `None` if there is none.
+    /// Returns the bridge of the network file with index `place`, from 0, or `None` if the file lacks it.
     pub fn bridge(self, place: u16) -> Option<&'a BridgeRow<Global>> {
         self.file.bridges().get(place as usize)
     }
 
-    /// Appends the path of the file and the position of a key, or of the section's header if `key` is `None`. `index` is the number of the
+    /// Appends the path of the file, and the position of a key, or of the section's header for `None`. `index` is the number of the
     /// section's instance, from 1.
     pub fn put_place(
         self,

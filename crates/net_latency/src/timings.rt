@@ -54,7 +54,7 @@ pub enum TrafficFigures {
     },
 }
 
-/// Whether the filter of a row with periodic traffic passes each of its frames. Returns false if the plan lacks the filter.
+/// Returns whether the filter of a row with periodic traffic passes each of its frames. False if the plan lacks the filter.
 fn row_passes<A: Allocator + Copy>(accepted: &Accepted<A>, row: &TrafficRow) -> bool
     requires row { IsRow row.now }
     ensures { (result ≡ true) ↔ RowPasses accepted.now row.now }
@@ -66,7 +66,8 @@ fn row_passes<A: Allocator + Copy>(accepted: &Accepted<A>, row: &TrafficRow) -> 
     }
 }
 
-/// Appends to `made` the delays of row `index` in the queue of `bound`, if the queue belongs to the row's filter.
+/// Appends to `made` the delays of row `index` in the queue of `bound`, if the queue belongs to the row's filter. `passes`: the filter
+/// passes each frame.
 fn push_queue_timing<A: Allocator + Copy>(
     accepted: &Accepted<A>,
     bound: &QueueBound,
@@ -106,8 +107,8 @@ fn push_queue_timing<A: Allocator + Copy>(
     Ok(())
 }
 
-/// Returns the delays of row `index`, with periodic traffic, in each queue of its filter in `bounds`, in this order. Returns an empty list
-/// if no queue is reachable.
+/// Returns the delays of row `index`, with periodic traffic, in each queue of its filter in `bounds`, in this order. Empty if no queue is
+/// reachable.
 fn row_timings<A: Allocator + Copy>(
     alloc: A,
     accepted: &Accepted<A>,
@@ -182,7 +183,7 @@ fn talker_row_timings<A: Allocator + Copy>(
     }
 }
 
-/// Returns the delays of all rows of traffic, row by row, then by rising port and class of the filter's queues.
+/// Returns the delays of all traffic rows, row by row, then by rising port and class of the filter's queues.
 pub fn queue_timings<A: Allocator + Copy>(
     alloc: A,
     accepted: &Accepted<A>,
@@ -212,7 +213,7 @@ pub fn queue_timings<A: Allocator + Copy>(
     Ok(made)
 }
 
-/// Whether the worst delay meets the deadline. Returns true without a deadline.
+/// Returns whether the worst delay `worst` in ns meets the deadline. True without a deadline.
 pub(crate) fn is_met(deadline: Option<u64>, worst: u128) -> bool
     ensures { result ≡ spec.is_met deadline worst }
 {
@@ -222,7 +223,8 @@ pub(crate) fn is_met(deadline: Option<u64>, worst: u128) -> bool
     }
 }
 
-/// Whether each frame of a row passes and meets its deadline in a queue. Returns false for a row whose filter has no reachable queue.
+/// Returns whether each frame of a row passes and meets its deadline in a queue. Returns false for a row whose filter has no reachable
+/// queue.
 fn is_kept(figures: &TrafficFigures) -> bool
     ensures { result ≡ spec.is_row_kept figures.now }
 {
@@ -232,7 +234,8 @@ fn is_kept(figures: &TrafficFigures) -> bool
     }
 }
 
-/// Whether each row has a queue, and each frame passes and meets its deadline in each queue.
+/// Returns whether each row has a queue, and each frame passes and meets its deadline in each queue. If not, `bounds --traffic` ends with
+/// status 1.
 pub fn are_in_time(timings: &[TrafficFigures]) -> bool
     ensures { result ≡ spec.are_in_time timings.now }
 {
@@ -250,7 +253,7 @@ fn deadline_word(limit: u64, worst: u128) -> &'static str
     }
 }
 
-/// Writes a deadline and whether it is met. Writes nothing without a deadline.
+/// Writes a deadline in ns and whether the worst delay `worst` meets it. Writes nothing without a deadline.
 pub(crate) fn put_deadline<A: Allocator>(
     text: &mut TextBuilder<A>,
     deadline: Option<u64>,
@@ -311,7 +314,7 @@ pub(crate) fn put_delays<A: Allocator>(
     put_phases(text, phases);
 }
 
-/// Writes worst delay, best delay, jitter and phases in a queue.
+/// Writes worst delay, best delay and jitter in a queue, in ns, and the phases of the ends of transmission.
 fn put_timing_words<A: Allocator>(text: &mut TextBuilder<A>, x: &QueueTiming)
     ensures { HasGrown text.old (printing.figure_words x.now) text.new }
 {

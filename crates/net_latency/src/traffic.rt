@@ -18,8 +18,8 @@ use net_file::{
 };
 use std::alloc::Allocator;
 
-/// Whether a period is a multiple of each cycle time of a stream gate: of the old and of the new list. Returns true for a fixed gate, which
-/// has no cycle.
+/// Returns whether a period is a multiple of each cycle time of a stream gate: of the old and of the new list. Returns true for a fixed
+/// gate, which has no cycle.
 fn suits_schedule<A: Allocator + Copy>(period: u64, schedule: &Schedule<A>) -> bool
     ensures { result ≡ spec.suits_schedule period schedule.now }
 {
@@ -33,7 +33,8 @@ fn suits_schedule<A: Allocator + Copy>(period: u64, schedule: &Schedule<A>) -> b
     }
 }
 
-/// Whether a period is a multiple of each cycle time of a port: of the old and of the new gate control list. Returns true without a list.
+/// Returns whether a period is a multiple of each cycle time of a port: of the old and of the new gate control list. Returns true without a
+/// list.
 fn suits_lists<A: Allocator + Copy>(period: u64, lists: &Option<Egress<A>>) -> bool
     ensures { result ≡ spec.suits_lists period lists.now }
 {
@@ -47,7 +48,7 @@ fn suits_lists<A: Allocator + Copy>(period: u64, lists: &Option<Egress<A>>) -> b
     }
 }
 
-/// Whether a period is a multiple of the cycle times of the stream gate with this number. Returns true if the gate is missing.
+/// Returns whether a period is a multiple of the cycle times of the stream gate with this number. Returns true if the gate is missing.
 fn suits_gate<A: Allocator + Copy>(plan: &Plan<A>, gate: u32, period: u64) -> bool
     ensures { result ≡ spec.suits_gate period (lookup (nat_eq gate) plan.now.gates) }
 {
@@ -57,14 +58,14 @@ fn suits_gate<A: Allocator + Copy>(plan: &Plan<A>, gate: u32, period: u64) -> bo
     }
 }
 
-/// Whether at least one of two values is true. `can_wait_at_port` and `has_misfit` fold the results of their loops by it.
+/// Returns whether at least one of two values is true. The loops of `can_wait_at_port` and `has_misfit` combine their results by it.
 fn either(a: bool, b: bool) -> bool
     ensures { result ≡ (a || b) }
 {
     a || b
 }
 
-/// Whether the filter has a reachable queue at a port, in any class. `reach` is the filter's reach.
+/// Returns whether the filter has a reachable queue at a port, in any class. `reach` is the filter's reach.
 pub(crate) fn can_wait_at_port<A: Allocator + Copy>(
     plan: &Plan<A>,
     filter: &FilterPlan,
@@ -84,7 +85,7 @@ pub(crate) fn can_wait_at_port<A: Allocator + Copy>(
     found
 }
 
-/// Whether a period is a multiple of the cycle times of a port. Returns true if the port is missing.
+/// Returns whether a period is a multiple of the cycle times of a port. Returns true if the port is missing.
 fn suits_port<A: Allocator + Copy>(period: u64, port: Option<&PortPlan<A>>) -> bool
     ensures { result ≡ spec.suits_port period (option_map (λ p. p.now) port.entry) }
 {
@@ -94,7 +95,7 @@ fn suits_port<A: Allocator + Copy>(period: u64, port: Option<&PortPlan<A>>) -> b
     }
 }
 
-/// Whether the filter has a reachable queue at `port`, and the period isn't a multiple of this port's cycle times.
+/// Returns whether the filter has a reachable queue at `port`, and the period isn't a multiple of this port's cycle times.
 fn has_misfit_at_port<A: Allocator + Copy>(
     plan: &Plan<A>,
     filter: &FilterPlan,
@@ -112,7 +113,7 @@ fn has_misfit_at_port<A: Allocator + Copy>(
     comes && !suits
 }
 
-/// Whether the filter has a reachable queue at some port, and the period isn't a multiple of this port's cycle times.
+/// Returns whether the filter has a reachable queue at some port, and the period isn't a multiple of this port's cycle times.
 fn has_misfit<A: Allocator + Copy>(
     plan: &Plan<A>,
     filter: &FilterPlan,
@@ -142,8 +143,8 @@ pub(crate) fn suits<A: Allocator + Copy>(plan: &Plan<A>, filter: &FilterPlan, pe
     !has_misfit(plan, filter, &reach, period)
 }
 
-/// Returns the fault of row `index` with periodic traffic, or `None`. Its filter is missing or unprotected, or its period isn't a multiple
-/// of each cycle on the route.
+/// Returns the fault of row `index`, with periodic traffic, or `None`. Its filter is missing or unprotected, or its period doesn't suit a
+/// cycle time on the route.
 pub(crate) fn row_fault<A: Allocator + Copy>(
     plan: &Plan<A>,
     index: u32,
@@ -188,7 +189,7 @@ fn group_fault<A: Allocator + Copy>(plan: &Plan<A>, index: u32, filter: u32) -> 
     }
 }
 
-/// Returns the fault of row `index` compared with the plan, or `None`.
+/// Returns the fault of row `index`, from 1, compared with the plan, or `None`. Explanations find the row by it.
 pub(crate) fn talker_row_fault<A: Allocator + Copy>(
     plan: &Plan<A>,
     index: u32,
@@ -203,7 +204,7 @@ pub(crate) fn talker_row_fault<A: Allocator + Copy>(
 }
 
 /// Returns the first fault of the rows compared with the plan, or `None`. A filter is missing, unprotected or in no group, or a period
-/// doesn't suit the cycles.
+/// doesn't suit a cycle time.
 pub fn traffic_fault<A: Allocator + Copy>(
     plan: &Plan<A>,
     rows: &[TalkerRow],

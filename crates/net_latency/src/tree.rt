@@ -1,11 +1,11 @@
-//! The test whether the hops of a stream are a tree. Delays are known only for trees.
+//! The test whether the hops of a stream are a tree. `stream_latency` computes delays only for trees.
 ghost use Rattle.std.specs.Prelude.{◌≡◌, ◌&&◌};
 ghost use Rattle.net_latency.specs.Trees as spec;
 
 use crate::next_hop::{far_end, hop_at_bridge};
 use net_model::{Link, StreamHop};
 
-/// A reachable queue of a stream's hop: frames leave the hop's bridge by it.
+/// A reachable queue of a stream's hop. The hop's frames leave its bridge by such queues.
 #[derive(Clone, Copy)]
 pub struct HopQueue {
     /// The hop.
@@ -16,7 +16,7 @@ pub struct HopQueue {
     pub class: u8,
 }
 
-/// Whether the port of a queue has a link to `bridge`, so that the queue's frames arrive there.
+/// Returns whether the port of a queue has a link to `bridge`, so that the queue's frames arrive there.
 fn is_feeder(links: &[Link], bridge: u16, queue: &HopQueue) -> bool
     ensures { result ≡ spec.is_feeder links.now bridge queue.now }
 {
@@ -36,8 +36,8 @@ fn count_feeders(links: &[Link], queues: &[HopQueue], bridge: u16) -> usize
         .count()
 }
 
-/// Whether the first of `hops` at the bridge of `hop` has the filter of `hop`. Otherwise two hops are at this bridge, so the stream may
-/// cross it twice.
+/// Returns whether the first of `hops` at the bridge of `hop` has the filter of `hop`. Otherwise two hops are at this bridge, so the stream
+/// may cross it twice.
 fn is_first_at_bridge(hops: &[StreamHop], hop: &StreamHop) -> bool
     ensures { result ≡ spec.is_first_at_bridge hops.now hop.now }
 {
@@ -47,14 +47,14 @@ fn is_first_at_bridge(hops: &[StreamHop], hop: &StreamHop) -> bool
     }
 }
 
-/// Whether no two hops are at one bridge with different filters: each is the first of `hops` at its bridge.
+/// Returns whether no two hops are at one bridge with different filters: each is the first of `hops` at its bridge.
 fn have_distinct_bridges(hops: &[StreamHop]) -> bool
     ensures { result ≡ spec.have_distinct_bridges hops.now }
 {
     hops.iter().all(|h| is_first_at_bridge(hops, h))
 }
 
-/// Whether at most one of `queues` leads to the bridge of each hop (`count_feeders`).
+/// Returns whether at most one of `queues` leads to the bridge of each hop (`count_feeders`).
 fn have_single_feeders(links: &[Link], hops: &[StreamHop], queues: &[HopQueue]) -> bool
     ensures { result ≡ spec.have_single_feeders links.now hops.now queues.now }
 {
@@ -62,15 +62,14 @@ fn have_single_feeders(links: &[Link], hops: &[StreamHop], queues: &[HopQueue]) 
         .all(|h| count_feeders(links, queues, h.bridge) <= 1)
 }
 
-/// Whether all three values are true: the three tests of `is_tree`, which are evaluated before.
+/// Returns whether all three values are true: the results of the three tests of `is_tree`.
 fn all_three(a: bool, b: bool, c: bool) -> bool
     ensures { result ≡ (a && b && c) }
 {
     a && b && c
 }
 
-/// Whether the hops are a tree with root `first`: different bridges, at most one queue leads to each hop, and none to the root. Delays are
-/// known only for trees.
+/// Returns whether the hops are a tree with root `first`: different bridges, at most one queue leads to each hop, and none to the root.
 pub(crate) fn is_tree(
     links: &[Link],
     hops: &[StreamHop],
