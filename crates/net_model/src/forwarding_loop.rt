@@ -75,8 +75,8 @@ fn group_loops<A: Allocator + Copy>(
     Ok(rows)
 }
 
-/// Returns each group whose frames may loop, once, with a port on the loop. Stream gates or meters may still refuse the frames. Warnings
-/// and `explain_loops` need the groups.
+/// Returns each group whose frames may loop, once, with a port on the loop; `NoMemory` if memory runs out. Gates and meters aren't
+/// considered. Warnings and the limit of rounds of `net` need it.
 pub fn find_forwarding_loops<A: Allocator + Copy>(
     alloc: A,
     plans: &[Accepted<A>],
