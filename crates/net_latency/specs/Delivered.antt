@@ -101,8 +101,8 @@ pub record IsForwardedByPort {A : Type 0} (p : Plan A) (octets : List ℕ) (len 
   pub goes : has_port ports q ≡ true
   pub at : find_port p.ports q ≡ Some out
 
--- Holds if bridge `b` forwards a frame from port `r` to port `q`. The bridges of the next hops forward it to the ports
--- in the list, in order.
+-- Holds if bridge `b` forwards a frame from port `r` by port `q`. The bridges of the next hops forward it by the ports in the list, in
+-- order.
 abbrev pub IsForwardedAlong : {A : Type 0} → List (Plan A) → List Link → List StreamHop → List ℕ → ℕ → ℕ → ℕ → ℕ → List ℕ → Type 0
 IsForwardedAlong {A} plans links hops octets len b r q [] =
     (p : Plan A) × (slice_get plans b ≡ Some p) × IsForwardedByPort p octets len r q × (next_hop links hops b q ≡ None)

@@ -53,8 +53,7 @@ IsOwnInput inputs leg x =
 abbrev pub IsCommand : Input → Type 0
 IsCommand x = (clear : Clear) × (m : ℕ) × (x.event ≡ Cleared clear m)
 
--- Holds if the own inputs of hop `next` are copies from the queue of `leg`, which arrive over the link between them, or
--- commands.
+-- Holds if each own input of hop `next` over the link from `leg` is a copy from the queue of `leg`, or a command.
 abbrev pub IsFedByHop : {A : Type 0} → Network A → (ℕ → List Input) → (ℕ → ℕ → List (Copy CarriedFrame)) → RouteHop A → RouteHop A → ℕ → Type 0
 IsFedByHop n inputs lists leg next delay =
     (port : ℕ) (x : Input)

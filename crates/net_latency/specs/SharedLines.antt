@@ -7,7 +7,7 @@ abbrev pub is_lossy : Option ℕ → ℕ → Bool
 is_lossy None capacity = true
 is_lossy (Some room) capacity = nat_lt capacity room
 
--- The mark of a shared queue: ` unmetered` if only its capacity bounds it, ` lossy` if it may drop copies as full, or
+-- The mark of a shared queue: ` unmetered` if only its capacity bounds the delay. Otherwise ` lossy` if it may drop copies as full, or
 -- nothing.
 abbrev pub shared_mark : SharedQueue → List ℕ
 shared_mark s = if s.is_metered then (if is_lossy s.room s.capacity then codes " lossy" else []) else codes " unmetered"

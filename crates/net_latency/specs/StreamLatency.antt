@@ -94,7 +94,7 @@ abbrev pub exit_to_hop : StreamHop → Option HopArrival → Option QueueExit
 exit_to_hop h None = None
 exit_to_hop h (Some a) = Some (stop.Next h a)
 
--- The next step of frames with known phases: they leave the hops, or continue to the next hop.
+-- The next step of frames that leave a queue in the phases `done`. They continue to the optional next hop or, without one, end their route.
 abbrev pub exit_over_link : ℕ → HopArrival → Timing → Phases → Bool → Option NextHop → Option QueueExit
 exit_over_link from a x done passes None = Some (stop.Last (latency_at_last_queue from a x done passes))
 exit_over_link from a x done passes (Some o) = exit_to_hop o.hop (next_hop_arrival a x done o.delay passes)

@@ -76,7 +76,8 @@ suits p f period =
 abbrev pub row_key : ℕ → NetField → NetKeyLocation
 row_key index key = record { section = section.Traffic; index = index; field = key }
 
--- The fault of a row compared with the plan: the filter is missing or unprotected, or the period doesn't suit.
+-- The fault of row `r` compared with the plan, or `None`. Its optional filter is missing or unprotected, or its period doesn't suit a cycle
+-- time.
 abbrev pub filter_fault : {A : Type 0} → Plan A → ℕ → TrafficRow → Option FilterPlan → Option TrafficFault
 filter_fault p index r None = Some (fault.Text (net.Unresolved (row_key index field.Filter)))
 filter_fault p index r (Some f) =

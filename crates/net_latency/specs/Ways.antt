@@ -40,7 +40,7 @@ pub record IsNextHop {A : Type 0} (n : Network A) (leg next : RouteHop A) (delay
   pub linked : sender n.links next.bridge port ≡ Some (record { from = record { bridge = leg.bridge; port = leg.port }; delay = delay })
   pub comes : next.copy.at ≡ hop_end leg + delay
 
--- Holds if the first hop and the later hops, each with the delay of the link before it, are a route.
+-- Holds if hop `leg` and the later hops in the list are a route of the network. Each later hop has the delay of the link before it.
 abbrev pub IsRoute : {A : Type 0} → Network A → (ℕ → ℕ → List (Copy CarriedFrame)) → RouteHop A → List (ℕ × RouteHop A) → Type 0
 IsRoute n lists leg [] = IsRouteHop n lists leg
 IsRoute n lists leg (x ∷ more) = IsRouteHop n lists leg × IsNextHop n leg x.1 x.0 × IsRoute n lists x.1 more

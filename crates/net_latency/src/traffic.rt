@@ -131,7 +131,7 @@ fn has_misfit<A: Allocator + Copy>(
     found
 }
 
-/// Whether a period is a multiple of each cycle time on the route of a filter's frames: of its stream gate, and of each port with a
+/// Returns whether a period is a multiple of each cycle time on a filter's route. The route has its stream gate, and each port with a
 /// reachable queue.
 pub(crate) fn suits<A: Allocator + Copy>(plan: &Plan<A>, filter: &FilterPlan, period: u64) -> bool
     ensures { result ≡ spec.suits plan.now filter.now period }
