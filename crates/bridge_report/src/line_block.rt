@@ -1,4 +1,4 @@
-//! Blocks of lines that are built from their end to their start.
+//! Blocks of lines that are built from their end to their start. Lists of a report are written by blocks, which saves time.
 ghost use Rattle.std.specs.Prelude.{◌≡◌, ◌≤◌, ◌+◌, ◌++◌, [], decimal, length};
 ghost use Rattle.std.specs.Str.{IsUtf8};
 
@@ -9,7 +9,7 @@ use std::marker::Model;
 const BLOCK_WIDTH: usize = 1920;
 
 /// Block of lines, at most 1,920 octets, which grows from its end: each call writes its text in front. Numbers need no digit count, lines
-/// no allocation. A sink gets many lines at once.
+/// no allocation.
 #[derive(Drop)]
 pub struct LineBlock {
     /// Buffer; the block's text is its end.
@@ -47,7 +47,7 @@ impl LineBlock {
         self.start = BLOCK_WIDTH;
     }
 
-    /// Writes `piece` in front of the block.
+    /// Writes `piece` in front of the block's text. The block must have space for it.
     #[inline(always)]
     pub fn prepend(&mut self, piece: &str)
         requires { length piece.now + length self.old ≤ 1920 }
@@ -59,7 +59,7 @@ impl LineBlock {
         self.start = start;
     }
 
-    /// Writes the digits of `number` in front of the block.
+    /// Writes the decimal digits of `number` in front of the block's text.
     #[inline(always)]
     fn prepend_digits(&mut self, number: u64)
         requires { 20 + length self.old ≤ 1920 }
@@ -69,7 +69,7 @@ impl LineBlock {
         self.start = write_digits(number, &mut self.octets, self.start);
     }
 
-    /// Writes `piece` and the digits of `number` in front of the block.
+    /// Writes `piece` and the decimal digits of `number` in front of the block's text.
     #[inline(always)]
     pub fn prepend_number(&mut self, piece: &str, number: u64)
         requires { length piece.now + 20 + length self.old ≤ 1920 }

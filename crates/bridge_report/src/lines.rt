@@ -1,4 +1,4 @@
-//! Writes the lines of a section to any report sink.
+//! Writes the lines of a section, except its lists, to any report sink. `put_section` calls the public functions.
 ghost use Rattle.std.specs.Prelude.{◌≡◌, ◌≤◌, ◌++◌, Some, codes, length};
 ghost use Rattle.bridge_report.specs.Words.{verdict_word};
 ghost use Rattle.bridge_report.specs.Growth.{HasGrown};
@@ -116,7 +116,7 @@ pub fn put_queued<T: ReportSink>(text: &mut T, departures: &[StoredDeparture], d
     text.put("\n");
 }
 
-/// Writes the line of the longest delay in ns, if a frame of the filter left.
+/// Writes the line of the longest delay, `delay` ns. `put_delay` calls it if a copy of the filter's frames left.
 fn put_known_delay<T: ReportSink>(text: &mut T, delay: u64)
     ensures { HasGrown T.contents text.old (delay_line (Some delay)) text.new }
 {
@@ -124,7 +124,7 @@ fn put_known_delay<T: ReportSink>(text: &mut T, delay: u64)
     text.put("\n");
 }
 
-/// Writes the line of the longest delay; `delay none` without departures.
+/// Writes the line of the longest delay in ns; `delay none` if no copy of the filter's frames left.
 pub fn put_delay<T: ReportSink>(text: &mut T, delay: Option<u64>)
     ensures { HasGrown T.contents text.old (delay_line delay) text.new }
 {

@@ -1,4 +1,4 @@
-//! Writes sections to any report sink.
+//! Writes report sections to any report sink: a text in memory or a buffered writer.
 ghost use Rattle.bridge_report.specs.Growth.{HasGrown};
 ghost use Rattle.bridge_report.specs.Section.{copy_lines, list_lines, report_text, section_text, state_lines};
 
@@ -37,7 +37,7 @@ fn put_lists<A: Allocator, T: ReportSink>(text: &mut T, view: &View<A>)
     put_departures(text, &view.departures);
 }
 
-/// Writes the report section of a filter, from its number to the line `end`.
+/// Writes the report section of filter `filter` with the record `view`, from its header to the line `end`.
 pub fn put_section<A: Allocator, T: ReportSink>(text: &mut T, filter: u32, view: &View<A>)
     ensures { HasGrown T.contents text.old (section_text filter view.now) text.new }
 {

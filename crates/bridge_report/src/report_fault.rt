@@ -1,4 +1,4 @@
-//! Faults of a report.
+//! Faults of a report, which `write_report` returns.
 ghost use Rattle.std.specs.Prelude.{◌≡◌};
 
 use thiserror::Error;
@@ -17,7 +17,7 @@ pub enum ReportFault {
 impl ReportFault {
     ghost use Rattle.bridge_report.specs.FaultCodes.{fault_code};
 
-    /// Returns the number of the fault: 1 for `Broken`, 2 for `NoMemory`.
+    /// Returns the number of the fault: 1 for `Broken`, 2 for `NoMemory`. Contracts compare faults by it.
     pub fn number(self) -> u8
         ensures { result ≡ fault_code self }
     {

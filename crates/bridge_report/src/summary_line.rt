@@ -1,4 +1,4 @@
-//! The line of counts of a run.
+//! The line of counts over all ports, which `run` prints.
 ghost use Rattle.std.specs.Prelude.{◌≡◌, ◌-◌, ◌++◌, string_bytes, IfOk, OnOk};
 ghost use Rattle.bridge_report.specs.Summary.{arrivals_text, copies_text, sum_over_ports, summary_text};
 
@@ -20,21 +20,21 @@ fn total_malformed(ports: &[(u8, PortCount)]) -> u128
     ports.iter().map(|p| u128::from(p.1.malformed)).sum()
 }
 
-/// Returns the number of frames without an egress port.
+/// Returns the number of frames without an egress port, over all ports.
 fn total_nowhere(ports: &[(u8, PortCount)]) -> u128
     ensures { result ≡ sum_over_ports (λ c. c.nowhere) ports.now }
 {
     ports.iter().map(|p| u128::from(p.1.nowhere)).sum()
 }
 
-/// Returns the number of frames without a stream filter.
+/// Returns the number of frames that no filter matched, over all ports.
 fn total_unfiltered(ports: &[(u8, PortCount)]) -> u128
     ensures { result ≡ sum_over_ports (λ c. c.unfiltered) ports.now }
 {
     ports.iter().map(|p| u128::from(p.1.unfiltered)).sum()
 }
 
-/// Returns the number of queued copies at all ports.
+/// Returns the number of queued copies, over all ports. When a run has ended, all of them have left.
 fn total_sent(ports: &[(u8, PortCount)]) -> u128
     ensures { result ≡ sum_over_ports (λ c. c.sent) ports.now }
 {
@@ -81,7 +81,7 @@ fn push_copies<A: Allocator>(
 }
 
 /// Returns the line of counts over all ports: frames that arrived, malformed, not forwarded, policed and unfiltered; copies queued and
-/// dropped. The line ends with a line feed.
+/// dropped. `run` prints it.
 pub fn summary<A: Allocator + Copy>(alloc: A, outcome: &Outcome<A>) -> Result<String<A>, NoMemory>
     ensures { IfOk result (λ line. string_bytes line ≡ summary_text outcome.now.ports.items) }
 {

@@ -1,4 +1,4 @@
-//! Words of a report.
+//! Words of reports and tables: protection, flags, verdicts and reasons of drops.
 ghost use Rattle.std.specs.Prelude.{◌≡◌, ◌≤◌, length};
 ghost use Rattle.bridge_report.specs.Words.{flag_word, kind_word, refusal_word, verdict_word};
 
@@ -41,7 +41,7 @@ pub fn verdict_word(verdict: Verdict) -> &'static str
     }
 }
 
-/// Returns the word for the reason of a drop.
+/// Returns the word for the reason why a port dropped a copy: `full` or `never`.
 pub fn refusal_word(refusal: Refusal) -> &'static str
     ensures { result.now ≡ refusal_word refusal }
 {
