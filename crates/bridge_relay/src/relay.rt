@@ -1,4 +1,4 @@
-//! The relay: ports, filters and records of one bridge.
+//! The relay: ports, filters and records of one bridge, and the steps by which it handles a frame.
 ghost use Rattle.std.specs.Option.{option_map};
 ghost use Rattle.bridge_filter.specs.Verdicts.{frame_filter};
 ghost use Rattle.bridge_config.specs.declared.ports.PortPlan.{PortPlan};
@@ -46,7 +46,7 @@ use std::alloc::Allocator;
 use std::marker::Model;
 use std::mem;
 
-/// Largest index of a recorder that a queued frame stores.
+/// Largest index of a recorder that a queued frame can store.
 const MAX_RECORDERS: usize = 4_294_967_295;
 
 /// Returns the stream handle of a frame with the header `head` in VLAN `vid`, which arrived on port `port`; `None` if no stream entry
@@ -112,7 +112,7 @@ impl<'a, G: Agenda + Drop, A: Allocator + Copy> Model for Relay<'a, G, A> {
     }) };
 }
 
-/// Frame that has started, with its start and end.
+/// Frame whose transmission has started, with its start and end. `advance` returns it.
 #[derive(Drop)]
 pub struct Sent<A: Allocator + Copy> {
     /// Egress port.
@@ -130,21 +130,21 @@ pub struct Sent<A: Allocator + Copy> {
 }
 
 impl<'a, G: Agenda + Drop, A: Allocator + Copy> Relay<'a, G, A> {
-    /// Returns the port and time in ns of the next start; `None` if no copy is queued.
+    /// Returns the port and time in ns of the next start, at equal times of the lowest port. Returns `None` if no copy is queued.
     pub fn due(&self) -> Option<(u8, u64)>
         ensures { IsLeast (G.held self.now.ports.agenda) result }
     {
         self.ports.due()
     }
 
-    /// Returns the number of frames that have arrived.
+    /// Returns the number of frames that have arrived so far.
     pub fn arrived(&self) -> u64
         ensures { result ≡ self.now.arrived }
     {
         self.arrived
     }
 
-    /// Returns the number of starts of port `port` so far: the number of frames that it sent.
+    /// Returns the number of starts of port `port` so far: the number of frames that it has sent.
     pub fn started(&self, port: u8) -> u64
         requires known { (out : PortPlan A) × (find_port self.now.plan.ports port ≡ Some out) }
         ensures { (p : config.Plan A) (es : List Event) (left : ℕ → List CapturedFrame)
@@ -214,7 +214,8 @@ impl<'a, G: Agenda + Drop, A: Allocator + Copy> Relay<'a, G, A> {
         }
     }
 
-    /// Clears a flag of a filter, stream gate or meter at time `t` in ns, by a command. Allocates no memory.
+    /// Clears the flag `clear` of the filter, stream gate or meter with number `number`, at time `t` in ns. Commands do this. Allocates no
+    /// memory.
     pub fn clear(&mut self, t: u64, clear: Clear, number: u32)
         requires time { self.old.earliest ≤ t }
         requires instance { IsTrue (has_instance self.old.plan clear number) }
@@ -228,8 +229,8 @@ impl<'a, G: Agenda + Drop, A: Allocator + Copy> Relay<'a, G, A> {
         self.earliest = t;
     }
 
-    /// Returns the egress ports of a frame that arrived on port `port`, and the values by which filters judge it; or why it isn't
-    /// forwarded.
+    /// Returns the egress ports of a frame that arrived on port `port`, and the values by which filters judge it. Otherwise returns why it
+    /// isn't forwarded.
     #[inline(always)]
     fn find_destination(&self, at: u64, port: u8, octets: &[u8], len: u32) -> Destination
         requires from { 1 ≤ port }
@@ -302,7 +303,7 @@ impl<'a, G: Agenda + Drop, A: Allocator + Copy> Relay<'a, G, A> {
         Ok(copies)
     }
 
-    /// Offers a copy of a frame to port `number`. If the port drops the copy, the filter's recorder records the drop, and the copy's buffer
+    /// Offers the copy `load` of a frame to port `number`. If the port drops it, the filter's recorder records the drop, and its buffer
     /// returns to the pool.
     #[inline(always)]
     fn offer_to_port(
@@ -414,8 +415,8 @@ impl<'a, G: Agenda + Drop, A: Allocator + Copy> Relay<'a, G, A> {
         self.offer_copy(set, number, priority, len, eligible, load, spares);
     }
 
-    /// Offers the next of `copies` to port `number` if `set` and the bridge have this port; otherwise does nothing. `offer_several_copies`
-    /// calls it for each port before the last.
+    /// Offers the last of `copies` to port `number` if both `set` and the bridge have this port; otherwise does nothing.
+    /// `offer_several_copies` calls it for each port before the last.
     #[inline(always)]
     fn offer_next_copy(
         &mut self,
@@ -488,7 +489,7 @@ impl<'a, G: Agenda + Drop, A: Allocator + Copy> Relay<'a, G, A> {
         }
     }
 
-    /// Offers a frame to the only port of `set` that the bridge has; does nothing if it has none of them. If `eligible` is true, first
+    /// Offers the frame `load` to the port of `set` that the bridge has; does nothing without such a port. If `eligible` is true, first
     /// marks the frame's tag drop eligible.
     #[inline(always)]
     fn offer_only_copy(
@@ -543,8 +544,8 @@ impl<'a, G: Agenda + Drop, A: Allocator + Copy> Relay<'a, G, A> {
         }
     }
 
-    /// Counts a malformed frame, or a frame without egress ports, at the ingress port `port`. The relay's next event may then happen at the
-    /// arrival time `t` or later.
+    /// Counts a malformed frame, or a frame without egress ports, at ingress port `port`. The next event may then happen at the arrival
+    /// time `t` in ns or later.
     fn count_unforwarded(&mut self, port: u8, t: u64, came: Ingress)
         requires known { (s : PortState A) × (port_state self.old.ports port ≡ Some s) }
         requires from { 1 ≤ port }
@@ -605,7 +606,8 @@ impl<'a, G: Agenda + Drop, A: Allocator + Copy> Relay<'a, G, A> {
         }
     }
 
-    /// Releases the capacity that was reserved for a frame which its filter refused. Tries the recorder's index `hint` first.
+    /// Releases the capacity that was reserved for a frame that filter `filter` refused: one copy for each port of `set`. Tries the
+    /// recorder's index `hint` first.
     #[inline(always)]
     fn release_room(&mut self, filter: u32, hint: usize, set: PortSet)
         requires { (own : ℕ) × AwaitsCopies self.old (count_outputs self.old.ports.slots set 16) own 1 filter }
@@ -691,8 +693,8 @@ impl<'a, G: Agenda + Drop, A: Allocator + Copy> Relay<'a, G, A> {
         }
     }
 
-    /// Handles a frame that arrived on port `port`. If memory runs out, returns the frame and leaves the relay unchanged. Octets that no
-    /// queue accepts return to the pool.
+    /// Handles a frame that arrived on port `port`. Octets that no queue accepts return to the pool. If memory runs out, returns the frame
+    /// and leaves the relay unchanged.
     #[inline(always)]
     pub fn arrive(
         &mut self,
@@ -769,7 +771,7 @@ impl<'a, G: Agenda + Drop, A: Allocator + Copy> Relay<'a, G, A> {
     }
 }
 
-/// Returns the number of the filter that was found; `None` for an unfiltered frame. `arrive` reserves capacity for this filter.
+/// Returns the number of the filter on the route `found`; `None` for an unfiltered frame. `arrive` reserves capacity for this filter.
 #[inline(always)]
 fn route_number(found: Option<Route>) -> Option<u32>
     ensures { result ≡ option_map (λ r. r.number) found }
@@ -780,7 +782,8 @@ fn route_number(found: Option<Route>) -> Option<u32>
     }
 }
 
-/// Returns the index of the filter that was found, or 0. The search for the filter's recorder begins at this index.
+/// Returns the index of the filter on the route `found`, or 0 for an unfiltered frame. The search for the filter's recorder begins at this
+/// index.
 #[inline(always)]
 fn route_index(found: Option<Route>) -> usize {
     match found {
@@ -789,7 +792,7 @@ fn route_index(found: Option<Route>) -> usize {
     }
 }
 
-/// Returns the octets of a copy to the pool, if a port dropped it. `offer_to_port` calls it after each offer.
+/// Returns the octets `back` of a copy to the pool, if a port dropped the copy. `offer_to_port` calls it after each offer.
 #[inline(always)]
 fn return_octets<A: Allocator + Copy>(back: Option<Vec<u8, A>>, spares: &mut BufferPool<A>) {
     if let Some(octets) = back {
@@ -797,8 +800,8 @@ fn return_octets<A: Allocator + Copy>(back: Option<Vec<u8, A>>, spares: &mut Buf
     }
 }
 
-/// Returns the first port that `offer_several_copies` tries. Without copies, only port `last` remains, because it gets the frame's own
-/// octets.
+/// Returns the first port that `offer_several_copies` tries: 1 if there are copies. Without copies, only port `last` remains, which gets
+/// the frame's own octets.
 fn first_port_with_copy(copies: usize, last: u8) -> u8
     ensures from { 1 ≤ result }
     ensures to { result ≤ max 1 last }
@@ -807,8 +810,8 @@ fn first_port_with_copy(copies: usize, last: u8) -> u8
     if copies == 0 { last.max(1) } else { 1 }
 }
 
-/// Returns VLAN, priority and drop eligible indication of a received frame: from its tag, or from the port's defaults `vid` and `priority`.
-/// A priority-tagged frame gets the default VLAN.
+/// Returns VLAN, priority and drop eligible indication of a received frame: from its tag, or from the port's `vid` and `priority`. A
+/// priority-tagged frame gets `vid`.
 #[inline(always)]
 fn classify(tag: Option<Tag>, vid: u16, priority: u8) -> (u16, u8, bool)
     ensures { result ≡ classify tag vid priority }
