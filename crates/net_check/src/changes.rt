@@ -77,8 +77,8 @@ pub(crate) fn put_phases(changes: &mut Changes, stream: usize, phases: Phases) -
     }
 }
 
-/// Sets the shift of the list at the hop's port in `changes`: `earlier` ns, last used in pass `pass`. An earlier shift is replaced. Returns
-/// `None` if memory runs out.
+/// Sets the shift of the list at the hop's port in `changes`: `earlier` ns, last used in pass `pass`. Replaces the port's former shift.
+/// `None` if memory runs out. `relieve_list` and `keep_ports` call it.
 pub(crate) fn put_shift(
     changes: &mut Changes,
     hop: &HopTimes,

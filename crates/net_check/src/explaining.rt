@@ -20,7 +20,7 @@ use std::rt::Files;
 use toml::Table;
 
 /// Explains why a network with an accepted text is refused: a plan can't be read, or the network has a fault. Reads all files again;
-/// returns `None` if this fails.
+/// returns `None` if this fails. `app_networks` calls it.
 pub fn explain_network<H: AllocGlobal + Files>(rt: &H, path: &str) -> Option<String> {
     let alloc = rt.alloc();
     let octets = reread_text(rt, path)?;
@@ -76,7 +76,7 @@ fn network_text<'a>(
 }
 
 /// Returns a line for each group of frames that may loop, to explain why a network run didn't end. Reads the network's files again; returns
-/// `None` if this fails.
+/// `None` if this fails. `explain_stopped_run` calls it.
 pub fn explain_loops<H: AllocGlobal + Files>(rt: &H, path: &str) -> Option<String> {
     let alloc = rt.alloc();
     let mut files = CommandFiles::new(rt);

@@ -33,7 +33,7 @@ struct Window {
 }
 
 /// Appends the times at each hop for each stream with a periodic talker and known delays. Returns whether a passing stream misses a
-/// deadline that it can meet.
+/// deadline that it can meet. `explain_network_streams` calls it.
 pub(crate) fn put_stream_times(
     alloc: Global,
     said: &mut TextBuilder<Global>,

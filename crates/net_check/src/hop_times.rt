@@ -339,7 +339,7 @@ fn delay_at_port(links: &[Link], bridge: u16, port: u8) -> u64 {
     0
 }
 
-/// Returns the worst delay of a stream in ns: the greatest worst delay up to any of its queues.
+/// Returns the worst delay of a stream in ns: the greatest worst delay up to any of its queues. Explanations compare it with the deadline.
 pub(crate) fn worst_delay(times: &[HopTimes]) -> u128 {
     let mut worst = 0;
     for hop in times {
@@ -348,7 +348,8 @@ pub(crate) fn worst_delay(times: &[HopTimes]) -> u128 {
     worst
 }
 
-/// Returns the worst delay in ns that a stream would have if no frame waited: transmission times and link delays only.
+/// Returns the worst delay in ns that a stream would have if no frame waited: transmission times and link delays only. A stream can't meet
+/// a shorter deadline.
 pub(crate) fn delay_without_waits(times: &[HopTimes]) -> u128 {
     let mut shortest = 0;
     for hop in times {

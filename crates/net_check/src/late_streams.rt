@@ -11,6 +11,7 @@ use net_model::Network;
 use std::alloc::Global;
 
 /// Appends the changes that `find_changes` returned, after a heading. For `None`, appends that no changes were found, and a remedy.
+/// `explain_network_streams` calls it.
 pub(crate) fn put_changes(
     said: &mut TextBuilder<Global>,
     file: &NetworkFile<Global>,

@@ -21,7 +21,7 @@ use net_model::{Link, Network, StreamHop};
 use std::alloc::Global;
 
 /// Appends a sentence for each periodic talker's stream whose frames may be refused: the first hop that may refuse them, and the failing
-/// condition.
+/// condition. `explain_network_streams` calls it.
 pub(crate) fn put_refusable_streams(
     alloc: Global,
     said: &mut TextBuilder<Global>,
