@@ -302,14 +302,15 @@ impl CopyCounts {
     ghost use Rattle.std.specs.Prelude.{◌≡◌};
     ghost use Rattle.net_report.specs.CopyCounts as fates;
 
-    /// Returns the number of astray copies: copies that were sent to a bridge with a hop, but that no hop there accepted.
+    /// Returns the number of astray copies: copies that were sent to a bridge with a hop, but that no hop there accepted. `total_astray`
+    /// sums these numbers.
     pub fn astray(&self) -> u64
         ensures { result ≡ fates.astray self.now }
     {
         self.sent_on.saturating_sub(self.taken)
     }
 
-    /// Returns whether a copy of the frame was delivered, and none was refused, dropped or astray.
+    /// Returns whether a copy of the frame was delivered, and none was refused, dropped or astray. `delivered_frames` counts such frames.
     pub fn is_delivered(&self) -> bool
         ensures { result ≡ fates.is_delivered self.now }
     {

@@ -16,7 +16,7 @@ use bridge_semantics::{
 use net_model::Link;
 use std::alloc::Allocator;
 
-/// Returns whether a verdict is `Pass`: the filter passed the frame.
+/// Returns whether a verdict is `Pass`: the filter passed the frame. Counts, tables and pictures tell refused frames by it.
 pub(crate) fn is_pass(verdict: Verdict) -> bool
     ensures { result ≡ spec.is_pass verdict }
 {
@@ -266,8 +266,8 @@ fn push_delay<A: Allocator>(
     Ok(())
 }
 
-/// Returns the delays in ns of the copies that a hop delivered, from arrival at the first hop, in the order of leaving. Copies with unknown
-/// source are left out.
+/// Returns the delays in ns of the copies that a hop delivered, from arrival at the first hop, in the order of leaving. Leaves out copies
+/// with unknown source. Rows of `streams.csv` need them.
 pub(crate) fn departure_delays<A: Allocator + Copy>(
     alloc: A,
     ways: &[bool],

@@ -29,7 +29,8 @@ pub fn has_next_hop<A: Allocator>(
     }
 }
 
-/// Returns for each port of bridge `bridge`, from 1 to 16, whether it leads to a bridge with a hop of the stream.
+/// Returns for each port of bridge `bridge`, from 1 to 16, whether it leads to a bridge with a hop of the stream. Counts and tables need it
+/// for each hop.
 pub fn onward_ports<A: Allocator + Copy>(
     alloc: A,
     links: &[Link],
@@ -46,6 +47,7 @@ pub fn onward_ports<A: Allocator + Copy>(
 }
 
 /// Returns whether a port leads to a hop. `ways` has the results of `onward_ports` for ports 1 to 16. Returns false for other port numbers.
+/// Copies that leave by other ports are delivered.
 pub(crate) fn is_onward(ways: &[bool], port: u8) -> bool
     ensures { result ≡ spec.is_onward ways.now port }
 {

@@ -39,7 +39,7 @@ fn put_hatch(picture: &mut RunPicture, y: u64, queue: (u8, u8), from: u64, all: 
 }
 
 /// Draws the first 500 windows of a queue (port and class) in the picture's time span, in the row at height `y`. If there are more, hatches
-/// the rest.
+/// the rest. `put_open_windows` calls it.
 pub(crate) fn put_windows<A: Allocator + Copy>(
     picture: &mut RunPicture,
     y: u64,

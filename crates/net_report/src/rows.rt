@@ -163,6 +163,7 @@ fn put_dropped<A: Allocator>(picture: &mut RunPicture, view: &View<A>, y: u64) {
 }
 
 /// Draws the row of a hop at height `y`: its name, copies that left with lines to the next hops, dropped copies and refused frames.
+/// `put_stream` of `RunPicture` calls it.
 pub(crate) fn put_hop<A: Allocator>(
     picture: &mut RunPicture,
     links: &[Link],

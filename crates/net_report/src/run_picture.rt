@@ -82,7 +82,7 @@ pub(crate) fn time_x(picture: &RunPicture, moment: u64) -> u64 {
 }
 
 /// Draws an element with a title, which browsers show when the pointer rests on it. The title is `words` with `numbers` and `word` at its
-/// marks.
+/// marks. Rows and windows are drawn by it.
 pub(crate) fn put_titled(
     picture: &mut RunPicture,
     style: &str,
@@ -103,7 +103,7 @@ pub(crate) fn row_y(row: u64) -> u64 {
     row.saturating_mul(ROW_HEIGHT).saturating_add(TOP_MARGIN)
 }
 
-/// Returns a bar between two times, `y` pixels from the top and `height` pixels high.
+/// Returns a bar between two times, `y` pixels from the top and `height` pixels high. Rows and windows are drawn by it.
 pub(crate) fn bar_x_and_width(
     picture: &RunPicture,
     from: u64,
@@ -135,13 +135,13 @@ impl RunPicture {
         }
     }
 
-    /// Widens the time axis to the times of a stream's hops. Callers include all streams before they draw the first one.
+    /// Widens the time axis to the times of a stream's hops. `app_networks` calls it for all streams before it draws the first one.
     pub fn include_stream<A: Allocator>(&mut self, hops: &[HopRun<'_, A>]) {
         self.span = widen_span(hops, self.span);
     }
 
     /// Draws the windows of a class at a port in the row of hop `place` of the next stream. A port without list is always open.
-    /// `put_stream` draws over the windows.
+    /// `put_stream` draws over the windows. `app_networks` calls it.
     pub fn put_open_windows<A: Allocator + Copy>(
         &mut self,
         place: usize,
@@ -163,7 +163,8 @@ impl RunPicture {
         }
     }
 
-    /// Draws the rows of a stream, one for each hop, below the rows drawn before. `names` has the hops' names.
+    /// Draws the rows of a stream, one for each hop, below the rows drawn before. `names` has the hops' names. `app_networks` calls it for
+    /// each stream.
     pub fn put_stream<A: Allocator>(
         &mut self,
         links: &[Link],

@@ -13,7 +13,7 @@ pub struct DelayStatistics {
     pub jitter: u64,
 }
 
-/// Returns the statistics of these delays, or `None` without a delay.
+/// Returns the statistics of these delays, or `None` without a delay. Rows of `streams.csv` need them.
 pub fn delay_statistics(delays: &[u64]) -> Option<DelayStatistics>
     ensures { result ≡ spec.delay_statistics delays.now }
 {

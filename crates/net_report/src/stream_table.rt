@@ -103,7 +103,7 @@ fn put_hop_delays<A: Allocator>(text: &mut TextBuilder<A>, figures: Option<Delay
 }
 
 /// Returns the row of a hop in `streams.csv`. `figures` has delivered copies' delays from the first hop, `here` delays at this hop. Each is
-/// `None` without copies.
+/// `None` without copies. `rows_of_hop` calls it.
 pub fn hop_line<A: Allocator + Copy>(
     alloc: A,
     stream: &str,
@@ -234,7 +234,7 @@ fn put_margin<A: Allocator>(text: &mut TextBuilder<A>, deadline: Option<u64>, wo
 }
 
 /// Returns the row of a whole stream in `streams.csv`. `figures` is `None` if no copy was delivered. `worst` is `None` if the talker's
-/// worst delay is unknown.
+/// worst delay is unknown. `write_stream` calls it.
 pub fn stream_line<A: Allocator + Copy>(
     alloc: A,
     stream: &str,

@@ -193,6 +193,7 @@ pub fn stream_delays<A: Allocator + Copy>(
 }
 
 /// Writes the rows of a stream: the stream and each hop to `streams`, each frame at each hop to `frames`. `known` has the frames' sources.
+/// `app_networks` calls it for each stream.
 pub fn write_stream<A: Allocator + Copy, V: Write, W: Write>(
     alloc: A,
     links: &[Link],

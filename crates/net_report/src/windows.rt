@@ -87,7 +87,7 @@ fn count_list_openings<A: Allocator + Copy>(
 }
 
 /// Returns the number of windows of a class in a time span; a window that begins before the span counts. The cost doesn't depend on the
-/// span's length.
+/// span's length. `put_windows` calls it.
 pub(crate) fn count_windows<A: Allocator + Copy>(list: &Egress<A>, class: u8, span: Span) -> u64
     requires { class < 8 }
 {
@@ -111,7 +111,7 @@ pub(crate) fn count_windows<A: Allocator + Copy>(list: &Egress<A>, class: u8, sp
 }
 
 /// Returns the first time after `from` at which a class opens or closes, but at most `end`. If nothing changes for a cycle, continues with
-/// the next list.
+/// the next list. `put_windows` calls it.
 pub(crate) fn next_gate_change<A: Allocator + Copy>(
     list: &Egress<A>,
     class: u8,
