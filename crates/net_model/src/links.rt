@@ -54,7 +54,8 @@ pub fn peer_port(links: &[Link], bridge: u16, port: u8) -> Option<BridgePort>
     None
 }
 
-/// Returns whether `stream` has a hop with filter `filter` at the bridge with index `bridge`.
+/// Returns whether `stream` has a hop with filter `filter` at the bridge with index `bridge`. Tests of hops and warnings of `net check`
+/// call it.
 pub(crate) fn has_hop(stream: &[StreamHop], bridge: u16, filter: u32) -> bool
     ensures { result ≡ accepting.has_hop (stream_value stream.now) bridge filter }
 {

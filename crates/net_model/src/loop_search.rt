@@ -56,6 +56,7 @@ fn add_reached_ports<A: Allocator + Copy>(
 }
 
 /// Returns whether steps lead from `start` back to `start`. In each round, the search adds the ports that one more step reaches.
+/// `first_loop_port` calls it for each step's start.
 pub(crate) fn is_on_loop<A: Allocator + Copy>(
     alloc: A,
     steps: &[Step],

@@ -45,14 +45,14 @@ impl<A: Allocator + Copy> Network<A> {
         self.plans.as_slice()
     }
 
-    /// Returns the links between the bridges' ports. No port has two links.
+    /// Returns the links between the bridges' ports. No port has two links. Runs, tables and delays of networks depend on them.
     pub fn links(&self) -> &[Link]
         ensures { result.now ≡ self.now.links }
     {
         self.links.as_slice()
     }
 
-    /// Returns the streams, each as a list of hops.
+    /// Returns the streams, each as a list of hops. Runs, tables and delays of networks depend on them.
     pub fn streams(&self) -> &[Vec<StreamHop, A>]
         ensures streams { result.now ≡ self.now.streams }
         ensures closed { AreClosed self.now }

@@ -44,7 +44,8 @@ fn inner_steps<A: Allocator + Copy>(alloc: A, steps: &[Step]) -> Result<Vec<Step
     Ok(kept)
 }
 
-/// Removes steps until each remaining step is an inner step. Keeps all steps of loops; without loops, no step remains.
+/// Removes steps until each remaining step is an inner step. Keeps all steps of loops; without loops, no step remains. `find_loop_port`
+/// calls it before its search.
 pub(crate) fn prune_dead_ends<A: Allocator + Copy>(
     alloc: A,
     steps: &[Step],

@@ -222,7 +222,7 @@ pub(crate) fn may_go<A: Allocator + Copy>(
 }
 
 /// Returns whether `entry` matches frames with this tag on port `on`, and `filter` then judges them by the entry's handle and their
-/// priority.
+/// priority. `hands_tag` and `first_frame_with_tag` call it.
 pub(crate) fn maps_tag_to_filter<A: Allocator + Copy>(
     plan: &Plan<A>,
     on: &PortPlan<A>,
@@ -392,6 +392,7 @@ impl<'a, A: Allocator + Copy> SendingPort<'a, A> {
     }
 
     /// Returns the first example among frames with this tag and the address of `named`, or `None`. Tries ingress ports in rising order.
+    /// `first_frame_with_tag` calls it.
     #[tactic(auto, using(bridge_check::proofs::Told::first_none, bridge_check::proofs::Told::first_more))]
     pub(crate) fn first_frame_by_ingress(
         &self,
