@@ -22,7 +22,7 @@ fn are_name_characters(octets: &[u8]) -> bool
     octets.iter().all(|c| is_name_character(*c))
 }
 
-/// Returns whether a text is a name of a bridge or stream: 1 to 32 letters, digits, `-` and `_`.
+/// Returns whether a text is a name of a bridge or stream: 1 to 32 letters, digits, `-` and `_`. `name_value` refuses other texts.
 pub(crate) fn is_valid_name(text: &str) -> bool
     ensures { result ≡ spec.is_valid_name text.now }
 {
@@ -55,7 +55,7 @@ fn split_numbered_name(text: &str, low: u32, high: u32) -> Option<(&str, u32)>
 }
 
 /// Returns whether a text has the form of a bridge's port or filter: a text, a dot, and a number from `low` to `high`. The bridge may be
-/// missing.
+/// missing. `are_numbered_names` calls it.
 pub fn is_numbered_name(text: &str, low: u32, high: u32) -> bool
     ensures { result ≡ spec.is_numbered_name low high text.now }
 {
@@ -77,7 +77,7 @@ fn bridge_index<A: Allocator + Copy>(bridges: &[BridgeRow<A>], name: &str) -> Op
 }
 
 /// Returns the bridge's index and the number that a text such as `left.3` names: a port or a filter. Another form is `OutOfRange`, a
-/// missing bridge `Unresolved`.
+/// missing bridge `Unresolved`. Links and hops are read by it.
 pub(crate) fn resolve_numbered_name<A: Allocator + Copy>(
     bridges: &[BridgeRow<A>],
     low: u32,

@@ -139,7 +139,7 @@ pub fn read_document(heap: Global, text: &[u8]) -> Result<Table, NetFault>
 }
 
 /// Reads a network from a TOML text, or returns its first fault: syntax first, then sections in the order bridge, link, stream. `heap`
-/// holds the document, `alloc` the network.
+/// holds the document, `alloc` the network. Commands for networks call it.
 pub fn parse_network<A: Allocator + Copy>(
     alloc: A,
     heap: Global,
