@@ -279,7 +279,7 @@ impl<'a, A: Allocator + Copy> Model for BridgeRun<'a, A> {
 
 impl<'a, A: Allocator + Copy> BridgeRun<'a, A> {
     /// Returns the bridge with index `bridge` before the first round, with its inputs `came` from outside. No frame has arrived over a
-    /// link.
+    /// link. `initial_bridge_runs` calls it.
     pub(crate) fn begin(
         alloc: A,
         accepted: &'a Accepted<A>,
@@ -319,12 +319,13 @@ impl<'a, A: Allocator + Copy> BridgeRun<'a, A> {
         }
     }
 
-    /// Returns whether the bridge has run over its current inputs. If not, it runs in the next round.
+    /// Returns whether the bridge has run over its current inputs. If not, it runs in the next round. `announce_start` asks it.
     pub(crate) fn has_run(&self) -> bool {
         self.outcome.is_some()
     }
 
-    /// Returns the number of the bridge's ports. Methods with a parameter `place` accept only indexes below it.
+    /// Returns the number of the bridge's ports. Methods with a parameter `place` accept only indexes below it. `feed_bridge` visits each
+    /// port.
     pub(crate) fn port_count(&self) -> usize
         ensures size { result ≡ length self.now.ports }
         ensures kept { IsBridgeRun self.now }
@@ -357,7 +358,7 @@ impl<'a, A: Allocator + Copy> BridgeRun<'a, A> {
     }
 
     /// Returns the input capture for the port at the other end of a link: the frames that `port` sent, `delay` ns later. The capture is
-    /// empty if the port is missing.
+    /// empty if the port is missing. `capture_over_link` calls it.
     pub(crate) fn delivered_capture(
         &self,
         alloc: A,
@@ -373,7 +374,7 @@ impl<'a, A: Allocator + Copy> BridgeRun<'a, A> {
     }
 
     /// Sets the input capture of the linked port with index `place`. Drops the result of the bridge's last run, so that the bridge runs
-    /// again in the next round.
+    /// again in the next round. `deliver_capture` calls it.
     pub(crate) fn set_input(&mut self, place: usize, input: InputCapture<A>)
         requires place { place < length self.old.ports }
         requires linked { (s : networks.Sender) × (slice_get self.old.senders place ≡ Some (Some s)) }
@@ -386,7 +387,7 @@ impl<'a, A: Allocator + Copy> BridgeRun<'a, A> {
     }
 
     /// Returns whether the input capture of the port with index `place` has the octets of `input`. If so, the frames from the port's sender
-    /// haven't changed.
+    /// haven't changed. `deliver_capture` calls it.
     pub(crate) fn has_input(
         &self,
         alloc: A,
@@ -401,7 +402,7 @@ impl<'a, A: Allocator + Copy> BridgeRun<'a, A> {
         self.input_capture(place).has_same_octets(alloc, input)
     }
 
-    /// Runs the bridge over its inputs, unless it has a result for them. Returns whether it ran.
+    /// Runs the bridge over its inputs, unless it has a result for them. Returns whether it ran. `run_bridges` calls it in each round.
     pub(crate) fn run(&mut self, alloc: A) -> Result<bool, RunFault>
         ensures same { OnOk result ((constant_part self.new ≡ constant_part self.old)
             × (self.new.texts ≡ self.old.texts)) }

@@ -106,7 +106,7 @@ impl<A: Allocator + Copy> InputCapture<A> {
     }
 
     /// Returns the input capture of the port at the end of a link of `delay` ns over which the frames of `sent` arrive. It shares the
-    /// octets of `sent`.
+    /// octets of `sent`. `delivered_capture` calls it.
     pub(crate) fn over_link(
         alloc: A,
         sent: &SharedCapture<A>,
@@ -145,7 +145,7 @@ impl<A: Allocator + Copy> InputCapture<A> {
         }
     }
 
-    /// Returns whether both inputs have the same octets.
+    /// Returns whether both inputs have the same octets. `has_input` calls it.
     pub(crate) fn has_same_octets(
         &self,
         alloc: A,
@@ -163,7 +163,7 @@ impl<A: Allocator + Copy> InputCapture<A> {
     }
 }
 
-/// Returns one input capture for each of these captures, in order, for the ports of a bridge.
+/// Returns one input capture for each of these captures, in order, for the ports of a bridge. `begin` of `BridgeRun` calls it.
 pub(crate) fn input_captures<A: Allocator + Copy>(
     alloc: A,
     texts: Vec<Vec<u8, A>, A>,
@@ -191,7 +191,7 @@ pub(crate) fn copy_inputs<A: Allocator + Copy>(
     Ok(texts)
 }
 
-/// Returns one shared capture for each sink, in order, after a bridge has run.
+/// Returns one shared capture for each sink, in order, after a bridge has run. `run_over_inputs` calls it.
 pub(crate) fn share_captures<A: Allocator + Copy>(
     alloc: A,
     sinks: Vec<VecSink<A>, A>,
@@ -205,7 +205,7 @@ pub(crate) fn share_captures<A: Allocator + Copy>(
     Ok(taps)
 }
 
-/// Returns the sinks of these captures, in order, for the results after the last round.
+/// Returns the sinks of these captures, in order, for the results after the last round. `results_of_runs` calls it.
 pub(crate) fn sinks_of_captures<A: Allocator + Copy>(
     alloc: A,
     taps: Vec<SharedCapture<A>, A>,

@@ -361,7 +361,7 @@ fn assert_network<A: Allocator + Copy>(network: &Network<A>)
 }
 
 /// Runs a network in at most `rounds` rounds, until each link delivers exactly the frames that its sender sent. `watch` gets a report
-/// before each bridge's run.
+/// before each bridge's run. `net` runs networks by it.
 pub fn run_network<A: Allocator + Copy, W: RoundObserver>(
     alloc: A,
     network: &Network<A>,
