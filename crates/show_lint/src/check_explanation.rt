@@ -55,7 +55,7 @@ const TOO_LONG: &str =
     "Filter {0}'s longest frame doesn't fit. It has {1} octets (`max_sdu` {2} and 16 octets of header; no frame exceeds {3}) and needs {5} ns at port {4}.\nClass {6} there is ";
 
 /// Explains why a plan isn't accepted: `fault`, then every other failed test, and what to change. Each finding begins with `path` and the
-/// filter's line, if known.
+/// filter's line, if known. `check --explain` prints it.
 pub fn explain_check(
     alloc: Global,
     path: &str,

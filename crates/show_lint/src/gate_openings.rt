@@ -10,7 +10,7 @@ use bridge_limits::LONGEST_FRAME;
 use std::alloc::{AllocError, Allocator, Global};
 
 /// Returns the list that a stream gate has at `stage`: before a schedule change, after it, or always. Returns `None` for a gate with a
-/// fixed state.
+/// fixed state. Searches for warnings call it.
 pub(crate) fn gate_list<A: Allocator + Copy>(
     schedule: &Schedule<A>,
     stage: ScheduleStage,
@@ -29,7 +29,7 @@ pub(crate) fn gate_list<A: Allocator + Copy>(
 }
 
 /// Returns the gate control list that a port has at `stage`: before a schedule change, after it, or always. Returns `None` if the port has
-/// no list: it is always open.
+/// no list: it is always open. Warnings need it.
 pub(crate) fn port_list<A: Allocator + Copy>(
     port: &PortPlan<A>,
     stage: ScheduleStage,
@@ -47,12 +47,12 @@ pub(crate) fn port_list<A: Allocator + Copy>(
     }
 }
 
-/// Returns whether a stream gate has a schedule change.
+/// Returns whether a stream gate has a schedule change. If so, searches for warnings look at both lists.
 pub(crate) fn has_gate_change<A: Allocator + Copy>(schedule: &Schedule<A>) -> bool {
     matches!(schedule, Schedule::Joined(_))
 }
 
-/// Returns whether a port has a schedule change.
+/// Returns whether a port has a schedule change. If so, searches for warnings look at both lists.
 pub(crate) fn has_port_change<A: Allocator + Copy>(port: &PortPlan<A>) -> bool {
     matches!(&port.list, Some(Egress::Joined(_)))
 }
@@ -82,7 +82,8 @@ pub(crate) fn longest_length(sdu: u32) -> u32 {
     sdu.saturating_add(16).min(LONGEST_FRAME)
 }
 
-/// Returns the greatest load of a filter with handle `handle` and a largest SDU of `sdu` octets.
+/// Returns the greatest load of a filter with handle `handle` and a largest SDU of `sdu` octets. Searches for warnings about meters and
+/// queues call it.
 pub(crate) fn offered_load<A: Allocator + Copy>(
     plan: &Plan<A>,
     handle: u32,
@@ -170,7 +171,7 @@ pub(crate) struct GateOpening {
 }
 
 /// Returns the open entries of a stream gate's list, with the number of frames of load `feed` that each passes. The last entry lasts to the
-/// cycle's end.
+/// cycle's end. `low_rate` and `find_queue_stage_warnings` call it.
 pub(crate) fn gate_openings<A: Allocator + Copy>(
     alloc: Global,
     list: &CyclicList<GateEntry, A>,
@@ -210,7 +211,7 @@ pub(crate) fn gate_openings<A: Allocator + Copy>(
     Ok(openings)
 }
 
-/// Returns the number of longest frames that all openings of a stream gate's cycle pass together.
+/// Returns the number of longest frames that all openings of a stream gate's cycle pass together. `low_rate` and `find_overload` call it.
 pub(crate) fn total_count(openings: &[GateOpening]) -> u64 {
     let mut count = 0u64;
     for opening in openings {

@@ -77,7 +77,7 @@ fn waits_by_cycle<A: Allocator + Copy>(
 }
 
 /// Returns the waits of frames that arrive when a stream gate opens: at `first` and then every `cycle` ns. `None` if frames of `occupied`
-/// ns never fit.
+/// ns never fit. `opening_waits` calls it.
 pub(crate) fn gate_waits<A: Allocator + Copy>(
     list: &CyclicList<u8, A>,
     class: u8,

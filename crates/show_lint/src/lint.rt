@@ -47,7 +47,7 @@ fn find_plan_warnings<A: Allocator + Copy>(
     Ok(())
 }
 
-/// Adds the warning `advice` to `found`. Fails if memory runs out.
+/// Adds the warning `advice` to `found`. Fails if memory runs out. All searches for warnings call it.
 pub(crate) fn push_warning(found: &mut Vec<Warning>, advice: Warning) -> Result<(), AllocError> {
     match found.push(advice) {
         Ok(()) => Ok(()),

@@ -223,6 +223,7 @@ fn find_stream_warnings<A: Allocator + Copy>(
 }
 
 /// Adds the warnings about each stream whose handle protected filter `number` names. Does nothing for a filter without handle.
+/// `find_plan_warnings` calls it.
 pub(crate) fn find_not_forwarded<A: Allocator + Copy>(
     found: &mut Vec<Warning>,
     plan: &Plan<A>,

@@ -57,7 +57,8 @@ fn is_overloaded(occupied: u64, cycle: u64, open: u64, round: u64) -> bool {
     wanted > given
 }
 
-/// Adds a warning if more frames can enter the queue in a cycle of the stream gate than its class has time for.
+/// Adds a warning if more frames can enter the queue in a cycle of the stream gate than its class has time for. `find_opening_warnings`
+/// calls it.
 pub(crate) fn find_overload<A: Allocator + Copy>(
     found: &mut Vec<Warning>,
     queue: &ScheduledQueue<'_, A>,
@@ -125,6 +126,7 @@ fn frames_left_waiting<A: Allocator + Copy>(
 }
 
 /// Adds a warning for the first entry after which more frames wait than the queue's capacity, so that some are dropped.
+/// `find_opening_warnings` calls it.
 pub(crate) fn find_small_queue<A: Allocator + Copy>(
     found: &mut Vec<Warning>,
     queue: &ScheduledQueue<'_, A>,
@@ -169,7 +171,8 @@ fn opening_wait<A: Allocator + Copy>(
     }
 }
 
-/// Adds a warning if frames have a long wait after the start of every entry. The warning names the first entry.
+/// Adds a warning if frames have a long wait after the start of every entry. The warning names the first entry. `find_opening_warnings`
+/// calls it.
 pub(crate) fn find_long_wait<A: Allocator + Copy>(
     found: &mut Vec<Warning>,
     queue: &ScheduledQueue<'_, A>,

@@ -28,6 +28,7 @@ struct ProtectedFilter<'a, A: Allocator + Copy> {
 }
 
 /// Adds warnings about each queue of protected filter `number`. Does nothing if the filter has no handle, no largest SDU or no stream gate.
+/// `find_plan_warnings` calls it.
 pub(crate) fn find_queues<A: Allocator + Copy>(
     alloc: Global,
     found: &mut Vec<Warning>,

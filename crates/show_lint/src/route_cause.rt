@@ -116,7 +116,7 @@ fn other_way<A: Allocator + Copy>(
 }
 
 /// Writes how to keep a filter's frames from a port, and returns true. Returns false without a remedy: a `static` entry leads there, or
-/// there is no handle.
+/// there is no handle. `put_window` calls it.
 pub(crate) fn put_other_way<A: Allocator + Copy>(
     said: &mut LintText,
     plan: &Plan<A>,

@@ -33,7 +33,8 @@ fn has_tested(filters: &[(u32, FilterPlan)]) -> bool
     false
 }
 
-/// Adds a warning if no filter is protected or grouped: the plan then isolates no filter and bounds no delay.
+/// Adds a warning if no filter is protected or grouped: the plan then isolates no filter and bounds no delay. `find_plan_warnings` calls
+/// it.
 pub(crate) fn find_unprotected(
     found: &mut Vec<Warning>,
     filters: &[(u32, FilterPlan)],
@@ -44,7 +45,7 @@ pub(crate) fn find_unprotected(
     push_warning(found, Warning::NoneProtected)
 }
 
-/// Adds the warnings about streams, stream gates, meters and filters without effect.
+/// Adds the warnings about streams, stream gates, meters and filters without effect. `find_plan_warnings` calls it.
 pub(crate) fn find_unused_parts<A: Allocator + Copy>(
     found: &mut Vec<Warning>,
     plan: &Plan<A>,

@@ -57,7 +57,8 @@ fn put_list_windows<A: Allocator + Copy>(said: &mut LintText, list: &CyclicList<
     said.put_template(" of each {0} ns", &[cycle], &[]);
 }
 
-/// Writes the windows of a class at a port; with a schedule change, those of the old list and of the new list.
+/// Writes the windows of a class at a port; with a schedule change, those of the old list and of the new list. `put_queue` and
+/// `put_too_long` call it.
 pub(crate) fn put_open_windows<A: Allocator + Copy>(
     said: &mut LintText,
     port: &PortPlan<A>,
@@ -134,6 +135,7 @@ pub(crate) fn class_run<A: Allocator + Copy>(port: &PortPlan<A>, class: u8) -> R
 }
 
 /// Returns the length in octets of the longest frame that fits the longest window of a class at a port. Returns `None` if no frame fits.
+/// `put_queue` and `put_remedy` call it.
 pub(crate) fn longest_frame_of_class<A: Allocator + Copy>(
     port: &PortPlan<A>,
     class: u8,
