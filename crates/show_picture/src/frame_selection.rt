@@ -152,6 +152,7 @@ impl DrawnGroup {
     }
 
     /// Returns two numbers for the note in the picture: the frames of the group that aren't drawn, and all frames of the group.
+    /// `put_shown_filters` calls it.
     pub(crate) fn left_out(&self) -> (u64, u64) {
         let left_out = self.drawn_count(u64::MAX);
         let frames = self.frames.len() as u64;

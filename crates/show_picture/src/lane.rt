@@ -127,7 +127,7 @@ impl Picture {
     }
 
     /// Shares 8,000 windows equally among the lanes, so that the picture has a limit. Each lane may have 24 to 250 windows; more can't be
-    /// distinguished.
+    /// distinguished. `put_ports` calls it.
     pub(crate) fn share_windows<A: Allocator + Copy>(&mut self, plan: &Plan<A>, part: &Selection) {
         let mut lanes = self.gates.len().min(MAX_GATES);
         for port in plan.ports() {
@@ -287,7 +287,7 @@ impl Picture {
         self.draw_lane(lane, is_all);
     }
 
-    /// Draws the heading and the lanes of a port, class 7 on top. A port without a list has one lane.
+    /// Draws the heading and the lanes of a port, class 7 on top. A port without a list has one lane. `put_ports` calls it.
     pub(crate) fn put_port<A: Allocator + Copy>(&mut self, plan: &Plan<A>, port: &PortPlan<A>) {
         let (number, speed) = (port.number, port.speed.megabits());
         self.page.skip_height(250);
@@ -309,7 +309,7 @@ impl Picture {
         }
     }
 
-    /// Draws the first `most` stream gates of a port, and writes how many more there are.
+    /// Draws the first `most` stream gates of a port, and writes how many more there are. `put_ports` calls it.
     pub(crate) fn put_gates<A: Allocator + Copy>(&mut self, plan: &Plan<A>, port: u8, most: usize) {
         let (mut room, mut further) = (most, 0u64);
         for place in 0..self.gates.len() {

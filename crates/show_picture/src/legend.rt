@@ -86,7 +86,8 @@ pub(crate) const GROUP_RUN: &[LegendRow] = &[
 ];
 
 impl Picture {
-    /// Draws the legend row of a filter: a sample of its colour, its number, and whether it is protected or grouped.
+    /// Draws the legend row of a filter: a sample of its colour, its number, and whether it is protected or grouped. `put_shown_filters`
+    /// calls it.
     pub(crate) fn put_filter_legend(
         &mut self,
         filter: u32,
@@ -106,7 +107,7 @@ impl Picture {
     }
 
     /// Writes the legend: lanes, `rows`, and if present the schedule change and the fault. `has_groups` is true if the plan has a grouped
-    /// filter.
+    /// filter. `put_ports` calls it.
     pub(crate) fn put_legend(&mut self, rows: &[LegendRow], has_groups: bool) {
         self.page.begin_legend();
         let lanes = if has_groups { GROUP_LANES } else { LANES };

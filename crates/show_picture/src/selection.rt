@@ -43,7 +43,7 @@ pub(crate) fn shown_length(times: Hypercycle) -> u64 {
 }
 
 /// Returns the default span of a plan's picture: one hypercycle from 0, or one before and one after the schedule change. Each lasts at most
-/// 1 s.
+/// 1 s. `draw_plan` calls it.
 pub(crate) fn plan_span(times: Hypercycle) -> Span {
     let (at, shown) = (times.change.unwrap_or(0), shown_length(times));
     let (from, to) = (at.saturating_sub(shown), at.saturating_add(shown));
