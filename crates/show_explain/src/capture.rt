@@ -33,7 +33,7 @@ fn file_kind(octets: &[u8]) -> Option<&'static str> {
 }
 
 /// Explains why a capture is refused, by its first octets and the fault: the file's kind, and a command that converts it. The explanation
-/// begins with `path`.
+/// begins with `path`. `app_commands` calls it.
 pub fn explain_capture(
     alloc: Global,
     path: &str,

@@ -51,7 +51,7 @@ fn first_flawed_key(keys: &'static [KeyRule], entry: &Table) -> Option<&'static 
 }
 
 /// Writes the first item of list `list` that isn't a table. Without such an item, writes the first wrong key of an entry, its value and the
-/// allowed values.
+/// allowed values. `put_key_fault` calls it.
 pub(crate) fn put_entry_flaws(
     said: &mut Said,
     keys: &'static [KeyRule],
@@ -117,6 +117,7 @@ fn is_list_refused(
 }
 
 /// Writes why a list of instance `index` is refused. Finds the list with this fault; without one, takes the section's first list.
+/// `put_fault` calls it.
 pub(crate) fn put_refused_list(
     alloc: Global,
     said: &mut Said,

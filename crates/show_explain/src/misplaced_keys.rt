@@ -33,7 +33,7 @@ fn put_nearest_key(alloc: Global, said: &mut Said, word: &str, keys: &'static [K
     put_nearest(alloc, said, word, &names, KEYS);
 }
 
-/// Writes which key at the top of a plan or of commands is unknown, and the nearest section.
+/// Writes which key at the top of a plan or of commands is unknown, and the nearest section. Both functions `put_fault` call it.
 pub(crate) fn put_top_key(alloc: Global, said: &mut Said, source: SourceText<'_>) {
     let sections: &'static [Section] = if source.is_commands {
         &COMMAND_SECTIONS
@@ -88,7 +88,7 @@ fn first_misplaced_entry_key<'a>(
 }
 
 /// Writes which key of instance `index` is unknown, with the nearest key, or why a known key isn't allowed there. Looks at the entries of
-/// its lists last.
+/// its lists last. `put_fault` calls it.
 pub(crate) fn put_misplaced_key(
     alloc: Global,
     said: &mut Said,

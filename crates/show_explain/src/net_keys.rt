@@ -25,6 +25,7 @@ pub(crate) fn net_instance<'a>(
 }
 
 /// Writes the position of instance `index`, from 1, of a section, or of its key `key`, and the instance's name, ends or filter.
+/// Explanations in `network` begin with it.
 pub(crate) fn put_net_place(
     said: &mut Said,
     document: Document<'_>,
@@ -56,6 +57,7 @@ pub(crate) fn example_bridge<'a>(document: Document<'a>) -> &'a str {
 }
 
 /// Writes the value of an instance's key and the allowed values. If a talker's key is missing, writes which keys it needs.
+/// `put_key_explanation` calls it.
 pub(crate) fn put_key_value(
     said: &mut Said,
     instance: Instance<'_>,

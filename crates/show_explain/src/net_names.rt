@@ -23,7 +23,8 @@ fn is_hop(value: &Value) -> bool {
     }
 }
 
-/// Writes why an array of hops is refused: an item that isn't a text, its length, or an item that names no filter.
+/// Writes why an array of hops is refused: an item that isn't a text, its length, or an item that names no filter. `put_key_explanation`
+/// calls it.
 pub(crate) fn put_hops(said: &mut Said, document: Document<'_>, items: &[Value]) {
     let are_texts = items.iter().all(|item| is_text(item));
     let count = items.len();
@@ -75,7 +76,7 @@ fn bridge_part(text: &str) -> &str {
     }
 }
 
-/// Writes which bridge an instance's key names although the network lacks it, the nearest bridge, and what to do.
+/// Writes which bridge an instance's key names although the network lacks it, the nearest bridge, and what to do. `put_fault` calls it.
 pub(crate) fn put_unknown_bridge(
     alloc: Global,
     said: &mut Said,

@@ -28,6 +28,7 @@ pub fn explain_plan(
 }
 
 /// Explains why the file at `path` has no commands for the bridge of a plan. `text` has the commands, `plan` is the plan's text.
+/// `app_commands` and `app_networks` call it.
 pub fn explain_commands(
     alloc: Global,
     path: &str,

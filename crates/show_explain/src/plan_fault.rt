@@ -21,7 +21,8 @@ use toml::{Table, Value};
 /// Largest number of instance numbers in an explanation.
 const MAX_NUMBERS: usize = 16;
 
-/// Writes the explanation of a fault of a plan or of commands, to follow the path. Calls the function for its kind.
+/// Writes the explanation of a fault of a plan or of commands, to follow the path. Calls the function for its kind. `put_document_fault`
+/// calls it.
 pub(crate) fn put_fault(alloc: Global, said: &mut Said, source: SourceText<'_>, fault: &PlanFault) {
     match *fault {
         PlanFault::UnknownKey(Section::Top, _) => put_top_key(alloc, said, source),

@@ -5,7 +5,8 @@ use std::alloc::Global;
 use toml::Table;
 use toml::de::Error;
 
-/// Returns the text and the document in these octets. If they aren't UTF-8 or TOML, writes where and why, and returns `None`.
+/// Returns the text and the document in these octets. If they aren't UTF-8 or TOML, writes where and why, and returns `None`. Explanations
+/// of all such files begin with it.
 pub(crate) fn read_document<'a>(
     alloc: Global,
     said: &mut Said,
