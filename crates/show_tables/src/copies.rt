@@ -9,7 +9,8 @@ use bridge_semantics::{
 };
 use std::alloc::Allocator;
 
-/// Returns the departures of a filter, sorted by rising frame number. Departures of one frame keep their order.
+/// Returns the departures of a filter, sorted by rising frame number. Departures of one frame keep their order. `put_filter_frames` calls
+/// it.
 pub(crate) fn departures_by_frame<A: Allocator>(
     alloc: A,
     departures: &[StoredDeparture],
@@ -23,7 +24,8 @@ pub(crate) fn departures_by_frame<A: Allocator>(
     Ok(sorted)
 }
 
-/// Returns the dropped copies of a filter, sorted by rising frame number. Dropped copies of one frame keep their order.
+/// Returns the dropped copies of a filter, sorted by rising frame number. Dropped copies of one frame keep their order. `put_filter_frames`
+/// calls it.
 pub(crate) fn drops_by_frame<A: Allocator>(
     alloc: A,
     drops: &[StoredDrop],
@@ -37,6 +39,7 @@ pub(crate) fn drops_by_frame<A: Allocator>(
 }
 
 /// Returns the departures of the frame with number `own`. The list must rise by frame number, so a binary search finds them.
+/// `put_sorted_frame` calls it.
 pub(crate) fn frame_departures(sorted: &[Departure], own: u64) -> &[Departure]
     requires { IsNonDecreasingBy (λ (d : Departure). d.own) sorted.now }
     ensures { result.now ≡ frame_departures own sorted.now }
@@ -47,6 +50,7 @@ pub(crate) fn frame_departures(sorted: &[Departure], own: u64) -> &[Departure]
 }
 
 /// Returns the dropped copies of the frame with number `own`. The list must rise by frame number, so a binary search finds them.
+/// `put_sorted_frame` calls it.
 pub(crate) fn frame_drops(sorted: &[Dropped], own: u64) -> &[Dropped]
     requires { IsNonDecreasingBy (λ (d : Dropped). d.own) sorted.now }
     ensures { result.now ≡ frame_drops own sorted.now }

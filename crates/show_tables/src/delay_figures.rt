@@ -44,6 +44,7 @@ pub(crate) fn port_delays<A: Allocator>(
 }
 
 /// Writes the fields of the least, mean (rounded down) and greatest delay in ns, and of the jitter; empty fields if `delays` is empty.
+/// `put_port_row` calls it.
 pub(crate) fn put_figures<A: Allocator>(text: &mut TextBuilder<A>, delays: &[u64])
     ensures { HasGrown text.old (spec.figure_fields delays.now) text.new }
 {

@@ -31,7 +31,7 @@ pub(crate) fn put_field<A: Allocator>(text: &mut TextBuilder<A>, number: u64)
     text.put(",");
 }
 
-/// Writes the last field of a row: a number and a line feed.
+/// Writes the last field of a row: a number and a line feed. `put_losses` calls it.
 pub(crate) fn put_last_field<A: Allocator>(text: &mut TextBuilder<A>, number: u64)
     ensures { HasGrown text.old (decimal number ++ codes "\n") text.new }
 {
@@ -51,7 +51,7 @@ fn put_row_start<A: Allocator>(text: &mut TextBuilder<A>, frame: &FilterFrame)
     text.put(",");
 }
 
-/// Writes the row of a frame without copies: the fields of a copy are empty.
+/// Writes the row of a frame without copies: the fields of a copy are empty. `put_frame` calls it.
 pub(crate) fn put_lone_row<A: Allocator>(text: &mut TextBuilder<A>, frame: &FilterFrame)
     ensures { HasGrown text.old (spec.lone_row frame.now) text.new }
 {
@@ -162,7 +162,7 @@ fn put_port_copies<A: Allocator>(
     put_drop_rows(text, frame, port, drops);
 }
 
-/// Writes the rows of a frame's copies, by rising port. `departures` and `drops` are the frame's own.
+/// Writes the rows of a frame's copies, by rising port. `departures` and `drops` are the frame's own. `put_frame` calls it.
 pub(crate) fn put_copies<A: Allocator>(
     text: &mut TextBuilder<A>,
     frame: &FilterFrame,

@@ -60,6 +60,7 @@ fn group_bounds<A: Allocator>(
 }
 
 /// Returns the delay bounds in ns of ports 1 to 16 for a filter; `None` for a port without bound. `queues` are the plan's shared queues.
+/// `put_filter_with_bounds` calls it.
 pub(crate) fn filter_bounds<A: Allocator + Copy>(
     alloc: A,
     accepted: &Accepted<A>,

@@ -12,7 +12,7 @@ use bridge_semantics::{StoredDrop, StoredVerdict};
 use bridge_text::TextBuilder;
 use std::alloc::Allocator;
 
-/// Returns the number of copies that `port` dropped because their queues were full.
+/// Returns the number of copies that `port` dropped because their queues were full. `put_port_row` calls it.
 pub(crate) fn count_full_on_port(port: u8, drops: &[StoredDrop]) -> usize
     ensures { result ≡ spec.count_full_on_port port drops.now }
 {
@@ -23,7 +23,7 @@ pub(crate) fn count_full_on_port(port: u8, drops: &[StoredDrop]) -> usize
         .count()
 }
 
-/// Returns the number of copies that `port` dropped because they fit no window.
+/// Returns the number of copies that `port` dropped because they fit no window. `put_port_row` calls it.
 pub(crate) fn count_never_on_port(port: u8, drops: &[StoredDrop]) -> usize
     ensures { result ≡ spec.count_never_on_port port drops.now }
 {
@@ -72,7 +72,7 @@ fn put_meter_losses<A: Allocator>(text: &mut TextBuilder<A>, verdicts: &[StoredV
 }
 
 /// Writes the end of a row: numbers of refused frames by reason. The last fields are `full` and `never`: copies dropped by full queues, and
-/// copies that fit no window.
+/// copies that fit no window. `put_port_row` and `put_unsent_row` call it.
 pub(crate) fn put_losses<A: Allocator>(
     text: &mut TextBuilder<A>,
     verdicts: &[StoredVerdict],

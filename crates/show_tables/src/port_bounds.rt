@@ -33,7 +33,7 @@ fn port_bound<A: Allocator + Copy>(accepted: &Accepted<A>, filter: u32, port: u8
 }
 
 /// Returns the delay bounds in ns of ports 1 to 16 for a filter. `None` for a port at which the filter has no queue, or an unprotected
-/// filter.
+/// filter. `filter_bounds` calls it.
 pub(crate) fn port_bounds<A: Allocator + Copy>(
     alloc: A,
     accepted: &Accepted<A>,
@@ -49,6 +49,7 @@ pub(crate) fn port_bounds<A: Allocator + Copy>(
 }
 
 /// Returns the bound of port `port` from `bounds`, the bounds of ports 1 to 16. Returns `None` without a bound or for another number.
+/// `put_row_of_port` calls it.
 pub(crate) fn bound_by_port(bounds: &[Option<u64>], port: u8) -> Option<u64>
     ensures { result ≡ spec.bound_by_port bounds.now port }
 {
