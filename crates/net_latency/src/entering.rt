@@ -193,7 +193,7 @@ fn handed_course(handed: bool, course: StreamLatency) -> StreamLatency
 }
 
 /// Returns the delays of a periodic talker's frames, and whether each frame passes. `None` if other devices' frames may get a hop's handle,
-/// or the delays are unknown.
+/// or the delays are unknown. `latency_through_hops` calls it.
 pub fn checked_stream_latency<A: Allocator + Copy>(
     plans: &[Accepted<A>],
     links: &[Link],

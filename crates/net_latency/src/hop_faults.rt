@@ -128,7 +128,7 @@ pub(crate) fn put_protected(
 }
 
 /// Appends a sentence with the numbers of a plan's grouped filters, from which the reader can choose. Discards the whole explanation if
-/// memory runs out.
+/// memory runs out. `explain_limited_row` calls it.
 pub(crate) fn put_grouped(
     alloc: Global,
     said: &mut TextBuilder<Global>,

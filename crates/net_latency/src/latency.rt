@@ -184,7 +184,7 @@ fn first_hop_arrival(traffic: &Traffic) -> HopArrival
 }
 
 /// Returns the delays of a periodic talker's frames over all routes. `None` if the hops are no tree, a hop has no queue, or phases are
-/// unknown.
+/// unknown. `checked_stream_latency` calls it.
 pub fn stream_latency<A: Allocator + Copy>(
     plans: &[Accepted<A>],
     links: &[Link],

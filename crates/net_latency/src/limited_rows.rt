@@ -179,7 +179,7 @@ fn tested_timings<A: Allocator + Copy>(
 }
 
 /// Returns the delays of row `index`, one item for each shared queue that frames of its filter can enter. Returns an empty list if the plan
-/// lacks the filter.
+/// lacks the filter. `talker_row_timings` calls it.
 #[tactic(auto, using(crate::proofs::LimitedRows::limited_none))]
 pub(crate) fn limited_timings<A: Allocator + Copy>(
     alloc: A,

@@ -58,7 +58,7 @@ pub(crate) fn hop_at_bridge(hops: &[StreamHop], bridge: u16) -> Option<StreamHop
 }
 
 /// Returns the hop of the stream at the other end of the port's link, and the link's delay. Returns `None` if the port is open or the
-/// stream has no hop there.
+/// stream has no hop there. `queue_exit` calls it.
 pub(crate) fn next_hop(links: &[Link], hops: &[StreamHop], bridge: u16, port: u8) -> Option<NextHop>
     ensures { result ≡ next_hop links.now hops.now bridge port }
 {

@@ -58,6 +58,7 @@ fn accepted_plan<'a, A: Allocator + Copy>(
 }
 
 /// Returns whether each frame of the traffic passes the filter of a hop. Returns false if the bridge or the filter is missing.
+/// `hop_latency` calls it.
 pub(crate) fn hop_passes<A: Allocator + Copy>(
     plans: &[Accepted<A>],
     hop: StreamHop,
@@ -161,7 +162,7 @@ fn exit_over_link(
 }
 
 /// Returns the next step of frames that leave `queue`; `came` is their arrival at its hop. `None` if phases are unknown or lie in two
-/// periods, or the bridge is missing.
+/// periods, or the bridge is missing. `queue_latency` calls it.
 pub(crate) fn queue_exit<A: Allocator + Copy>(
     case: &StreamContext<'_, A>,
     queue: &HopQueue,

@@ -29,13 +29,13 @@ pub struct NetworkText<'a> {
 }
 
 impl<'a> NetworkText<'a> {
-    /// Returns the bridge of the network file with index `place`, from 0, or `None` if the file lacks it.
+    /// Returns the bridge of the network file with index `place`, from 0, or `None` if the file lacks it. Explanations name bridges by it.
     pub fn bridge(self, place: u16) -> Option<&'a BridgeRow<Global>> {
         self.file.bridges().get(place as usize)
     }
 
     /// Appends the path of the file, and the position of a key, or of the section's header for `None`. `index` is the number of the
-    /// section's instance, from 1.
+    /// section's instance, from 1. Explanations begin with it.
     pub fn put_place(
         self,
         said: &mut TextBuilder<Global>,
@@ -59,7 +59,7 @@ impl<'a> NetworkText<'a> {
     }
 }
 
-/// Appends the first 16 numbers with commas between them, then `..` if `numbers` has more.
+/// Appends the first 16 numbers with commas between them, then `..` if `numbers` has more. Explanations list filters and ports by it.
 pub fn put_numbers(said: &mut TextBuilder<Global>, numbers: &[u64]) {
     let mut is_first = true;
     for number in numbers.iter().take(MOST_NUMBERS) {

@@ -183,7 +183,8 @@ fn talker_row_timings<A: Allocator + Copy>(
     }
 }
 
-/// Returns the delays of all traffic rows, row by row, then by rising port and class of the filter's queues.
+/// Returns the delays of all traffic rows, row by row, then by rising port and class of the filter's queues. `report_traffic` and
+/// `explain_refusable_rows` call it.
 pub fn queue_timings<A: Allocator + Copy>(
     alloc: A,
     accepted: &Accepted<A>,

@@ -204,7 +204,7 @@ pub(crate) fn talker_row_fault<A: Allocator + Copy>(
 }
 
 /// Returns the first fault of the rows compared with the plan, or `None`. A filter is missing, unprotected or in no group, or a period
-/// doesn't suit a cycle time.
+/// doesn't suit a cycle time. `check_and_report` calls it.
 pub fn traffic_fault<A: Allocator + Copy>(
     plan: &Plan<A>,
     rows: &[TalkerRow],
