@@ -71,14 +71,14 @@ fn put_copies<T: ReportSink, C: ListedCopy>(text: &mut T, copies: &[C])
     }
 }
 
-/// Writes one line for each dropped copy of the filter's frames.
+/// Writes one line for each dropped copy of the filter's frames. `put_lists` calls it.
 pub fn put_drops<T: ReportSink>(text: &mut T, drops: &[StoredDrop])
     ensures { HasGrown T.contents text.old (flat_map drop_line drops.now) text.new }
 {
     put_copies(text, drops);
 }
 
-/// Writes one line for each copy of the filter's frames that left.
+/// Writes one line for each copy of the filter's frames that left. `put_lists` calls it.
 pub fn put_departures<T: ReportSink>(text: &mut T, departures: &[StoredDeparture])
     ensures { HasGrown T.contents text.old (flat_map departure_line departures.now) text.new }
 {

@@ -47,7 +47,7 @@ pub fn put_section<A: Allocator, T: ReportSink>(text: &mut T, filter: u32, view:
     text.put("end\n");
 }
 
-/// Writes the sections of `filters`, in list order: the whole report of a run.
+/// Writes the sections of `filters`, in list order: the whole report of a run. `report` and `write_report` call it.
 pub fn put_sections<A: Allocator, T: ReportSink>(text: &mut T, filters: &[(u32, View<A>)])
     ensures { HasGrown T.contents text.old (report_text filters.now) text.new }
 {

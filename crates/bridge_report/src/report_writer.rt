@@ -147,7 +147,7 @@ pub struct ReportWriter<W: Write + Drop, A: Allocator> {
 }
 
 impl<W: Write + Drop, A: Allocator> ReportWriter<W, A> {
-    /// Writes the buffered octets, and returns the flushed writer or the first fault.
+    /// Writes the buffered octets, and returns the flushed writer or the first fault. `write_report` calls it at the end.
     pub fn finish(self) -> Result<W, ReportFault>
         ensures whole { IfOk result (λ _. self.fault ≡ None) }
         ensures text { IfOk result (λ writer. Keeps (append_known (W.contents self.held.writer) self.held.octets.items)
