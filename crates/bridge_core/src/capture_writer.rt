@@ -25,7 +25,7 @@ pub struct CaptureWriter {
 }
 
 /// Writes each capture's header to the sink with the port's index, and returns a writer for each port. `lines` has the capacity. A failed
-/// write is `RunFault::Write`.
+/// write is `RunFault::Write`. `run_prepared` calls it.
 pub fn begin_writers<W: ByteSink, A: Allocator + Copy>(
     ports: &[u8],
     lines: Vec<CaptureWriter, A>,
@@ -107,7 +107,7 @@ pub fn write_frame<W: ByteSink, A: Allocator + Copy>(
 }
 
 /// Makes all starts before time `until` in ns, or all starts if it is `None`, and writes their frames. The frames' buffers return to the
-/// pool `spares`.
+/// pool `spares`. `run`, `process_frame` and `process_command` call it.
 #[inline(always)]
 pub fn send_due_frames<W: ByteSink, G: Agenda + Drop, A: Allocator + Copy>(
     until: Option<u64>,

@@ -54,6 +54,7 @@ fn update_head<H: Agenda, A: Allocator + Copy>(
 }
 
 /// Returns the agenda of the readers' next frames: the time of each, at the reader's index plus 1. `next_reader` looks up the earliest.
+/// `run_prepared` calls it.
 pub fn make_heads<H: Agenda, A: Allocator + Copy>(lanes: &[CaptureReader<A>]) -> H
     requires { length lanes.now ≤ 16 }
     ensures { AreHeads (H.held result) lanes.now }
