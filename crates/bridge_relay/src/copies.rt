@@ -46,7 +46,7 @@ fn fill_copies<A: Allocator + Copy>(
 }
 
 /// Returns `count` copies of `octets`, in spare buffers as far as the pool has any. Unless `count` is 0, the result uses the memory of
-/// `list`, which is moved out.
+/// `list`, which is moved out. `prepare_copies` calls it.
 #[inline(always)]
 pub fn make_copies<A: Allocator + Copy>(
     alloc: A,

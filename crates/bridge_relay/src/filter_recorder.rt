@@ -129,7 +129,7 @@ impl<A: Allocator + Copy> FilterRecorder<A> {
     }
 
     /// Reserves capacity for one verdict and for `copies` further copies, so that recording them can't fail. Fails if memory runs out, or
-    /// the filter has 4,294,967,295 frames.
+    /// the filter has 4,294,967,295 frames. `filter_recorders` calls it.
     #[inline(always)]
     pub fn reserve_room(&mut self, copies: usize) -> Result<(), NoMemory>
         requires { self.old.owed + copies < 2 ^ 32 }
@@ -157,7 +157,7 @@ impl<A: Allocator + Copy> FilterRecorder<A> {
         Ok(())
     }
 
-    /// Appends a verdict and its frame's origin. Returns the frame's number among the filter's frames, from 1.
+    /// Appends a verdict and its frame's origin. Returns the frame's number among the filter's frames, from 1. `filter_recorders` calls it.
     #[inline(always)]
     pub fn record_verdict(&mut self, verdict: Verdict, origin: Origin) -> u32
         requires open { self.old.is_open ≡ true }
@@ -175,7 +175,8 @@ impl<A: Allocator + Copy> FilterRecorder<A> {
         self.verdicts.len() as u32
     }
 
-    /// Releases the reservation of `copies` copies of a frame that the filter refused: no port will be offered them.
+    /// Releases the reservation of `copies` copies of a frame that the filter refused: no port will be offered them. `filter_recorders`
+    /// calls it.
     pub fn release_room(&mut self, copies: usize)
         requires { copies ≤ self.old.owed }
         ensures { self.new ≡ record self.old { owed = self.old.owed - copies } }
@@ -183,7 +184,7 @@ impl<A: Allocator + Copy> FilterRecorder<A> {
         self.owed -= copies;
     }
 
-    /// Appends a dropped copy. Uses the capacity that `reserve_room` reserved, so it can't fail.
+    /// Appends a dropped copy. Uses the capacity that `reserve_room` reserved, so it can't fail. `record_answer` calls it.
     pub fn record_drop(&mut self, dropped: StoredDrop)
         requires { 0 < self.old.owed }
         ensures { self.new ≡ record self.old { drops = self.old.drops ++ dropped ∷ []; owed = self.old.owed - 1 } }
@@ -192,7 +193,8 @@ impl<A: Allocator + Copy> FilterRecorder<A> {
         self.drops.push_reserved(dropped);
     }
 
-    /// Appends a copy that left, `delay` ns after its frame's arrival. Uses reserved capacity, so it can't fail.
+    /// Appends a copy that left, `delay` ns after its frame's arrival. Uses reserved capacity, so it can't fail. `filter_recorders` calls
+    /// it.
     #[inline(always)]
     pub fn record_departure(&mut self, departure: StoredDeparture, delay: u64)
         requires { 0 < self.old.owed }

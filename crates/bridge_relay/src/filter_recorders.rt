@@ -135,7 +135,7 @@ fn recorder_index_by_hint<A: Allocator + Copy>(
 }
 
 /// Records that a copy of a frame of filter `flow` left, `delay` ns after the frame's arrival. Does nothing for an unfiltered frame
-/// (`None`). Tries index `hint` first.
+/// (`None`). Tries index `hint` first. `advance` calls it.
 #[inline(always)]
 pub fn record_departure<A: Allocator + Copy>(
     tables: &mut FilterRecorders<A>,
@@ -155,7 +155,7 @@ pub fn record_departure<A: Allocator + Copy>(
 }
 
 /// If `answer` is a refusal, records a dropped copy of frame `own` of filter `flow`. Tries the index `hint` first. Does nothing for an
-/// unfiltered frame (`None`).
+/// unfiltered frame (`None`). `offer_to_port` calls it.
 #[inline(always)]
 pub fn record_answer<A: Allocator + Copy>(
     tables: &mut FilterRecorders<A>,
@@ -178,7 +178,7 @@ pub fn record_answer<A: Allocator + Copy>(
 }
 
 /// Reserves capacity for a verdict of filter `flow` and for `copies` copies of its frame. Does nothing for an unfiltered frame (`None`).
-/// Tries index `hint` first.
+/// Tries index `hint` first. `prepare_copies` calls it.
 #[inline(always)]
 pub fn reserve_room<A: Allocator + Copy>(
     tables: &mut FilterRecorders<A>,
@@ -201,7 +201,7 @@ pub fn reserve_room<A: Allocator + Copy>(
 }
 
 /// Records a verdict of filter `number` and its frame's origin, and returns the frame's number among the filter's frames. Tries the index
-/// `hint` first.
+/// `hint` first. `police_frame` calls it.
 #[inline(always)]
 pub fn record_verdict<A: Allocator + Copy>(
     tables: &mut FilterRecorders<A>,
@@ -221,7 +221,8 @@ pub fn record_verdict<A: Allocator + Copy>(
     table.record_verdict(verdict, origin)
 }
 
-/// Releases the reservation of `copies` copies of a frame that filter `number` refused. Tries the index `hint` first.
+/// Releases the reservation of `copies` copies of a frame that filter `number` refused. Tries the index `hint` first. `release_room` of the
+/// relay calls it.
 #[inline(always)]
 pub fn release_room<A: Allocator + Copy>(
     tables: &mut FilterRecorders<A>,

@@ -60,7 +60,7 @@ impl<A: Allocator + Copy> PortState<A> {
     ghost use Rattle.bridge_relay.specs.PortStates.{offered_port, started_port, offer_result, count_ingress};
     ghost use Rattle.bridge_relay.specs.Ports.{IsMadeByPlan, IsIdlePort};
 
-    /// Returns a port of a plan, before any event. Its queue capacities must be 1 to 4,096 frames.
+    /// Returns a port of a plan, before any event. Its queue capacities must be 1 to 4,096 frames. `make_port_state` calls it.
     pub fn new(alloc: A, plan: &PortPlan<A>) -> Result<PortState<A>, NoMemory>
         requires { are_valid_rooms plan.now.rooms ≡ true }
         ensures made { IfOk result (λ s. IsMadeByPlan plan.now s) }
@@ -93,7 +93,7 @@ impl<A: Allocator + Copy> PortState<A> {
         })
     }
 
-    /// Counts a frame that arrived at this port, by what the bridge does with it (`came`).
+    /// Counts a frame that arrived at this port, by what the bridge does with it (`came`). `Ports::count_arrival` calls it.
     #[inline(always)]
     pub fn count_frame(&mut self, came: Ingress)
         requires few { self.old.count.frames < MAX_ARRIVALS }
@@ -111,7 +111,7 @@ impl<A: Allocator + Copy> PortState<A> {
     }
 
     /// Offers the copy `item` with priority `priority`, 0 to 7, to the port at time `t` in ns. If the port drops the copy, `back` receives
-    /// its octets.
+    /// its octets. `Ports::offer` calls it.
     #[inline(always)]
     pub fn offer(
         &mut self,
@@ -149,7 +149,7 @@ impl<A: Allocator + Copy> PortState<A> {
         }
     }
 
-    /// Makes the port's next start, which is at time `start` in ns, and returns the copy that started.
+    /// Makes the port's next start, which is at time `start` in ns, and returns the copy that started. `Ports::start` calls it.
     #[inline(always)]
     pub fn start(&mut self, start: u64) -> StartedFrame<A>
         requires due { IsNextStartTime self.old.port (Some start) }

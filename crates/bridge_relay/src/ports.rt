@@ -137,7 +137,7 @@ impl<G: Agenda + Drop, A: Allocator + Copy> Ports<G, A> {
     }
 
     /// Offers the copy `item` with priority `priority`, 0 to 7, to port `number` at time `t` in ns. If the port drops the copy, `back`
-    /// receives its octets.
+    /// receives its octets. `offer_to_port` calls it.
     #[inline(always)]
     pub fn offer(
         &mut self,
@@ -171,6 +171,7 @@ impl<G: Agenda + Drop, A: Allocator + Copy> Ports<G, A> {
     }
 
     /// Starts the transmission that is next among all ports. Returns its port, its time in ns and the copy. A copy must be queued.
+    /// `Relay::advance` calls it.
     #[inline(always)]
     pub fn start(&mut self) -> (u8, u64, StartedFrame<A>)
         requires { (q k : ℕ) × (G.held self.old.agenda q ≡ Some k) }
@@ -196,7 +197,7 @@ impl<G: Agenda + Drop, A: Allocator + Copy> Ports<G, A> {
         }
     }
 
-    /// Returns the number of starts of port `number` so far: the number of frames that it sent.
+    /// Returns the number of starts of port `number` so far: the number of frames that it sent. `Relay::started` calls it.
     pub fn started(&self, number: u8) -> u64
         requires from { 1 ≤ number }
         requires there { (s : PortState A) × (port_state self.now number ≡ Some s) }
@@ -220,7 +221,7 @@ impl<G: Agenda + Drop, A: Allocator + Copy> Ports<G, A> {
         }
     }
 
-    /// Returns whether the bridge has port `number`. A set of egress ports may name ports that the bridge lacks.
+    /// Returns whether the bridge has port `number`. A set of egress ports may name ports that the bridge lacks. `offer_next_copy` asks it.
     pub fn has(&self, number: u8) -> bool
         requires from { 1 ≤ number }
         requires to { number ≤ 16 }
@@ -247,7 +248,8 @@ impl<G: Agenda + Drop, A: Allocator + Copy> Ports<G, A> {
         )
     }
 
-    /// Counts a frame that arrived at port `number`, which must exist, by what the bridge does with it (`came`).
+    /// Counts a frame that arrived at port `number`, which must exist, by what the bridge does with it (`came`). `count_unforwarded` and
+    /// `police_frame` call it.
     #[inline(always)]
     pub fn count_arrival(&mut self, number: u8, came: Ingress)
         requires from { 1 ≤ number }
@@ -271,6 +273,7 @@ impl<G: Agenda + Drop, A: Allocator + Copy> Ports<G, A> {
     }
 
     /// Returns the counts of each port, by rising number, in the empty list `counts`, which has the capacity. Allocates no memory.
+    /// `Relay::finish` calls it.
     pub fn counts(&self, counts: Vec<(u8, PortCount), A>) -> Vec<(u8, PortCount), A>
         requires none { counts.items ≡ [] }
         requires room { 16 ≤ vec_capacity counts }

@@ -131,6 +131,7 @@ pub struct Sent<A: Allocator + Copy> {
 
 impl<'a, G: Agenda + Drop, A: Allocator + Copy> Relay<'a, G, A> {
     /// Returns the port and time in ns of the next start, at equal times of the lowest port. Returns `None` if no copy is queued.
+    /// `send_due_frames` calls it.
     pub fn due(&self) -> Option<(u8, u64)>
         ensures { IsLeast (G.held self.now.ports.agenda) result }
     {
@@ -144,7 +145,7 @@ impl<'a, G: Agenda + Drop, A: Allocator + Copy> Relay<'a, G, A> {
         self.arrived
     }
 
-    /// Returns the number of starts of port `port` so far: the number of frames that it has sent.
+    /// Returns the number of starts of port `port` so far: the number of frames that it has sent. `Bridge::started` returns it.
     pub fn started(&self, port: u8) -> u64
         requires known { (out : PortPlan A) × (find_port self.now.plan.ports port ≡ Some out) }
         ensures { (p : config.Plan A) (es : List Event) (left : ℕ → List CapturedFrame)
@@ -163,7 +164,7 @@ impl<'a, G: Agenda + Drop, A: Allocator + Copy> Relay<'a, G, A> {
     }
 
     /// Starts the transmission that is next among all ports, records the departure, and returns the frame. A copy must be queued. Allocates
-    /// no memory.
+    /// no memory. `send_due_frames` calls it.
     #[inline(always)]
     pub fn advance(&mut self) -> Sent<A>
         requires { (q k : ℕ) × (G.held self.old.ports.agenda q ≡ Some k) }
@@ -740,9 +741,8 @@ impl<'a, G: Agenda + Drop, A: Allocator + Copy> Relay<'a, G, A> {
         Ok(())
     }
 
-    /// Handles a frame that arrived on port `port`, as `arrive` does. If memory runs out, drops the frame and leaves the relay unchanged.
-    ///
-    /// Isn't inlined, and returns no frame, so that a run copies few values for each frame.
+    /// Handles a frame as `arrive` does. If memory runs out, drops the frame and leaves the relay unchanged. Isn't inlined and returns no
+    /// frame, so that `process_frame` copies few values for each frame.
     #[inline(never)]
     pub fn handle_arrival(
         &mut self,
