@@ -4,7 +4,7 @@ use crate::hop_times::{HopTimes, ListShift};
 use bridge_bounds::Phases;
 use net_file::Talker;
 
-/// New phases of a stream's talker, which an explanation proposes.
+/// New phases of a stream's talker, which an explanation proposes. `put_talkers` prints them.
 #[derive(Clone, Copy)]
 pub(crate) struct SendShift {
     /// Index of the stream, from 0.
