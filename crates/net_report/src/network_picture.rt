@@ -24,7 +24,7 @@ text{font:13px system-ui,sans-serif;fill:#222}.m{text-anchor:middle;font-weight:
 .page{fill:#fff}.box{fill:#e3e8ef;stroke:#8a94a3}.link{fill:none;stroke:#8a94a3;stroke-width:2}.way{fill:none;stroke:#2a7de1;stroke-width:3}.hop{fill:#2a7de1}\
 @media(prefers-color-scheme:dark){text{fill:#e6e6e6}.s{fill:#a0a0a0}.page{fill:#16181c}.box{fill:#22262c}}";
 
-/// Note at the end of a picture with omitted shapes.
+/// Note at the end of a picture that counts omitted shapes.
 const LEFT_OUT: &str = "not drawn: {0} shapes (no space)";
 
 /// Title of a link, which browsers show as a hint: the ports at both ends and the delay.
@@ -33,7 +33,7 @@ const LINK: &str = "{a}.{0} to {b}.{1}, {2} ns";
 /// Title of a hop: the bridge's name and the filter's number.
 const HOP: &str = "{a}.{0}";
 
-/// Text with a stream's delay bound.
+/// Text with a stream's delay bound, at the right end of the stream's row.
 const STREAM_BOUND: &str = "bound {a} ns";
 
 /// Draws a text at a point: `form` with `word` for its mark `{a}`. `style` names a class of `STYLES`; an empty text stands for none.

@@ -13,13 +13,13 @@ use std::alloc::Allocator;
 /// Half of the width and height of a triangle for a refused frame or a dropped copy, in pixels.
 const HALF: u64 = 6;
 
-/// Title of a copy that left.
+/// Title of a copy that left, which browsers show as a hint.
 const LEFT_WORDS: &str = "frame {0} arrived {1}, started {2}, ended {3} ns, port {4}";
 
-/// Title of a refused frame.
+/// Title of a refused frame, which browsers show as a hint.
 const REFUSED_WORDS: &str = "frame {0}, arrived at {1} ns: refused ({a})";
 
-/// Title of a dropped copy.
+/// Title of a dropped copy, which browsers show as a hint.
 const DROPPED_WORDS: &str = "frame {0}, arrived at {1} ns: dropped at port {2} ({a})";
 
 /// Returns the arrival time in ns of a hop's frame with number `own`, from 1, or `other` if the frame is missing.

@@ -43,7 +43,7 @@ const WINDOWS_LEFT_OUT: &str = "; windows drawn: {0} of {1} (hatched: not drawn)
 /// Note in the legend about shapes that don't fit into the picture.
 const LEFT_OUT: &str = "; not drawn: {0} shapes";
 
-/// A picture under construction: its time span, the number of rows drawn, the numbers of all and of drawn windows, and its shapes.
+/// Picture of a network run under construction: time span, number of rows drawn, numbers of all and of drawn windows, and shapes.
 #[derive(Drop)]
 pub struct RunPicture {
     pub(crate) span: Span,

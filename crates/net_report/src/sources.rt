@@ -12,7 +12,8 @@ use bridge_semantics::{Departure, Origin, StoredDeparture, StoredOrigin};
 use net_model::{Link, Sender, find_sender};
 use std::alloc::Allocator;
 
-/// A frame of a stream's first hop: its number there, from 1, and its arrival time in ns.
+/// A frame of a stream's first hop: its number there, from 1, and its arrival time in ns. `trace_source_frames` finds it for frames of
+/// later hops.
 #[derive(Clone, Copy)]
 pub struct SourceFrame {
     pub number: u64,

@@ -4,7 +4,7 @@ ghost use Rattle.net_report.specs.Statistics as spec;
 
 use bridge_report::{greatest_delay, least_delay, total_delay};
 
-/// Statistics of delays in ns: least, mean (rounded down), greatest, and jitter.
+/// Statistics of delays in ns: least, mean (rounded down), greatest, and jitter. Rows of `streams.csv` show them.
 #[derive(Clone, Copy)]
 pub struct DelayStatistics {
     pub least: u64,

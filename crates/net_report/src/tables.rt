@@ -25,7 +25,7 @@ pub enum Table {
     Frames,
 }
 
-/// Why the rows of a stream couldn't be written to the two tables.
+/// Why the rows of a stream couldn't be written to the two tables. `write_stream` returns it.
 #[derive(Clone, Copy, Debug, PartialEq, Eq)]
 pub enum TableFault {
     /// The writer of a table failed.
@@ -40,7 +40,7 @@ impl From<NoMemory> for TableFault {
     }
 }
 
-/// Names of a stream and its hops in the tables, with its bound, its worst delay and its deadline.
+/// Names of a stream and its hops in the tables, with its bound, its worst delay and its deadline. `write_stream` takes it.
 #[derive(Clone, Copy)]
 pub struct Heading<'a, A: Allocator> {
     /// Name of the stream.
@@ -55,7 +55,7 @@ pub struct Heading<'a, A: Allocator> {
     pub deadline: Option<u64>,
 }
 
-/// Rows of a hop in both tables, made before either table is written.
+/// Rows of a hop in both tables, made before either table is written. `rows_of_hop` makes them.
 #[derive(Drop)]
 struct HopRows<A: Allocator> {
     /// Row in the table of streams.
