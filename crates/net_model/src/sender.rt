@@ -5,7 +5,7 @@ ghost use Rattle.net_model.specs.NetworkParts.{end_value, link_value, sender_val
 
 use crate::links::{BridgePort, Link};
 
-/// Bridge port at the other end of a port's link, and the delay of the link in ns.
+/// Bridge port at the other end of a port's link, and the delay of the link in ns. `find_sender` returns it.
 #[derive(Clone, Copy)]
 pub struct Sender {
     pub from: BridgePort,
