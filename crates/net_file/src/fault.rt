@@ -105,7 +105,7 @@ impl NetField {
     }
 }
 
-/// Location of a key: section, instance and key.
+/// Location of a key in a network file or traffic file: section, instance and key. Faults name it.
 #[derive(Clone, Copy, Debug)]
 pub struct NetKeyLocation {
     /// Section of the key.

@@ -17,7 +17,7 @@ use crate::traffic_row::row_key;
 use bridge_schema::{NUMBER, NumberRange, has_only};
 use toml::Table;
 
-/// Limit of the frames that a talker sends.
+/// Limit of the frames that a talker sends: a burst and a rate, or a number of frames in any period.
 #[derive(Clone, Copy)]
 pub enum FrameLimit {
     /// In any w ns, at most the metered octets of the burst and those that the rate allows in w ns.

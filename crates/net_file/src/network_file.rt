@@ -16,7 +16,7 @@ use std::alloc::{Allocator, Global};
 use std::marker::Model;
 use toml::{Table, Value};
 
-/// A network file that obeys the rules of networks. Only `parse_network` creates a value.
+/// Network file without fault: its bridges, links and streams. Only `parse_network` creates a value.
 #[derive(Drop)]
 pub struct NetworkFile<A: Allocator + Copy> {
     bridges: Vec<BridgeRow<A>, A>,
