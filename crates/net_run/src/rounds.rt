@@ -31,7 +31,7 @@ impl RoundObserver for NoObserver {
     fn bridge_starts(&mut self, _round: u32, _bridge: usize) {}
 }
 
-/// Why a network run ends without result.
+/// Why a network run ends without result. `run_network` returns it.
 #[derive(Clone, Copy, Debug, PartialEq, Eq)]
 pub enum RoundsFault {
     /// Bridge `bridge`, an index from 0, refuses a capture: it is the first bridge of the round with a fault. `fault` is never a failed
@@ -44,7 +44,7 @@ pub enum RoundsFault {
     NoMemory,
 }
 
-/// Result of one bridge of a network, and the captures of the frames that its ports sent.
+/// Result of one bridge of a network, and the captures of the frames that its ports sent. `SettledNetwork` has one for each bridge.
 #[derive(Drop)]
 pub struct BridgeResult<A: Allocator + Copy> {
     /// Everything that the bridge's run reports.
