@@ -15,7 +15,7 @@ const MAX_TURNS: u64 = 16;
 /// Latest time in ns at which a wait may begin. Later waits aren't examined, so sums can't overflow.
 const LAST_TIME: u64 = 8_000_000_000_000_000_000;
 
-/// Waits in ns of frames that arrive when a stream gate opens.
+/// Waits in ns of frames that arrive when a stream gate opens. `gate_waits` computes them.
 #[derive(Clone, Copy)]
 pub(crate) struct GateWaits {
     /// Shortest of these waits.

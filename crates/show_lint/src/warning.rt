@@ -66,7 +66,7 @@ pub enum ScheduleStage {
     AfterChange,
 }
 
-/// Stream whose static entry names its ingress port.
+/// Stream whose static entry names its ingress port. A bridge never sends a frame back to its ingress port.
 #[derive(Clone, Copy)]
 pub struct StaticToIngress {
     /// Position of the stream in the file, from 1.
