@@ -11,7 +11,7 @@ use std::alloc::{Allocator, Global};
 /// Number of parts into which a port's time axis is divided. Each part has a share of the frames.
 const TIME_PARTS: usize = 100;
 
-/// Width of one of these parts on the page, in tenths of a pixel.
+/// Width of one of the `TIME_PARTS` parts of a time axis on the page, in tenths of a pixel.
 const PART_WIDTH: u64 = AXIS_WIDTH / TIME_PARTS as u64;
 
 /// Frame of a filter at a port, as `put_frame` or `put_mark` draws it: a frame that left, a refused frame, or a dropped copy.

@@ -6,7 +6,7 @@ use bridge_text::{LegendRow, Sample};
 /// Styles of the filters' colours, by colour number.
 const COLOURS: [&str; 8] = ["c0", "c1", "c2", "c3", "c4", "c5", "c6", "c7"];
 
-/// The colours with an edge, for protected filters.
+/// Styles of the filters' colours with an edge, for protected filters, by colour number.
 const EDGED: [&str; 8] = [
     "c0 e", "c1 e", "c2 e", "c3 e", "c4 e", "c5 e", "c6 e", "c7 e",
 ];

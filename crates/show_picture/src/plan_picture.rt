@@ -184,10 +184,8 @@ impl Picture {
     }
 }
 
-/// Returns the picture of a plan as SVG text of at most 2,000,000 octets: each port's windows and open stream gates. It shows one
-/// hypercycle, or one on each side of a schedule change.
-///
-/// The head of a refused plan explains the fault. Lanes with too many windows are hatched.
+/// Returns a plan's picture as SVG text of at most 2,000,000 octets: windows and open stream gates, by default over one hypercycle. A
+/// refused plan's fault is in the head. Hatches windows beyond a limit.
 pub fn draw_plan<A: Allocator + Copy>(
     alloc: Global,
     checked: &Result<Accepted<A>, Refused<A>>,

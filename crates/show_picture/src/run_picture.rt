@@ -212,11 +212,8 @@ impl Picture {
     }
 }
 
-/// Returns the picture of a run as SVG text of at most 2,000,000 octets: each port's windows and departures, its refused and dropped
-/// frames, and its stream gates.
-///
-/// Frames without a filter aren't drawn. If there are too many frames, each port and each part of the time has a share, and omitted frames
-/// are hatched.
+/// Returns a run's picture as SVG text of at most 2,000,000 octets: windows, stream gates, frames that left, and marks of refused and
+/// dropped ones. Omits unfiltered frames, and hatches frames beyond a limit.
 pub fn draw_run<B: Allocator>(
     alloc: Global,
     accepted: &Accepted<Global>,
