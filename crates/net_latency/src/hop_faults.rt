@@ -10,7 +10,7 @@ use net_file::{BridgeRow, NetField, NetSection};
 use net_model::{Link, NetworkFault, RefusedNetwork, StreamHop};
 use std::alloc::Global;
 
-/// A refused hop, with its numbers in the fault line.
+/// A refused hop, with its numbers in the fault line. `explain_hop_fault` looks it up.
 #[derive(Clone, Copy)]
 struct RefusedHop<'a> {
     /// Number of the hop's stream in the network file, from 1.

@@ -24,7 +24,8 @@ pub(crate) struct NextHop {
     pub delay: u64,
 }
 
-/// Returns the other end of the link of port `port`, with the link's delay. Returns `None` for an open port.
+/// Returns the port at the other end of the link of a port, with the link's delay. `bridge` is the index of the port's bridge, from 0.
+/// Returns `None` for an open port.
 pub(crate) fn far_end(links: &[Link], bridge: u16, port: u8) -> Option<FarEnd>
     ensures { option_map sender_of_far_end result ≡ sender (map link_value links.now) bridge port }
 {
