@@ -5,7 +5,7 @@ ghost use Rattle.std.specs.Str.{IsUtf8};
 use itoa::write_digits;
 use std::marker::Model;
 
-/// Most octets of a block.
+/// Largest number of octets of a block: 15 lines of at most 128 octets.
 const BLOCK_WIDTH: usize = 1920;
 
 /// Block of lines, at most 1,920 octets, which grows from its end: each call writes its text in front. Numbers need no digit count, lines
