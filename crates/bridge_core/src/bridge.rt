@@ -32,10 +32,8 @@ use bridge_semantics::{Outcome, PortCount, View};
 use std::alloc::Allocator;
 use std::marker::Model;
 
-/// Bridge of an accepted plan, which it borrows. It receives frames and commands, and sends frames.
-///
-/// The bridge stands for a list of events and departures: an unfinished run, in which each frame is policed once and offered to each egress
-/// port.
+/// Bridge of an accepted plan, which it borrows. It receives frames and commands, and sends frames. It stands for an unfinished run: a list
+/// of events, and the frames that have left.
 #[derive(Drop)]
 pub struct Bridge<'a, G: Agenda + Drop, A: Allocator + Copy> {
     /// Ports, filters and records.
@@ -138,10 +136,8 @@ impl<'a, G: Agenda + Drop, A: Allocator + Copy> Bridge<'a, G, A> {
         self.command = command.at;
     }
 
-    /// Returns the port and time in ns of the next start; `None` if no copy is queued. At equal times, the lowest port is next. Allocates
-    /// no memory.
-    ///
-    /// Before this start, no port has missed one, and the port's link is free for a head that fits (`next`).
+    /// Returns the port and time in ns of the next start, at equal times of the lowest port; `None` if no copy is queued. No port has
+    /// missed an earlier start (`next`). Allocates no memory.
     pub fn due(&self) -> Option<(u8, u64)>
         ensures next { (p : config.Plan A) (es : List Event) (left : ℕ → List CapturedFrame)
             → BridgeStandsFor p self.now es left
