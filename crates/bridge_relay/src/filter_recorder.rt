@@ -51,7 +51,7 @@ fn grow_list<T, A: Allocator>(list: &mut Vec<T, A>, more: usize) -> Result<(), N
     }
 }
 
-/// Record of a filter, moved out of its recorder when a run ends.
+/// Record of a filter, moved out of its recorder when a run ends. `make_view` puts its lists into the result.
 #[derive(Drop)]
 pub struct FilterRecord<A: Allocator + Copy> {
     /// Verdict of each frame, in the order of arrival.

@@ -15,7 +15,7 @@ use bridge_port::{Item, Port, Refusal};
 use bridge_semantics::{PortCount, QueuedFrame};
 use std::alloc::Allocator;
 
-/// Port of a bridge during a run.
+/// Port of a bridge during a run: its queues, and the counts of its frames and copies.
 #[derive(Drop)]
 pub struct PortState<A: Allocator + Copy> {
     /// Speed of the link.

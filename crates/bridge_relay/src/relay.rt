@@ -514,10 +514,8 @@ impl<'a, G: Agenda + Drop, A: Allocator + Copy> Relay<'a, G, A> {
         }
     }
 
-    /// Offers copies of a frame to the ports of `set`, by rising number. If `eligible` is true, their tags are marked drop eligible.
-    ///
-    /// Most frames have one egress port, and an empty list of copies. This list has no memory: it is forgotten instead of dropped, which is
-    /// faster.
+    /// Offers copies of a frame to the ports of `set`, by rising number. If `eligible` is true, their tags are marked drop eligible. An
+    /// empty list has no memory: it is forgotten, which is faster.
     #[inline(always)]
     fn offer_copies(
         &mut self,
