@@ -75,7 +75,7 @@ fn searched_streams(
 }
 
 /// Returns whether the search may change a stream. Its talker is periodic, its delays are known, all its frames pass, and it can meet its
-/// deadline.
+/// deadline. `searched_streams` calls it.
 fn is_searched(
     alloc: Global,
     network: &Network<Global>,
@@ -108,7 +108,7 @@ fn is_searched(
 }
 
 /// Returns whether a stream would meet its deadline if no frame waited for its transmission. True without a deadline; false if the times
-/// are unknown.
+/// are unknown. `is_searched` calls it.
 fn can_meet(alloc: Global, route: &StreamRoute<'_>, deadline: Option<u64>) -> bool
     requires placed { All (λ v. All HasValidPort v.items) route.now.bounds.now }
     requires talker { IsTalker route.now.talker }
@@ -124,7 +124,7 @@ fn can_meet(alloc: Global, route: &StreamRoute<'_>, deadline: Option<u64>) -> bo
 }
 
 /// Changes lists and talkers for each late stream that is `searched`, in pass `pass`. Returns whether no such stream was late, or `None` if
-/// memory runs out.
+/// memory runs out. `find_changes` calls it.
 fn relieve_streams(
     alloc: Global,
     network: &Network<Global>,
@@ -153,7 +153,7 @@ fn relieve_streams(
 }
 
 /// Calls `relieve_stream` for the stream with index `index` of the file. Returns whether the stream needed no change; without a periodic
-/// talker, it needs none.
+/// talker, it needs none. `relieve_streams` calls it.
 fn relieve_listed_stream(
     alloc: Global,
     network: &Network<Global>,
@@ -181,7 +181,7 @@ fn relieve_listed_stream(
 }
 
 /// Changes lists and the talker until the stream meets its deadline, or no change helps. Then marks its ports as used in this pass. Returns
-/// whether the stream needed no change.
+/// whether the stream needed no change. `relieve_listed_stream` calls it.
 fn relieve_stream(
     alloc: Global,
     route: &StreamRoute<'_>,
@@ -215,7 +215,7 @@ fn relieve_stream(
 }
 
 /// Returns the times at each hop of the stream with index `index` after the changes. Returns `None` if phases are unknown or memory runs
-/// out.
+/// out. `is_passing` and `relieve_stream` call it.
 fn changed_times(
     alloc: Global,
     route: &StreamRoute<'_>,
@@ -229,7 +229,8 @@ fn changed_times(
     hop_times(alloc, route, sent, &changes.shifts)
 }
 
-/// Returns whether each hop passes all frames of the stream, and the stream's worst delay is at most `deadline` ns.
+/// Returns whether each hop passes all frames of the stream, and the stream's worst delay is at most `deadline` ns. `is_passing` and
+/// `relieve_stream` call it.
 fn is_in_time(times: &[HopTimes], deadline: u128) -> bool {
     for hop in times {
         if !hop.passes {
@@ -258,6 +259,7 @@ pub(crate) fn costliest_hop(
 }
 
 /// Returns whether a late stream has used the hop's port in pass `pass`. Then other streams don't shift this port's list in this pass.
+/// `costliest_hop` calls it.
 fn is_kept(shifts: &[ListShift], hop: &HopTimes, pass: u32) -> bool {
     for shift in shifts {
         if shift.bridge == hop.hop.bridge && shift.port == hop.port && shift.pass == pass {
@@ -268,7 +270,7 @@ fn is_kept(shifts: &[ListShift], hop: &HopTimes, pass: u32) -> bool {
 }
 
 /// Removes the wait of the latest frame at the costliest hop: its talker sends later, or its list begins earlier. Returns whether a change
-/// stays.
+/// stays. `relieve_stream` calls it.
 fn relieve_hop(
     alloc: Global,
     route: &StreamRoute<'_>,
@@ -291,7 +293,7 @@ fn relieve_hop(
 }
 
 /// Lets the talker send later by the latest frame's wait at the first hop. Undoes this if a frame may then be refused. Returns whether the
-/// change stays.
+/// change stays. `relieve_hop` calls it.
 fn relieve_talker(
     alloc: Global,
     route: &StreamRoute<'_>,
@@ -313,7 +315,7 @@ fn relieve_talker(
 }
 
 /// Lets the list at the hop's port begin earlier by the latest frame's wait there. Undoes this if a frame may then be refused. Returns
-/// whether the change stays.
+/// whether the change stays. `relieve_hop` calls it.
 fn relieve_list(
     alloc: Global,
     route: &StreamRoute<'_>,
@@ -338,6 +340,7 @@ fn relieve_list(
 }
 
 /// Returns whether, after the changes, the stream's times are known and all its frames pass each hop. Otherwise the last change is undone.
+/// `relieve_list` and `relieve_talker` call it.
 fn is_passing(alloc: Global, route: &StreamRoute<'_>, index: usize, changes: &Changes) -> bool
     requires placed { All (λ v. All HasValidPort v.items) route.now.bounds.now }
     requires talker { IsTalker route.now.talker }
@@ -349,7 +352,7 @@ fn is_passing(alloc: Global, route: &StreamRoute<'_>, index: usize, changes: &Ch
 }
 
 /// Returns the phases `wait` ns later, counted within the period. If they would lie in two periods, they begin at the start of a period
-/// instead.
+/// instead. `relieve_talker` calls it.
 fn later_phases(phases: Phases, wait: u64, period: u64) -> Phases {
     let width = phases.to.saturating_sub(phases.from);
     let from = phases.from.saturating_add(wait) % period.max(1);
@@ -361,7 +364,7 @@ fn later_phases(phases: Phases, wait: u64, period: u64) -> Phases {
 }
 
 /// Marks the ports of these hops as used in pass `pass`, without changing their lists' shifts. Later streams of the pass then leave them.
-/// Returns `None` if memory runs out.
+/// Returns `None` if memory runs out. `relieve_stream` calls it.
 fn keep_ports(times: &[HopTimes], pass: u32, changes: &mut Changes) -> Option<()> {
     for hop in times {
         let earlier = shift_of_port(&changes.shifts, hop.hop.bridge, hop.port);
@@ -379,6 +382,7 @@ fn cycle_of_port(network: &Network<Global>, hop: &HopTimes) -> Option<u64> {
 }
 
 /// Returns the gate control list of a port, which the search can shift. Returns `None` if the port has no list or a schedule change.
+/// `cycle_of_port` and `put_lists_of_bridge` call it.
 pub(crate) fn port_list(port: &PortPlan<Global>) -> Option<&CyclicList<u8, Global>> {
     match &port.list {
         Some(Egress::Cyclic(list)) => Some(list),

@@ -38,7 +38,7 @@ pub fn explain_streams<H: AllocGlobal + Files>(rt: &H, path: &str) -> Option<Str
 }
 
 /// Explains the streams of an accepted network: refusable streams, times at each hop, then changes for late streams. Returns `None` if
-/// memory runs out.
+/// memory runs out. `explain_streams` calls it.
 fn explain_network_streams(
     alloc: Global,
     file: &NetworkFile<Global>,

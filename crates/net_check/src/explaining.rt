@@ -41,7 +41,7 @@ pub fn explain_network<H: AllocGlobal + Files>(rt: &H, path: &str) -> Option<Str
 }
 
 /// Returns the beginning of a sentence about plan file `plan`, which can't be read: its position in the network file, and its bridge.
-/// `None` if no bridge names this file.
+/// `None` if no bridge names this file. `explain_network` calls it.
 fn explain_plan_path(alloc: Global, asked: NetworkText<'_>, plan: &str) -> Option<String> {
     let mut index = 0usize;
     for bridge in asked.file.bridges() {
@@ -61,6 +61,7 @@ fn explain_plan_path(alloc: Global, asked: NetworkText<'_>, plan: &str) -> Optio
 }
 
 /// Returns a network file's path, text, document and network in one value, which the functions that explain take as `asked`.
+/// `explain_network` calls it.
 fn network_text<'a>(
     path: &'a str,
     text: &'a str,
@@ -94,7 +95,7 @@ pub fn explain_loops<H: AllocGlobal + Files>(rt: &H, path: &str) -> Option<Strin
     said
 }
 
-/// Returns a line for each group of frames that may loop in the network. Returns `None` if memory runs out.
+/// Returns a line for each group of frames that may loop in the network. Returns `None` if memory runs out. `explain_loops` calls it.
 fn loop_lines(
     alloc: Global,
     file: &NetworkFile<Global>,
@@ -111,7 +112,7 @@ fn loop_lines(
 }
 
 /// Explains why the network of these plans is refused: its first fault, or a talker's period. Returns `None` if it is accepted or memory
-/// runs out.
+/// runs out. `explain_network` calls it.
 fn explain_plans(
     alloc: Global,
     asked: NetworkText<'_>,
@@ -137,7 +138,7 @@ fn explain_plans(
     }
 }
 
-/// Explains the fault of a refused network by the function for its kind: open stream, link, or hop.
+/// Explains the fault of a refused network by the function for its kind: open stream, link, or hop. `explain_plans` calls it.
 fn explain_refusal(
     alloc: Global,
     asked: NetworkText<'_>,

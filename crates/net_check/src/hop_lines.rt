@@ -55,7 +55,7 @@ pub(crate) fn put_stream_times(
 }
 
 /// Appends a stream's times at each hop; nothing without a periodic talker or known delays. Returns whether the stream passes, and misses a
-/// deadline that it can meet.
+/// deadline that it can meet. `put_stream_times` calls it.
 fn put_times_of_stream(
     alloc: Global,
     said: &mut TextBuilder<Global>,
@@ -102,7 +102,7 @@ fn put_times_of_stream(
     put_deadline(said, file, stream.deadline(), &times) && course.passes
 }
 
-/// Appends the lines of a stream's hops: one for each queue that a hop's frames enter.
+/// Appends the lines of a stream's hops: one for each queue that a hop's frames enter. `put_times_of_stream` calls it.
 fn put_hops(
     said: &mut TextBuilder<Global>,
     file: &NetworkFile<Global>,
@@ -114,7 +114,7 @@ fn put_hops(
     }
 }
 
-/// Appends the line of a hop's queue: arrivals, ends of transmission, longest wait, and the window.
+/// Appends the line of a hop's queue: arrivals, ends of transmission, longest wait, and the window. `put_hops` calls it.
 fn put_hop(
     said: &mut TextBuilder<Global>,
     file: &NetworkFile<Global>,
@@ -144,7 +144,7 @@ fn put_hop(
 }
 
 /// Appends the window, and its slack: the time in ns from `leaves`, the latest end of transmission, to the window's end. The window's start
-/// can be negative.
+/// can be negative. `put_hop` calls it.
 fn put_window(said: &mut TextBuilder<Global>, window: Window, leaves: u64) {
     said.put(", window ");
     match window.later.checked_sub(window.cycle) {
@@ -159,7 +159,7 @@ fn put_window(said: &mut TextBuilder<Global>, window: Window, leaves: u64) {
 }
 
 /// Returns the window in which the last frame is sent. `None` without a list, with a schedule change, if the class never closes, or after
-/// `END_OF_SEARCHES`.
+/// `END_OF_SEARCHES`. `put_hop` calls it.
 fn window_of_hop(plan: &Plan<Global>, hop: &HopTimes) -> Option<Window> {
     let port = plan.port(hop.port)?;
     let time = hop.leaves.to.checked_sub(1)?;
@@ -172,7 +172,7 @@ fn window_of_hop(plan: &Plan<Global>, hop: &HopTimes) -> Option<Window> {
     }
 }
 
-/// Returns the window that contains the time in ns, or `None` if the class never closes.
+/// Returns the window that contains the time in ns, or `None` if the class never closes. `window_of_hop` calls it.
 fn window_around_time(list: &CyclicList<u8, Global>, class: u8, time: u64) -> Option<Window>
     requires class { class < 8 }
     requires time { time < END_OF_SEARCHES }
@@ -209,7 +209,8 @@ fn window_start(list: &CyclicList<u8, Global>, class: u8, time: u64) -> u64
     start
 }
 
-/// Returns the first time in ns, from `time` on, at which the class is closed, but at most one cycle after `time`.
+/// Returns the first time in ns, from `time` on, at which the class is closed, but at most one cycle after `time`. `window_around_time`
+/// calls it.
 fn window_end(list: &CyclicList<u8, Global>, class: u8, time: u64) -> u64
     requires class { class < 8 }
     requires time { time < END_OF_SEARCHES }
@@ -230,7 +231,7 @@ fn window_end(list: &CyclicList<u8, Global>, class: u8, time: u64) -> u64
 }
 
 /// Appends by how many ns the stream misses its deadline, and why; nothing if it meets it. Returns whether the stream misses a deadline
-/// that it can meet.
+/// that it can meet. `put_times_of_stream` calls it.
 fn put_deadline(
     said: &mut TextBuilder<Global>,
     file: &NetworkFile<Global>,
@@ -258,6 +259,7 @@ fn put_deadline(
 }
 
 /// Appends the hop at which the latest frame of a late stream waits longest. If this frame waits nowhere, appends a remedy instead.
+/// `put_deadline` calls it.
 fn put_costliest_hop(
     said: &mut TextBuilder<Global>,
     file: &NetworkFile<Global>,

@@ -158,7 +158,7 @@ fn put_hop_times(
 }
 
 /// Appends the times of those queues in `rows` that belong to the hop's filter to `times`, and the arrivals at the next hops to `arrivals`.
-/// `None` as in `hop_times`.
+/// `None` as in `hop_times`. `put_hop_times` calls it.
 fn put_rows(
     route: &StreamRoute<'_>,
     rows: &[QueueBound],
@@ -223,7 +223,7 @@ fn times_in_queue(
     })
 }
 
-/// Returns whether the filter passes each frame of the traffic; false if the plan lacks the filter.
+/// Returns whether the filter passes each frame of the traffic; false if the plan lacks the filter. `times_in_queue` calls it.
 fn passes_hop(plan: &Plan<Global>, filter: u32, traffic: &Traffic) -> bool
     requires { IsTraffic traffic.now }
 {
@@ -234,7 +234,7 @@ fn passes_hop(plan: &Plan<Global>, filter: u32, traffic: &Traffic) -> bool
 }
 
 /// Returns the transmission time in ns of the longest frame that the filter passes. Returns `None` if the plan lacks filter or port, or the
-/// filter has no `max_sdu`.
+/// filter has no `max_sdu`. `times_in_queue` calls it.
 fn longest_transmission(plan: &Plan<Global>, row: &QueueBound, traffic: &Traffic) -> Option<u64> {
     let sdu = find_filter(plan.filters(), row.filter)?.max_sdu?;
     let longest = sdu.saturating_add(16).min(LONGEST_FRAME);
@@ -243,7 +243,7 @@ fn longest_transmission(plan: &Plan<Global>, row: &QueueBound, traffic: &Traffic
 }
 
 /// Returns the times in a queue whose list begins `earlier` ns earlier, computed with frames that arrive later instead. `None` if a
-/// transmission may end after the next period's earliest arrival.
+/// transmission may end after the next period's earliest arrival. `times_in_queue` calls it.
 fn shifted_times(
     accepted: &Accepted<Global>,
     row: &QueueBound,
@@ -269,7 +269,7 @@ fn shifted_times(
 }
 
 /// Returns the traffic with phases `earlier` ns later. The period doubles, so that the phases lie in one period. `None` if `earlier`
-/// reaches the period, or the new period is too long.
+/// reaches the period, or the new period is too long. `shifted_times` calls it.
 fn shifted_traffic(traffic: &Traffic, earlier: u64) -> Option<Traffic>
     requires { IsTraffic traffic.now }
     ensures { IfSome result IsTraffic }
@@ -290,7 +290,7 @@ fn shifted_traffic(traffic: &Traffic, earlier: u64) -> Option<Traffic>
 }
 
 /// Appends to `arrivals` the arrival at the hop after the queue of `found`; nothing if the queue's port leads to no hop. Returns `None` if
-/// memory runs out.
+/// memory runs out. `put_rows` calls it.
 fn put_next_arrival(
     route: &StreamRoute<'_>,
     found: &HopTimes,
@@ -313,7 +313,7 @@ fn put_next_arrival(
 }
 
 /// Returns the stream's first hop at the other end of the port's link, and the link's delay in ns. Returns `None` if the port is open or
-/// leads to no hop.
+/// leads to no hop. `put_next_arrival` calls it.
 fn hop_over_link(
     links: &[Link],
     hops: &[StreamHop],
@@ -329,7 +329,7 @@ fn hop_over_link(
     None
 }
 
-/// Returns the delay in ns of the link at a port; 0 for an open port.
+/// Returns the delay in ns of the link at a port; 0 for an open port. `hop_over_link` calls it.
 fn delay_at_port(links: &[Link], bridge: u16, port: u8) -> u64 {
     for link in links {
         if is_bridge_port(link.one, bridge, port) || is_bridge_port(link.other, bridge, port) {
@@ -340,6 +340,7 @@ fn delay_at_port(links: &[Link], bridge: u16, port: u8) -> u64 {
 }
 
 /// Returns the worst delay of a stream in ns: the greatest worst delay up to any of its queues. Explanations compare it with the deadline.
+/// `is_in_time` and `put_deadline` call it.
 pub(crate) fn worst_delay(times: &[HopTimes]) -> u128 {
     let mut worst = 0;
     for hop in times {
@@ -349,7 +350,7 @@ pub(crate) fn worst_delay(times: &[HopTimes]) -> u128 {
 }
 
 /// Returns the worst delay in ns that a stream would have if no frame waited: transmission times and link delays only. A stream can't meet
-/// a shorter deadline.
+/// a shorter deadline. `can_meet` and `put_deadline` call it.
 pub(crate) fn delay_without_waits(times: &[HopTimes]) -> u128 {
     let mut shortest = 0;
     for hop in times {

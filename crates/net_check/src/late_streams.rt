@@ -30,7 +30,7 @@ pub(crate) fn put_changes(
     put_talkers(said, file.streams(), &changes.sends);
 }
 
-/// Appends a line for each shifted list, ordered by bridge and port.
+/// Appends a line for each shifted list, ordered by bridge and port. `put_changes` calls it.
 fn put_lists(
     said: &mut TextBuilder<Global>,
     bridges: &[BridgeRow<Global>],
@@ -46,7 +46,7 @@ fn put_lists(
     }
 }
 
-/// Appends a line for each shifted list of the bridge of `row`, which has index `bridge`.
+/// Appends a line for each shifted list of the bridge of `row`, which has index `bridge`. `put_lists` calls it.
 fn put_lists_of_bridge(
     said: &mut TextBuilder<Global>,
     row: &BridgeRow<Global>,
@@ -65,7 +65,7 @@ fn put_lists_of_bridge(
 }
 
 /// Appends the line that proposes to start `list` earlier by `earlier` ns. It names the plan, the port, and the new base time in ns, below
-/// the cycle time.
+/// the cycle time. `put_lists_of_bridge` calls it.
 fn put_list(
     said: &mut TextBuilder<Global>,
     row: &BridgeRow<Global>,
@@ -83,7 +83,7 @@ fn put_list(
     );
 }
 
-/// Appends a line for each talker that has new phases.
+/// Appends a line for each talker that has new phases. `put_changes` calls it.
 fn put_talkers(said: &mut TextBuilder<Global>, streams: &[StreamRow<Global>], sends: &[SendShift]) {
     let mut index = 0usize;
     for stream in streams {
@@ -93,7 +93,7 @@ fn put_talkers(said: &mut TextBuilder<Global>, streams: &[StreamRow<Global>], se
 }
 
 /// Appends the new phases of the talker of the stream with index `index`, and by how many ns it sends later. Appends nothing if its phases
-/// stay.
+/// stay. `put_talkers` calls it.
 fn put_talker(
     said: &mut TextBuilder<Global>,
     stream: &StreamRow<Global>,

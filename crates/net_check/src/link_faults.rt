@@ -29,7 +29,7 @@ pub(crate) fn explain_link_fault(
     said.finish().ok()
 }
 
-/// Returns whether two ends of links are the same bridge port.
+/// Returns whether two ends of links are the same bridge port. `first_link_index` and `put_twice` call it.
 fn is_one_port(one: BridgePort, other: BridgePort) -> bool {
     one.bridge == other.bridge && one.port == other.port
 }
@@ -43,6 +43,7 @@ fn bridge_name<'a>(asked: NetworkText<'a>, end: BridgePort) -> &'a str {
 }
 
 /// Returns the path of the plan of the bridge at this end of a link, as the network file writes it. Empty if the bridge is missing.
+/// `put_ports` and `put_speeds` call it.
 fn bridge_plan<'a>(asked: NetworkText<'a>, end: BridgePort) -> &'a str {
     match asked.bridge(end.bridge) {
         Some(bridge) => bridge.plan(),
@@ -50,7 +51,7 @@ fn bridge_plan<'a>(asked: NetworkText<'a>, end: BridgePort) -> &'a str {
     }
 }
 
-/// Returns the number, from 1, of the first link that ends at this port, or 0 if none does.
+/// Returns the number, from 1, of the first link that ends at this port, or 0 if none does. `put_twice` calls it.
 fn first_link_index(links: &[Link], end: BridgePort) -> u64 {
     let mut place = 0u64;
     for link in links {
@@ -63,7 +64,7 @@ fn first_link_index(links: &[Link], end: BridgePort) -> u64 {
 }
 
 /// Appends the position of end `field` of link `place` in the file, and the end as the file writes it. Explanations of unequal speeds don't
-/// begin like this.
+/// begin like this. `put_ports` and `put_twice` call it.
 fn put_end(
     said: &mut TextBuilder<Global>,
     asked: NetworkText<'_>,
@@ -81,6 +82,7 @@ fn put_end(
 }
 
 /// Explains a port with two links. Appends which other link ends at the port of `end`: an earlier link, or the other end of this link.
+/// `explain_link_fault` calls it.
 fn put_twice(
     said: &mut TextBuilder<Global>,
     asked: NetworkText<'_>,
@@ -107,7 +109,7 @@ fn put_twice(
     said.put("and so is `one`.\nA link joins two ports: correct one of its ends.\n");
 }
 
-/// Returns the speed in Mb/s of the port at this end of a link, or 0 if the plan has no such port.
+/// Returns the speed in Mb/s of the port at this end of a link, or 0 if the plan has no such port. `put_speeds` calls it.
 fn port_mbps(plans: &[Accepted<Global>], end: BridgePort) -> u64 {
     let Some(accepted) = plans.get(end.bridge as usize) else {
         return 0;
@@ -118,7 +120,7 @@ fn port_mbps(plans: &[Accepted<Global>], end: BridgePort) -> u64 {
     }
 }
 
-/// Explains a link between ports of different speeds: appends both speeds, and the plans to correct.
+/// Explains a link between ports of different speeds: appends both speeds, and the plans to correct. `explain_link_fault` calls it.
 fn put_speeds(
     said: &mut TextBuilder<Global>,
     asked: NetworkText<'_>,
@@ -140,7 +142,7 @@ fn put_speeds(
     );
 }
 
-/// Returns whether the plan of the bridge at this end of a link has the port.
+/// Returns whether the plan of the bridge at this end of a link has the port. `put_ports` calls it.
 fn has_port(plans: &[Accepted<Global>], end: BridgePort) -> bool {
     match plans.get(end.bridge as usize) {
         Some(accepted) => accepted.plan().port(end.port).is_some(),
@@ -149,7 +151,7 @@ fn has_port(plans: &[Accepted<Global>], end: BridgePort) -> bool {
 }
 
 /// Explains a link to a missing port: appends the link's end, and the ports that its bridge has. If memory runs out, the whole text is
-/// discarded.
+/// discarded. `explain_link_fault` calls it.
 fn put_ports(
     alloc: Global,
     said: &mut TextBuilder<Global>,

@@ -77,7 +77,7 @@ pub(crate) fn network_streams<A: Allocator + Copy>(
 }
 
 /// Returns the network if each talker's period is a multiple of the cycle times on its route. Otherwise returns the fault of the first
-/// stream whose period isn't.
+/// stream whose period isn't. `check_network_file` calls it.
 fn check_periods<A: Allocator + Copy>(
     heap: Global,
     file: &NetworkFile<A>,
@@ -133,7 +133,7 @@ pub fn check_network_file<A: Allocator + Copy>(
     }
 }
 
-/// Returns the number of hops of all streams, for the line of an accepted network.
+/// Returns the number of hops of all streams, for the line of an accepted network. `accepted_line` calls it.
 fn count_hops<A: Allocator + Copy>(streams: &[StreamRow<A>]) -> u64
     requires few { length streams.now ≤ 1024 }
     requires each { All (λ s. length s.hops ≤ 64) streams.now }
@@ -146,7 +146,7 @@ fn count_hops<A: Allocator + Copy>(streams: &[StreamRow<A>]) -> u64
     count
 }
 
-/// Returns the line of an accepted network, with the numbers of its bridges, links, streams and hops.
+/// Returns the line of an accepted network, with the numbers of its bridges, links, streams and hops. `network_lines` calls it.
 #[tactic(auto, unfolding(crate::specs::Networks::accepted_line))]
 fn accepted_line<A: Allocator + Copy>(
     heap: Global,
@@ -164,6 +164,7 @@ fn accepted_line<A: Allocator + Copy>(
 }
 
 /// Returns the lines of an accepted network: the numbers of its bridges, links, streams and hops, then a line with delays for each stream.
+/// `describe_network` calls it.
 fn network_lines<A: Allocator + Copy>(
     alloc: A,
     heap: Global,
@@ -207,6 +208,7 @@ pub fn read_network<F: ReadFiles>(
 }
 
 /// Returns the network that the text describes. For a refused text, returns the program's fault with the line of the text's first fault.
+/// `read_network` calls it.
 fn parse_network_text(alloc: Global, text: &[u8]) -> Result<NetworkFile<Global>, Failure>
     ensures file { IfOk result (λ file. network_of_text text.now ≡ Ok file) }
     ensures refused { IfErr result (RefusesTextBy (network_of_text text.now)) }
@@ -217,7 +219,8 @@ fn parse_network_text(alloc: Global, text: &[u8]) -> Result<NetworkFile<Global>,
     }
 }
 
-/// Returns the program's fault for a network file whose text has the fault `fault`: its fault line, or out of memory.
+/// Returns the program's fault for a network file whose text has the fault `fault`: its fault line, or out of memory. `parse_network_text`
+/// calls it.
 fn refused_text_fault(alloc: Global, fault: &NetFault) -> Failure
     ensures { SaysText fault.now result }
 {
@@ -230,7 +233,7 @@ fn refused_text_fault(alloc: Global, fault: &NetFault) -> Failure
     }
 }
 
-/// Returns whether a path is absolute: it begins with `/`.
+/// Returns whether a path is absolute: it begins with `/`. `sibling_path` calls it.
 fn is_absolute(path: &str) -> bool
     ensures { result ≡ is_absolute path.now }
 {
@@ -252,7 +255,7 @@ pub fn sibling_path(alloc: Global, path: &str, file: &str) -> Result<String, NoM
 }
 
 /// Returns the program's fault for a refused plan: a line with the bridge's name, then the plan's fault line. Returns `NoMemory` if `fault`
-/// isn't a refusal or memory runs out.
+/// isn't a refusal or memory runs out. `check_bridge_plan` calls it.
 #[tactic(auto, unfolding(crate::specs::Networks::plan_lines))]
 fn plan_failure(alloc: Global, name: &str, fault: &Failure) -> Failure
     ensures { SaysPlan name.now fault.now result }
@@ -269,7 +272,8 @@ fn plan_failure(alloc: Global, name: &str, fault: &Failure) -> Failure
     }
 }
 
-/// Returns the accepted plan of a text. For a refused plan, returns the program's fault with the name of the bridge, `name`.
+/// Returns the accepted plan of a text. For a refused plan, returns the program's fault with the name of the bridge, `name`. `read_plan`
+/// calls it.
 fn check_bridge_plan(alloc: Global, name: &str, text: &[u8]) -> Result<Accepted<Global>, Failure>
     ensures accepts { IfOk result (Accepts text.now) }
     ensures refused { IfErr result (RefusesPlanBy Global name.now text.now) }
@@ -285,6 +289,7 @@ fn check_bridge_plan(alloc: Global, name: &str, text: &[u8]) -> Result<Accepted<
 }
 
 /// Reads the plan of a bridge of the network file at `path`. The plan's path is absolute, or relative to the folder of the network file.
+/// `push_plan` calls it.
 pub(crate) fn read_plan<F: ReadFiles>(
     alloc: Global,
     files: &mut F,
@@ -305,6 +310,7 @@ pub(crate) fn read_plan<F: ReadFiles>(
 }
 
 /// Reads the plan of a bridge, and appends it to `plans`. Returns the fault of the plan's file if it can't be read or is refused.
+/// `read_plans` calls it.
 fn push_plan<F: ReadFiles>(
     alloc: Global,
     files: &mut F,
@@ -377,7 +383,7 @@ pub struct NetworkOutput {
     pub kept: bool,
 }
 
-/// Returns the output of `net check` for an accepted network: its lines and its warnings.
+/// Returns the output of `net check` for an accepted network: its lines and its warnings. `network_job` calls it.
 fn describe_network<A: Allocator + Copy>(
     alloc: A,
     heap: Global,

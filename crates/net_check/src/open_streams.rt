@@ -31,7 +31,7 @@ struct OpenStream {
     from: u8,
 }
 
-/// Returns the values of the fault `NotClosed`, or `None` for other faults.
+/// Returns the values of the fault `NotClosed`, or `None` for other faults. `explain_open_stream` calls it.
 fn open_stream(refused: &RefusedNetwork<Global>) -> Option<OpenStream> {
     match refused.fault {
         NetworkFault::NotClosed {
@@ -82,7 +82,7 @@ pub(crate) fn explain_open_stream(
     said.finish().ok()
 }
 
-/// Returns whether a filter of a bridge is a hop of one of these streams.
+/// Returns whether a filter of a bridge is a hop of one of these streams. `is_left_out` calls it.
 fn is_hop<A: Allocator + Copy>(streams: &[Vec<StreamHop, A>], bridge: u16, filter: u32) -> bool {
     for hops in streams {
         for hop in hops {
@@ -95,7 +95,7 @@ fn is_hop<A: Allocator + Copy>(streams: &[Vec<StreamHop, A>], bridge: u16, filte
 }
 
 /// Returns whether frames of a hop of the stream may arrive on this port over its link. At the link's other end, a hop's frames can leave
-/// by the linked port.
+/// by the linked port. `is_left_out` calls it.
 fn is_fed<A: Allocator + Copy>(
     plans: &[Accepted<A>],
     links: &[Link],
@@ -121,7 +121,8 @@ fn is_fed<A: Allocator + Copy>(
     false
 }
 
-/// Returns whether the filter of one of these hops has the handle `handle`; `None` stands for a filter without handle.
+/// Returns whether the filter of one of these hops has the handle `handle`; `None` stands for a filter without handle. `is_left_out` calls
+/// it.
 fn is_handle_of_hop<A: Allocator + Copy>(
     plans: &[Accepted<A>],
     hops: &[StreamHop],
@@ -139,7 +140,7 @@ fn is_handle_of_hop<A: Allocator + Copy>(
     false
 }
 
-/// Returns whether a filter has a reachable queue at a port, so that its frames can leave by the port.
+/// Returns whether a filter has a reachable queue at a port, so that its frames can leave by the port. `is_fed` calls it.
 fn can_leave_by_port<A: Allocator + Copy>(plan: &Plan<A>, filter: &FilterPlan, port: u8) -> bool {
     let reach = filter_reach(plan, filter);
     match reach.ports.get(usize::from(port).saturating_sub(1)) {
@@ -149,7 +150,7 @@ fn can_leave_by_port<A: Allocator + Copy>(plan: &Plan<A>, filter: &FilterPlan, p
 }
 
 /// Returns whether the stray frames' filter is likely a forgotten hop. It is protected, in no stream, and has a hop's handle, or frames of
-/// the stream can arrive on its port.
+/// the stream can arrive on its port. `explain_open_stream` calls it.
 fn is_left_out(
     refused: &RefusedNetwork<Global>,
     hops: &[StreamHop],
@@ -170,7 +171,8 @@ fn is_left_out(
         || is_fed(plans, refused.links.as_slice(), hops, end.bridge, open.from)
 }
 
-/// Appends the remedy to add the stray frames' filter to the stream's `hops`, and the heading of the other remedies.
+/// Appends the remedy to add the stray frames' filter to the stream's `hops`, and the heading of the other remedies. `explain_open_stream`
+/// calls it.
 fn put_left_out<A: Allocator + Copy>(
     said: &mut TextBuilder<Global>,
     bridges: &[BridgeRow<A>],
@@ -201,6 +203,7 @@ fn put_front<A: Allocator + Copy>(
 }
 
 /// Appends the position of the stream's key `hops` in the file, and a sentence with the hop that accepts stray frames.
+/// `explain_open_stream` calls it.
 fn put_open_hop(
     said: &mut TextBuilder<Global>,
     asked: NetworkText<'_>,
@@ -217,7 +220,7 @@ fn put_open_hop(
     );
 }
 
-/// Appends the tag of the example frame in words; `None` stands for an untagged frame.
+/// Appends the tag of the example frame in words; `None` stands for an untagged frame. `put_stray_frame` calls it.
 fn put_tag(said: &mut TextBuilder<Global>, tag: Option<Tag>) {
     let Some(tag) = tag else {
         return said.put("no tag");
@@ -231,7 +234,7 @@ fn put_tag(said: &mut TextBuilder<Global>, tag: Option<Tag>) {
 }
 
 /// Appends an example of a stray frame: its tag, its address, the port of arrival, and the filter that passes it. If memory runs out, the
-/// whole text is discarded.
+/// whole text is discarded. `explain_open_stream` calls it.
 fn put_stray_frame<A: Allocator + Copy>(
     heap: Global,
     said: &mut TextBuilder<Global>,
@@ -263,7 +266,7 @@ fn put_stray_frame<A: Allocator + Copy>(
 }
 
 /// Returns the VLAN in which the sending bridge classifies the example frame on port `from`. A remedy names this VLAN. Returns 0 if the
-/// port is missing.
+/// port is missing. `put_remedies` calls it.
 fn sender_vlan<A: Allocator + Copy>(sender: &Plan<A>, from: u8, tag: Option<Tag>) -> u16 {
     match (tag, sender.port(from)) {
         (Some(tag), _) if tag.vid != 0 => tag.vid,
@@ -273,7 +276,7 @@ fn sender_vlan<A: Allocator + Copy>(sender: &Plan<A>, from: u8, tag: Option<Tag>
 }
 
 /// Returns the filter of the stream's first hop at the sending bridge. Returns `None` if the stream has no hop there or the plan lacks the
-/// filter.
+/// filter. `stream_handle` calls it.
 fn first_hop_filter<A: Allocator + Copy>(
     sender: &Plan<A>,
     hops: &[StreamHop],
@@ -288,7 +291,7 @@ fn first_hop_filter<A: Allocator + Copy>(
 }
 
 /// Returns the handle of the stream's hop at the sending bridge, if its filter matches every priority. Only then can an entry with this
-/// handle catch all stray frames.
+/// handle catch all stray frames. `put_remedies` calls it.
 fn stream_handle<A: Allocator + Copy>(
     sender: &Plan<A>,
     hops: &[StreamHop],
@@ -302,6 +305,7 @@ fn stream_handle<A: Allocator + Copy>(
 }
 
 /// Appends the remedies against stray frames. The remedy with the stream's handle is left out if `stream_handle` finds none.
+/// `explain_open_stream` calls it.
 fn put_remedies<A: Allocator + Copy>(
     said: &mut TextBuilder<Global>,
     sender: &Plan<A>,

@@ -53,6 +53,7 @@ pub(crate) fn put_refusable_streams(
 }
 
 /// Appends a sentence about a stream if its frames may be refused. Finds the hop by computing delays up to hop 1, up to hop 2, and so on.
+/// `put_refusable_streams` calls it.
 fn put_stream(
     alloc: Global,
     said: &mut TextBuilder<Global>,
@@ -90,7 +91,7 @@ fn put_stream(
     }
 }
 
-/// Appends the beginning of a sentence: the stream, and its hop with index `place`, from 0.
+/// Appends the beginning of a sentence: the stream, and its hop with index `place`, from 0. `put_stream` calls it.
 fn put_start(
     said: &mut TextBuilder<Global>,
     file: &NetworkFile<Global>,
@@ -109,7 +110,7 @@ fn put_start(
 }
 
 /// Returns a talker's traffic at hop `place`, from the delays `before` up to the hop before it. `None` if the phases lie in two periods, or
-/// are unknown.
+/// are unknown. `put_stream` calls it.
 fn hop_traffic(
     links: &[Link],
     hops: &[StreamHop],
@@ -130,7 +131,7 @@ fn hop_traffic(
 }
 
 /// Returns the phases of arrivals over a link of `delay` ns, if transmissions end in phases `done`. The second value is the start of the
-/// arrivals' period, in ns.
+/// arrivals' period, in ns. `hop_traffic` and `put_next_arrival` call it.
 pub(crate) fn phases_after_link(done: Phases, delay: u64, period: u64) -> (Phases, u128) {
     let start = u128::from(done.from).saturating_add(u128::from(delay));
     let end = u128::from(done.to).saturating_add(u128::from(delay));
@@ -144,6 +145,7 @@ pub(crate) fn phases_after_link(done: Phases, delay: u64, period: u64) -> (Phase
 }
 
 /// Returns the traffic of a talker if its frames arrive in the phases `from` to `to`. Returns `None` if the phases don't lie in one period.
+/// `hop_traffic` and `times_in_queue` call it.
 pub(crate) fn traffic_with_phases(talker: &Talker, from: u64, to: u64) -> Option<Traffic>
     requires { IsTalker talker.now }
     ensures { IfSome result IsTraffic }
@@ -161,7 +163,7 @@ pub(crate) fn traffic_with_phases(talker: &Talker, from: u64, to: u64) -> Option
 }
 
 /// Returns the delay in ns of the first link between the bridges of hop `place` and of the hop before it. Returns `None` without such a
-/// link.
+/// link. `hop_traffic` and `is_chain` call it.
 fn link_delay(links: &[Link], hops: &[StreamHop], place: usize) -> Option<u64> {
     let hop = hops.get(place)?.bridge;
     let before = hops.get(place.checked_sub(1)?)?.bridge;
@@ -175,6 +177,7 @@ fn link_delay(links: &[Link], hops: &[StreamHop], place: usize) -> Option<u64> {
 }
 
 /// Returns whether each hop up to index `place` has a link to the hop before it. Only then do delays determine the phases at the next hop.
+/// `put_hop` calls it.
 fn is_chain(links: &[Link], hops: &[StreamHop], place: usize) -> bool {
     for next in 1..=place {
         if link_delay(links, hops, next).is_none() {
@@ -184,7 +187,7 @@ fn is_chain(links: &[Link], hops: &[StreamHop], place: usize) -> bool {
     true
 }
 
-/// Returns whether a hop before index `place` is at this bridge. Delays are unknown if a stream crosses a bridge twice.
+/// Returns whether a hop before index `place` is at this bridge. Delays are unknown if a stream crosses a bridge twice. `put_hop` calls it.
 fn has_earlier_hop(hops: &[StreamHop], place: usize, bridge: u16) -> bool {
     for (k, hop) in hops.iter().enumerate() {
         if k < place && hop.bridge == bridge {
@@ -194,7 +197,7 @@ fn has_earlier_hop(hops: &[StreamHop], place: usize, bridge: u16) -> bool {
     false
 }
 
-/// Appends why frames may be refused at hop `place`: the first reason that applies, in the order of the tests below.
+/// Appends why frames may be refused at hop `place`: the first reason that applies, in the order of the tests below. `put_stream` calls it.
 fn put_hop(
     said: &mut TextBuilder<Global>,
     network: &Network<Global>,
@@ -240,7 +243,7 @@ fn put_hop(
 }
 
 /// Appends the first condition that fails for this traffic at a hop. If delays are known (`has_figures`) and the filter passes the traffic,
-/// names the hop before.
+/// names the hop before. `put_hop` calls it.
 fn put_condition(
     said: &mut TextBuilder<Global>,
     plan: &Plan<Global>,
@@ -259,7 +262,8 @@ fn put_condition(
     put_reason(said, plan, filter, traffic, class);
 }
 
-/// Returns the number of the first port of a hop's bridge on which frames of other devices may get the hop's handle, or `None`.
+/// Returns the number of the first port of a hop's bridge on which frames of other devices may get the hop's handle, or `None`. `put_hop`
+/// calls it.
 fn port_of_others(
     links: &[Link],
     is_first: bool,
@@ -274,7 +278,7 @@ fn port_of_others(
     None
 }
 
-/// Returns the class of the first queue that the frames of a hop can enter, or `None` if they can enter none.
+/// Returns the class of the first queue that the frames of a hop can enter, or `None` if they can enter none. `put_hop` calls it.
 fn first_queue_class(bounds: &[Vec<QueueBound>], hop: StreamHop) -> Option<u8> {
     for row in bounds_of_bridge(bounds, hop.bridge) {
         if row.filter == hop.filter {

@@ -24,7 +24,8 @@ pub fn network_fault_line<A: Allocator + Copy, B: Allocator + Copy>(
     text.finish()
 }
 
-/// Writes the fault line of a network: the fault's name, the link or the stream and hop, and the details of the fault.
+/// Writes the fault line of a network: the fault's name, the link or the stream and hop, and the details of the fault. `network_fault_line`
+/// calls it.
 fn put_network_fault<A: Allocator, B: Allocator + Copy>(
     text: &mut TextBuilder<A>,
     bridges: &[BridgeRow<B>],
@@ -64,7 +65,7 @@ fn put_network_fault<A: Allocator, B: Allocator + Copy>(
     }
 }
 
-/// Writes the start of the fault line for a link: fault name and link number.
+/// Writes the start of the fault line for a link: fault name and link number. `put_network_fault` calls it.
 fn put_link_fault<A: Allocator>(text: &mut TextBuilder<A>, name: &str, link: usize)
     ensures { HasGrown text.old (link_fault_text name.now link) text.new }
 {
@@ -74,7 +75,7 @@ fn put_link_fault<A: Allocator>(text: &mut TextBuilder<A>, name: &str, link: usi
     text.put_number(link as u64);
 }
 
-/// Writes the start of the fault line for a hop: fault name, stream number and hop number.
+/// Writes the start of the fault line for a hop: fault name, stream number and hop number. `put_network_fault` calls it.
 fn put_hop_fault<A: Allocator>(text: &mut TextBuilder<A>, name: &str, stream: usize, hop: usize)
     ensures { HasGrown text.old (hop_fault_text name.now stream hop) text.new }
 {
@@ -86,7 +87,7 @@ fn put_hop_fault<A: Allocator>(text: &mut TextBuilder<A>, name: &str, stream: us
     text.put_number(hop as u64);
 }
 
-/// Writes a port as network files write it: the name of its bridge, a dot, and its number.
+/// Writes a port as network files write it: the name of its bridge, a dot, and its number. `put_network_fault` calls it.
 fn put_port<A: Allocator, B: Allocator + Copy>(
     text: &mut TextBuilder<A>,
     bridges: &[BridgeRow<B>],
@@ -101,6 +102,7 @@ fn put_port<A: Allocator, B: Allocator + Copy>(
 }
 
 /// Writes the number of the filter that sends stray frames, or `none`, and the sending bridge's port on which the frames arrive.
+/// `put_network_fault` calls it.
 fn put_sender<A: Allocator>(text: &mut TextBuilder<A>, filter: &Option<u32>, from: u8)
     ensures { HasGrown text.old (sender_text filter.now from) text.new }
 {

@@ -14,7 +14,7 @@ use net_file::{BridgeRow, LinkRow, NetworkFile, StreamRow};
 use net_model::{ForwardingLoop, Network, find_forwarding_loops, find_plan};
 use std::alloc::{AllocError, Allocator, Global};
 
-/// Returns the number of a VLAN, or `none` for frames whose tag names no VLAN.
+/// Returns the number of a VLAN, or `none` for frames whose tag names no VLAN. `push_loop` calls it.
 fn vlan_words(heap: Global, vlan: &Option<u16>) -> Result<String, AllocError>
     ensures { IfOk result (λ words. string_bytes words ≡ vlan_text vlan.now) }
 {
@@ -24,7 +24,8 @@ fn vlan_words(heap: Global, vlan: &Option<u16>) -> Result<String, AllocError>
     }
 }
 
-/// Returns the text of an address: six octets, each as two hexadecimal digits, joined by hyphens.
+/// Returns the text of an address: six octets, each as two hexadecimal digits, joined by hyphens. `destination_words` and `put_stray_frame`
+/// call it.
 #[tactic(auto, unfolding(crate::specs::Telling::address_text))]
 pub(crate) fn address_words(heap: Global, address: &[u8; 6]) -> Result<String, AllocError>
     ensures { IfOk result (λ words. string_bytes words ≡ address_text address.now) }
@@ -33,7 +34,7 @@ pub(crate) fn address_words(heap: Global, address: &[u8; 6]) -> Result<String, A
     format!(in heap; "{a:02X}-{b:02X}-{c:02X}-{d:02X}-{e:02X}-{f:02X}")
 }
 
-/// Returns the words for a destination address, or for all destinations without a static entry (`None`).
+/// Returns the words for a destination address, or for all destinations without a static entry (`None`). `push_loop` calls it.
 fn destination_words(heap: Global, destination: &Option<[u8; 6]>) -> Result<String, AllocError>
     ensures { IfOk result (λ words. string_bytes words ≡ destination_text destination.now) }
 {
@@ -46,7 +47,8 @@ fn destination_words(heap: Global, destination: &Option<[u8; 6]>) -> Result<Stri
     }
 }
 
-/// Appends the warning about frames that may loop, from the texts of its parts: VLAN, destination, bridge name and port.
+/// Appends the warning about frames that may loop, from the texts of its parts: VLAN, destination, bridge name and port. `push_loop` calls
+/// it.
 #[tactic(auto, unfolding(crate::specs::Telling::loop_words))]
 fn push_loop_words(
     text: &mut String,
@@ -64,7 +66,8 @@ fn push_loop_words(
     )
 }
 
-/// Appends the warning about one group of frames that may loop, with a port at which they can arrive again and again.
+/// Appends the warning about one group of frames that may loop, with a port at which they can arrive again and again. `push_loops` calls
+/// it.
 fn push_loop<A: Allocator + Copy>(
     heap: Global,
     text: &mut String,
@@ -79,7 +82,7 @@ fn push_loop<A: Allocator + Copy>(
     push_loop_words(text, vlan.as_str(), destination.as_str(), name, row.at.port)
 }
 
-/// Appends a warning for each group of frames that may loop. `network_warnings` and `explain_loops` call it.
+/// Appends a warning for each group of frames that may loop. `network_warnings` and `loop_lines` call it.
 pub(crate) fn push_loops<A: Allocator + Copy>(
     heap: Global,
     text: &mut String,
@@ -97,7 +100,7 @@ pub(crate) fn push_loops<A: Allocator + Copy>(
     Ok(())
 }
 
-/// Returns whether one of these streams has filter `filter` of the bridge with index `bridge` as a hop.
+/// Returns whether one of these streams has filter `filter` of the bridge with index `bridge` as a hop. `is_unlisted` calls it.
 fn has_hop<A: Allocator + Copy>(streams: &[StreamRow<A>], bridge: u16, filter: u32) -> bool
     ensures { result ≡ spec.has_hop streams.now bridge filter }
 {
@@ -109,14 +112,14 @@ fn has_hop<A: Allocator + Copy>(streams: &[StreamRow<A>], bridge: u16, filter: u
     false
 }
 
-/// Returns whether one of these hops is filter `filter` of the bridge with index `bridge`.
+/// Returns whether one of these hops is filter `filter` of the bridge with index `bridge`. `has_hop` calls it.
 fn is_hop(hops: &[(u16, u32)], bridge: u16, filter: u32) -> bool
     ensures { result ≡ spec.is_hop hops.now bridge filter }
 {
     hops.iter().any(|hop| hop.0 == bridge && hop.1 == filter)
 }
 
-/// Returns whether a port of a bridge has a link in the network file.
+/// Returns whether a port of a bridge has a link in the network file. `has_linked_entry` calls it.
 fn has_link(links: &[LinkRow], bridge: u16, port: u8) -> bool
     ensures { result ≡ spec.has_link links.now bridge port }
 {
@@ -126,7 +129,7 @@ fn has_link(links: &[LinkRow], bridge: u16, port: u8) -> bool
     })
 }
 
-/// Returns whether one of these entries of bridge `bridge` has handle `handle` and is on a linked port.
+/// Returns whether one of these entries of bridge `bridge` has handle `handle` and is on a linked port. `is_entered_by_link` calls it.
 fn has_linked_entry(links: &[LinkRow], bridge: u16, entries: &[StreamEntry], handle: u32) -> bool
     ensures { result ≡ spec.has_linked_entry links.now bridge entries.now handle }
 {
@@ -153,7 +156,7 @@ fn is_entered_by_link<A: Allocator + Copy>(
 }
 
 /// Returns whether a filter is protected, its frames can arrive over a link, and it is a hop of no stream. Such a filter is likely a
-/// forgotten hop.
+/// forgotten hop. `push_unlisted_filter` calls it.
 fn is_unlisted<A: Allocator + Copy>(
     links: &[LinkRow],
     streams: &[StreamRow<A>],
@@ -169,7 +172,7 @@ fn is_unlisted<A: Allocator + Copy>(
     is_entered_by_link(links, bridge, plan, filter.1.handle) && !has_hop(streams, bridge, filter.0)
 }
 
-/// Appends the warning `in no stream` about filter `filter` of the bridge with name `name`.
+/// Appends the warning `in no stream` about filter `filter` of the bridge with name `name`. `push_unlisted_filter` calls it.
 #[tactic(auto, unfolding(crate::specs::Telling::unlisted_words))]
 fn push_unlisted_line(text: &mut String, name: &str, filter: u32) -> Result<(), AllocError>
     ensures { OnOk result (string_bytes text.new ≡ string_bytes text.old ++ unlisted_words name.now filter) }
@@ -178,6 +181,7 @@ fn push_unlisted_line(text: &mut String, name: &str, filter: u32) -> Result<(), 
 }
 
 /// Appends the warning `in no stream` about a filter of bridge `bridge`, if the filter is likely a forgotten hop (`is_unlisted`).
+/// `push_unlisted_of_plan` calls it.
 fn push_unlisted_filter<A: Allocator + Copy>(
     text: &mut String,
     file: &NetworkFile<A>,
@@ -195,7 +199,7 @@ fn push_unlisted_filter<A: Allocator + Copy>(
     push_unlisted_line(text, name, filter.0)
 }
 
-/// Appends the warnings about the filters of bridge `bridge` that are likely forgotten hops.
+/// Appends the warnings about the filters of bridge `bridge` that are likely forgotten hops. `push_unlisted_filters` calls it.
 fn push_unlisted_of_plan<A: Allocator + Copy>(
     text: &mut String,
     file: &NetworkFile<A>,
@@ -212,7 +216,7 @@ fn push_unlisted_of_plan<A: Allocator + Copy>(
     Ok(())
 }
 
-/// Appends the warnings about filters that are likely forgotten hops, plan by plan.
+/// Appends the warnings about filters that are likely forgotten hops, plan by plan. `network_warnings` calls it.
 fn push_unlisted_filters<A: Allocator + Copy>(
     text: &mut String,
     file: &NetworkFile<A>,
@@ -230,6 +234,7 @@ fn push_unlisted_filters<A: Allocator + Copy>(
 }
 
 /// Returns the limit in octets (`max_sdu`) of the filter with this number. Returns `None` if the filter is missing or has no limit.
+/// `hop_sdu` calls it.
 fn filter_sdu<A: Allocator + Copy>(plan: &Plan<A>, number: u32) -> Option<u32>
     ensures { result ≡ spec.filter_sdu (Some plan.now) number }
 {
@@ -242,7 +247,7 @@ fn filter_sdu<A: Allocator + Copy>(plan: &Plan<A>, number: u32) -> Option<u32>
 }
 
 /// Returns the limit in octets (`max_sdu`) of a hop's filter. Returns `None` if the plan or the filter is missing, or the filter has no
-/// limit.
+/// limit. `is_sdu_falling` calls it.
 fn hop_sdu<A: Allocator + Copy>(plans: &[Accepted<A>], hop: (u16, u32)) -> Option<u32>
     ensures { result ≡ spec.hop_sdu plans.now hop }
 {
@@ -253,6 +258,7 @@ fn hop_sdu<A: Allocator + Copy>(plans: &[Accepted<A>], hop: (u16, u32)) -> Optio
 }
 
 /// Returns whether limit `b` is less than limit `a`, both in octets. Returns false if one of them is `None`, which means no limit.
+/// `is_sdu_falling` calls it.
 fn is_smaller_limit(a: Option<u32>, b: Option<u32>) -> bool
     ensures { result ≡ spec.is_smaller_limit a b }
 {
@@ -262,7 +268,7 @@ fn is_smaller_limit(a: Option<u32>, b: Option<u32>) -> bool
     }
 }
 
-/// Appends the warning that `max_sdu` falls at hop `k` of stream `i`, both indexes from 0.
+/// Appends the warning that `max_sdu` falls at hop `k` of stream `i`, both indexes from 0. `push_sdu_fall` calls it.
 #[tactic(auto, unfolding(crate::specs::Telling::sdu_fall_line))]
 fn push_sdu_fall_line(text: &mut String, i: usize, k: usize) -> Result<(), AllocError>
     requires stream { i < 1024 }
@@ -275,7 +281,7 @@ fn push_sdu_fall_line(text: &mut String, i: usize, k: usize) -> Result<(), Alloc
 }
 
 /// Returns whether hop `next` has a lower `max_sdu` than hop `before`. Then it refuses some frames that the earlier hop passes. False if a
-/// hop is missing.
+/// hop is missing. `is_sdu_falling_at_index` calls it.
 fn is_sdu_falling<A: Allocator + Copy>(
     plans: &[Accepted<A>],
     before: Option<(u16, u32)>,
@@ -292,14 +298,14 @@ fn is_sdu_falling<A: Allocator + Copy>(
     }
 }
 
-/// Returns the hop with index `k`, or `None` after the last hop.
+/// Returns the hop with index `k`, or `None` after the last hop. `is_sdu_falling_at_index` calls it.
 fn hop_at_index(hops: &[(u16, u32)], k: usize) -> Option<(u16, u32)>
     ensures { result ≡ slice_get hops.now k }
 {
     if k < hops.len() { Some(hops[k]) } else { None }
 }
 
-/// Returns whether the hop after index `k` has a lower `max_sdu` than the hop with index `k`.
+/// Returns whether the hop after index `k` has a lower `max_sdu` than the hop with index `k`. `push_sdu_fall` calls it.
 fn is_sdu_falling_at_index<A: Allocator + Copy>(
     plans: &[Accepted<A>],
     hops: &[(u16, u32)],
@@ -314,6 +320,7 @@ fn is_sdu_falling_at_index<A: Allocator + Copy>(
 }
 
 /// Appends the warning about the hop after index `k` of stream `i`, if it has a lower `max_sdu` than the hop with index `k`.
+/// `push_stream_sdu_falls` calls it.
 fn push_sdu_fall<A: Allocator + Copy>(
     text: &mut String,
     plans: &[Accepted<A>],
@@ -332,7 +339,7 @@ fn push_sdu_fall<A: Allocator + Copy>(
     Ok(())
 }
 
-/// Appends the warnings about the hops of stream `i`, from 0, that have a lower `max_sdu` than the hop before.
+/// Appends the warnings about the hops of stream `i`, from 0, that have a lower `max_sdu` than the hop before. `push_sdu_falls` calls it.
 fn push_stream_sdu_falls<A: Allocator + Copy>(
     text: &mut String,
     plans: &[Accepted<A>],
@@ -351,7 +358,7 @@ fn push_stream_sdu_falls<A: Allocator + Copy>(
     Ok(())
 }
 
-/// Appends the warnings of all streams' hops that have a lower `max_sdu` than the hop before.
+/// Appends the warnings of all streams' hops that have a lower `max_sdu` than the hop before. `push_file_sdu_falls` calls it.
 fn push_sdu_falls<A: Allocator + Copy>(
     text: &mut String,
     plans: &[Accepted<A>],
@@ -369,7 +376,7 @@ fn push_sdu_falls<A: Allocator + Copy>(
     Ok(())
 }
 
-/// Appends the warnings about falling `max_sdu` for all streams of the network file.
+/// Appends the warnings about falling `max_sdu` for all streams of the network file. `network_warnings` calls it.
 fn push_file_sdu_falls<A: Allocator + Copy>(
     text: &mut String,
     file: &NetworkFile<A>,

@@ -14,7 +14,7 @@ use net_model::{Network, StreamHop, find_plan};
 use std::alloc::{AllocError, Allocator, Global};
 
 /// Appends the warning `may also come in` about hop `k` of stream `i`, indexes from 0. Other devices' frames can arrive at port `port` of
-/// bridge `name`.
+/// bridge `name`. `push_entering` calls it.
 #[tactic(auto, unfolding(crate::specs::Warnings::entering_line))]
 fn push_entering_line(
     text: &mut String,
@@ -35,7 +35,8 @@ fn push_entering_line(
     )
 }
 
-/// Appends the warning `leads nowhere` about hop `k` of stream `i`, both indexes from 0: its frames have no reachable queue.
+/// Appends the warning `leads nowhere` about hop `k` of stream `i`, both indexes from 0: its frames have no reachable queue. `push_nowhere`
+/// calls it.
 #[tactic(auto, unfolding(crate::specs::Warnings::nowhere_line))]
 fn push_nowhere_line(text: &mut String, i: usize, k: usize) -> Result<(), AllocError>
     requires stream { i < 1024 }
@@ -56,6 +57,7 @@ pub(crate) struct Named<'a, A: Allocator + Copy> {
 
 impl<'a, A: Allocator + Copy> Named<'a, A> {
     /// Appends the warning `may also come in` if frames of other devices can get the handle of hop `k` of stream `i` at port `on`.
+    /// `push_entry_warnings` calls it.
     fn push_entering(
         &self,
         text: &mut String,
@@ -77,7 +79,8 @@ impl<'a, A: Allocator + Copy> Named<'a, A> {
         push_entering_line(text, i, k, name, on.number)
     }
 
-    /// Appends a warning for each port of the hop's bridge at which frames of other devices can get the hop's handle.
+    /// Appends a warning for each port of the hop's bridge at which frames of other devices can get the hop's handle. `push_entering_hop`
+    /// calls it.
     fn push_entry_warnings(
         &self,
         text: &mut String,
@@ -100,7 +103,7 @@ impl<'a, A: Allocator + Copy> Named<'a, A> {
     }
 
     /// Appends the warnings `may also come in` about hop `k` of stream `i`, both indexes from 0. Only for periodic talkers. Appends nothing
-    /// if the plan is missing.
+    /// if the plan is missing. `push_hop` calls it.
     fn push_entering_hop(
         &self,
         text: &mut String,
@@ -120,7 +123,7 @@ impl<'a, A: Allocator + Copy> Named<'a, A> {
     }
 
     /// Appends the warnings about hop `k` of stream `i`: ports where other devices' frames can enter, if the talker is periodic; no
-    /// reachable queue.
+    /// reachable queue. `push_hops` calls it.
     fn push_hop(
         &self,
         text: &mut String,
@@ -141,7 +144,8 @@ impl<'a, A: Allocator + Copy> Named<'a, A> {
         push_nowhere(text, bounds, i, k, hop)
     }
 
-    /// Appends the warnings about all hops of stream `i`, in order. `periodic` is true if the stream has a periodic talker.
+    /// Appends the warnings about all hops of stream `i`, in order. `periodic` is true if the stream has a periodic talker. `push_stream`
+    /// calls it.
     fn push_hops(
         &self,
         text: &mut String,
@@ -164,7 +168,7 @@ impl<'a, A: Allocator + Copy> Named<'a, A> {
     }
 
     /// Appends the warnings about the hops of stream `i`, from 0. Ports where other devices' frames can enter count only for periodic
-    /// talkers.
+    /// talkers. `push_streams` calls it.
     fn push_stream(
         &self,
         alloc: A,
@@ -186,7 +190,7 @@ impl<'a, A: Allocator + Copy> Named<'a, A> {
         }
     }
 
-    /// Appends the warnings of all streams, in file order.
+    /// Appends the warnings of all streams, in file order. `push_warnings` calls it.
     fn push_streams(
         &self,
         alloc: A,
@@ -209,7 +213,7 @@ impl<'a, A: Allocator + Copy> Named<'a, A> {
 }
 
 /// Returns whether a hop's filter has a reachable queue. `bounds` has an item for each reachable queue; without one, the hop's frames can't
-/// leave the bridge.
+/// leave the bridge. `push_nowhere` calls it.
 fn has_queue<A: Allocator + Copy>(bounds: &[Vec<QueueBound, A>], hop: StreamHop) -> bool
     ensures { result ≡ spec.has_queue bounds.now hop }
 {
@@ -217,7 +221,7 @@ fn has_queue<A: Allocator + Copy>(bounds: &[Vec<QueueBound, A>], hop: StreamHop)
     rows.iter().any(|row| row.filter == hop.filter)
 }
 
-/// Appends the warning `leads nowhere` if the frames of hop `k` of stream `i` have no reachable queue.
+/// Appends the warning `leads nowhere` if the frames of hop `k` of stream `i` have no reachable queue. `push_hop` calls it.
 fn push_nowhere<A: Allocator + Copy>(
     text: &mut String,
     bounds: &[Vec<QueueBound, A>],
