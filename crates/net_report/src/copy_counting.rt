@@ -26,14 +26,14 @@ pub enum CopyFate {
     Arrived,
 }
 
-/// Returns `count` plus one, or `count` if it is the largest 64-bit number, so that counting can't overflow.
+/// Returns `count` plus one, or `count` if it is the largest 64-bit number, so that counting can't overflow. `add_fate` calls it.
 fn saturating_increment(count: u64) -> u64
     ensures { result ≡ spec.saturating_increment count }
 {
     if count < u64::MAX { count + 1 } else { count }
 }
 
-/// Returns the counts `tally` of a first-hop frame, with one added to the count of fate `fate`.
+/// Returns the counts `tally` of a first-hop frame, with one added to the count of fate `fate`. `count_at_index` calls it.
 fn add_fate(tally: CopyCounts, fate: CopyFate) -> CopyCounts
     ensures { result ≡ spec.add_fate tally fate }
 {
@@ -72,6 +72,7 @@ fn add_fate(tally: CopyCounts, fate: CopyFate) -> CopyCounts
 }
 
 /// Counts one copy or frame with fate `fate` for the first-hop frame with index `place`. Does nothing if `tallies` has no such index.
+/// `count_frame` calls it.
 fn count_at_index(tallies: &mut [CopyCounts], place: usize, fate: CopyFate)
     ensures { tallies.new ≡ spec.count_at_index tallies.old place fate }
 {
@@ -95,6 +96,7 @@ fn count_frame(tallies: &mut [CopyCounts], root: Option<SourceFrame>, fate: Copy
 }
 
 /// Returns the fate of a copy that left: `Forwarded` if its port leads to a bridge with a hop of the stream, otherwise `Delivered`.
+/// `count_departures` calls it.
 fn departure_fate(ways: &[bool], departure: &Departure) -> CopyFate
     ensures { result ≡ spec.departure_fate ways.now departure.now }
 {
@@ -106,7 +108,7 @@ fn departure_fate(ways: &[bool], departure: &Departure) -> CopyFate
 }
 
 /// Counts the copies that left a hop, each for its first-hop frame. `roots` has the source of each frame of the hop, `ways` whether ports 1
-/// to 16 lead to a hop.
+/// to 16 lead to a hop. `count_hop_record` calls it.
 fn count_departures(
     tallies: &mut [CopyCounts],
     roots: &[Option<SourceFrame>],
@@ -125,7 +127,7 @@ fn count_departures(
 }
 
 /// Counts the copies that a hop's ports dropped as `Refused`, each for its first-hop frame. `roots` has the source of each frame of the
-/// hop.
+/// hop. `count_hop_record` calls it.
 fn count_drops(tallies: &mut [CopyCounts], roots: &[Option<SourceFrame>], drops: &[StoredDrop])
     ensures { tallies.new ≡ spec.with_drops roots.now tallies.old drops.now }
 {
@@ -138,7 +140,7 @@ fn count_drops(tallies: &mut [CopyCounts], roots: &[Option<SourceFrame>], drops:
     }
 }
 
-/// Counts a frame as `Refused` for its first-hop frame `root`, unless its verdict is `Pass`.
+/// Counts a frame as `Refused` for its first-hop frame `root`, unless its verdict is `Pass`. `count_verdicts` calls it.
 fn count_verdict(tallies: &mut [CopyCounts], root: Option<SourceFrame>, verdict: Verdict)
     ensures { tallies.new ≡ spec.with_verdict tallies.old root verdict }
 {
@@ -148,7 +150,7 @@ fn count_verdict(tallies: &mut [CopyCounts], root: Option<SourceFrame>, verdict:
 }
 
 /// Counts the frames that a hop's filter refused, each for its first-hop frame. Verdicts and `roots` are in the order of the hop's frames,
-/// numbered from 1.
+/// numbered from 1. `count_hop_record` calls it.
 fn count_verdicts(
     tallies: &mut [CopyCounts],
     roots: &[Option<SourceFrame>],
@@ -165,7 +167,8 @@ fn count_verdicts(
     }
 }
 
-/// Counts the frames that arrived at a later hop than the first as `Arrived`. `roots` has the source of each of these frames.
+/// Counts the frames that arrived at a later hop than the first as `Arrived`. `roots` has the source of each of these frames. `count_hop`
+/// calls it.
 fn count_arrivals(tallies: &mut [CopyCounts], roots: &[Option<SourceFrame>])
     ensures { tallies.new ≡ spec.with_arrivals tallies.old roots.now }
 {
@@ -175,6 +178,7 @@ fn count_arrivals(tallies: &mut [CopyCounts], roots: &[Option<SourceFrame>])
 }
 
 /// Counts everything that a hop's record reports: copies that left, dropped copies and refused frames, each for its first-hop frame.
+/// `count_hop` calls it.
 fn count_hop_record<A: Allocator>(
     tallies: &mut [CopyCounts],
     roots: &[Option<SourceFrame>],
@@ -202,7 +206,7 @@ fn frame_count<A: Allocator>(hops: &[HopRun<'_, A>]) -> usize
     }
 }
 
-/// Returns counts of zero, one item for each of `count` first-hop frames.
+/// Returns counts of zero, one item for each of `count` first-hop frames. `count_copies` calls it.
 fn zero_counts<A: Allocator + Copy>(alloc: A, count: usize) -> Result<Vec<CopyCounts, A>, NoMemory>
     ensures { IfOk result (λ tallies. tallies.items ≡ spec.zero_counts count) }
 {
@@ -216,7 +220,7 @@ fn zero_counts<A: Allocator + Copy>(alloc: A, count: usize) -> Result<Vec<CopyCo
 }
 
 /// Counts the copies and frames of hop `hop`, each for its first-hop frame. `roots` has the source of each of its frames. Arrivals count
-/// only at later hops than the first.
+/// only at later hops than the first. `count_hops` calls it.
 fn count_hop<A: Allocator + Copy>(
     alloc: A,
     links: &[Link],
@@ -239,6 +243,7 @@ fn count_hop<A: Allocator + Copy>(
 }
 
 /// Counts the copies and frames of all hops. `all` has the source of each frame of each hop. Hops without item in `all` don't count.
+/// `count_copies` calls it.
 fn count_hops<A: Allocator + Copy>(
     alloc: A,
     links: &[Link],

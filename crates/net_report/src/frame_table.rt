@@ -23,6 +23,7 @@ use std::alloc::Allocator;
 pub const FRAMES_HEADER: &str = "stream,hop,frame,came,at,fate,port,start,done,delay\n";
 
 /// Writes the number of the source frame and its arrival time at the first hop in ns, or two empty fields if the source is unknown.
+/// `put_line_start` calls it.
 fn put_source_frame<A: Allocator>(text: &mut TextBuilder<A>, root: Option<SourceFrame>)
     ensures { HasGrown text.old (spec.source_frame_words root) text.new }
 {
@@ -53,7 +54,8 @@ fn put_line_start<A: Allocator>(
     put_number_with_suffix(text, at, ",");
 }
 
-/// Writes the `frames.csv` row of a refused frame, with the verdict as its fate. `at` is the arrival time at this hop in ns.
+/// Writes the `frames.csv` row of a refused frame, with the verdict as its fate. `at` is the arrival time at this hop in ns. `put_verdict`
+/// calls it.
 fn put_refused<A: Allocator>(
     text: &mut TextBuilder<A>,
     stream: &str,
@@ -70,7 +72,7 @@ fn put_refused<A: Allocator>(
 }
 
 /// Writes the `frames.csv` row of a dropped copy, with the reason of the drop as its fate. `at` is the frame's arrival time at this hop in
-/// ns.
+/// ns. `put_drops` calls it.
 fn put_drop<A: Allocator>(
     text: &mut TextBuilder<A>,
     stream: &str,
@@ -88,7 +90,7 @@ fn put_drop<A: Allocator>(
 }
 
 /// Writes the delay in ns of a copy from its frame's arrival at the first hop to `done`, and ends the row. The field is empty if the source
-/// is unknown.
+/// is unknown. `put_departure` calls it.
 fn put_delay<A: Allocator>(text: &mut TextBuilder<A>, done: u64, root: Option<SourceFrame>)
     ensures { HasGrown text.old (spec.delay_word done root ++ codes "\n") text.new }
 {
@@ -98,7 +100,8 @@ fn put_delay<A: Allocator>(text: &mut TextBuilder<A>, done: u64, root: Option<So
     }
 }
 
-/// Returns the word for the fate of a copy that left: `sent` if its port leads to a hop (`on`), otherwise `delivered`.
+/// Returns the word for the fate of a copy that left: `sent` if its port leads to a hop (`on`), otherwise `delivered`. `put_departure`
+/// calls it.
 fn departure_word(on: bool) -> &'static str
     ensures { result.now ≡ spec.departure_word on }
 {
@@ -106,6 +109,7 @@ fn departure_word(on: bool) -> &'static str
 }
 
 /// Writes the `frames.csv` row of a copy that left. `on` is true if its port leads to a hop; `at` is the frame's arrival time at this hop.
+/// `put_departures` calls it.
 fn put_departure<A: Allocator>(
     text: &mut TextBuilder<A>,
     stream: &str,
@@ -127,6 +131,7 @@ fn put_departure<A: Allocator>(
 }
 
 /// Writes the `frames.csv` row of a frame that arrived at time `at`, if it was refused. Passed frames get rows by their copies.
+/// `put_verdicts` calls it.
 fn put_verdict<A: Allocator>(
     text: &mut TextBuilder<A>,
     stream: &str,
@@ -143,7 +148,7 @@ fn put_verdict<A: Allocator>(
 }
 
 /// Writes the rows of the frames that a hop refused. `roots` and `origins` have source and arrival of each frame of the hop, in order of
-/// their numbers from 1.
+/// their numbers from 1. `put_hop_lines` calls it.
 fn put_verdicts<A: Allocator>(
     text: &mut TextBuilder<A>,
     stream: &str,
@@ -171,6 +176,7 @@ fn put_verdicts<A: Allocator>(
 }
 
 /// Writes the `frames.csv` rows of the copies that a hop dropped. `roots` and `origins` have source and arrival of each frame of the hop.
+/// `put_hop_lines` calls it.
 fn put_drops<A: Allocator>(
     text: &mut TextBuilder<A>,
     stream: &str,
@@ -194,6 +200,7 @@ fn put_drops<A: Allocator>(
 }
 
 /// Writes the `frames.csv` rows of the copies that left a hop. `ways` has for ports 1 to 16 whether the port leads to a hop.
+/// `put_hop_lines` calls it.
 fn put_departures<A: Allocator>(
     text: &mut TextBuilder<A>,
     stream: &str,

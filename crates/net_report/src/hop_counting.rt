@@ -40,21 +40,21 @@ pub struct HopCounts {
     pub never: u64,
 }
 
-/// Returns whether a frame was refused as `Blocked`: an earlier oversize frame had blocked the filter.
+/// Returns whether a frame was refused as `Blocked`: an earlier oversize frame had blocked the filter. `count_blocked` calls it.
 fn is_blocked(verdict: &Verdict) -> bool
     ensures { result ≡ spec.is_blocked verdict.now }
 {
     matches!(*verdict, Verdict::Blocked)
 }
 
-/// Returns whether a frame was refused as `Oversize`: its SDU was above the filter's maximum.
+/// Returns whether a frame was refused as `Oversize`: its SDU was above the filter's maximum. `count_oversize` calls it.
 fn is_oversize(verdict: &Verdict) -> bool
     ensures { result ≡ spec.is_oversize verdict.now }
 {
     matches!(*verdict, Verdict::Oversize)
 }
 
-/// Returns whether a frame was refused as `GateClosed`: the stream gate was closed when it arrived.
+/// Returns whether a frame was refused as `GateClosed`: the stream gate was closed when it arrived. `count_gate_closed` calls it.
 fn is_gate_closed(verdict: &Verdict) -> bool
     ensures { result ≡ spec.is_gate_closed verdict.now }
 {
@@ -62,6 +62,7 @@ fn is_gate_closed(verdict: &Verdict) -> bool
 }
 
 /// Returns whether a frame was refused as `ShutByRx`: an earlier frame, which arrived while the stream gate was closed, had shut the gate.
+/// `count_shut_rx` calls it.
 fn is_shut_rx(verdict: &Verdict) -> bool
     ensures { result ≡ spec.is_shut_rx verdict.now }
 {
@@ -69,6 +70,7 @@ fn is_shut_rx(verdict: &Verdict) -> bool
 }
 
 /// Returns whether a frame was refused as `ShutByOctets`: an earlier frame with too many octets had shut the stream gate.
+/// `count_shut_octets` calls it.
 fn is_shut_octets(verdict: &Verdict) -> bool
     ensures { result ≡ spec.is_shut_octets verdict.now }
 {
@@ -76,48 +78,50 @@ fn is_shut_octets(verdict: &Verdict) -> bool
 }
 
 /// Returns whether a frame was refused as `OctetsExceeded`: it had more octets than were left in the stream gate's interval.
+/// `count_octets_exceeded` calls it.
 fn is_octets_exceeded(verdict: &Verdict) -> bool
     ensures { result ≡ spec.is_octets_exceeded verdict.now }
 {
     matches!(*verdict, Verdict::OctetsExceeded)
 }
 
-/// Returns whether a frame was refused as `Red`: the meter coloured it red.
+/// Returns whether a frame was refused as `Red`: the meter coloured it red. `count_red` calls it.
 fn is_red(verdict: &Verdict) -> bool
     ensures { result ≡ spec.is_red verdict.now }
 {
     matches!(*verdict, Verdict::Red)
 }
 
-/// Returns whether a frame was refused as `YellowDropped`: the meter coloured it yellow, and drops yellow frames.
+/// Returns whether a frame was refused as `YellowDropped`: the meter coloured it yellow, and drops yellow frames. `count_yellow_dropped`
+/// calls it.
 fn is_yellow_dropped(verdict: &Verdict) -> bool
     ensures { result ≡ spec.is_yellow_dropped verdict.now }
 {
     matches!(*verdict, Verdict::YellowDropped)
 }
 
-/// Returns whether a copy was dropped because its queue was full.
+/// Returns whether a copy was dropped because its queue was full. `count_full` and `never_fits` call it.
 fn is_full(dropped: &Dropped) -> bool
     ensures { result ≡ spec.is_full dropped.now }
 {
     matches!(dropped.refusal, Refusal::Full)
 }
 
-/// Returns whether a copy was dropped because it fits at no time (`NeverFits`).
+/// Returns whether a copy was dropped because it fits at no time (`NeverFits`). `count_never_fits` calls it.
 fn never_fits(dropped: &Dropped) -> bool
     ensures { result ≡ spec.never_fits dropped.now }
 {
     !is_full(dropped)
 }
 
-/// Returns the number of frames refused as `Blocked`: an earlier oversize frame had blocked the filter.
+/// Returns the number of frames refused as `Blocked`: an earlier oversize frame had blocked the filter. `counts_by_ports` calls it.
 fn count_blocked(verdicts: &[StoredVerdict]) -> usize
     ensures { result ≡ count_by spec.is_blocked verdicts.now }
 {
     verdicts.iter().filter(|v| is_blocked(&v.verdict())).count()
 }
 
-/// Returns the number of frames refused as `Oversize`: their SDU was above the filter's maximum.
+/// Returns the number of frames refused as `Oversize`: their SDU was above the filter's maximum. `counts_by_ports` calls it.
 fn count_oversize(verdicts: &[StoredVerdict]) -> usize
     ensures { result ≡ count_by spec.is_oversize verdicts.now }
 {
@@ -127,7 +131,7 @@ fn count_oversize(verdicts: &[StoredVerdict]) -> usize
         .count()
 }
 
-/// Returns the number of frames refused as `GateClosed`: the stream gate was closed when they arrived.
+/// Returns the number of frames refused as `GateClosed`: the stream gate was closed when they arrived. `counts_by_ports` calls it.
 fn count_gate_closed(verdicts: &[StoredVerdict]) -> usize
     ensures { result ≡ count_by spec.is_gate_closed verdicts.now }
 {
@@ -138,6 +142,7 @@ fn count_gate_closed(verdicts: &[StoredVerdict]) -> usize
 }
 
 /// Returns the number of frames refused as `ShutByRx`: an earlier frame, which arrived while the stream gate was closed, had shut the gate.
+/// `counts_by_ports` calls it.
 fn count_shut_rx(verdicts: &[StoredVerdict]) -> usize
     ensures { result ≡ count_by spec.is_shut_rx verdicts.now }
 {
@@ -145,6 +150,7 @@ fn count_shut_rx(verdicts: &[StoredVerdict]) -> usize
 }
 
 /// Returns the number of frames refused as `ShutByOctets`: an earlier frame with too many octets had shut the stream gate.
+/// `counts_by_ports` calls it.
 fn count_shut_octets(verdicts: &[StoredVerdict]) -> usize
     ensures { result ≡ count_by spec.is_shut_octets verdicts.now }
 {
@@ -155,6 +161,7 @@ fn count_shut_octets(verdicts: &[StoredVerdict]) -> usize
 }
 
 /// Returns the number of frames refused as `OctetsExceeded`: they had more octets than were left in the stream gate's interval.
+/// `counts_by_ports` calls it.
 fn count_octets_exceeded(verdicts: &[StoredVerdict]) -> usize
     ensures { result ≡ count_by spec.is_octets_exceeded verdicts.now }
 {
@@ -164,14 +171,15 @@ fn count_octets_exceeded(verdicts: &[StoredVerdict]) -> usize
         .count()
 }
 
-/// Returns the number of frames refused as `Red`: the meter coloured them red.
+/// Returns the number of frames refused as `Red`: the meter coloured them red. `counts_by_ports` calls it.
 fn count_red(verdicts: &[StoredVerdict]) -> usize
     ensures { result ≡ count_by spec.is_red verdicts.now }
 {
     verdicts.iter().filter(|v| is_red(&v.verdict())).count()
 }
 
-/// Returns the number of frames refused as `YellowDropped`: the meter coloured them yellow, and drops yellow frames.
+/// Returns the number of frames refused as `YellowDropped`: the meter coloured them yellow, and drops yellow frames. `counts_by_ports`
+/// calls it.
 fn count_yellow_dropped(verdicts: &[StoredVerdict]) -> usize
     ensures { result ≡ count_by spec.is_yellow_dropped verdicts.now }
 {
@@ -181,14 +189,14 @@ fn count_yellow_dropped(verdicts: &[StoredVerdict]) -> usize
         .count()
 }
 
-/// Returns the number of copies that a hop dropped because their queue was full.
+/// Returns the number of copies that a hop dropped because their queue was full. `counts_by_ports` calls it.
 fn count_full(drops: &[StoredDrop]) -> usize
     ensures { result ≡ count_by spec.is_full drops.now }
 {
     drops.iter().filter(|d| is_full(&d.dropped_copy())).count()
 }
 
-/// Returns the number of copies that a hop dropped because they fit at no time (`NeverFits`).
+/// Returns the number of copies that a hop dropped because they fit at no time (`NeverFits`). `counts_by_ports` calls it.
 fn count_never_fits(drops: &[StoredDrop]) -> usize
     ensures { result ≡ count_by spec.never_fits drops.now }
 {
@@ -199,7 +207,7 @@ fn count_never_fits(drops: &[StoredDrop]) -> usize
 }
 
 /// Returns the number of delivered copies of a hop: they left by ports without next hop. `ways` has for ports 1 to 16 whether the port
-/// leads to a hop.
+/// leads to a hop. `counts_by_ports` calls it.
 fn count_delivered(ways: &[bool], departures: &[StoredDeparture]) -> usize
     ensures { result ≡ count_by (spec.is_delivery ways.now) departures.now }
 {
@@ -248,7 +256,7 @@ pub fn hop_counts<A: Allocator + Copy>(
     Ok(counts_by_ports(&ways, hop.view))
 }
 
-/// Appends the delay of a copy to `delays` if it was delivered and its source frame is known.
+/// Appends the delay of a copy to `delays` if it was delivered and its source frame is known. `departure_delays` calls it.
 fn push_delay<A: Allocator>(
     delays: &mut Vec<u64, A>,
     ways: &[bool],
@@ -283,7 +291,8 @@ pub(crate) fn departure_delays<A: Allocator + Copy>(
     Ok(delays)
 }
 
-/// Returns the delay of a copy at its hop in ns: from the frame's arrival there to the end of the copy's transmission.
+/// Returns the delay of a copy at its hop in ns: from the frame's arrival there to the end of the copy's transmission. `delays_at_hop`
+/// calls it.
 fn delay_at_hop(origins: &[StoredOrigin], departure: &Departure) -> u64
     ensures { result ≡ spec.delay_at_hop origins.now departure.now }
 {

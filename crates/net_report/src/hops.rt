@@ -7,7 +7,7 @@ use bridge_limits::NoMemory;
 use net_model::{Link, find_sender};
 use std::alloc::Allocator;
 
-/// Returns whether one of these hops is at the bridge with index `bridge`.
+/// Returns whether one of these hops is at the bridge with index `bridge`. `has_next_hop` calls it.
 fn has_hop_at_bridge<A: Allocator>(hops: &[HopRun<'_, A>], bridge: usize) -> bool
     ensures { result ≡ spec.has_hop_at_bridge hops.now bridge }
 {

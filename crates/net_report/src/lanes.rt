@@ -29,7 +29,7 @@ pub(crate) fn put_window(picture: &mut RunPicture, y: u64, queue: (u8, u8), from
 }
 
 /// Hatches the row at height `y` from time `from` on: later windows aren't drawn. The title has the queue and `all`, the number of its
-/// windows.
+/// windows. `put_windows` calls it.
 fn put_hatch(picture: &mut RunPicture, y: u64, queue: (u8, u8), from: u64, all: u64) {
     let (port, class) = (u64::from(queue.0), u64::from(queue.1));
     let to = picture.span.to;

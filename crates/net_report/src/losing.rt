@@ -37,14 +37,15 @@ fn hop_losses(counts: &HopCounts) -> Losses
     }
 }
 
-/// Writes the words for the causes of losses at a hop, with the hop's name. `put_losses` leaves out causes without loss.
+/// Writes the words for the causes of losses at a hop, with the hop's name. `put_losses` leaves out causes without loss. `put_hops` calls
+/// it.
 fn put_hop<A: Allocator>(text: &mut TextBuilder<A>, hop: &HopLosses<A>)
     ensures { HasGrown text.old (spec.hop_words hop.now) text.new }
 {
     put_losses(text, hop.place.as_str(), &hop_losses(&hop.counts));
 }
 
-/// Writes the words for the causes of losses at all hops.
+/// Writes the words for the causes of losses at all hops. `put_why` calls it.
 fn put_hops<A: Allocator>(text: &mut TextBuilder<A>, hops: &[HopLosses<A>])
     ensures { HasGrown text.old (flat_map spec.hop_words hops.now) text.new }
 {
@@ -54,14 +55,14 @@ fn put_hops<A: Allocator>(text: &mut TextBuilder<A>, hops: &[HopLosses<A>])
 }
 
 /// Returns whether no copy of a first-hop frame was delivered, refused, dropped or astray. Then the last hop that accepted the frame
-/// forwarded it to no port.
+/// forwarded it to no port. `count_not_forwarded` calls it.
 fn is_nowhere(tally: &CopyCounts) -> bool
     ensures { result ≡ spec.is_nowhere tally.now }
 {
     tally.delivered == 0 && tally.refused == 0 && tally.sent_on <= tally.taken
 }
 
-/// Returns the number of first-hop frames that were forwarded to no port (`is_nowhere`).
+/// Returns the number of first-hop frames that were forwarded to no port (`is_nowhere`). `put_why` calls it.
 fn count_not_forwarded(tallies: &[CopyCounts]) -> usize
     ensures { result ≡ count_by spec.is_nowhere tallies.now }
 {
@@ -69,7 +70,7 @@ fn count_not_forwarded(tallies: &[CopyCounts]) -> usize
 }
 
 /// Writes why a stream lost frames: the causes at its hops, the number of astray copies, and the number of frames that were forwarded to no
-/// port.
+/// port. `put_lost` calls it.
 fn put_why<A: Allocator>(text: &mut TextBuilder<A>, tallies: &[CopyCounts], hops: &[HopLosses<A>])
     ensures { HasGrown text.old (spec.why_words tallies.now hops.now) text.new }
 {
@@ -78,7 +79,7 @@ fn put_why<A: Allocator>(text: &mut TextBuilder<A>, tallies: &[CopyCounts], hops
     put_reason(text, "", "nowhere", count_not_forwarded(tallies) as u128);
 }
 
-/// Writes the line of a stream that lost frames.
+/// Writes the line of a stream that lost frames. `put_lost_if` calls it.
 fn put_lost<A: Allocator>(
     text: &mut TextBuilder<A>,
     stream: &str,
@@ -100,7 +101,7 @@ fn put_lost<A: Allocator>(
     text.put("\n");
 }
 
-/// Writes the line of a stream if not all its first-hop frames were delivered.
+/// Writes the line of a stream if not all its first-hop frames were delivered. `put_faults` calls it.
 fn put_lost_if<A: Allocator>(
     text: &mut TextBuilder<A>,
     stream: &str,
@@ -114,14 +115,15 @@ fn put_lost_if<A: Allocator>(
     }
 }
 
-/// Returns the number of delays in ns above `deadline`: the delivered copies that missed the deadline.
+/// Returns the number of delays in ns above `deadline`: the delivered copies that missed the deadline. `put_late` and `put_late_if` call
+/// it.
 fn count_late(deadline: u64, delays: &[u64]) -> usize
     ensures { result ≡ spec.late_in deadline delays.now }
 {
     delays.iter().filter(|delay| deadline < **delay).count()
 }
 
-/// Writes the line of a stream whose deadline a copy missed.
+/// Writes the line of a stream whose deadline a copy missed. `put_late_if` calls it.
 fn put_late<A: Allocator>(text: &mut TextBuilder<A>, stream: &str, delays: &[u64], deadline: u64)
     ensures { HasGrown text.old (spec.late_words stream.now delays.now deadline) text.new }
 {
@@ -138,7 +140,7 @@ fn put_late<A: Allocator>(text: &mut TextBuilder<A>, stream: &str, delays: &[u64
     text.put(" ns\n");
 }
 
-/// Writes the line of a stream if it has a deadline and a copy missed it.
+/// Writes the line of a stream if it has a deadline and a copy missed it. `put_faults` calls it.
 fn put_late_if<A: Allocator>(
     text: &mut TextBuilder<A>,
     stream: &str,

@@ -37,6 +37,7 @@ const HOP: &str = "{a}.{0}";
 const STREAM_BOUND: &str = "bound {a} ns";
 
 /// Draws a text at a point: `form` with `word` for its mark `{a}`. `style` names a class of `STYLES`; an empty text stands for none.
+/// `put_bridge` and `put_stream` call it.
 fn put_text(shapes: &mut Shapes, style: &str, at: Point, form: &str, word: &str) {
     shapes.begin_text(style, at);
     shapes.add_piece(form, &[], &[word]);
@@ -48,7 +49,7 @@ fn column_middle(place: u16) -> u64 {
     LEFT_MARGIN + COLUMN_WIDTH * u64::from(place) + COLUMN_WIDTH / 2
 }
 
-/// Returns the distance of two bridges in columns, but at most 10. So arcs of distant bridges don't get too high.
+/// Returns the distance of two bridges in columns, but at most 10. So arcs of distant bridges don't get too high. `arc_height` calls it.
 fn column_distance(one: u16, other: u16) -> u64 {
     let most = u64::from(one.max(other));
     let least = u64::from(one.min(other));
@@ -63,7 +64,7 @@ fn arc_height(link: &LinkRow) -> u64 {
     columns.saturating_mul(16).saturating_add(26 + 7 * lane)
 }
 
-/// Returns the height in pixels of the tallest arc, at least 26. The bridges' boxes begin below this space.
+/// Returns the height in pixels of the tallest arc, at least 26. The bridges' boxes begin below this space. `draw_network` calls it.
 fn tallest_arc(links: &[LinkRow]) -> u64 {
     let mut most = 26u64;
     for link in links {
@@ -72,7 +73,7 @@ fn tallest_arc(links: &[LinkRow]) -> u64 {
     most
 }
 
-/// Returns the name of the bridge with index `place`, or an empty text if it is missing.
+/// Returns the name of the bridge with index `place`, or an empty text if it is missing. `put_hop` and `put_link` call it.
 fn bridge_name<'a, A: Allocator + Copy>(bridges: &'a [BridgeRow<A>], place: u16) -> &'a str {
     match bridges.get(place as usize) {
         Some(bridge) => bridge.name(),
@@ -80,7 +81,7 @@ fn bridge_name<'a, A: Allocator + Copy>(bridges: &'a [BridgeRow<A>], place: u16)
     }
 }
 
-/// Draws the arc of a link, with a title that shows its ports and its delay. `top` is the upper edge of the boxes.
+/// Draws the arc of a link, with a title that shows its ports and its delay. `top` is the upper edge of the boxes. `put_all` calls it.
 fn put_link<A: Allocator + Copy>(
     shapes: &mut Shapes,
     bridges: &[BridgeRow<A>],
@@ -102,7 +103,7 @@ fn put_link<A: Allocator + Copy>(
     shapes.end_shape();
 }
 
-/// Draws the box of a bridge, with its name. `top` is its upper edge.
+/// Draws the box of a bridge, with its name. `top` is its upper edge. `put_all` calls it.
 fn put_bridge<A: Allocator + Copy>(
     shapes: &mut Shapes,
     bridge: &BridgeRow<A>,
@@ -128,7 +129,7 @@ fn put_bridge<A: Allocator + Copy>(
 }
 
 /// Draws a hop of a stream with its filter as title, and the line from the hop before, whose x is `before`. `None` stands for the first
-/// hop.
+/// hop. `put_stream` calls it.
 fn put_hop<A: Allocator + Copy>(
     shapes: &mut Shapes,
     bridges: &[BridgeRow<A>],
@@ -147,7 +148,7 @@ fn put_hop<A: Allocator + Copy>(
     shapes.end_shape();
 }
 
-/// Draws the row of a stream at height `y`: its name, its hops and, if known, its delay bound in ns.
+/// Draws the row of a stream at height `y`: its name, its hops and, if known, its delay bound in ns. `put_all` calls it.
 fn put_stream<A: Allocator + Copy>(
     alloc: Global,
     shapes: &mut Shapes,
@@ -172,20 +173,20 @@ fn put_stream<A: Allocator + Copy>(
     Ok(())
 }
 
-/// Returns the width in pixels of the picture of a network with `bridges` bridges.
+/// Returns the width in pixels of the picture of a network with `bridges` bridges. `draw_network` and `put_stream` call it.
 fn picture_width(bridges: usize) -> u64 {
     let columns = (bridges as u64).min(65_536);
     LEFT_MARGIN + COLUMN_WIDTH * columns + 170
 }
 
 /// Returns the position of the row of the stream with index `place`, in pixels from the top of the picture. Rows are below the bridges'
-/// boxes.
+/// boxes. `draw_network` and `put_all` call it.
 fn stream_y(top: u64, place: usize) -> u64 {
     top.saturating_add(BOX_HEIGHT + 30)
         .saturating_add(ROW_HEIGHT.saturating_mul(place as u64))
 }
 
-/// Draws all links, bridges and streams. `top` is the upper edge of the boxes.
+/// Draws all links, bridges and streams. `top` is the upper edge of the boxes. `draw_network` calls it.
 fn put_all<A: Allocator + Copy>(
     alloc: Global,
     shapes: &mut Shapes,

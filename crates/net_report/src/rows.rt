@@ -33,13 +33,14 @@ fn arrival_time_or(origins: &[StoredOrigin], own: u64, other: u64) -> u64 {
     }
 }
 
-/// Draws the line of a copy that crosses a link, from its end of transmission to its arrival at the next hop.
+/// Draws the line of a copy that crosses a link, from its end of transmission to its arrival at the next hop. `put_link` calls it.
 fn put_line(picture: &mut RunPicture, from: Point, to: Point) {
     picture.shapes.draw("link", Element::Line(from, to));
     picture.shapes.end_shape();
 }
 
 /// Returns whether a frame of a hop's record arrived on `port` at time `at`. Binary search: the frames are in order of arrival.
+/// `hop_reached` calls it.
 fn has_come<A: Allocator>(view: &View<A>, port: u8, at: u64) -> bool {
     let first = view
         .origins
@@ -57,7 +58,7 @@ fn has_come<A: Allocator>(view: &View<A>, port: u8, at: u64) -> bool {
 }
 
 /// Returns the index of the first hop at `bridge` whose record has a frame that arrived on `port` at time `at`. Returns `None` without such
-/// a hop.
+/// a hop. `put_link` calls it.
 fn hop_reached<A: Allocator>(
     hops: &[HopRun<'_, A>],
     bridge: usize,
@@ -73,7 +74,7 @@ fn hop_reached<A: Allocator>(
 }
 
 /// Draws the line of a copy over its link, from the row at height `y` to the row of the hop that accepted it. Draws nothing without such a
-/// hop.
+/// hop. `put_hop` calls it.
 fn put_link<A: Allocator>(
     picture: &mut RunPicture,
     links: &[Link],
@@ -95,7 +96,7 @@ fn put_link<A: Allocator>(
     put_line(picture, from, to);
 }
 
-/// Draws a copy that left a hop, in the row at height `y`. One bar shows its waiting time, one its transmission time.
+/// Draws a copy that left a hop, in the row at height `y`. One bar shows its waiting time, one its transmission time. `put_hop` calls it.
 fn put_departure(
     picture: &mut RunPicture,
     origins: &[StoredOrigin],
@@ -117,7 +118,8 @@ fn put_departure(
     put_titled(picture, "out", sends, LEFT_WORDS, &numbers, "");
 }
 
-/// Returns a triangle at time `at` in the row at height `y`. The tip is up for a refused frame and down for a dropped copy.
+/// Returns a triangle at time `at` in the row at height `y`. The tip is up for a refused frame and down for a dropped copy. `put_dropped`
+/// and `put_refused` call it.
 fn time_mark(picture: &RunPicture, at: u64, y: u64, is_refused: bool) -> Element {
     let x = time_x(picture, at);
     let (above, below) = (y.saturating_sub(HALF), y.saturating_add(HALF));
@@ -135,7 +137,7 @@ fn time_mark(picture: &RunPicture, at: u64, y: u64, is_refused: bool) -> Element
     })
 }
 
-/// Draws a triangle at the arrival time of each frame that the filter of a hop refused, in the row at height `y`.
+/// Draws a triangle at the arrival time of each frame that the filter of a hop refused, in the row at height `y`. `put_hop` calls it.
 fn put_refused<A: Allocator>(picture: &mut RunPicture, view: &View<A>, y: u64) {
     let mut own = 0u64;
     for stored in &view.verdicts {
@@ -150,7 +152,7 @@ fn put_refused<A: Allocator>(picture: &mut RunPicture, view: &View<A>, y: u64) {
     }
 }
 
-/// Draws a triangle at the frame's arrival time for each copy that a port of a hop dropped, in the row at height `y`.
+/// Draws a triangle at the frame's arrival time for each copy that a port of a hop dropped, in the row at height `y`. `put_hop` calls it.
 fn put_dropped<A: Allocator>(picture: &mut RunPicture, view: &View<A>, y: u64) {
     for stored in &view.drops {
         let dropped = stored.dropped_copy();

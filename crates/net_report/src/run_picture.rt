@@ -53,7 +53,7 @@ pub struct RunPicture {
     pub(crate) shapes: Shapes,
 }
 
-/// Returns the span widened to all times of these hops. The time axis then shows each of their frames.
+/// Returns the span widened to all times of these hops. The time axis then shows each of their frames. `include_stream` calls it.
 fn widen_span<A: Allocator>(hops: &[HopRun<'_, A>], span: Span) -> Span {
     let mut span = span;
     for hop in hops {
@@ -62,7 +62,7 @@ fn widen_span<A: Allocator>(hops: &[HopRun<'_, A>], span: Span) -> Span {
     span
 }
 
-/// Returns the span widened to all times of a hop's record.
+/// Returns the span widened to all times of a hop's record. `widen_span` calls it.
 fn widen_span_by_record<A: Allocator>(view: &View<A>, span: Span) -> Span {
     let Span { mut from, mut to } = span;
     for stored in &view.origins {
@@ -182,6 +182,7 @@ impl RunPicture {
     }
 
     /// Returns the text above the rows: the time span and the meaning of colours, with notes on windows and shapes that aren't drawn.
+    /// `finish` calls it.
     fn legend(&self, alloc: Global) -> Result<String, NoMemory> {
         let mut legend = TextBuilder::new(alloc);
         let Span { from, to } = self.span;

@@ -20,7 +20,7 @@ pub struct SourceFrame {
     pub came: u64,
 }
 
-/// Returns the sources of the first hop's frames: each frame is its own source.
+/// Returns the sources of the first hop's frames: each frame is its own source. `initial_sources_of_hop` calls it.
 fn first_hop_sources<A: Allocator + Copy>(
     alloc: A,
     origins: &[StoredOrigin],
@@ -39,6 +39,7 @@ fn first_hop_sources<A: Allocator + Copy>(
 }
 
 /// Returns one unknown source (`None`) for each of a hop's frames. `trace_source_frames` replaces the sources that it finds.
+/// `initial_sources_of_hop` calls it.
 fn unknown_sources<A: Allocator + Copy>(
     alloc: A,
     origins: &[StoredOrigin],
@@ -54,6 +55,7 @@ fn unknown_sources<A: Allocator + Copy>(
 }
 
 /// Returns the initial sources of a hop's frames. Frames of the first hop are their own sources; for other hops all are `None`, unknown.
+/// `initial_sources` calls it.
 fn initial_sources_of_hop<A: Allocator + Copy>(
     alloc: A,
     is_first: bool,
@@ -68,7 +70,8 @@ fn initial_sources_of_hop<A: Allocator + Copy>(
     }
 }
 
-/// Returns the initial sources of all hops' frames: only frames of the first hop have one. Tracing finds the others.
+/// Returns the initial sources of all hops' frames: only frames of the first hop have one. Tracing finds the others. `trace_source_frames`
+/// calls it.
 fn initial_sources<A: Allocator + Copy>(
     alloc: A,
     hops: &[HopRun<'_, A>],
@@ -88,7 +91,7 @@ fn initial_sources<A: Allocator + Copy>(
 }
 
 /// Returns whether a copy left by `port` and arrives over the port's link at time `at` or later. It arrives `delay` ns after its end of
-/// transmission.
+/// transmission. `due_departures` calls it.
 fn is_due(departure: &Departure, port: u8, delay: u64, at: u64) -> bool
     ensures { result ≡ spec.is_due port delay at departure.now }
 {
@@ -96,6 +99,7 @@ fn is_due(departure: &Departure, port: u8, delay: u64, at: u64) -> bool
 }
 
 /// Returns the rest of `departures` from the first copy on that left by `port` and arrives over its link at time `at` or later.
+/// `resume_due_departures` calls it.
 fn due_departures(
     departures: &[StoredDeparture],
     port: u8,
@@ -128,6 +132,7 @@ pub fn source_frame(roots: &[Option<SourceFrame>], own: u64) -> Option<SourceFra
 }
 
 /// Returns the source of the first copy in `departures` if the copy arrives over the link exactly at time `at`, otherwise `None`.
+/// `trace_frame` calls it.
 fn source_over_link(
     roots: &[Option<SourceFrame>],
     departures: &[StoredDeparture],
@@ -150,7 +155,7 @@ fn source_over_link(
 }
 
 /// Returns the sender's copies from the first one on that arrives at time `at` or later. From time `since` on, `left` is searched instead
-/// of all copies `sent`.
+/// of all copies `sent`. `trace_frame` calls it.
 fn resume_due_departures<'a>(
     sender: Sender,
     sent: &'a [StoredDeparture],
@@ -168,7 +173,7 @@ fn resume_due_departures<'a>(
 }
 
 /// Returns a frame's source after tracing, the rest of the sender's copies to search for later frames, and the time from which this rest
-/// suffices.
+/// suffices. `trace_from_sender` calls it.
 fn trace_frame<'a>(
     sender: Sender,
     sent: &'a [StoredDeparture],
@@ -199,7 +204,7 @@ fn trace_frame<'a>(
 }
 
 /// Returns the sources of a hop's frames after tracing those that arrived on `port` to the copies `sent` of another hop. `sent_roots` has
-/// the sources of that hop's frames.
+/// the sources of that hop's frames. `trace_pair` calls it.
 fn trace_from_sender<A: Allocator + Copy>(
     alloc: A,
     sender: Sender,
@@ -236,7 +241,7 @@ fn trace_from_sender<A: Allocator + Copy>(
     Ok(made)
 }
 
-/// Returns whether, at some index, a source is known in `new` and unknown in `old`.
+/// Returns whether, at some index, a source is known in `new` and unknown in `old`. `trace_pair` calls it.
 fn has_new_source(old: &[Option<SourceFrame>], new: &[Option<SourceFrame>]) -> bool
     ensures { result ≡ false → spec.AddsNoSource old.now new.now }
 {
@@ -249,7 +254,7 @@ fn has_new_source(old: &[Option<SourceFrame>], new: &[Option<SourceFrame>]) -> b
 }
 
 /// Traces the frames that arrived at port `port` of hop `place` to copies of hop `other`, and updates `all`. Returns whether it found a
-/// source.
+/// source. `trace_sender` calls it.
 fn trace_pair<A: Allocator + Copy>(
     alloc: A,
     hops: &[HopRun<'_, A>],
@@ -306,7 +311,7 @@ fn either(one: bool, other: bool) -> bool
 }
 
 /// Traces the frames that arrived at port `port` of hop `place` to copies of all hops at the sending bridge. Returns whether it found a
-/// source.
+/// source. `trace_port` calls it.
 fn trace_sender<A: Allocator + Copy>(
     alloc: A,
     hops: &[HopRun<'_, A>],
@@ -338,7 +343,7 @@ fn trace_sender<A: Allocator + Copy>(
     Ok(more)
 }
 
-/// Traces the frames that arrived at port `port` of hop `place` over its link. Returns whether it found a source.
+/// Traces the frames that arrived at port `port` of hop `place` over its link. Returns whether it found a source. `trace_hop` calls it.
 fn trace_port<A: Allocator + Copy>(
     alloc: A,
     links: &[Link],
@@ -367,7 +372,7 @@ fn trace_port<A: Allocator + Copy>(
     }
 }
 
-/// Traces the frames that arrived at hop `place` over links, port by port. Returns whether it found a source.
+/// Traces the frames that arrived at hop `place` over links, port by port. Returns whether it found a source. `trace_all` calls it.
 fn trace_hop<A: Allocator + Copy>(
     alloc: A,
     links: &[Link],

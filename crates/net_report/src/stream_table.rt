@@ -16,7 +16,7 @@ use std::alloc::Allocator;
 pub const STREAMS_HEADER: &str =
     "stream,hop,frames,delivered,lost,blocked,oversize,gate-closed,shut-rx,shut-octets,octets-exceeded,red,yellow-dropped,full,never,astray,least,mean,greatest,jitter,bound,deadline,met,worst,margin,hop-least,hop-greatest\n";
 
-/// Writes least, mean and greatest delay and jitter in ns, or empty fields without a delay.
+/// Writes least, mean and greatest delay and jitter in ns, or empty fields without a delay. `hop_line` and `stream_line` call it.
 fn put_statistics<A: Allocator>(text: &mut TextBuilder<A>, figures: Option<DelayStatistics>)
     ensures { HasGrown text.old (spec.statistics_words figures) text.new }
 {
@@ -38,7 +38,7 @@ fn put_statistics<A: Allocator>(text: &mut TextBuilder<A>, figures: Option<Delay
     }
 }
 
-/// Returns the number of frames and copies that a hop lost.
+/// Returns the number of frames and copies that a hop lost. `put_hop_start` calls it.
 fn lost_copies(counts: &HopCounts) -> u128
     ensures { result ≡ spec.lost_copies counts.now }
 {
@@ -49,7 +49,7 @@ fn lost_copies(counts: &HopCounts) -> u128
     refused + shut + metered + dropped
 }
 
-/// Writes the numbers of losses at a hop, one field for each cause.
+/// Writes the numbers of losses at a hop, one field for each cause. `hop_line` calls it.
 fn put_loss_causes<A: Allocator>(text: &mut TextBuilder<A>, counts: &HopCounts)
     ensures { HasGrown text.old (spec.reason_words counts.now) text.new }
 {
@@ -65,7 +65,7 @@ fn put_loss_causes<A: Allocator>(text: &mut TextBuilder<A>, counts: &HopCounts)
     put_number_with_suffix(text, counts.never, ",");
 }
 
-/// Writes the beginning of a hop's row, up to the number of its losses.
+/// Writes the beginning of a hop's row, up to the number of its losses. `hop_line` calls it.
 fn put_hop_start<A: Allocator>(
     text: &mut TextBuilder<A>,
     stream: &str,
@@ -83,7 +83,8 @@ fn put_hop_start<A: Allocator>(
     put_wide_with_suffix(text, lost_copies(counts), ",");
 }
 
-/// Writes the last two fields of a hop's row: least and greatest delay at the hop in ns, or empty fields if no copy left.
+/// Writes the last two fields of a hop's row: least and greatest delay at the hop in ns, or empty fields if no copy left. `hop_line` calls
+/// it.
 fn put_hop_delays<A: Allocator>(text: &mut TextBuilder<A>, figures: Option<DelayStatistics>)
     ensures { HasGrown text.old (spec.hop_delay_words figures) text.new }
 {
@@ -131,7 +132,7 @@ pub fn delivered_frames(tallies: &[CopyCounts]) -> usize
     tallies.iter().filter(|tally| tally.is_delivered()).count()
 }
 
-/// Returns the number of astray copies of all frames of a stream.
+/// Returns the number of astray copies of all frames of a stream. `put_stream_start` and `put_why` call it.
 pub(crate) fn total_astray(tallies: &[CopyCounts]) -> u128
     ensures { result ≡ sum_by astray tallies.now }
 {
@@ -139,7 +140,7 @@ pub(crate) fn total_astray(tallies: &[CopyCounts]) -> u128
 }
 
 /// Writes the beginning of a stream's row, up to the astray copies. The fields of loss causes are empty, because only rows of hops have
-/// them.
+/// them. `stream_line` calls it.
 fn put_stream_start<A: Allocator>(text: &mut TextBuilder<A>, stream: &str, tallies: &[CopyCounts])
     ensures { HasGrown text.old (spec.stream_start stream.now tallies.now) text.new }
 {
@@ -153,7 +154,7 @@ fn put_stream_start<A: Allocator>(text: &mut TextBuilder<A>, stream: &str, talli
     put_wide_with_suffix(text, total_astray(tallies), ",");
 }
 
-/// Returns whether no copy's delay exceeds a deadline. Returns true if no copy was delivered.
+/// Returns whether no copy's delay exceeds a deadline. Returns true if no copy was delivered. `is_deadline_met` calls it.
 fn is_below_deadline(figures: Option<DelayStatistics>, deadline: u64) -> bool
     ensures { result ≡ spec.is_below_deadline figures deadline }
 {
@@ -163,7 +164,7 @@ fn is_below_deadline(figures: Option<DelayStatistics>, deadline: u64) -> bool
     }
 }
 
-/// Returns whether all frames of a stream were delivered, and no copy's delay exceeds a deadline.
+/// Returns whether all frames of a stream were delivered, and no copy's delay exceeds a deadline. `put_deadline` calls it.
 fn is_deadline_met(tallies: &[CopyCounts], figures: Option<DelayStatistics>, deadline: u64) -> bool
     ensures { result ≡ spec.is_deadline_met tallies.now figures deadline }
 {
@@ -171,6 +172,7 @@ fn is_deadline_met(tallies: &[CopyCounts], figures: Option<DelayStatistics>, dea
 }
 
 /// Returns a comma and a word: `none` for a stream without frames (`is_silent`), otherwise `met` or `missed` for its deadline.
+/// `put_deadline` calls it.
 fn met_word(is_silent: bool, met: bool) -> &'static str
     ensures { result.now ≡ spec.met_word is_silent met }
 {
@@ -183,7 +185,7 @@ fn met_word(is_silent: bool, met: bool) -> &'static str
     }
 }
 
-/// Writes a deadline in ns and whether it was met, or two empty fields without a deadline.
+/// Writes a deadline in ns and whether it was met, or two empty fields without a deadline. `stream_line` calls it.
 fn put_deadline<A: Allocator>(
     text: &mut TextBuilder<A>,
     tallies: &[CopyCounts],
@@ -201,7 +203,7 @@ fn put_deadline<A: Allocator>(
     }
 }
 
-/// Writes the worst delay in ns and a comma, or an empty field.
+/// Writes the worst delay in ns and a comma, or an empty field. `stream_line` calls it.
 fn put_worst<A: Allocator>(text: &mut TextBuilder<A>, worst: Option<u128>)
     ensures { HasGrown text.old (spec.worst_words worst) text.new }
 {
@@ -211,7 +213,7 @@ fn put_worst<A: Allocator>(text: &mut TextBuilder<A>, worst: Option<u128>)
     }
 }
 
-/// Writes a deadline less a worst delay, in ns. The number is negative if the delay exceeds the deadline.
+/// Writes a deadline less a worst delay, in ns. The number is negative if the delay exceeds the deadline. `put_margin` calls it.
 fn put_difference<A: Allocator>(text: &mut TextBuilder<A>, deadline: u128, worst: u128)
     ensures { HasGrown text.old (spec.difference_words deadline worst) text.new }
 {
@@ -223,7 +225,7 @@ fn put_difference<A: Allocator>(text: &mut TextBuilder<A>, deadline: u128, worst
     }
 }
 
-/// Writes the margin: deadline less worst delay, in ns. Writes nothing if either is missing.
+/// Writes the margin: deadline less worst delay, in ns. Writes nothing if either is missing. `stream_line` calls it.
 fn put_margin<A: Allocator>(text: &mut TextBuilder<A>, deadline: Option<u64>, worst: Option<u128>)
     ensures { HasGrown text.old (spec.margin_words deadline worst) text.new }
 {

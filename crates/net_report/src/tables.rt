@@ -75,6 +75,7 @@ pub fn put_table<W: Write>(writer: &mut W, text: &str, table: Table) -> Result<(
 }
 
 /// Returns the rows of hop `hop` of stream `stream` in both tables. `name` is the hop's name, `roots` has the source of each of its frames.
+/// `write_hop` calls it.
 fn rows_of_hop<A: Allocator + Copy>(
     alloc: A,
     links: &[Link],
@@ -105,7 +106,7 @@ fn rows_of_hop<A: Allocator + Copy>(
     Ok(HopRows { row, lines })
 }
 
-/// Writes the rows of hop `hop` to both tables: first to `streams`, then to `frames`.
+/// Writes the rows of hop `hop` to both tables: first to `streams`, then to `frames`. `write_hops` calls it.
 fn write_hop<A: Allocator + Copy, V: Write, W: Write>(
     alloc: A,
     links: &[Link],
@@ -125,7 +126,7 @@ fn write_hop<A: Allocator + Copy, V: Write, W: Write>(
     put_table(frames, lines.as_str(), Table::Frames)
 }
 
-/// Writes the rows of a stream's hops to both tables, hop by hop.
+/// Writes the rows of a stream's hops to both tables, hop by hop. `write_stream` calls it.
 fn write_hops<A: Allocator + Copy, V: Write, W: Write>(
     alloc: A,
     links: &[Link],
@@ -158,6 +159,7 @@ fn write_hops<A: Allocator + Copy, V: Write, W: Write>(
 }
 
 /// Appends to `delays` the delays in ns of the copies that hop `hop` delivered. `roots` has the source of each of its frames.
+/// `stream_delays` calls it.
 fn push_delays<A: Allocator + Copy>(
     alloc: A,
     links: &[Link],

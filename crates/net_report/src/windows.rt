@@ -17,7 +17,8 @@ pub(crate) fn is_class_open<A: Allocator + Copy>(list: &Egress<A>, class: u8, at
     is_open(list.turn(at).state, class)
 }
 
-/// Returns the cycle time in ns of the list in force at time `at`, and the time at which this list ends.
+/// Returns the cycle time in ns of the list in force at time `at`, and the time at which this list ends. `count_windows` and
+/// `next_gate_change` call it.
 fn active_list<A: Allocator + Copy>(list: &Egress<A>, at: u64) -> (u64, u64)
     ensures cycle { 1 ≤ result.0 }
     ensures until { result.1 ≤ END_OF_TURNS }
@@ -63,7 +64,7 @@ fn count_openings<A: Allocator + Copy>(list: &Egress<A>, class: u8, after: u64, 
 }
 
 /// Returns the number of times that a class opens after time `after` and up to time `to`, while one list is in force. It counts one cycle
-/// and multiplies.
+/// and multiplies. `count_windows` calls it.
 fn count_list_openings<A: Allocator + Copy>(
     list: &Egress<A>,
     class: u8,
