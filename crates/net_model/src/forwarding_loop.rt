@@ -22,7 +22,7 @@ pub struct ForwardingLoop {
     pub at: BridgePort,
 }
 
-/// Returns a port at which frames of the group can arrive again and again, or `None` if they can't loop.
+/// Returns a port at which frames of the group can arrive again and again, or `None` if they can't loop. `add_group_loop` calls it.
 fn group_loop_port<A: Allocator + Copy>(
     alloc: A,
     plans: &[Accepted<A>],
@@ -37,7 +37,7 @@ fn group_loop_port<A: Allocator + Copy>(
     find_loop_port(alloc, &steps)
 }
 
-/// Appends the loop of group `group` to `rows` if the group's frames may loop.
+/// Appends the loop of group `group` to `rows` if the group's frames may loop. `group_loops` calls it.
 fn add_group_loop<A: Allocator + Copy>(
     alloc: A,
     plans: &[Accepted<A>],
@@ -57,7 +57,7 @@ fn add_group_loop<A: Allocator + Copy>(
     }
 }
 
-/// Returns a loop for each of these groups whose frames may loop, in the order of `groups`.
+/// Returns a loop for each of these groups whose frames may loop, in the order of `groups`. `find_forwarding_loops` calls it.
 fn group_loops<A: Allocator + Copy>(
     alloc: A,
     plans: &[Accepted<A>],

@@ -18,7 +18,7 @@ pub struct FrameGroup {
     pub destination: Option<[u8; 6]>,
 }
 
-/// Returns whether two optional VLANs are equal; `None` equals only `None`.
+/// Returns whether two optional VLANs are equal; `None` equals only `None`. `is_same_group` calls it.
 fn is_same_vlan(a: Option<u16>, b: Option<u16>) -> bool
     ensures { result ≡ spec.is_same_vlan a b }
 {
@@ -29,7 +29,7 @@ fn is_same_vlan(a: Option<u16>, b: Option<u16>) -> bool
     }
 }
 
-/// Returns whether two optional destinations are equal; `None` equals only `None`.
+/// Returns whether two optional destinations are equal; `None` equals only `None`. `is_same_group` calls it.
 fn is_same_destination(a: Option<[u8; 6]>, b: Option<[u8; 6]>) -> bool
     ensures { result ≡ spec.is_same_destination a b }
 {
@@ -40,14 +40,14 @@ fn is_same_destination(a: Option<[u8; 6]>, b: Option<[u8; 6]>) -> bool
     }
 }
 
-/// Returns whether two groups have equal VLANs and destinations.
+/// Returns whether two groups have equal VLANs and destinations. `has_group` calls it.
 fn is_same_group(a: &FrameGroup, b: &FrameGroup) -> bool
     ensures { result ≡ spec.is_same_group a.now b.now }
 {
     is_same_vlan(a.vlan, b.vlan) && is_same_destination(a.destination, b.destination)
 }
 
-/// Returns whether `groups` contains `group`.
+/// Returns whether `groups` contains `group`. `add_group` calls it.
 fn has_group(groups: &[FrameGroup], group: &FrameGroup) -> bool
     ensures { result ≡ spec.has_group groups.now group.now }
 {
@@ -68,7 +68,7 @@ fn add_group<A: Allocator + Copy>(
     Ok(())
 }
 
-/// Adds to `groups` the groups of the static entries' destinations: in the entry's VLAN, and without VLAN.
+/// Adds to `groups` the groups of the static entries' destinations: in the entry's VLAN, and without VLAN. `add_plan_groups` calls it.
 fn add_static_groups<A: Allocator + Copy>(
     groups: &mut Vec<FrameGroup, A>,
     statics: &[StaticEntry],
@@ -81,7 +81,8 @@ fn add_static_groups<A: Allocator + Copy>(
     Ok(())
 }
 
-/// Adds to `groups` the two groups of a static entry: its destination in its VLAN, and its destination without VLAN.
+/// Adds to `groups` the two groups of a static entry: its destination in its VLAN, and its destination without VLAN. `add_static_groups`
+/// calls it.
 fn add_entry_groups<A: Allocator + Copy>(
     groups: &mut Vec<FrameGroup, A>,
     entry: &StaticEntry,
@@ -104,7 +105,7 @@ fn add_entry_groups<A: Allocator + Copy>(
     )
 }
 
-/// Adds to `groups`, for each of these VLANs, the group of all destinations without a static entry.
+/// Adds to `groups`, for each of these VLANs, the group of all destinations without a static entry. `add_plan_groups` calls it.
 fn add_vlan_groups<A: Allocator + Copy>(
     groups: &mut Vec<FrameGroup, A>,
     vlans: &[Vlan],
@@ -123,7 +124,7 @@ fn add_vlan_groups<A: Allocator + Copy>(
     Ok(())
 }
 
-/// Adds to `groups` the groups that a plan names by its static entries and its VLANs.
+/// Adds to `groups` the groups that a plan names by its static entries and its VLANs. `all_groups` calls it.
 fn add_plan_groups<A: Allocator + Copy>(
     groups: &mut Vec<FrameGroup, A>,
     plan: &Plan<A>,

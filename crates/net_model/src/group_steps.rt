@@ -16,7 +16,8 @@ use bridge_forward::{PortSet, find_members};
 use bridge_limits::NoMemory;
 use std::alloc::Allocator;
 
-/// Returns the VLAN in which port `on` classifies frames of a group: the VLAN of their tag or, without one, the port's own.
+/// Returns the VLAN in which port `on` classifies frames of a group: the VLAN of their tag or, without one, the port's own. `egress_ports`
+/// calls it.
 fn classified_vlan<A: Allocator + Copy>(group: &FrameGroup, on: &PortPlan<A>) -> u16
     ensures { result ≡ spec.classified_vlan group.now on.now }
 {
@@ -26,7 +27,8 @@ fn classified_vlan<A: Allocator + Copy>(group: &FrameGroup, on: &PortPlan<A>) ->
     }
 }
 
-/// Returns the set `set` without port `port`, 1 to 16, because a bridge never sends a frame back to its ingress port.
+/// Returns the set `set` without port `port`, 1 to 16, because a bridge never sends a frame back to its ingress port. `flood_ports` calls
+/// it.
 fn without_port(set: PortSet, port: u8) -> PortSet
     requires from { 1 ≤ port }
     requires to { port ≤ 16 }
@@ -36,7 +38,7 @@ fn without_port(set: PortSet, port: u8) -> PortSet
 }
 
 /// Returns the egress ports of frames without static entry: the VLAN's `members` except the ingress port `port`. Returns the empty set if
-/// `port` isn't a member or the VLAN is missing (`None`).
+/// `port` isn't a member or the VLAN is missing (`None`). `egress_ports` calls it.
 fn flood_ports(members: Option<PortSet>, port: u8) -> PortSet
     requires from { 1 ≤ port }
     requires to { port ≤ 16 }
@@ -48,7 +50,7 @@ fn flood_ports(members: Option<PortSet>, port: u8) -> PortSet
     }
 }
 
-/// Returns the egress ports of a group's frames that arrive on `port`. `on` is this port's plan.
+/// Returns the egress ports of a group's frames that arrive on `port`. `on` is this port's plan. `push_port_steps` calls it.
 fn egress_ports<A: Allocator + Copy>(
     plan: &Plan<A>,
     group: &FrameGroup,
@@ -68,7 +70,7 @@ fn egress_ports<A: Allocator + Copy>(
 }
 
 /// Appends to `steps` the step from ingress port `from` over the link of egress port `port`. Appends nothing if `outs` lacks the port or it
-/// has no link.
+/// has no link. `push_steps_over_links` calls it.
 fn push_step_over_link<A: Allocator + Copy>(
     steps: &mut Vec<Step, A>,
     links: &[Link],
@@ -89,7 +91,7 @@ fn push_step_over_link<A: Allocator + Copy>(
     Ok(())
 }
 
-/// Appends to `steps` the steps from the ingress port `from` over the links of the egress ports in `outs`.
+/// Appends to `steps` the steps from the ingress port `from` over the links of the egress ports in `outs`. `push_steps_if_any` calls it.
 fn push_steps_over_links<A: Allocator + Copy>(
     steps: &mut Vec<Step, A>,
     links: &[Link],
@@ -105,7 +107,7 @@ fn push_steps_over_links<A: Allocator + Copy>(
 }
 
 /// Appends to `steps` the steps from ingress port `from` over the links of the egress ports in `outs`. Returns at once if the set is empty,
-/// to save time.
+/// to save time. `push_port_steps` calls it.
 fn push_steps_if_any<A: Allocator + Copy>(
     steps: &mut Vec<Step, A>,
     links: &[Link],
@@ -121,6 +123,7 @@ fn push_steps_if_any<A: Allocator + Copy>(
 }
 
 /// Appends to `steps` the steps of the group's frames that arrive on port `port` of bridge `bridge`; none if the port is missing.
+/// `push_bridge_steps` calls it.
 fn push_port_steps<A: Allocator + Copy>(
     steps: &mut Vec<Step, A>,
     links: &[Link],
@@ -143,7 +146,7 @@ fn push_port_steps<A: Allocator + Copy>(
     }
 }
 
-/// Appends to `steps` the steps of the group's frames that arrive at bridge `bridge`, on any port.
+/// Appends to `steps` the steps of the group's frames that arrive at bridge `bridge`, on any port. `group_steps` calls it.
 fn push_bridge_steps<A: Allocator + Copy>(
     steps: &mut Vec<Step, A>,
     links: &[Link],
@@ -159,7 +162,7 @@ fn push_bridge_steps<A: Allocator + Copy>(
     Ok(())
 }
 
-/// Returns the steps of a group's frames: from each port of arrival to the next ports of arrival.
+/// Returns the steps of a group's frames: from each port of arrival to the next ports of arrival. `group_loop_port` calls it.
 pub(crate) fn group_steps<A: Allocator + Copy>(
     alloc: A,
     plans: &[Accepted<A>],

@@ -33,7 +33,7 @@ struct Taker<'a, A: Allocator + Copy> {
 
 impl<'a, A: Allocator + Copy> Taker<'a, A> {
     /// Returns whether the receiving bridge forwards frames with this tag and the address of entry `named` by some port. True for a source
-    /// address: the destination is unknown then.
+    /// address: the destination is unknown then. `takes_all` calls it.
     fn is_forwarded(&self, named: &StreamEntry, tag: Option<Tag>) -> bool
         requires from { 1 ≤ self.now.on.now.number }
         requires to { self.now.on.now.number ≤ 16 }
@@ -52,7 +52,7 @@ impl<'a, A: Allocator + Copy> Taker<'a, A> {
     }
 
     /// Returns whether frames with this tag and this stream handle belong to the receiving filter. `None` stands for an untagged frame, and
-    /// for a frame without handle.
+    /// for a frame without handle. `gives_all` calls it.
     fn is_given(&self, tag: Option<Tag>, handle: Option<u32>) -> bool
         ensures { result ≡ is_filter_number self.now.filter (feeding.matching_filter self.now.plan.now handle
             (classified.frame_priority self.now.on.now tag)) }
@@ -64,7 +64,7 @@ impl<'a, A: Allocator + Copy> Taker<'a, A> {
     }
 
     /// Returns whether each frame with this tag and the address of entry `named` gets the receiving filter. This includes each handle that
-    /// the frame may get there, or none.
+    /// the frame may get there, or none. `takes_all` calls it.
     fn gives_all(&self, named: &StreamEntry, tag: Option<Tag>) -> bool
         ensures { result ≡ spec.gives_all self.now.plan.now self.now.on.now self.now.filter
             (frame_pattern named.now tag) }
@@ -83,7 +83,7 @@ impl<'a, A: Allocator + Copy> Taker<'a, A> {
     }
 
     /// Returns whether the receiving bridge forwards each frame with this tag and the address of the sender's entry `named`, and the
-    /// receiving filter judges it.
+    /// receiving filter judges it. `hands_tag` calls it.
     fn takes_all(&self, named: &StreamEntry, tag: Option<Tag>) -> bool
         requires from { 1 ≤ self.now.on.now.number }
         requires to { self.now.on.now.number ≤ 16 }
@@ -96,7 +96,8 @@ impl<'a, A: Allocator + Copy> Taker<'a, A> {
     }
 }
 
-/// Returns whether the filter's handle `own` is known and isn't `handle`. Then entries of `handle` give the filter no frames.
+/// Returns whether the filter's handle `own` is known and isn't `handle`. Then entries of `handle` give the filter no frames. `hands_entry`
+/// calls it.
 fn is_other_handle(own: Option<u32>, handle: u32) -> bool
     ensures { result ≡ is_other_handle own handle }
 {
@@ -137,6 +138,7 @@ impl<'a, A: Allocator + Copy> Handing<'a, A> {
     }
 
     /// Returns whether the receiving filter gets each frame of the sender's entry `entry` with VLAN identifier `vid` and priority `pcp`.
+    /// `hands_tagged` calls it.
     fn hands_priority(&self, entry: &StreamEntry, from: &PortPlan<A>, vid: u16, pcp: u8) -> bool
         requires handing { IsHanding self.now }
         requires from { 1 ≤ from.now.number }
@@ -148,7 +150,7 @@ impl<'a, A: Allocator + Copy> Handing<'a, A> {
     }
 
     /// Returns whether the receiving filter gets each frame of the sender's entry `entry` with VLAN identifier `vid`, for all eight
-    /// priorities.
+    /// priorities. `is_fed_by_entry` calls it.
     fn hands_tagged(&self, entry: &StreamEntry, from: &PortPlan<A>, vid: u16) -> bool
         requires handing { IsHanding self.now }
         requires from { 1 ≤ from.now.number }
@@ -167,7 +169,7 @@ impl<'a, A: Allocator + Copy> Handing<'a, A> {
     }
 
     /// Returns whether the receiving filter gets each frame that `entry` identifies at the sender's ingress port `from`, for all 17
-    /// possible tags.
+    /// possible tags. `hands_entry` calls it.
     fn is_fed_by_entry(&self, entry: &StreamEntry, from: &PortPlan<A>) -> bool
         requires handing { IsHanding self.now }
         requires from { 1 ≤ from.now.number }
@@ -181,7 +183,7 @@ impl<'a, A: Allocator + Copy> Handing<'a, A> {
     }
 
     /// Returns whether the receiving filter gets each frame that the sender's entry identifies. True if the sender's filter has another
-    /// handle, or the plan lacks the entry's port.
+    /// handle, or the plan lacks the entry's port. `hands_all` calls it.
     fn hands_entry(&self, entry: &StreamEntry) -> bool
         requires handing { IsHanding self.now }
         ensures { result ≡ hands_entry self.now entry.now }
@@ -196,6 +198,7 @@ impl<'a, A: Allocator + Copy> Handing<'a, A> {
     }
 
     /// Returns whether the receiving filter gets each frame of the sender's filter that leaves over the link, entry by entry.
+    /// `receives_every_frame` calls it.
     fn hands_all(&self) -> bool
         requires handing { IsHanding self.now }
         ensures { result ≡ spec.hands_all self.now.plan.now self.now.filter self.now.port self.now.taker.plan.now
@@ -207,7 +210,7 @@ impl<'a, A: Allocator + Copy> Handing<'a, A> {
 }
 
 /// Returns whether filter `taker` at port `at` of plan `next` gets each frame of filter `filter` that plan `plan` sends from `port`. False
-/// if port `at` is missing.
+/// if port `at` is missing. `is_received_by_next_hop` calls it.
 fn receives_every_frame<A: Allocator + Copy>(
     plan: &Plan<A>,
     filter: u32,

@@ -10,14 +10,15 @@ use crate::step::{Step, has_port, is_same_port};
 use bridge_limits::NoMemory;
 use std::alloc::Allocator;
 
-/// Returns whether `x` is the start of the search or a reached port.
+/// Returns whether `x` is the start of the search or a reached port. `add_reached_ports` and `unexplored_steps` call it.
 fn is_reached(start: BridgePort, reached: &[BridgePort], x: BridgePort) -> bool
     ensures { result ≡ searching.is_reached start reached.now x }
 {
     is_same_port(start, x) || has_port(reached, x)
 }
 
-/// Returns those of `steps` that don't begin at a reached port or at `start`. Later rounds of the search explore them.
+/// Returns those of `steps` that don't begin at a reached port or at `start`. Later rounds of the search explore them. `is_on_loop` calls
+/// it.
 #[tactic(auto, using(std::proofs::lemmas::List::Elements::filter_more))]
 fn unexplored_steps<A: Allocator + Copy>(
     alloc: A,
@@ -36,7 +37,7 @@ fn unexplored_steps<A: Allocator + Copy>(
     Ok(left)
 }
 
-/// Returns the reached ports, and the ports that one of `steps` reaches from them or from `start`.
+/// Returns the reached ports, and the ports that one of `steps` reaches from them or from `start`. `is_on_loop` calls it.
 #[tactic(auto, using(crate::proofs::Searched::targets_more))]
 fn add_reached_ports<A: Allocator + Copy>(
     alloc: A,

@@ -67,7 +67,8 @@ pub fn find_plan<'a, A: Allocator + Copy>(
     }
 }
 
-/// Returns the plan of the port that `end` names, or `None` if its bridge or port is missing.
+/// Returns the plan of the port that `end` names, or `None` if its bridge or port is missing. `has_one_speed` and `link_test_fault` call
+/// it.
 fn end_port<'a, A: Allocator + Copy>(
     plans: &'a [Accepted<A>],
     end: BridgePort,
@@ -80,7 +81,7 @@ fn end_port<'a, A: Allocator + Copy>(
     }
 }
 
-/// Returns whether the port that `end` names has a link. A port without one is open.
+/// Returns whether the port that `end` names has a link. A port without one is open. `doubly_linked_end` and `is_entry_port` call it.
 fn is_linked(links: &[Link], end: BridgePort) -> bool
     ensures { result ≡ spec.is_linked links.now end }
 {
@@ -101,7 +102,7 @@ fn doubly_linked_end(before: &[Link], link: &Link) -> Option<BridgePort>
     None
 }
 
-/// Returns a speed in Mb/s, so that two speeds can be compared as numbers.
+/// Returns a speed in Mb/s, so that two speeds can be compared as numbers. `has_one_speed` calls it.
 fn speed_mbps(speed: Speed) -> u32
     ensures { result ≡ spec.speed_mbps speed }
 {
@@ -115,6 +116,7 @@ fn speed_mbps(speed: Speed) -> u32
 }
 
 /// Returns whether both ports of a link have one speed. Returns true if a port is missing, because the test `PortsExist` reports this.
+/// `link_test_fault` calls it.
 fn has_one_speed<A: Allocator + Copy>(plans: &[Accepted<A>], link: &Link) -> bool
     ensures { result ≡ spec.is_one_speed (spec.end_port plans.now link.now.one)
         (spec.end_port plans.now link.now.other) }
@@ -125,7 +127,7 @@ fn has_one_speed<A: Allocator + Copy>(plans: &[Accepted<A>], link: &Link) -> boo
     }
 }
 
-/// Returns whether a plan has a protected filter with this number.
+/// Returns whether a plan has a protected filter with this number. `is_protected_hop` calls it.
 fn is_protected<A: Allocator + Copy>(plan: &Plan<A>, number: u32) -> bool
     ensures { result ≡ is_protected plan.now number }
 {
@@ -134,7 +136,7 @@ fn is_protected<A: Allocator + Copy>(plan: &Plan<A>, number: u32) -> bool
         .any(|f| f.0 == number && f.1.protected)
 }
 
-/// Returns whether `hop` is a protected filter of its bridge.
+/// Returns whether `hop` is a protected filter of its bridge. `hop_test_fault` calls it.
 fn is_protected_hop<A: Allocator + Copy>(plans: &[Accepted<A>], hop: &StreamHop) -> bool
     ensures { result ≡ spec.is_protected_hop (slice_get plans.now hop.now.bridge) hop.now.filter }
 {
@@ -144,7 +146,8 @@ fn is_protected_hop<A: Allocator + Copy>(plans: &[Accepted<A>], hop: &StreamHop)
     }
 }
 
-/// Returns whether `hop` is a hop of one of the earlier `streams`, or one of the earlier `hops` of its own stream.
+/// Returns whether `hop` is a hop of one of the earlier `streams`, or one of the earlier `hops` of its own stream. `hop_test_fault` calls
+/// it.
 fn is_repeated_hop<A: Allocator + Copy>(
     streams: &[Vec<StreamHop, A>],
     hops: &[StreamHop],
@@ -345,7 +348,8 @@ impl<'a, A: Allocator + Copy> TestedHop<'a, A> {
         has_entry(self.next, port, self.handle)
     }
 
-    /// Returns whether an open port has a stream entry with the hop's handle, so that frames from outside can feed the hop.
+    /// Returns whether an open port has a stream entry with the hop's handle, so that frames from outside can feed the hop. `is_reached`
+    /// calls it.
     fn has_entry_port(&self) -> bool
         ensures { result ≡ spec.has_entry_port self.now.case.links.now self.now.hop.bridge self.now.next.now
             self.now.handle }
@@ -359,7 +363,7 @@ impl<'a, A: Allocator + Copy> TestedHop<'a, A> {
     }
 
     /// Returns whether frames of the stream can reach its hop with index `place`. They arrive on an open port if the index is 0, otherwise
-    /// over a link.
+    /// over a link. `frames_test_fault` calls it.
     fn is_reached(&self, place: usize) -> bool
         requires { IsTestedHop self.now }
         ensures { result ≡ spec.is_reached (tested_parts self.now.case) self.now.stream.now place self.now.hop
@@ -373,7 +377,7 @@ impl<'a, A: Allocator + Copy> TestedHop<'a, A> {
     }
 
     /// Returns the fault of the test `Closed` or `Fed` for hop `k` of stream `i`, or `None`. Both are indexes from 0; the fault counts from
-    /// 1.
+    /// 1. `hop_test_fault_in_plan` calls it.
     fn frames_test_fault(&self, test: HopTest, i: usize, k: usize) -> Option<NetworkFault>
         requires case { IsTestedHop self.now }
         requires stream { i < 18446744073709551615 }
@@ -410,6 +414,7 @@ impl<'a, A: Allocator + Copy> TestedHop<'a, A> {
 
 impl<'a, A: Allocator + Copy> TestedNetwork<'a, A> {
     /// Returns the fault of `test` for the link with index `i`, or `None` if the link passes. The fault counts links from 1.
+    /// `first_or_link_test_fault` calls it.
     fn link_test_fault(&self, test: LinkTest, i: usize, link: &Link) -> Option<NetworkFault>
         requires { i < length self.now.links.now }
         ensures { result ≡ spec.link_test_fault (tested_parts self.now) test i link.now }
@@ -454,7 +459,7 @@ impl<'a, A: Allocator + Copy> TestedNetwork<'a, A> {
         self.link_test_fault(test, i, &self.links[i])
     }
 
-    /// Returns the fault of the first link that fails `test`, or `None` if all links pass.
+    /// Returns the fault of the first link that fails `test`, or `None` if all links pass. `fault` calls it.
     #[tactic(auto, using(bridge_check::proofs::Told::first_none, bridge_check::proofs::Told::first_more))]
     fn link_fault(&self, test: LinkTest) -> Option<NetworkFault>
         ensures { result ≡ spec.link_fault (tested_parts self.now) test }
@@ -469,7 +474,7 @@ impl<'a, A: Allocator + Copy> TestedNetwork<'a, A> {
 
 impl<'a, A: Allocator + Copy> TestedNetwork<'a, A> {
     /// Returns the fault of the test `Closed` or `Fed` for a hop of the bridge with plan `next`. Returns `None` if the hop passes or its
-    /// filter names no handle.
+    /// filter names no handle. `hop_test_fault_by_handle` calls it.
     fn hop_test_fault_in_plan(
         &self,
         test: HopTest,
@@ -502,7 +507,7 @@ impl<'a, A: Allocator + Copy> TestedNetwork<'a, A> {
     }
 
     /// Returns the fault of the test `Closed` or `Fed` for a hop. Returns `None` if the hop's bridge is missing or its filter names no
-    /// handle.
+    /// handle. `hop_test_fault` calls it.
     fn hop_test_fault_by_handle(
         &self,
         test: HopTest,
@@ -523,6 +528,7 @@ impl<'a, A: Allocator + Copy> TestedNetwork<'a, A> {
     }
 
     /// Returns the fault of `test` for hop `k` of stream `i`, both indexes from 0, or `None` if the hop passes. The fault counts from 1.
+    /// `first_or_hop_test_fault` calls it.
     fn hop_test_fault(
         &self,
         test: HopTest,
@@ -581,7 +587,7 @@ impl<'a, A: Allocator + Copy> TestedNetwork<'a, A> {
         self.hop_test_fault(test, i, stream, k, stream[k])
     }
 
-    /// Returns the first fault of `test` among the hops of stream `i`, or `None` if all pass.
+    /// Returns the first fault of `test` among the hops of stream `i`, or `None` if all pass. `first_or_stream_test_fault` calls it.
     #[tactic(auto, using(bridge_check::proofs::Told::first_none, bridge_check::proofs::Told::first_more))]
     fn stream_test_fault(
         &self,
@@ -618,7 +624,7 @@ impl<'a, A: Allocator + Copy> TestedNetwork<'a, A> {
         self.stream_test_fault(test, i, self.streams[i].as_slice())
     }
 
-    /// Returns the first fault of `test` among all hops, by stream and then by hop, or `None` if all hops pass.
+    /// Returns the first fault of `test` among all hops, by stream and then by hop, or `None` if all hops pass. `first_hop_fault` calls it.
     #[tactic(auto, using(bridge_check::proofs::Told::first_none, bridge_check::proofs::Told::first_more))]
     fn hop_fault(&self, test: HopTest) -> Option<NetworkFault>
         ensures { result ≡ spec.hop_fault (tested_parts self.now) test }
@@ -630,7 +636,7 @@ impl<'a, A: Allocator + Copy> TestedNetwork<'a, A> {
         first
     }
 
-    /// Returns the first fault of a hop, or `None`. Finishes each test for all hops before the next test.
+    /// Returns the first fault of a hop, or `None`. Finishes each test for all hops before the next test. `fault` calls it.
     fn first_hop_fault(&self) -> Option<NetworkFault>
         ensures { result ≡ spec.first_hop_fault (tested_parts self.now) }
     {
@@ -649,7 +655,8 @@ impl<'a, A: Allocator + Copy> TestedNetwork<'a, A> {
         self.hop_fault(HopTest::Fed)
     }
 
-    /// Returns the first fault of the network, or `None`: tests of links come before tests of hops. `check_network` calls it.
+    /// Returns the first fault of the network, or `None`: tests of links come before tests of hops. `first_fault` calls it for
+    /// `check_network`.
     pub(crate) fn fault(&self) -> Option<NetworkFault>
         ensures { result ≡ spec.first_fault (tested_parts self.now) }
     {

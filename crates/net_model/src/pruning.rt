@@ -9,14 +9,14 @@ use crate::step::{Step, is_same_port};
 use bridge_limits::NoMemory;
 use std::alloc::Allocator;
 
-/// Returns whether a step begins at port `x`.
+/// Returns whether a step begins at port `x`. `is_inner_step` calls it.
 fn has_outgoing_step(steps: &[Step], x: BridgePort) -> bool
     ensures { result ≡ peeling.has_outgoing_step steps.now x }
 {
     steps.iter().any(|step| is_same_port(step.from, x))
 }
 
-/// Returns whether a step ends at port `x`.
+/// Returns whether a step ends at port `x`. `is_inner_step` calls it.
 fn has_incoming_step(steps: &[Step], x: BridgePort) -> bool
     ensures { result ≡ peeling.has_incoming_step steps.now x }
 {

@@ -51,7 +51,8 @@ pub(crate) struct SendingPort<'a, A: Allocator + Copy> {
     pub question: FrameQuery,
 }
 
-/// Returns whether a stream entry of tag kind `kind` accepts a frame with tag `tag`; `None` stands for an untagged frame.
+/// Returns whether a stream entry of tag kind `kind` accepts a frame with tag `tag`; `None` stands for an untagged frame. `can_match` and
+/// `maps_tag_to_filter` call it.
 pub(crate) fn accepts_tag(kind: TagKind, tag: Option<Tag>) -> bool
     ensures { result ≡ ident.accepts_tag kind tag }
 {
@@ -160,7 +161,8 @@ fn found_or_can_wait<A: Allocator + Copy>(
     before || can_wait_in_reach(plan, filter, reach, port, class)
 }
 
-/// Returns whether frames of a filter can wait at `port`. Computes the filter's reach once for its eight classes.
+/// Returns whether frames of a filter can wait at `port`. Computes the filter's reach once for its eight classes. `can_wait_at_port_number`
+/// calls it.
 fn can_wait_at_port<A: Allocator + Copy>(
     plan: &Plan<A>,
     filter: &FilterPlan,
@@ -180,6 +182,7 @@ fn can_wait_at_port<A: Allocator + Copy>(
 }
 
 /// Returns whether frames of a filter can wait at the port with number `port`, 1 to 16. Returns false if the port is missing.
+/// `is_own_filter` and `is_safe_filter` call it.
 #[tactic(auto, using(crate::proofs::Reaching::unreached))]
 fn can_wait_at_port_number<A: Allocator + Copy>(
     plan: &Plan<A>,
@@ -197,7 +200,7 @@ fn can_wait_at_port_number<A: Allocator + Copy>(
 }
 
 /// Returns whether frames with this tag and the address of `named`, received on `on`, can leave by `port`. True for a source address: the
-/// destination is unknown then.
+/// destination is unknown then. `first_frame_on_ingress` and `hands_tag` call it.
 pub(crate) fn may_go<A: Allocator + Copy>(
     plan: &Plan<A>,
     on: &PortPlan<A>,
@@ -246,7 +249,7 @@ pub(crate) fn maps_tag_to_filter<A: Allocator + Copy>(
 
 impl<'a, A: Allocator + Copy> SendingPort<'a, A> {
     /// Returns whether frames of filter `flow` can't be stray: the filter is a hop of the stream, or has no queue at the sending port.
-    /// False for unfiltered frames.
+    /// False for unfiltered frames. `is_asked` calls it.
     fn is_safe_filter(&self, flow: Option<(u32, FilterPlan)>) -> bool
         requires { IsSendingPort self.now }
         ensures { result ≡ feeding.is_safe_filter self.now.plan.now (hops self.now) self.now.end.port flow }
@@ -261,7 +264,7 @@ impl<'a, A: Allocator + Copy> SendingPort<'a, A> {
     }
 
     /// Returns whether filter `flow` is a hop of the stream and its frames can wait at the sending port. False for unfiltered frames
-    /// (`None`).
+    /// (`None`). `is_asked` calls it.
     fn is_own_filter(&self, flow: Option<(u32, FilterPlan)>) -> bool
         requires { IsSendingPort self.now }
         ensures { result ≡ is_own_filter self.now.plan.now (hops self.now) self.now.end.port flow }
@@ -275,7 +278,8 @@ impl<'a, A: Allocator + Copy> SendingPort<'a, A> {
         }
     }
 
-    /// Returns whether the search looks for frames of filter `flow`. `None` stands for unfiltered frames, which are stray.
+    /// Returns whether the search looks for frames of filter `flow`. `None` stands for unfiltered frames, which are stray. `find_frames`
+    /// calls it.
     fn is_asked(&self, flow: Option<(u32, FilterPlan)>) -> bool
         requires { IsSendingPort self.now }
         ensures { result ≡ is_asked self.now.question self.now.plan.now (hops self.now) self.now.end.port flow }
@@ -287,7 +291,7 @@ impl<'a, A: Allocator + Copy> SendingPort<'a, A> {
     }
 
     /// Returns an example: the filter of frames with this handle and priority, and their ingress port `from`. Returns `None` if the search
-    /// doesn't look for frames of this filter.
+    /// doesn't look for frames of this filter. `first_by_handle` calls it.
     fn find_frames(&self, from: u8, priority: u8, handle: Option<u32>) -> Option<FoundFrames>
         requires { IsSendingPort self.now }
         ensures { result ≡ frames_from_port self.now from priority handle }
@@ -306,7 +310,7 @@ impl<'a, A: Allocator + Copy> SendingPort<'a, A> {
     }
 
     /// Returns the first example among frames of tag `tag` and the address of `named` that arrive on port `port`, or `None`. Tries the
-    /// handles that they can get.
+    /// handles that they can get. `first_frame_on_ingress` calls it.
     fn first_by_handle(
         &self,
         named: &StreamEntry,
@@ -331,7 +335,7 @@ impl<'a, A: Allocator + Copy> SendingPort<'a, A> {
     }
 
     /// Returns the first example among frames with this tag and the address of `named` that arrive on `on`, or `None`. They must be able to
-    /// leave by the sending port.
+    /// leave by the sending port. `first_frame_on_ingress_number` calls it.
     fn first_frame_on_ingress(
         &self,
         named: &StreamEntry,
@@ -357,7 +361,7 @@ impl<'a, A: Allocator + Copy> SendingPort<'a, A> {
     }
 
     /// Returns the first example among frames with this tag and the address of `named` that arrive on port `port`. `None` without an
-    /// example or without this port.
+    /// example or without this port. `first_or_frame_on_ingress` calls it.
     fn first_frame_on_ingress_number(
         &self,
         named: &StreamEntry,

@@ -30,7 +30,7 @@ pub struct StrayFrame {
 /// Number of tags to try: no tag, and eight priorities each with VLAN identifier 0 and with the entry's identifier.
 const TAG_COUNT: u8 = 17;
 
-/// Returns the tag with index `i`, 0 to 16, among the tags to try; `vid` is the entry's VLAN identifier.
+/// Returns the tag with index `i`, 0 to 16, among the tags to try; `vid` is the entry's VLAN identifier. `sample_of_entry` calls it.
 fn sample_tag(i: u8, vid: u16) -> Option<Tag>
     requires { i < 17 }
     ensures { slice_get (possible_tags vid) i ≡ Some result }
@@ -52,7 +52,8 @@ fn sample_tag(i: u8, vid: u16) -> Option<Tag>
 }
 
 impl<'a, A: Allocator + Copy> TakingFilter<'a, A> {
-    /// Returns frames with the address of `entry` and the first tag for which the search has an example, or `None`.
+    /// Returns frames with the address of `entry` and the first tag for which the search has an example, or `None`. `entry_sample` calls
+    /// it.
     fn sample_of_entry(&self, entry: &StreamEntry) -> Option<StrayFrame>
         requires { IsTakingFilter self.now }
         ensures asked { IfSome result (IsSample self.now) }
@@ -69,7 +70,7 @@ impl<'a, A: Allocator + Copy> TakingFilter<'a, A> {
     }
 
     /// Returns an example of frames with the address of `entry`, or `None`. Entries of another port or another handle than the hop's filter
-    /// have none.
+    /// have none. `first_sample` calls it.
     fn entry_sample(&self, entry: &StreamEntry) -> Option<StrayFrame>
         requires { IsTakingFilter self.now }
         ensures asked { IfSome result (IsSample self.now) }
@@ -86,6 +87,7 @@ impl<'a, A: Allocator + Copy> TakingFilter<'a, A> {
     }
 
     /// Returns the first example of frames that the filter accepts at its port, or `None`. Tries the bridge's entries in order.
+    /// `first_stray_of_sender` calls it.
     fn first_sample(&self) -> Option<StrayFrame>
         requires { IsTakingFilter self.now }
         ensures asked { IfSome result (IsSample self.now) }
@@ -102,7 +104,7 @@ impl<'a, A: Allocator + Copy> TakingFilter<'a, A> {
 }
 
 /// Returns example frames that the bridge with plan `plan` can send from `end`, or `None`. The hop's filter would accept them although they
-/// belong to no hop.
+/// belong to no hop. `first_stray_from_peer` calls it.
 fn first_stray_of_sender<A: Allocator + Copy>(
     stream: &[StreamHop],
     hop: StreamHop,
@@ -141,7 +143,7 @@ fn first_stray_of_sender<A: Allocator + Copy>(
 }
 
 /// Returns example stray frames that the hop's filter would accept over a link from `end`, or `None`. Looks up the plan of the sending
-/// bridge.
+/// bridge. `first_stray_over_link` calls it.
 fn first_stray_from_peer<A: Allocator + Copy>(
     plans: &[Accepted<A>],
     stream: &[StreamHop],
@@ -165,7 +167,7 @@ fn first_stray_from_peer<A: Allocator + Copy>(
 }
 
 /// Returns example stray frames that the hop's filter would accept over the link of port `on`. `None` without such frames or without a
-/// link.
+/// link. `first_stray_on_port` calls it.
 fn first_stray_over_link<A: Allocator + Copy>(
     plans: &[Accepted<A>],
     links: &[Link],
@@ -187,6 +189,7 @@ fn first_stray_over_link<A: Allocator + Copy>(
 }
 
 /// Returns example stray frames at port `on` of the hop's bridge. `None` without such frames, or if the hop's filter names no handle.
+/// `first_stray_on_port_number` calls it.
 fn first_stray_on_port<A: Allocator + Copy>(
     plans: &[Accepted<A>],
     links: &[Link],
@@ -206,6 +209,7 @@ fn first_stray_on_port<A: Allocator + Copy>(
 }
 
 /// Returns example stray frames at the port with number `port`. `None` without such frames, or if the hop's bridge lacks the port.
+/// `find_stray` calls it.
 fn first_stray_on_port_number<A: Allocator + Copy>(
     plans: &[Accepted<A>],
     links: &[Link],

@@ -62,6 +62,7 @@ impl<'a, A: Allocator + Copy> TakingFilter<'a, A> {
     }
 
     /// Returns the first example among frames with the address of `entry` and VLAN identifier `vid`, or `None`. Tries priorities 0 to 7.
+    /// `first_or_frame_by_priority` calls it.
     #[tactic(auto, using(bridge_check::proofs::Told::first_none, bridge_check::proofs::Told::first_more))]
     fn first_frame_by_priority(&self, entry: &StreamEntry, vid: u16) -> Option<FoundFrames>
         requires { IsTakingFilter self.now }
@@ -105,6 +106,7 @@ impl<'a, A: Allocator + Copy> TakingFilter<'a, A> {
     }
 
     /// Returns the first example among frames with the address of `entry`, or `None`. Entries of another port or another handle have none.
+    /// `first_taken_frame` calls it.
     fn first_frame_of_entry(&self, entry: &StreamEntry) -> Option<FoundFrames>
         requires { IsTakingFilter self.now }
         ensures { result ≡ find_first (first_frame_with_tag self.now entry.now) (possible_tags entry.now.vid) }
@@ -119,6 +121,7 @@ impl<'a, A: Allocator + Copy> TakingFilter<'a, A> {
     }
 
     /// Returns the first example among frames that the filter accepts at its port, or `None`. Tries the bridge's entries in order.
+    /// `first_frame_of_sender` calls it.
     pub(crate) fn first_taken_frame(&self) -> Option<FoundFrames>
         requires { IsTakingFilter self.now }
         ensures { result ≡ first_taken_frame self.now }
