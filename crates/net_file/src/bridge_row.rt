@@ -59,7 +59,7 @@ fn has_bridge<A: Allocator + Copy>(bridges: &[BridgeRow<A>], name: &str) -> bool
     false
 }
 
-/// Returns the location of a key of bridge `index`, from 1, for a fault.
+/// Returns the location of a key of bridge `index`, from 1, for a fault. `read_bridge` calls it.
 fn bridge_key(index: u32, field: NetField) -> NetKeyLocation
     ensures { result ≡ record { section = the_section.Bridge; index = index; field = field } }
 {
@@ -71,6 +71,7 @@ fn bridge_key(index: u32, field: NetField) -> NetKeyLocation
 }
 
 /// Reads bridge `index`, from 1, from its table, or returns its first fault. A bridge in `earlier` with its name is the fault `Duplicate`.
+/// `read` calls it.
 #[tactic(auto, unfolding(crate::specs::Sections::read_bridge))]
 fn read_bridge<A: Allocator + Copy>(
     alloc: A,

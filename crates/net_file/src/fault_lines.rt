@@ -41,7 +41,7 @@ pub fn refusal_line<A: Allocator + Copy>(
     }
 }
 
-/// Returns the line `no memory`, which has no file kind. Fails with `NoMemory` if memory runs out for the line.
+/// Returns the line `no memory`, which has no file kind. Fails with `NoMemory` if memory runs out for the line. `refusal_line` calls it.
 fn no_memory_line<A: Allocator + Copy>(alloc: A) -> Result<String<A>, NoMemory>
     ensures { IfOk result (λ line. string_bytes line ≡ codes "no memory") }
 {
@@ -51,7 +51,7 @@ fn no_memory_line<A: Allocator + Copy>(alloc: A) -> Result<String<A>, NoMemory>
     }
 }
 
-/// Returns the line `KIND refused: NAME` of a fault without location, such as `network refused: Syntax`.
+/// Returns the line `KIND refused: NAME` of a fault without location, such as `network refused: Syntax`. `refusal_line` calls it.
 fn refusal_text<A: Allocator + Copy>(
     alloc: A,
     kind: &str,
@@ -81,7 +81,7 @@ fn refusal_with_detail<A: Allocator + Copy>(
 }
 
 /// Returns the fault line of an instance, such as `network refused: Duplicate bridge 3`. If the number `index` is 0, the line names only
-/// the section.
+/// the section. `refusal_line` calls it.
 fn instance_refusal<A: Allocator + Copy>(
     alloc: A,
     kind: &str,
@@ -98,7 +98,7 @@ fn instance_refusal<A: Allocator + Copy>(
     refusal_with_detail(alloc, kind, name, words.as_str())
 }
 
-/// Returns the fault line of an instance's key, such as `network refused: OutOfRange link 2 delay`.
+/// Returns the fault line of an instance's key, such as `network refused: OutOfRange link 2 delay`. `refusal_line` calls it.
 fn key_refusal<A: Allocator + Copy>(
     alloc: A,
     kind: &str,
@@ -118,6 +118,7 @@ fn key_refusal<A: Allocator + Copy>(
 }
 
 /// Returns the section's name and the instance's number from 1, such as `link 2`. If the number is 0, returns only the name.
+/// `instance_refusal` and `key_refusal` call it.
 fn instance_words<A: Allocator + Copy>(
     alloc: A,
     section: NetSection,

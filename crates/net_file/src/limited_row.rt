@@ -60,6 +60,7 @@ pub(crate) fn is_limited(table: &Table) -> bool
 }
 
 /// Returns whether a row with a limit has only keys that suit the limit. A burst or a rate excludes `frames` and `period`.
+/// `read_limited_row` calls it.
 fn has_limited_keys(table: &Table) -> bool
     ensures { result ≡ spec.has_limited_keys (table_view table.now) }
 {
@@ -70,7 +71,7 @@ fn has_limited_keys(table: &Table) -> bool
     }
 }
 
-/// Reads the burst and the rate of row `index`.
+/// Reads the burst and the rate of row `index`. `read_limit` calls it.
 #[tactic(auto, unfolding(crate::specs::LimitedRows::read_rate))]
 fn read_rate(index: u32, table: &Table) -> Result<FrameLimit, NetFault>
     ensures reads { Gives result (spec.read_rate index (table_view table.now)) }
@@ -82,7 +83,7 @@ fn read_rate(index: u32, table: &Table) -> Result<FrameLimit, NetFault>
     Ok(FrameLimit::Rate { burst, rate })
 }
 
-/// Reads the number of frames and the period of row `index`.
+/// Reads the number of frames and the period of row `index`. `read_limit` calls it.
 #[tactic(auto, unfolding(crate::specs::LimitedRows::read_count))]
 fn read_count(index: u32, table: &Table) -> Result<FrameLimit, NetFault>
     ensures reads { Gives result (spec.read_count index (table_view table.now)) }
@@ -95,6 +96,7 @@ fn read_count(index: u32, table: &Table) -> Result<FrameLimit, NetFault>
 }
 
 /// Reads the limit of row `index`: a burst and a rate if the table has one of these keys, otherwise a number of frames in any period.
+/// `read_limited_row` calls it.
 fn read_limit(index: u32, table: &Table) -> Result<FrameLimit, NetFault>
     ensures reads { Gives result (spec.read_limit index (table_view table.now)) }
     ensures limit { IfOk result IsFrameLimit }
@@ -108,7 +110,7 @@ fn read_limit(index: u32, table: &Table) -> Result<FrameLimit, NetFault>
 }
 
 /// Returns the captured length in octets of the longest frame that keeps a limit. The burst must contain the frame and its frame check
-/// sequence of 4 octets.
+/// sequence of 4 octets. `read_limited_row` calls it.
 fn limit_longest(limit: FrameLimit) -> u64
     requires limit { IsFrameLimit limit }
     ensures { result ≡ spec.limit_longest limit }

@@ -58,7 +58,7 @@ impl<'a, A: Allocator + Copy> ValueKind for PortName<'a, A> {
     }
 }
 
-/// Returns the location of a key of link `index`, from 1, for a fault.
+/// Returns the location of a key of link `index`, from 1, for a fault. `read_link` calls it.
 fn link_key(index: u32, field: NetField) -> NetKeyLocation
     ensures { result ≡ record { section = the_section.Link; index = index; field = field } }
 {
@@ -70,6 +70,7 @@ fn link_key(index: u32, field: NetField) -> NetKeyLocation
 }
 
 /// Reads link `index`, from 1, from its table, or returns its first fault. The ends must be ports of `bridges`; `delay` may be absent.
+/// `read` calls it.
 #[tactic(auto, unfolding(crate::specs::Sections::read_link))]
 fn read_link<A: Allocator + Copy>(
     bridges: &[BridgeRow<A>],

@@ -8,14 +8,14 @@ use crate::keys::LONGEST_NAME;
 use bridge_schema::Flaw;
 use std::alloc::Allocator;
 
-/// Returns whether a name may contain the character: a letter, a digit, a hyphen or an underscore.
+/// Returns whether a name may contain the character: a letter, a digit, a hyphen or an underscore. `are_name_characters` calls it.
 fn is_name_character(c: u8) -> bool
     ensures { result ≡ spec.is_name_character c }
 {
     c.is_ascii_alphanumeric() || c == b'-' || c == b'_'
 }
 
-/// Returns whether a name may contain each of these octets.
+/// Returns whether a name may contain each of these octets. `is_valid_name` calls it.
 fn are_name_characters(octets: &[u8]) -> bool
     ensures { result ≡ list_all spec.is_name_character octets.now }
 {
@@ -31,6 +31,7 @@ pub(crate) fn is_valid_name(text: &str) -> bool
 }
 
 /// Returns the number from `low` to `high` that a text of decimal digits stands for. Returns `None` for other texts and other numbers.
+/// `split_numbered_name` calls it.
 #[tactic(auto, using(crate::proofs::Numerals::numeral_from, crate::proofs::Numerals::numeral_to))]
 fn parse_number(text: &str, low: u32, high: u32) -> Option<u32>
     ensures { result ≡ spec.parse_number low high text.now }
@@ -45,6 +46,7 @@ fn parse_number(text: &str, low: u32, high: u32) -> Option<u32>
 }
 
 /// Returns the text before the first dot and the number after it. Returns `None` without a dot, or without a number from `low` to `high`.
+/// `is_numbered_name` and `resolve_numbered_name` call it.
 fn split_numbered_name(text: &str, low: u32, high: u32) -> Option<(&str, u32)>
     ensures { option_map (λ x. record { name = x.0.now; number = x.1 }) result
         ≡ spec.split_numbered_name low high text.now }
@@ -62,7 +64,7 @@ pub fn is_numbered_name(text: &str, low: u32, high: u32) -> bool
     split_numbered_name(text, low, high).is_some()
 }
 
-/// Returns the index of the bridge with this name, from 0. Returns `None` if no bridge has it.
+/// Returns the index of the bridge with this name, from 0. Returns `None` if no bridge has it. `resolve_numbered_name` calls it.
 fn bridge_index<A: Allocator + Copy>(bridges: &[BridgeRow<A>], name: &str) -> Option<u16>
     requires { length bridges.now ≤ 64 }
     ensures place { result ≡ spec.bridge_index bridges.now name.now }

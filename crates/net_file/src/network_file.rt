@@ -73,7 +73,8 @@ struct SectionArrays<'a> {
     streams: &'a [Value],
 }
 
-/// Returns the arrays of a network's three sections, or the first fault at the top of the file. Allocates no memory.
+/// Returns the arrays of a network's three sections, or the first fault at the top of the file. Allocates no memory. `parse_network` calls
+/// it.
 #[tactic(auto, unfolding(crate::specs::Document::read_arrays))]
 fn read_arrays<'a>(table: &'a Table) -> Result<SectionArrays<'a>, NetFault>
     ensures reads { GivesAs items_of_arrays result (doc.read_arrays (table_view table.now)) }
@@ -110,7 +111,8 @@ fn read_arrays<'a>(table: &'a Table) -> Result<SectionArrays<'a>, NetFault>
     })
 }
 
-/// Reads the bridges, then the links, then the streams, because links and hops name bridges. Returns the first fault.
+/// Reads the bridges, then the links, then the streams, because links and hops name bridges. Returns the first fault. `parse_network` calls
+/// it.
 #[tactic(auto, unfolding(crate::specs::Document::read_sections))]
 fn read_sections<A: Allocator + Copy>(
     alloc: A,

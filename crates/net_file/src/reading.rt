@@ -43,7 +43,7 @@ pub fn read_optional<K: ValueKind>(
 }
 
 /// Reads the value of the optional key at `place` from its table. `kind` defines the allowed values. Returns `default` if the key is
-/// absent. Allocates no memory.
+/// absent. Allocates no memory. `read_link` calls it.
 #[tactic(auto, unfolding(crate::specs::Keys::read_or_default))]
 pub(crate) fn read_or_default<K: ValueKind>(
     default: K::Out,
@@ -63,7 +63,7 @@ where
 
 #[tactic(auto, unfolding(crate::specs::Keys::any_text))]
 /// Returns the text `value` of the required key at `place`. The fault is `Missing` without a value, and `WrongKind` for a value of another
-/// kind.
+/// kind. `read_text` calls it.
 fn text_value<'a>(place: NetKeyLocation, value: Option<&'a Value>) -> Result<&'a str, NetFault>
     ensures reads { GivesAs (λ x. x.now) result (spec.required_value place spec.any_text
         (option_map (λ v. view v.now) value.entry)) }
@@ -77,6 +77,7 @@ fn text_value<'a>(place: NetKeyLocation, value: Option<&'a Value>) -> Result<&'a
 }
 
 /// Reads the text of the required key at `place` from its table. The result borrows from the table, so no memory is allocated.
+/// `read_bridge` calls it.
 #[tactic(auto, unfolding(crate::specs::Keys::read_required))]
 pub(crate) fn read_text<'a>(table: &'a Table, place: NetKeyLocation) -> Result<&'a str, NetFault>
     ensures reads { GivesAs (λ x. x.now) result (spec.read_required place spec.any_text (table_view table.now)) }
@@ -87,7 +88,7 @@ pub(crate) fn read_text<'a>(table: &'a Table, place: NetKeyLocation) -> Result<&
 
 #[tactic(auto, unfolding(crate::specs::Keys::name_text))]
 /// Returns the name `value` of the required key at `place`. The fault is `Missing` without a value, `OutOfRange` for another text, and
-/// `WrongKind` for another kind.
+/// `WrongKind` for another kind. `read_name` calls it.
 fn name_value<'a>(place: NetKeyLocation, value: Option<&'a Value>) -> Result<&'a str, NetFault>
     ensures reads { GivesAs (λ x. x.now) result (spec.required_value place spec.name_text
         (option_map (λ v. view v.now) value.entry)) }
@@ -109,6 +110,7 @@ fn name_value<'a>(place: NetKeyLocation, value: Option<&'a Value>) -> Result<&'a
 }
 
 /// Reads the required key at `place`, whose value must be a name: 1 to 32 letters, digits, `-` and `_`. The result borrows from the table.
+/// `read_bridge` and `read_stream` call it.
 #[tactic(auto, unfolding(crate::specs::Keys::read_required))]
 pub(crate) fn read_name<'a>(table: &'a Table, place: NetKeyLocation) -> Result<&'a str, NetFault>
     ensures reads { GivesAs (λ x. x.now) result (spec.read_required place spec.name_text (table_view table.now)) }

@@ -92,7 +92,7 @@ fn has_stream<A: Allocator + Copy>(streams: &[StreamRow<A>], name: &str) -> bool
     false
 }
 
-/// Returns whether each item is a text. Otherwise the fault of `hops` is `WrongKind`, before any item is resolved.
+/// Returns whether each item is a text. Otherwise the fault of `hops` is `WrongKind`, before any item is resolved. `hops_value` calls it.
 fn are_texts(items: &[Value]) -> bool
     ensures { result ≡ sections.are_texts (items_view items.now) }
 {
@@ -104,7 +104,7 @@ fn are_texts(items: &[Value]) -> bool
     true
 }
 
-/// Returns whether each item has a text, a dot and a filter number. Otherwise the fault of `hops` is `OutOfRange`.
+/// Returns whether each item has a text, a dot and a filter number. Otherwise the fault of `hops` is `OutOfRange`. `hops_value` calls it.
 fn are_numbered_names(items: &[Value]) -> bool
     ensures { result ≡ sections.are_numbered_names (items_view items.now) }
 {
@@ -121,7 +121,8 @@ fn are_numbered_names(items: &[Value]) -> bool
     true
 }
 
-/// Returns whether the number of items is allowed as a number of hops, 1 to 64. Otherwise the fault of `hops` is `OutOfRange`.
+/// Returns whether the number of items is allowed as a number of hops, 1 to 64. Otherwise the fault of `hops` is `OutOfRange`. `hops_value`
+/// calls it.
 #[tactic(auto, using(bridge_schema::proofs::Counts::count_of_view))]
 fn has_hop_count(items: &[Value]) -> bool
     ensures count { result ≡ (nat_le 1 (count_items (items_view items.now)) && nat_le
@@ -133,6 +134,7 @@ fn has_hop_count(items: &[Value]) -> bool
 }
 
 /// Returns the bridge's index and the filter number that a value such as `left.7` names. A value that isn't a text is `WrongKind`.
+/// `resolve_hop` calls it.
 fn resolve_filter<A: Allocator + Copy>(
     bridges: &[BridgeRow<A>],
     value: &Value,
@@ -149,7 +151,7 @@ fn resolve_filter<A: Allocator + Copy>(
 }
 
 /// Returns the bridge's index and the filter number that a value such as `left.7` names, or the fault of the key at `place`. Allocates no
-/// memory.
+/// memory. `resolve_hops` calls it.
 fn resolve_hop<A: Allocator + Copy>(
     bridges: &[BridgeRow<A>],
     place: NetKeyLocation,
@@ -168,6 +170,7 @@ fn resolve_hop<A: Allocator + Copy>(
 }
 
 /// Returns the bridge's index and the filter number that each item names, in order, or the fault of the first item that isn't allowed.
+/// `hops_value` calls it.
 fn resolve_hops<A: Allocator + Copy>(
     alloc: A,
     bridges: &[BridgeRow<A>],
@@ -195,6 +198,7 @@ fn resolve_hops<A: Allocator + Copy>(
 }
 
 /// Returns the hops in `value`, the value of the key `hops`. Tests the kind, number and form of all items before it looks up any bridge.
+/// `read_stream` calls it.
 fn hops_value<A: Allocator + Copy>(
     alloc: A,
     bridges: &[BridgeRow<A>],
@@ -227,7 +231,7 @@ fn hops_value<A: Allocator + Copy>(
     }
 }
 
-/// Returns the location of a key of stream `index`, from 1, for a fault.
+/// Returns the location of a key of stream `index`, from 1, for a fault. `read_deadline` and `read_stream` call it.
 fn stream_key(index: u32, field: NetField) -> NetKeyLocation
     ensures { result ≡ record { section = the_section.Stream; index = index; field = field } }
 {
@@ -238,7 +242,8 @@ fn stream_key(index: u32, field: NetField) -> NetKeyLocation
     }
 }
 
-/// Reads the key `deadline` of stream `index`: the largest allowed delay in ns. Returns `None` if the key is absent.
+/// Reads the key `deadline` of stream `index`: the largest allowed delay in ns. Returns `None` if the key is absent. `read_stream` calls
+/// it.
 fn read_deadline(index: u32, table: &Table) -> Result<Option<u64>, NetFault>
     ensures reads { Gives result (reading.read_optional
         (record { section = the_section.Stream; index = index; field = the_field.Deadline })
@@ -249,7 +254,7 @@ fn read_deadline(index: u32, table: &Table) -> Result<Option<u64>, NetFault>
 }
 
 /// Reads stream `index`, from 1, from its table, or returns its first fault. Hops must be filters of `bridges`. An earlier stream with its
-/// name is `Duplicate`.
+/// name is `Duplicate`. `read` calls it.
 #[tactic(auto, unfolding(crate::specs::Sections::read_stream))]
 fn read_stream<A: Allocator + Copy>(
     alloc: A,

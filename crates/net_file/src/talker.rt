@@ -48,7 +48,7 @@ pub(crate) fn has_any_key(table: &Table, keys: &[NetField]) -> bool
 }
 
 /// Reads the talker of stream `index`, or returns its first fault. All its keys are required. Phases and lengths must be ordered, and
-/// phases less than the period.
+/// phases less than the period. `read_optional_talker` calls it.
 #[tactic(auto, unfolding(crate::specs::Sections::read_talker))]
 fn read_talker(index: u32, table: &Table) -> Result<Talker, NetFault>
     ensures reads { Gives result (sections.read_talker index (table_view table.now)) }

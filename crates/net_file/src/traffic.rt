@@ -15,7 +15,7 @@ use std::alloc::{Allocator, Global};
 use toml::{Table, Value};
 
 /// Returns the items of the document's section `traffic`, or the first fault of the top. Another section is `UnknownKey`. Allocates no
-/// memory.
+/// memory. `parse_traffic` calls it.
 #[tactic(auto, unfolding(crate::specs::TrafficDocument::row_items))]
 fn row_items<'a>(table: &'a Table) -> Result<&'a [Value], NetFault>
     ensures reads { GivesAs (λ x. items_view x.now) result (doc.row_items (table_view table.now)) }

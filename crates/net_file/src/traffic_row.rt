@@ -59,7 +59,7 @@ pub(crate) fn row_key(index: u32, field: NetField) -> NetKeyLocation
     }
 }
 
-/// Reads row `index`, from 1, with periodic traffic from its table, or returns its first fault.
+/// Reads row `index`, from 1, with periodic traffic from its table, or returns its first fault. `read_talker_row` calls it.
 #[tactic(auto, unfolding(crate::specs::TrafficRows::read_row))]
 fn read_row(index: u32, table: &Table) -> Result<TrafficRow, NetFault>
     ensures reads { Gives result (spec.read_row index (table_view table.now)) }
@@ -125,7 +125,7 @@ fn has_filter(rows: &[TalkerRow], filter: u32) -> bool
     rows.iter().any(|row| row.filter() == filter)
 }
 
-/// Reads row `index`, from 1, from its table. A row in `earlier` with its filter is the fault `Duplicate`.
+/// Reads row `index`, from 1, from its table. A row in `earlier` with its filter is the fault `Duplicate`. `read` calls it.
 fn next_row(earlier: &[TalkerRow], index: u32, table: &Table) -> Result<TalkerRow, NetFault>
     ensures reads { Gives result (spec.read_row_in_list earlier.now index (table_view table.now)) }
     ensures own { IfOk result (λ r. spec.has_filter earlier.now (spec.row_filter r) ≡ false) }
