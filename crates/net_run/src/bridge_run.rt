@@ -22,6 +22,7 @@ use std::alloc::Allocator;
 use std::marker::Model;
 
 /// Returns one source for each capture in `texts`, in the same order, because `simulate` (bridge_core) reads captures from sources.
+/// `run_bridge` calls it.
 fn capture_sources<'a, A: Allocator + Copy>(
     alloc: A,
     texts: &'a [Vec<u8, A>],
@@ -94,7 +95,8 @@ pub(crate) fn run_bridge<A: Allocator + Copy>(
     }
 }
 
-/// Returns `NoMemory` for a write fault: a sink in memory fails only if memory runs out. Returns every other fault unchanged.
+/// Returns `NoMemory` for a write fault: a sink in memory fails only if memory runs out. Returns every other fault unchanged. `run_bridge`
+/// calls it.
 fn as_memory_fault(fault: RunFault) -> RunFault
     ensures { result ≡ as_memory_fault fault }
 {
@@ -105,7 +107,7 @@ fn as_memory_fault(fault: RunFault) -> RunFault
 }
 
 /// Runs a bridge over copies of its input captures, one for each port by rising number. Returns its result, and the captures of the frames
-/// that each port sent.
+/// that each port sent. `run` calls it.
 fn run_over_inputs<A: Allocator + Copy>(
     alloc: A,
     accepted: &Accepted<A>,
@@ -138,7 +140,7 @@ fn run_over_inputs<A: Allocator + Copy>(
 }
 
 /// Returns the capture in `taps` of the frames that port `port` sent. Returns `None` if the port is missing or has no capture, because the
-/// bridge hasn't run.
+/// bridge hasn't run. `delivered_capture` calls it.
 fn find_port_capture<'a, A: Allocator + Copy>(
     ports: &[u8],
     taps: &'a [SharedCapture<A>],
@@ -173,7 +175,7 @@ pub fn is_linked(links: &[Link], bridge: usize, port: u8) -> bool
     find_sender(links, bridge, port).is_some()
 }
 
-/// Returns for each port of a bridge the port that sends to it over a link, or `None` for an open port.
+/// Returns for each port of a bridge the port that sends to it over a link, or `None` for an open port. `begin` calls it.
 fn port_senders<A: Allocator + Copy>(
     alloc: A,
     links: &[Link],
@@ -196,7 +198,7 @@ const EMPTY_CAPTURE: [u8; 24] = [
 ];
 
 /// Replaces the capture in `texts` of the port with index `place` by one without frames if the port has a link. Before the first round, no
-/// frame has arrived over a link.
+/// frame has arrived over a link. `clear_linked_ports` calls it.
 fn clear_linked_port<A: Allocator + Copy>(
     alloc: A,
     senders: &[Option<Sender>],
@@ -219,7 +221,7 @@ fn clear_linked_port<A: Allocator + Copy>(
     Ok(texts)
 }
 
-/// Replaces the captures in `texts` of all linked ports by captures without frames. `senders` has `None` for open ports.
+/// Replaces the captures in `texts` of all linked ports by captures without frames. `senders` has `None` for open ports. `begin` calls it.
 fn clear_linked_ports<A: Allocator + Copy>(
     alloc: A,
     senders: &[Option<Sender>],
@@ -307,7 +309,7 @@ impl<'a, A: Allocator + Copy> BridgeRun<'a, A> {
     }
 
     /// Returns the result of the run, and the captures of the frames that the ports sent. Called after the last round, when each bridge has
-    /// a result.
+    /// a result. `ended_runs` calls it.
     pub(crate) fn finish(self) -> (Outcome<A>, Vec<SharedCapture<A>, A>)
         requires { HasRun self }
         ensures { (self.entry.outcome ≡ Some result.0) × (self.entry.taps ≡ sink_octets result.1.items) }
@@ -349,7 +351,7 @@ impl<'a, A: Allocator + Copy> BridgeRun<'a, A> {
         self.senders[place]
     }
 
-    /// Returns the input capture of the port with index `place`.
+    /// Returns the input capture of the port with index `place`. `has_input` calls it.
     pub(crate) fn input_capture(&self, place: usize) -> &InputCapture<A>
         requires { place < length self.now.ports }
         ensures { slice_get self.now.texts place ≡ Some result.now }

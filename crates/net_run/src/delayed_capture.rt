@@ -16,7 +16,7 @@ const HEADER_LENGTH: usize = 24;
 /// Length of a record's header in octets.
 const RECORD_HEADER_LENGTH: usize = 16;
 
-/// Returns the little-endian word of the four octets from index `at` on.
+/// Returns the little-endian word of the four octets from index `at` on. `append_delayed_record` calls it.
 fn read_word(octets: &[u8], at: usize) -> u64
     requires { at + 4 ≤ length octets.now }
     ensures word { IsWord octets.now at result }
@@ -25,7 +25,7 @@ fn read_word(octets: &[u8], at: usize) -> u64
     u32::from_le_bytes([octets[at], octets[at + 1], octets[at + 2], octets[at + 3]]) as u64
 }
 
-/// Returns `moment` plus `delay` in ns, but at most `END_OF_TIME`, because captures have no later times.
+/// Returns `moment` plus `delay` in ns, but at most `END_OF_TIME`, because captures have no later times. `append_delayed_record` calls it.
 fn delayed_time(moment: u64, delay: u64) -> u64
     ensures { result ≡ delayed_time moment delay }
 {
@@ -33,6 +33,7 @@ fn delayed_time(moment: u64, delay: u64) -> u64
 }
 
 /// Returns the eight octets of a record's time: four octets of seconds, then four of nanoseconds within the second, both little-endian.
+/// `append_delayed_record` calls it.
 #[tactic(auto, unfolding(crate::specs::DelayedCapture::time_words))]
 fn time_words(moment: u64) -> [u8; 8]
     requires { moment < 2 ^ 32 * 10 ^ 9 }
@@ -53,7 +54,7 @@ fn time_words(moment: u64) -> [u8; 8]
 }
 
 /// Appends to `text` the first record of `octets`, with its time `delay` ns later. Returns the octets after this record, or `None` if no
-/// whole record is left.
+/// whole record is left. `append_delayed_records` calls it.
 fn append_delayed_record<'a, A: Allocator>(
     octets: &'a [u8],
     delay: u64,
@@ -80,7 +81,8 @@ fn append_delayed_record<'a, A: Allocator>(
     Ok(Some(&octets[end..]))
 }
 
-/// Appends to `text` each record of `octets`, with its time `delay` ns later. Stops where no whole record is left.
+/// Appends to `text` each record of `octets`, with its time `delay` ns later. Stops where no whole record is left. `delay_capture` calls
+/// it.
 fn append_delayed_records<A: Allocator>(
     octets: &[u8],
     delay: u64,

@@ -45,7 +45,7 @@ impl<A: Allocator + Copy> SharedCapture<A> {
         self.sink.octets()
     }
 
-    /// Returns the sink of the capture. Copies its octets only if an input still shares them.
+    /// Returns the sink of the capture. Copies its octets only if an input still shares them. `sinks_of_captures` calls it.
     fn into_sink(self, alloc: A) -> Result<VecSink<A>, NoMemory>
         ensures { IfOk result (λ sink. sink.octets ≡ self.octets) }
     {
@@ -56,7 +56,7 @@ impl<A: Allocator + Copy> SharedCapture<A> {
     }
 }
 
-/// Returns a sink with these octets. Returns `NoMemory` unless the sink accepts all octets in one call.
+/// Returns a sink with these octets. Returns `NoMemory` unless the sink accepts all octets in one call. `into_sink` and `new` call it.
 fn copy_sink<A: Allocator + Copy>(alloc: A, octets: &[u8]) -> Result<VecSink<A>, NoMemory>
     ensures { IfOk result (λ sink. sink.octets ≡ octets.now) }
 {
@@ -122,7 +122,8 @@ impl<A: Allocator + Copy> InputCapture<A> {
         })
     }
 
-    /// Returns a copy of the input's octets, with the delay of the link applied to the frames' times.
+    /// Returns a copy of the input's octets, with the delay of the link applied to the frames' times. `copy_inputs` and `has_same_octets`
+    /// call it.
     pub(crate) fn copy_octets(&self, alloc: A) -> Result<Vec<u8, A>, NoMemory>
         ensures { IfOk result (λ text. text.items ≡ self.now) }
     {
@@ -133,7 +134,7 @@ impl<A: Allocator + Copy> InputCapture<A> {
     }
 
     /// Returns whether both inputs come over links with equal delays from captures with equal octets. Then both inputs have equal octets,
-    /// without copying them.
+    /// without copying them. `has_same_octets` calls it.
     fn has_same_sender_octets(&self, other: &InputCapture<A>) -> bool
         ensures { result ≡ true → self.now ≡ other.now }
     {

@@ -63,7 +63,7 @@ pub struct SettledNetwork<A: Allocator + Copy> {
 }
 
 /// Returns the input capture that a link delivers from `sender`: its sent frames, later by the link's delay. The capture is empty if the
-/// sending bridge is missing.
+/// sending bridge is missing. `deliver_capture` calls it.
 fn capture_over_link<A: Allocator + Copy>(
     alloc: A,
     stations: &[BridgeRun<'_, A>],
@@ -79,7 +79,7 @@ fn capture_over_link<A: Allocator + Copy>(
 }
 
 /// Returns whether `bridge` skipped this round, because its inputs hadn't changed. `ran` has for each bridge whether it ran. Returns false
-/// for a missing bridge.
+/// for a missing bridge. `feed_port` calls it.
 fn has_skipped_round(ran: &[bool], bridge: u16) -> bool
     ensures { result ≡ true → slice_get ran.now bridge ≡ Some false }
 {
@@ -90,7 +90,7 @@ fn has_skipped_round(ran: &[bool], bridge: u16) -> bool
 }
 
 /// Delivers to the linked port with index `place` the frames that its sender sent. Returns the port's number if its input changed,
-/// otherwise `None`.
+/// otherwise `None`. `feed_port` calls it.
 fn deliver_capture<A: Allocator + Copy>(
     alloc: A,
     stations: &mut [BridgeRun<'_, A>],
@@ -116,7 +116,7 @@ fn deliver_capture<A: Allocator + Copy>(
 }
 
 /// Delivers to the port with index `place` the frames sent to it, if its sender ran in this round. Returns the port's number if its input
-/// changed, otherwise `None`.
+/// changed, otherwise `None`. `feed_bridge` calls it.
 fn feed_port<A: Allocator + Copy>(
     alloc: A,
     stations: &mut [BridgeRun<'_, A>],
@@ -139,7 +139,7 @@ fn feed_port<A: Allocator + Copy>(
 }
 
 /// Delivers to each linked port of bridge `bridge` the frames sent to it. Returns the number of the first port whose input changed, or
-/// `None`.
+/// `None`. `feed_bridges` calls it.
 fn feed_bridge<A: Allocator + Copy>(
     alloc: A,
     stations: &mut [BridgeRun<'_, A>],
@@ -169,7 +169,7 @@ fn with_bridge(bridge: usize, port: Option<u8>) -> Option<(usize, u8)>
 }
 
 /// Delivers to every linked port the frames sent to it in this round. Returns the first bridge and port whose input changed, or `None` if
-/// none changed.
+/// none changed. `run_round` calls it.
 fn feed_bridges<A: Allocator + Copy>(
     alloc: A,
     stations: &mut [BridgeRun<'_, A>],
@@ -187,7 +187,7 @@ fn feed_bridges<A: Allocator + Copy>(
 }
 
 /// Reports to the observer `watch` that a bridge begins to run in round `turn`. Reports nothing if the bridge has a result, because it then
-/// skips the round.
+/// skips the round. `run_bridges` calls it.
 fn announce_start<A: Allocator + Copy, W: RoundObserver>(
     stations: &[BridgeRun<'_, A>],
     bridge: usize,
@@ -202,6 +202,7 @@ fn announce_start<A: Allocator + Copy, W: RoundObserver>(
 }
 
 /// Returns the fault of a network run in which bridge `bridge` stopped with `fault`: `Bridge` with both, or `NoMemory` if memory ran out.
+/// `run_bridges` calls it.
 fn bridge_fault(bridge: usize, fault: RunFault) -> RoundsFault
     ensures { IsFaultAt bridge fault result }
 {
@@ -212,7 +213,7 @@ fn bridge_fault(bridge: usize, fault: RunFault) -> RoundsFault
 }
 
 /// Runs each bridge that has no result for its inputs, in round `turn`. Returns for each bridge whether it ran. Stops at the first bridge
-/// with a fault.
+/// with a fault. `run_round` calls it.
 fn run_bridges<A: Allocator + Copy, W: RoundObserver>(
     alloc: A,
     stations: &mut [BridgeRun<'_, A>],
@@ -249,7 +250,8 @@ struct EndedRun<A: Allocator + Copy> {
     taps: Vec<SharedCapture<A>, A>,
 }
 
-/// Returns the results and sent captures of bridges that have run, in the order of the network. Drops their inputs.
+/// Returns the results and sent captures of bridges that have run, in the order of the network. Drops their inputs. `bridge_results` calls
+/// it.
 fn ended_runs<A: Allocator + Copy>(
     alloc: A,
     stations: Vec<BridgeRun<'_, A>, A>,
@@ -265,7 +267,7 @@ fn ended_runs<A: Allocator + Copy>(
     Ok(all)
 }
 
-/// Converts the ended runs of bridges to their results, in order: each sent capture becomes a sink.
+/// Converts the ended runs of bridges to their results, in order: each sent capture becomes a sink. `bridge_results` calls it.
 fn results_of_runs<A: Allocator + Copy>(
     alloc: A,
     ended: Vec<EndedRun<A>, A>,
@@ -281,7 +283,7 @@ fn results_of_runs<A: Allocator + Copy>(
     Ok(all)
 }
 
-/// Returns the results and sent captures of bridges that have run, in the order of the network.
+/// Returns the results and sent captures of bridges that have run, in the order of the network. `finish_bridges` calls it.
 fn bridge_results<A: Allocator + Copy>(
     alloc: A,
     stations: Vec<BridgeRun<'_, A>, A>,
@@ -295,6 +297,7 @@ fn bridge_results<A: Allocator + Copy>(
 }
 
 /// Returns the bridges of a network before the first round. `incoming` has their inputs from outside; no frame has arrived over a link.
+/// `run_network` calls it.
 fn initial_bridge_runs<'a, A: Allocator + Copy>(
     alloc: A,
     network: &'a Network<A>,
@@ -319,7 +322,7 @@ fn initial_bridge_runs<'a, A: Allocator + Copy>(
     Ok(stations)
 }
 
-/// Does nothing at run time: each call of `port_count` gives the prover the properties of a bridge.
+/// Does nothing at run time: each call of `port_count` gives the prover the properties of a bridge. `run_round` calls it.
 fn assert_bridge_runs<A: Allocator + Copy>(stations: &[BridgeRun<'_, A>])
     ensures { All IsBridgeRun stations.now }
 {
@@ -329,7 +332,7 @@ fn assert_bridge_runs<A: Allocator + Copy>(stations: &[BridgeRun<'_, A>])
 }
 
 /// Runs round `turn`: each bridge with changed inputs runs, and each linked port gets the frames sent to it. Returns the first bridge and
-/// port whose input changed, if any.
+/// port whose input changed, if any. `run_network` calls it.
 fn run_round<A: Allocator + Copy, W: RoundObserver>(
     alloc: A,
     stations: &mut [BridgeRun<'_, A>],
@@ -351,7 +354,7 @@ fn run_round<A: Allocator + Copy, W: RoundObserver>(
     }
 }
 
-/// Does nothing at run time: the calls give the prover the properties of an accepted network.
+/// Does nothing at run time: the calls give the prover the properties of an accepted network. `run_network` calls it.
 fn assert_network<A: Allocator + Copy>(network: &Network<A>)
     ensures network { IsNetwork (network_value network.now) }
     ensures closed { AreClosed network.now }
@@ -398,7 +401,7 @@ pub fn run_network<A: Allocator + Copy, W: RoundObserver>(
     Err(RoundsFault::NotSettled { bridge, port })
 }
 
-/// Returns the results of the bridges after the last round, with the number of rounds.
+/// Returns the results of the bridges after the last round, with the number of rounds. `run_network` calls it.
 fn finish_bridges<A: Allocator + Copy>(
     alloc: A,
     stations: Vec<BridgeRun<'_, A>, A>,
