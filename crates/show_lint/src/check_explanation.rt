@@ -96,7 +96,7 @@ fn put_other_findings<A: Allocator + Copy>(
 }
 
 /// Returns the position of filter `number` in the text of its plan. Returns `None` if the plan lacks the filter, or the text lacks its
-/// table.
+/// table. `put_finding` calls it.
 fn filter_position(text: &[u8], filters: &[(u32, FilterPlan)], number: u32) -> Option<Position> {
     let mut index = 0u32;
     for filter in filters {
@@ -110,7 +110,7 @@ fn filter_position(text: &[u8], filters: &[(u32, FilterPlan)], number: u32) -> O
 }
 
 /// Writes the finding of a failed test, which follows the path of the plan: the filter's position and the explanation. Without the filter,
-/// writes only its position.
+/// writes only its position. `explain_check` and `put_other_findings` call it.
 fn put_finding<A: Allocator + Copy>(
     said: &mut LintText,
     text: &[u8],
@@ -124,7 +124,8 @@ fn put_finding<A: Allocator + Copy>(
     }
 }
 
-/// Writes the explanation of a test that filter `number`, protected or grouped, fails. Calls the function for this test.
+/// Writes the explanation of a test that filter `number`, protected or grouped, fails. Calls the function for this test. `put_finding`
+/// calls it.
 fn put_check<A: Allocator + Copy>(
     said: &mut LintText,
     text: &[u8],
@@ -176,6 +177,7 @@ fn put_check<A: Allocator + Copy>(
 }
 
 /// Explains that frames without a matching filter would pass unfiltered: a catch-all filter is missing. Filter `number` fails the test.
+/// `put_check` calls it.
 fn put_no_catch_all(said: &mut LintText, filters: &[(u32, FilterPlan)], number: u32) {
     let greatest = greatest_filter_number(filters);
     put_shared_part(said, filters, NO_CATCH_ALL, number, greatest, 0);
@@ -194,7 +196,7 @@ fn other_with_gate(filters: &[(u32, FilterPlan)], number: u32, gate: u32) -> Opt
     None
 }
 
-/// Returns whether a filter uses meter `meter`; false without a meter.
+/// Returns whether a filter uses meter `meter`; false without a meter. `other_with_meter` calls it.
 fn has_meter(filter: &FilterPlan, meter: u32) -> bool
     ensures { result ≡ spec.has_meter meter filter.now }
 {
@@ -236,7 +238,7 @@ fn kind_word(filter: &FilterPlan) -> &'static str {
     }
 }
 
-/// Returns the key that makes `check` test a filter: `protected` or `group`. Explanations advise to remove it.
+/// Returns the key that makes `check` test a filter: `protected` or `group`. Explanations advise to remove it. `put_check` calls it.
 fn kind_key(filter: &FilterPlan) -> &'static str {
     if filter.protected {
         "protected"
@@ -245,7 +247,7 @@ fn kind_key(filter: &FilterPlan) -> &'static str {
     }
 }
 
-/// Returns the word for the kind of filter `number`; `unprotected` if the plan lacks it.
+/// Returns the word for the kind of filter `number`; `unprotected` if the plan lacks it. `put_shared_part` and `put_shared_queue` call it.
 fn kind_of_number(filters: &[(u32, FilterPlan)], number: u32) -> &'static str {
     match find_filter(filters, number) {
         Some(filter) => kind_word(&filter),
@@ -271,13 +273,13 @@ fn put_shared_part(
     said.put_template(template, &numbers, &kinds);
 }
 
-/// Writes the explanation of stream gate `gate`, which filter `number` shares with another filter.
+/// Writes the explanation of stream gate `gate`, which filter `number` shares with another filter. `put_check` calls it.
 fn put_shared_gate(said: &mut LintText, filters: &[(u32, FilterPlan)], number: u32, gate: u32) {
     let other = other_with_gate(filters, number, gate).unwrap_or(0);
     put_shared_part(said, filters, GATE_SHARED, number, other, gate);
 }
 
-/// Writes the explanation of meter `meter`, which filter `number` shares with another filter.
+/// Writes the explanation of meter `meter`, which filter `number` shares with another filter. `put_check` calls it.
 fn put_shared_meter(
     said: &mut LintText,
     filters: &[(u32, FilterPlan)],
@@ -290,6 +292,7 @@ fn put_shared_meter(
 }
 
 /// Writes the explanation of the queue that filters `number` and `other` share: why the frames of both can reach the port, and remedies.
+/// `put_check` calls it.
 fn put_shared_queue<A: Allocator + Copy>(
     said: &mut LintText,
     plan: &Plan<A>,
@@ -318,7 +321,7 @@ fn put_shared_queue<A: Allocator + Copy>(
     said.put(SEPARATE_QUEUES);
 }
 
-/// Writes the numbers of the classes that are open in a state of a port's transmission gates.
+/// Writes the numbers of the classes that are open in a state of a port's transmission gates. `put_window` calls it.
 fn put_open_classes(said: &mut LintText, state: u8) {
     let mut is_first = true;
     for class in 0..8u8 {
@@ -331,6 +334,7 @@ fn put_open_classes(said: &mut LintText, state: u8) {
 }
 
 /// Returns the state of the entry that begins at offset `at` in ns, if it opens class `class` and another class. Otherwise returns `None`.
+/// `shared_state` calls it.
 fn shared_entry_state(entries: &[(u8, u64)], class: u8, at: u64) -> Option<u8>
     requires { class < 8 }
 {
@@ -345,7 +349,7 @@ fn shared_entry_state(entries: &[(u8, u64)], class: u8, at: u64) -> Option<u8>
 }
 
 /// Returns the state at offset `at` in ns that opens `class` and another class, or `None`. The flag is true if only the port's new list has
-/// it.
+/// it. `shared_state_of_port` calls it.
 fn shared_state<A: Allocator + Copy>(port: &PortPlan<A>, class: u8, at: u64) -> Option<(u8, bool)>
     requires { class < 8 }
 {
@@ -363,6 +367,7 @@ fn shared_state<A: Allocator + Copy>(port: &PortPlan<A>, class: u8, at: u64) -> 
 }
 
 /// Returns the result of `shared_state` for port `port` of the plan. Returns `None` if the plan lacks the port, or if `class` is above 7.
+/// `put_window` calls it.
 fn shared_state_of_port<A: Allocator + Copy>(
     plan: &Plan<A>,
     port: u8,
@@ -375,7 +380,8 @@ fn shared_state_of_port<A: Allocator + Copy>(
     }
 }
 
-/// Returns the line, from 1, of key `key` of port `number` in the text of its plan, or `None` if the text lacks it.
+/// Returns the line, from 1, of key `key` of port `number` in the text of its plan, or `None` if the text lacks it. `put_shared_window`
+/// calls it.
 fn port_key_line<A: Allocator + Copy>(
     text: &[u8],
     ports: &[PortPlan<A>],
@@ -395,6 +401,7 @@ fn port_key_line<A: Allocator + Copy>(
 }
 
 /// Writes that a port opens a class together with others from an offset on. The list is the port's new list (`is_next`), or its first list.
+/// `put_window` calls it.
 fn put_shared_window<A: Allocator + Copy>(
     said: &mut LintText,
     text: &[u8],
@@ -434,6 +441,7 @@ struct Window {
 }
 
 /// Writes the explanation of a window that two classes share: port and offset, why the filter's frames reach the port, and remedies.
+/// `put_check` calls it.
 fn put_window<A: Allocator + Copy>(
     said: &mut LintText,
     text: &[u8],
@@ -463,7 +471,7 @@ fn put_window<A: Allocator + Copy>(
 }
 
 /// Returns the remedy for a shared window: class `{2}` of port `{1}` gets its own window. `has_list`: the port has a list. `is_second`:
-/// another remedy precedes.
+/// another remedy precedes. `put_window` calls it.
 fn window_remedy(has_list: bool, is_second: bool) -> &'static str {
     match (has_list, is_second) {
         (true, false) =>
@@ -477,7 +485,8 @@ fn window_remedy(has_list: bool, is_second: bool) -> &'static str {
     }
 }
 
-/// Writes the explanation of a longest frame that never fits: its transmission time, the class's windows, and what to change.
+/// Writes the explanation of a longest frame that never fits: its transmission time, the class's windows, and what to change. `put_check`
+/// calls it.
 fn put_unfit_length<A: Allocator + Copy>(
     said: &mut LintText,
     plan: &Plan<A>,
@@ -494,6 +503,7 @@ fn put_unfit_length<A: Allocator + Copy>(
 }
 
 /// Writes the transmission time of filter `number`'s longest frame, which has `sdu` SDU octets, and the windows of class `class`.
+/// `put_unfit_length` calls it.
 fn put_too_long<A: Allocator + Copy>(
     said: &mut LintText,
     port: &PortPlan<A>,
@@ -518,7 +528,8 @@ fn put_too_long<A: Allocator + Copy>(
     said.put(".\n");
 }
 
-/// Writes what to change if a filter's longest frame doesn't fit the windows of a class: open, lengthen or shorten.
+/// Writes what to change if a filter's longest frame doesn't fit the windows of a class: open, lengthen or shorten. `put_unfit_length`
+/// calls it.
 fn put_remedy<A: Allocator + Copy>(said: &mut LintText, port: &PortPlan<A>, class: u8)
     requires { class < 8 }
 {

@@ -10,6 +10,7 @@ use bridge_cycle::{Run, longest_run};
 use std::alloc::{AllocError, Allocator};
 
 /// Returns the number of the first unprotected filter whose frames can enter the queue of class `class` at port `port`, or `None`.
+/// `find_class` calls it.
 fn first_waiting_filter<A: Allocator + Copy>(plan: &Plan<A>, port: u8, class: u8) -> Option<u32>
     requires from { 1 ≤ port }
     requires to { port ≤ 16 }
@@ -23,6 +24,7 @@ fn first_waiting_filter<A: Allocator + Copy>(plan: &Plan<A>, port: u8, class: u8
 }
 
 /// Adds a warning for each list of port `number` that never opens class `class`, if frames of an unprotected filter can enter this queue.
+/// `find_closed_classes` calls it.
 fn find_class<A: Allocator + Copy>(
     found: &mut Vec<Warning>,
     plan: &Plan<A>,

@@ -47,12 +47,14 @@ pub(crate) fn port_list<A: Allocator + Copy>(
     }
 }
 
-/// Returns whether a stream gate has a schedule change. If so, searches for warnings look at both lists.
+/// Returns whether a stream gate has a schedule change. If so, searches for warnings look at both lists. `find_port_warnings` and
+/// `find_rates` call it.
 pub(crate) fn has_gate_change<A: Allocator + Copy>(schedule: &Schedule<A>) -> bool {
     matches!(schedule, Schedule::Joined(_))
 }
 
-/// Returns whether a port has a schedule change. If so, searches for warnings look at both lists.
+/// Returns whether a port has a schedule change. If so, searches for warnings look at both lists. `find_class` and `find_port_warnings`
+/// call it.
 pub(crate) fn has_port_change<A: Allocator + Copy>(port: &PortPlan<A>) -> bool {
     matches!(&port.list, Some(Egress::Joined(_)))
 }
@@ -78,6 +80,7 @@ pub(crate) struct OfferedLoad {
 }
 
 /// Returns the length in octets of the longest frame with `sdu` SDU octets: 16 octets of header more, but at most 9,216.
+/// `find_meter_warnings` and `offered_load` call it.
 pub(crate) fn longest_length(sdu: u32) -> u32 {
     sdu.saturating_add(16).min(LONGEST_FRAME)
 }
@@ -133,7 +136,7 @@ impl OpeningSpan {
 }
 
 impl OfferedLoad {
-    /// Returns how many longest frames can arrive on all links during the entry of one cycle.
+    /// Returns how many longest frames can arrive on all links during the entry of one cycle. `limited_count` calls it.
     fn frames_on_all_links(&self, span: OpeningSpan) -> u64 {
         let mut count = 0u64;
         for time in &self.times {
@@ -145,7 +148,7 @@ impl OfferedLoad {
     }
 
     /// Returns how many longest frames pass during the entry: its octet limit `limit` and the links bound this number. Returns 0 without an
-    /// octet limit.
+    /// octet limit. `gate_openings` calls it.
     fn limited_count(&self, limit: Option<u32>, span: OpeningSpan) -> u64 {
         match limit {
             Some(octets) if self.sdu > 0 => {

@@ -27,7 +27,7 @@ pub(crate) struct GateWaits {
 }
 
 /// Returns the wait in ns of a frame that arrives at time `from` and needs `occupied` ns on the link. The class's longest window `run` must
-/// be long enough.
+/// be long enough. `waits_by_cycle` calls it.
 fn frame_wait<A: Allocator + Copy>(
     list: &CyclicList<u8, A>,
     class: u8,

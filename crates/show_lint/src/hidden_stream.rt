@@ -9,7 +9,7 @@ use bridge_config::Plan;
 use bridge_ident::{Kind, StreamEntry, TagKind};
 use std::alloc::{AllocError, Allocator};
 
-/// Returns whether tag kind `one` accepts each frame that tag kind `other` accepts.
+/// Returns whether tag kind `one` accepts each frame that tag kind `other` accepts. `hides` calls it.
 fn covers_tag(one: TagKind, other: TagKind) -> bool
     ensures { result ≡ spec.covers_tag one other }
 {
@@ -21,7 +21,8 @@ fn covers_tag(one: TagKind, other: TagKind) -> bool
     }
 }
 
-/// Returns whether both kinds of stream identification compare the destination address, or both compare the source address.
+/// Returns whether both kinds of stream identification compare the destination address, or both compare the source address. `hides` and
+/// `is_place` call it.
 fn is_same_kind(one: Kind, other: Kind) -> bool
     ensures { result ≡ spec.is_same_kind one other }
 {
@@ -46,7 +47,8 @@ pub fn hides(one: &StreamEntry, other: &StreamEntry) -> bool
         && covers_tag(one.tag, other.tag)
 }
 
-/// Returns whether both entries have equal port, VLAN and address, and compare the same address of a frame. Their tags may differ.
+/// Returns whether both entries have equal port, VLAN and address, and compare the same address of a frame. Their tags may differ. `covers`
+/// and `first_covering_entry` call it.
 fn is_place(one: &StreamEntry, other: &StreamEntry) -> bool
     ensures { result ≡ spec.is_place one.now other.now }
 {
@@ -56,7 +58,8 @@ fn is_place(one: &StreamEntry, other: &StreamEntry) -> bool
         && is_same_kind(one.kind, other.kind)
 }
 
-/// Returns whether tag kind `tag` accepts frames whose tag names a VLAN (`named` true), or other frames (`named` false).
+/// Returns whether tag kind `tag` accepts frames whose tag names a VLAN (`named` true), or other frames (`named` false). `covers` and
+/// `first_covering_entry` call it.
 fn takes_named(tag: TagKind, named: bool) -> bool
     ensures { result ≡ spec.takes_named tag named }
 {
@@ -68,6 +71,7 @@ fn takes_named(tag: TagKind, named: bool) -> bool
 }
 
 /// Returns whether an earlier entry matches each frame of `other` that names a VLAN (`named` true), or each other frame (`named` false).
+/// `hide_together` calls it.
 fn covers(earlier: &[StreamEntry], other: &StreamEntry, named: bool) -> bool
     ensures { result ≡ spec.covers earlier.now other.now named }
 {
@@ -89,7 +93,7 @@ pub fn hide_together(earlier: &[StreamEntry], other: &StreamEntry) -> bool
 }
 
 /// Returns which tags frames have that an entry can match on its port, whose default VLAN is `own`. Returns `None` if it can match no
-/// frame.
+/// frame. `find_unmatched` calls it.
 fn port_tags(own: u16, stream: &StreamEntry) -> Option<TagKind>
     ensures { result ≡ spec.tag_on own stream.now }
 {
@@ -102,7 +106,7 @@ fn port_tags(own: u16, stream: &StreamEntry) -> Option<TagKind>
     }
 }
 
-/// Returns the position, from 1, and the handle of the first earlier entry that hides `stream`, or `None`.
+/// Returns the position, from 1, and the handle of the first earlier entry that hides `stream`, or `None`. `find_hiders` calls it.
 fn first_hiding_stream(earlier: &[StreamEntry], stream: &StreamEntry) -> Option<(usize, u32)> {
     let mut place = 0usize;
     for one in earlier {
@@ -115,7 +119,7 @@ fn first_hiding_stream(earlier: &[StreamEntry], stream: &StreamEntry) -> Option<
 }
 
 /// Returns the position, from 1, of the first earlier entry that matches each frame of `stream` with a VLAN (`named`) or without. Returns 0
-/// without such an entry.
+/// without such an entry. `find_hiders` calls it.
 fn first_covering_entry(earlier: &[StreamEntry], stream: &StreamEntry, named: bool) -> usize {
     let mut place = 0usize;
     for one in earlier {
@@ -127,7 +131,7 @@ fn first_covering_entry(earlier: &[StreamEntry], stream: &StreamEntry, named: bo
     0
 }
 
-/// Adds a warning if earlier streams match all frames of the stream at position `place`, counted from 1.
+/// Adds a warning if earlier streams match all frames of the stream at position `place`, counted from 1. `find_unmatched` calls it.
 fn find_hiders(
     found: &mut Vec<Warning>,
     earlier: &[StreamEntry],
@@ -157,6 +161,7 @@ fn find_hiders(
 }
 
 /// Adds a warning if the stream at position `place`, from 1, matches no frame, because of its port's VLAN `own` or of earlier streams.
+/// `find_hidden_streams` calls it.
 fn find_unmatched(
     found: &mut Vec<Warning>,
     own: u16,

@@ -6,6 +6,7 @@ use bridge_gate::Schedule;
 use std::alloc::Allocator;
 
 /// Returns the greatest common divisor of two times in ns. One of them is a cycle of at most 10^9 ns, so 64 steps suffice.
+/// `cycles_until_aligned` and `include_cycle` call it.
 fn greatest_common_divisor(one: u64, other: u64) -> u64 {
     let mut larger = one;
     let mut smaller = other;
@@ -21,6 +22,7 @@ fn greatest_common_divisor(one: u64, other: u64) -> u64 {
 }
 
 /// Returns after how many cycles of `cycle` ns such a cycle and a cycle of `round` ns begin together again. Returns 0 if both are 0.
+/// `aligned_period` and `waits_by_cycle` call it.
 pub(crate) fn cycles_until_aligned(round: u64, cycle: u64) -> u64 {
     let divisor = greatest_common_divisor(round, cycle);
     if divisor == 0 { 0 } else { round / divisor }
@@ -68,6 +70,7 @@ impl Hypercycle {
     }
 
     /// Includes a list with cycle time `cycle` in ns: the length becomes the least common multiple, or stays at its greatest value.
+    /// `from_plan` and `include_changing` call it.
     fn include_cycle(&mut self, cycle: u64) {
         self.length = match self.length {
             0 | u64::MAX => self.length.max(cycle),
@@ -75,7 +78,7 @@ impl Hypercycle {
         };
     }
 
-    /// Includes the old and the new list of a schedule change.
+    /// Includes the old and the new list of a schedule change. `from_plan` calls it.
     fn include_changing<S: Copy, A: Allocator + Copy>(&mut self, lists: &Joined<S, A>) {
         let (old, new) = lists.lists();
         self.include_cycle(old.cycle());

@@ -23,7 +23,7 @@ pub fn find_warnings<A: Allocator + Copy>(
     Ok(found)
 }
 
-/// Adds the warnings of a plan to `found`, in the order of the report.
+/// Adds the warnings of a plan to `found`, in the order of the report. `find_warnings` calls it.
 fn find_plan_warnings<A: Allocator + Copy>(
     alloc: Global,
     found: &mut Vec<Warning>,

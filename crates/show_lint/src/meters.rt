@@ -15,11 +15,12 @@ use bridge_meter::MeterPlan;
 use std::alloc::{AllocError, Allocator, Global};
 
 /// Returns the octets that a meter counts for a frame of `length` octets: padded to at least 60, plus 4 for the frame check sequence.
+/// `find_meter_warnings` and `low_rate` call it.
 fn metered_octets(length: u32) -> u32 {
     length.max(60).saturating_add(4)
 }
 
-/// Returns the meter with number `number`, or `None`.
+/// Returns the meter with number `number`, or `None`. `add` and `find_meter_warnings` call it.
 pub(crate) fn find_meter(meters: &[(u32, MeterPlan)], number: u32) -> Option<MeterPlan> {
     for meter in meters {
         if meter.0 == number {
@@ -55,13 +56,14 @@ pub(crate) fn find_meter_warnings<A: Allocator + Copy>(
 }
 
 /// Returns whether all buckets that a frame may use are smaller than `octets`. Then the meter refuses each frame of this length.
+/// `find_burst` calls it.
 fn has_small_buckets(limits: &MeterPlan, octets: u32) -> bool {
     let octets = u64::from(octets);
     limits.cbs < octets && (limits.drop_yellow || limits.ebs < octets)
 }
 
 /// Adds a warning if a meter's buckets are smaller than the longest frame, which has `octets` metered octets. Smaller than the shortest
-/// frame is warning `NoToken`.
+/// frame is warning `NoToken`. `find_meter_warnings` calls it.
 fn find_burst(
     found: &mut Vec<Warning>,
     filter: u32,
@@ -87,7 +89,7 @@ fn find_burst(
 }
 
 /// Returns the octets for which a meter gets tokens in `cycle` ns. Tokens of the excess bucket don't count if the meter drops yellow
-/// frames.
+/// frames. `low_rate` calls it.
 fn tokens_per_cycle(limits: &MeterPlan, cycle: u64) -> u64 {
     let excess = if limits.drop_yellow { 0 } else { limits.eir };
     let rate = u128::from(limits.cir.saturating_add(excess));
@@ -96,7 +98,7 @@ fn tokens_per_cycle(limits: &MeterPlan, cycle: u64) -> u64 {
 }
 
 /// Adds a warning if a cycle of the stream gate can pass more octets than the meter gets tokens. With a schedule change, tests the old and
-/// the new list.
+/// the new list. `find_meter_warnings` calls it.
 fn find_rates<A: Allocator + Copy>(
     alloc: Global,
     found: &mut Vec<Warning>,
@@ -123,6 +125,7 @@ fn find_rates<A: Allocator + Copy>(
 }
 
 /// Returns the warning `LowRate` if the meter gets fewer tokens in a cycle of `list` than the stream gate passes octets, otherwise `None`.
+/// `find_rates` calls it.
 fn low_rate<A: Allocator + Copy>(
     alloc: Global,
     stage: ScheduleStage,

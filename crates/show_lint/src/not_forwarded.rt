@@ -36,7 +36,7 @@ fn static_ports(statics: &[StaticEntry], vid: u16, address: [u8; 6]) -> Option<P
     None
 }
 
-/// Returns whether no bridge forwards frames to this address: 01-80-C2-00-00-00 to 01-80-C2-00-00-0F.
+/// Returns whether no bridge forwards frames to this address: 01-80-C2-00-00-00 to 01-80-C2-00-00-0F. `not_forwarded_cause` calls it.
 fn is_reserved(address: [u8; 6]) -> bool {
     let [a, b, c, d, e, last] = address;
     [a, b, c, d, e] == RESERVED && last <= 15
@@ -53,7 +53,7 @@ fn other_port(set: PortSet, own: u8) -> Option<u8> {
 }
 
 /// Returns why a stream with ingress port `port` isn't forwarded, if its VLAN is the cause. The VLAN, this port or a second member may be
-/// missing.
+/// missing. `not_forwarded_cause` and `stream_cause` call it.
 fn vlan_cause(members: Option<PortSet>, port: u8) -> Option<NotForwardedCause>
     requires from { 1 ≤ port }
     requires to { port ≤ 16 }
@@ -69,6 +69,7 @@ fn vlan_cause(members: Option<PortSet>, port: u8) -> Option<NotForwardedCause>
 }
 
 /// Returns why a stream with ingress port `port` isn't forwarded, by the ports of its static entry, if its VLAN has other members.
+/// `not_forwarded_cause` calls it.
 fn static_entry_cause(entry: Option<PortSet>, port: u8) -> NotForwardedCause {
     match entry {
         None => NotForwardedCause::Alone,
@@ -80,7 +81,8 @@ fn static_entry_cause(entry: Option<PortSet>, port: u8) -> NotForwardedCause {
     }
 }
 
-/// Returns why a stream isn't forwarded: reserved address, VLAN or static entry. The stream must have no egress port.
+/// Returns why a stream isn't forwarded: reserved address, VLAN or static entry. The stream must have no egress port. `stream_cause` calls
+/// it.
 fn not_forwarded_cause<A: Allocator + Copy>(
     plan: &Plan<A>,
     stream: &StreamEntry,
@@ -101,7 +103,7 @@ fn not_forwarded_cause<A: Allocator + Copy>(
 }
 
 /// Returns why a stream isn't forwarded, or `None` if it is. For identification by source, only the VLAN counts, because the destination is
-/// unknown.
+/// unknown. `find_stream_warnings` calls it.
 fn stream_cause<A: Allocator + Copy>(
     plan: &Plan<A>,
     stream: &StreamEntry,
@@ -122,6 +124,7 @@ fn stream_cause<A: Allocator + Copy>(
 }
 
 /// Adds a warning for each port of the stream's static entry that isn't a member of its VLAN. `place` is the stream's position, from 1.
+/// `find_ways` calls it.
 fn find_non_member_ports<A: Allocator + Copy>(
     found: &mut Vec<Warning>,
     plan: &Plan<A>,
@@ -148,7 +151,8 @@ fn find_non_member_ports<A: Allocator + Copy>(
     Ok(())
 }
 
-/// Returns whether a set has at least two ports. A stream that leaves by several ports without static entry floods its VLAN.
+/// Returns whether a set has at least two ports. A stream that leaves by several ports without static entry floods its VLAN. `find_flooded`
+/// calls it.
 fn are_several(set: PortSet) -> bool {
     match other_port(set, 0) {
         Some(first) => other_port(set, first).is_some(),
@@ -157,7 +161,7 @@ fn are_several(set: PortSet) -> bool {
 }
 
 /// Adds a warning if frames of the stream leave by several ports because no static entry has their address. `place` is the stream's
-/// position, from 1.
+/// position, from 1. `find_ways` calls it.
 fn find_flooded<A: Allocator + Copy>(
     found: &mut Vec<Warning>,
     plan: &Plan<A>,
@@ -179,7 +183,7 @@ fn find_flooded<A: Allocator + Copy>(
 }
 
 /// Adds warnings about the egress ports of a forwarded stream: ports that its VLAN lacks, and flooding. `place` is the stream's position,
-/// from 1.
+/// from 1. `find_stream_warnings` calls it.
 fn find_ways<A: Allocator + Copy>(
     found: &mut Vec<Warning>,
     plan: &Plan<A>,
@@ -195,6 +199,7 @@ fn find_ways<A: Allocator + Copy>(
 }
 
 /// Adds warnings about a stream of a protected filter: it isn't forwarded, or has doubtful egress ports. `place` is its position, from 1.
+/// `find_not_forwarded` calls it.
 fn find_stream_warnings<A: Allocator + Copy>(
     found: &mut Vec<Warning>,
     plan: &Plan<A>,

@@ -49,7 +49,8 @@ pub fn write_warnings<A: Allocator + Copy>(
     said.finish()
 }
 
-/// Writes the warnings of a plan, one for each line. A schedule change without effect, in line `idle`, comes first.
+/// Writes the warnings of a plan, one for each line. A schedule change without effect, in line `idle`, comes first. `describe_plan` and
+/// `write_warnings` call it.
 fn put_warnings<A: Allocator + Copy>(
     alloc: Global,
     said: &mut LintText,
@@ -70,7 +71,7 @@ fn put_warnings<A: Allocator + Copy>(
 }
 
 /// Writes the queues of each protected filter and each group, with windows and bounds. The queues of a group in `rows` stand at its first
-/// filter.
+/// filter. `describe_plan` calls it.
 fn put_filters<A: Allocator + Copy>(
     said: &mut LintText,
     accepted: &Accepted<A>,
@@ -90,7 +91,7 @@ fn put_filters<A: Allocator + Copy>(
     }
 }
 
-/// Writes the reachable queues of protected filter `number` at all ports, by rising port.
+/// Writes the reachable queues of protected filter `number` at all ports, by rising port. `put_filters` calls it.
 fn put_ports<A: Allocator + Copy>(
     said: &mut LintText,
     accepted: &Accepted<A>,
@@ -104,7 +105,8 @@ fn put_ports<A: Allocator + Copy>(
     }
 }
 
-/// Writes the reachable queues of protected filter `number` at port `port`, by rising class: windows and delay bounds.
+/// Writes the reachable queues of protected filter `number` at port `port`, by rising class: windows and delay bounds. `put_ports` calls
+/// it.
 fn put_classes<A: Allocator + Copy>(
     said: &mut LintText,
     accepted: &Accepted<A>,
@@ -128,7 +130,8 @@ fn put_classes<A: Allocator + Copy>(
     }
 }
 
-/// Writes the windows of the queue of class `class` at port `number`, and the longest frame that fits.
+/// Writes the windows of the queue of class `class` at port `number`, and the longest frame that fits. `put_classes` and `put_shared_queue`
+/// call it.
 pub(crate) fn put_queue<A: Allocator + Copy>(
     said: &mut LintText,
     number: u8,
@@ -154,6 +157,7 @@ pub(crate) fn put_queue<A: Allocator + Copy>(
 }
 
 /// Writes the delay bound `bound` in ns of a queue by its capacity, with the frames that it assumes. Writes nothing without a largest SDU.
+/// `put_classes` calls it.
 fn put_bound<A: Allocator + Copy>(
     said: &mut LintText,
     filter: &FilterPlan,
@@ -172,7 +176,7 @@ fn put_bound<A: Allocator + Copy>(
 }
 
 /// Writes the bounds by octet limits that are below `bound`, the bound by capacity: one for any capture, one for frames of at least 60
-/// octets. `tight` is the result of `tight_queue_bound`.
+/// octets. `tight` is the result of `tight_queue_bound`. `put_classes` calls it.
 fn put_gate_bounds<A: Allocator + Copy>(
     said: &mut LintText,
     accepted: &Accepted<A>,

@@ -28,7 +28,7 @@ pub(crate) struct ScheduledQueue<'a, A: Allocator + Copy> {
     pub room: u16,
 }
 
-/// Returns for how many ns a list opens a class in each cycle. The last entry lasts to the end of the cycle.
+/// Returns for how many ns a list opens a class in each cycle. The last entry lasts to the end of the cycle. `find_overload` calls it.
 fn open_time<A: Allocator + Copy>(list: &CyclicList<u8, A>, class: u8) -> u64
     requires { class < 8 }
 {
@@ -50,7 +50,7 @@ fn open_time<A: Allocator + Copy>(list: &CyclicList<u8, A>, class: u8) -> u64
 }
 
 /// Returns whether frames that need `occupied` ns in each `cycle` ns exceed windows of `open` ns in each `round` ns. Then the queue grows
-/// for ever.
+/// for ever. `find_overload` calls it.
 fn is_overloaded(occupied: u64, cycle: u64, open: u64, round: u64) -> bool {
     let wanted = u128::from(occupied).saturating_mul(u128::from(round));
     let given = u128::from(open).saturating_mul(u128::from(cycle));
@@ -87,6 +87,7 @@ pub(crate) fn find_overload<A: Allocator + Copy>(
 }
 
 /// Returns the waits of frames that arrive when entry `opening` of the stream gate begins. Returns `None` if the frames never fit.
+/// `frames_left_waiting` and `opening_wait` call it.
 fn opening_waits<A: Allocator + Copy>(
     queue: &ScheduledQueue<'_, A>,
     opening: &GateOpening,
@@ -104,7 +105,7 @@ fn opening_waits<A: Allocator + Copy>(
 }
 
 /// Returns how many of an entry's frames still wait when the entry ends, if the first frame waits longest. Returns 0 if the waits are
-/// unknown.
+/// unknown. `find_small_queue` calls it.
 fn frames_left_waiting<A: Allocator + Copy>(
     queue: &ScheduledQueue<'_, A>,
     opening: &GateOpening,
@@ -150,13 +151,14 @@ pub(crate) fn find_small_queue<A: Allocator + Copy>(
     Ok(())
 }
 
-/// Returns whether `wait` is longer than the entry, and at least a quarter of the port's cycle, which lasts `round` ns.
+/// Returns whether `wait` is longer than the entry, and at least a quarter of the port's cycle, which lasts `round` ns. `opening_wait`
+/// calls it.
 fn is_long_wait(wait: u64, opening: &GateOpening, round: u64) -> bool {
     wait > opening.lasting && wait >= round / PART_OF_CYCLE
 }
 
 /// Returns the least wait of a frame that arrives when an entry begins. Returns `None` unless all these waits were examined and each is
-/// long.
+/// long. `find_long_wait` calls it.
 fn opening_wait<A: Allocator + Copy>(
     queue: &ScheduledQueue<'_, A>,
     opening: &GateOpening,

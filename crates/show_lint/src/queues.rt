@@ -58,7 +58,8 @@ pub(crate) fn find_queues<A: Allocator + Copy>(
     Ok(())
 }
 
-/// Adds warnings about each queue of a protected filter at port `number`, then about cycles; none if the port is missing.
+/// Adds warnings about each queue of a protected filter at port `number`, then about cycles; none if the port is missing. `find_queues`
+/// calls it.
 fn find_port_warnings<A: Allocator + Copy>(
     alloc: Global,
     found: &mut Vec<Warning>,
@@ -90,7 +91,7 @@ fn find_port_warnings<A: Allocator + Copy>(
 }
 
 /// Adds a warning if, at `stage`, neither the stream gate's cycle nor the port's cycle is a multiple of the other. Then waits differ from
-/// cycle to cycle.
+/// cycle to cycle. `find_port_warnings` calls it.
 fn find_cycles<A: Allocator + Copy>(
     found: &mut Vec<Warning>,
     case: &ProtectedFilter<'_, A>,
@@ -121,6 +122,7 @@ fn find_cycles<A: Allocator + Copy>(
 }
 
 /// Adds warnings about a queue of a protected filter at `stage`. Does nothing if the stream gate or the port has no list.
+/// `find_port_warnings` calls it.
 fn find_queue_stage_warnings<A: Allocator + Copy>(
     alloc: Global,
     found: &mut Vec<Warning>,
@@ -158,6 +160,7 @@ fn find_queue_stage_warnings<A: Allocator + Copy>(
 }
 
 /// Adds warnings about a queue by the stream gate's entries `openings`, whose frames enter it: overload, small capacity, long waits.
+/// `find_queue_stage_warnings` calls it.
 fn find_opening_warnings<A: Allocator + Copy>(
     found: &mut Vec<Warning>,
     queue: &ScheduledQueue<'_, A>,
@@ -171,7 +174,7 @@ fn find_opening_warnings<A: Allocator + Copy>(
 }
 
 /// Returns whether all frames that an entry passes enter class `class`: by the entry's internal priority value or, without one, the
-/// filter's priority.
+/// filter's priority. `class_openings` calls it.
 fn is_opening_for_class(
     opening: &GateOpening,
     priority: Option<u8>,
@@ -187,7 +190,7 @@ fn is_opening_for_class(
     }
 }
 
-/// Returns the openings whose frames all enter class `class`. Only these certainly load the queue.
+/// Returns the openings whose frames all enter class `class`. Only these certainly load the queue. `find_queue_stage_warnings` calls it.
 fn class_openings(
     alloc: Global,
     openings: &[GateOpening],

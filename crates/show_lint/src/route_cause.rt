@@ -29,14 +29,15 @@ const ENTRY: &str = "`stream` {1} leads filter {0} to port {2} by a `static` ent
 const FLOOD: &str =
     "`stream` {1} leads filter {0} to port {2}. VLAN {3} has no `static` entry for its address, so its frames go to all members.\n";
 
-/// Returns whether a VLAN has a static entry for an address. Without such an entry, frames to this address flood the VLAN.
+/// Returns whether a VLAN has a static entry for an address. Without such an entry, frames to this address flood the VLAN. `route_cause`
+/// calls it.
 fn has_entry(statics: &[StaticEntry], vid: u16, address: [u8; 6]) -> bool {
     statics
         .iter()
         .any(|entry| entry.vid == vid && entry.address == address)
 }
 
-/// Returns whether frames to the stream's address, from its port and VLAN, leave by port `port`.
+/// Returns whether frames to the stream's address, from its port and VLAN, leave by port `port`. `route_cause` calls it.
 fn is_forwarded_to_port<A: Allocator + Copy>(
     plan: &Plan<A>,
     stream: &StreamEntry,
@@ -49,7 +50,7 @@ fn is_forwarded_to_port<A: Allocator + Copy>(
         .has(port)
 }
 
-/// Returns how frames of a stream can reach a port, or `None` if they can't.
+/// Returns how frames of a stream can reach a port, or `None` if they can't. `other_way` and `put_route` call it.
 fn route_cause<A: Allocator + Copy>(
     plan: &Plan<A>,
     stream: &StreamEntry,
@@ -94,7 +95,7 @@ const NEED_KIND: &str =
     "Identify `stream` {0} by its destination address (`kind = \"null\"`), and add a `static` entry for this address that names only its egress ports.\n";
 
 /// Returns the position, from 1, and the cause of the first stream that leads frames of `handle` to `port`. `None` if a `static` entry
-/// leads there, as intended.
+/// leads there, as intended. `put_other_way` calls it.
 fn other_way<A: Allocator + Copy>(
     plan: &Plan<A>,
     handle: u32,
@@ -137,7 +138,7 @@ pub(crate) fn put_other_way<A: Allocator + Copy>(
     true
 }
 
-/// Writes the sentence of a cause about filter `number`, the stream at position `place` (0 for none), port and VLAN.
+/// Writes the sentence of a cause about filter `number`, the stream at position `place` (0 for none), port and VLAN. `put_route` calls it.
 fn put_route_sentence(
     said: &mut LintText,
     way: RouteCause,

@@ -107,12 +107,12 @@ pub fn put_warning<A: Allocator>(said: &mut TextBuilder<A>, advice: &Warning) {
     }
 }
 
-/// Writes a sentence whose template has at most the two numbers `first` and `second`.
+/// Writes a sentence whose template has at most the two numbers `first` and `second`. `put_warning` calls it.
 fn put_pair<A: Allocator>(said: &mut TextBuilder<A>, template: &str, first: u64, second: u64) {
     said.put_template(template, &[first, second], &[]);
 }
 
-/// Writes that frames of a stream leave by all other ports of their VLAN.
+/// Writes that frames of a stream leave by all other ports of their VLAN. `put_warning` calls it.
 fn put_flooded<A: Allocator>(said: &mut TextBuilder<A>, flooded: &Flooded) {
     let numbers = [
         u64::from(flooded.filter),
@@ -122,7 +122,7 @@ fn put_flooded<A: Allocator>(said: &mut TextBuilder<A>, flooded: &Flooded) {
     said.put_template(FLOODED, &numbers, &[]);
 }
 
-/// Writes that a stream asks for frames without a VLAN, but its port puts them into another VLAN.
+/// Writes that a stream asks for frames without a VLAN, but its port puts them into another VLAN. `put_warning` calls it.
 fn put_other_vlan<A: Allocator>(said: &mut TextBuilder<A>, other: &OtherVlan) {
     let numbers = [
         other.place as u64,
@@ -134,13 +134,13 @@ fn put_other_vlan<A: Allocator>(said: &mut TextBuilder<A>, other: &OtherVlan) {
     said.put_template(OTHER_VLAN, &numbers, &[]);
 }
 
-/// Writes that a stream gate is closed from the schedule change on.
+/// Writes that a stream gate is closed from the schedule change on. `put_warning` calls it.
 fn put_closing_time<A: Allocator>(said: &mut TextBuilder<A>, closed: &ClosedFrom) {
     let numbers = [u64::from(closed.gate), closed.at, u64::from(closed.filter)];
     said.put_template(CLOSED_FROM, &numbers, &[]);
 }
 
-/// Writes that filters with lower numbers together match all frames of a filter.
+/// Writes that filters with lower numbers together match all frames of a filter. `put_warning` calls it.
 fn put_taken<A: Allocator>(said: &mut TextBuilder<A>, taken: &TakenTogether) {
     let [a, b, c, d, e, f, g, h] = taken.takers;
     let numbers = [
@@ -157,7 +157,7 @@ fn put_taken<A: Allocator>(said: &mut TextBuilder<A>, taken: &TakenTogether) {
     said.put_template(TAKEN_TOGETHER, &numbers, &[]);
 }
 
-/// Writes that two earlier streams together match all frames of a stream.
+/// Writes that two earlier streams together match all frames of a stream. `put_warning` calls it.
 fn put_hidden_together<A: Allocator>(said: &mut TextBuilder<A>, hidden: &HiddenTogether) {
     let numbers = [
         hidden.place as u64,
@@ -168,13 +168,13 @@ fn put_hidden_together<A: Allocator>(said: &mut TextBuilder<A>, hidden: &HiddenT
     said.put_template(HIDDEN_TOGETHER, &numbers, &[]);
 }
 
-/// Writes that a stream's static entry names its ingress port.
+/// Writes that a stream's static entry names its ingress port. `put_warning` calls it.
 fn put_static_to_ingress<A: Allocator>(said: &mut TextBuilder<A>, own: &StaticToIngress) {
     let numbers = [own.place as u64, u64::from(own.handle), u64::from(own.port)];
     said.put_template(OWN_PORT, &numbers, &[]);
 }
 
-/// Writes that a stream gate's entry has an octet limit less than a filter's largest SDU.
+/// Writes that a stream gate's entry has an octet limit less than a filter's largest SDU. `put_warning` calls it.
 fn put_low_limit<A: Allocator>(said: &mut TextBuilder<A>, below: &LowOctetLimit) {
     let numbers = [
         u64::from(below.gate),
@@ -185,7 +185,7 @@ fn put_low_limit<A: Allocator>(said: &mut TextBuilder<A>, below: &LowOctetLimit)
     said.put_template(LIMIT, &numbers, &[]);
 }
 
-/// Writes that an earlier stream matches all frames of a stream.
+/// Writes that an earlier stream matches all frames of a stream. `put_warning` calls it.
 fn put_hidden_stream<A: Allocator>(said: &mut TextBuilder<A>, hidden: &HiddenStream) {
     let numbers = [
         hidden.place as u64,
@@ -196,7 +196,7 @@ fn put_hidden_stream<A: Allocator>(said: &mut TextBuilder<A>, hidden: &HiddenStr
     said.put_template(HIDDEN_STREAM, &numbers, &[]);
 }
 
-/// Writes why a protected filter's stream isn't forwarded, and what to change.
+/// Writes why a protected filter's stream isn't forwarded, and what to change. `put_warning` calls it.
 fn put_not_forwarded<A: Allocator>(said: &mut TextBuilder<A>, stuck: &NotForwarded) {
     said.put_template(
         NOT_FORWARDED,
@@ -216,6 +216,7 @@ fn put_not_forwarded<A: Allocator>(said: &mut TextBuilder<A>, stuck: &NotForward
 }
 
 /// Returns the sentence of a cause with its remedy. In it, `{0}` is the stream's ingress port, `{1}` its VLAN and `{2}` an egress port.
+/// `put_not_forwarded` calls it.
 fn cause_sentence(reason: NotForwardedCause) -> &'static str {
     match reason {
         NotForwardedCause::Reserved =>
@@ -235,7 +236,7 @@ fn cause_sentence(reason: NotForwardedCause) -> &'static str {
     }
 }
 
-/// Writes that a stream doesn't leave by a port of its static entry, because the port isn't a member of its VLAN.
+/// Writes that a stream doesn't leave by a port of its static entry, because the port isn't a member of its VLAN. `put_warning` calls it.
 fn put_non_member_port<A: Allocator>(said: &mut TextBuilder<A>, outside: &NonMemberPort) {
     let numbers = [
         u64::from(outside.filter),

@@ -21,7 +21,7 @@ pub(crate) const SHORTEST: u64 = 64;
 /// SDU octets of the shortest frame: its EtherType.
 const LEAST_SDU: u32 = 2;
 
-/// Returns whether at least one filter is protected or grouped. Without one, the plan has no guarantee.
+/// Returns whether at least one filter is protected or grouped. Without one, the plan has no guarantee. `find_unprotected` calls it.
 fn has_tested(filters: &[(u32, FilterPlan)]) -> bool
     ensures { result ≡ spec.has_tested filters.now }
 {
@@ -56,7 +56,8 @@ pub(crate) fn find_unused_parts<A: Allocator + Copy>(
     find_filters(found, plan)
 }
 
-/// Returns whether `entry` has the stream's VLAN and address, and its egress ports include the stream's ingress port.
+/// Returns whether `entry` has the stream's VLAN and address, and its egress ports include the stream's ingress port. `is_sent_to_ingress`
+/// calls it.
 fn is_entry_to_ingress(stream: &StreamEntry, entry: &StaticEntry) -> bool {
     if stream.port == 0 || stream.port > 16 {
         return false;
@@ -64,7 +65,7 @@ fn is_entry_to_ingress(stream: &StreamEntry, entry: &StaticEntry) -> bool {
     entry.vid == stream.vid && entry.address == stream.address && entry.ports.has(stream.port)
 }
 
-/// Returns whether a stream is identified by destination, and its static entry names its ingress port.
+/// Returns whether a stream is identified by destination, and its static entry names its ingress port. `find_streams` calls it.
 fn is_sent_to_ingress(stream: &StreamEntry, statics: &[StaticEntry]) -> bool {
     match stream.kind {
         Kind::Null => statics
@@ -74,7 +75,7 @@ fn is_sent_to_ingress(stream: &StreamEntry, statics: &[StaticEntry]) -> bool {
     }
 }
 
-/// Returns whether the stream gate with number `number` is always closed; false if the plan lacks it.
+/// Returns whether the stream gate with number `number` is always closed; false if the plan lacks it. `are_strays` calls it.
 fn is_gate_closed<A: Allocator + Copy>(gates: &[(u32, GatePlan<A>)], number: u32) -> bool {
     for gate in gates {
         if gate.0 == number {
@@ -85,7 +86,7 @@ fn is_gate_closed<A: Allocator + Copy>(gates: &[(u32, GatePlan<A>)], number: u32
 }
 
 /// Returns whether all filters of a handle are neither protected nor grouped, and have closed stream gates: they only refuse stray frames.
-/// Returns false without a filter.
+/// Returns false without a filter. `find_streams` calls it.
 fn are_strays<A: Allocator + Copy>(plan: &Plan<A>, handle: u32) -> bool {
     let mut is_asked = false;
     for filter in plan.filters() {
@@ -101,6 +102,7 @@ fn are_strays<A: Allocator + Copy>(plan: &Plan<A>, handle: u32) -> bool {
 }
 
 /// Adds a warning for each stream whose static entry names its ingress port, unless its filters only refuse stray frames.
+/// `find_unused_parts` calls it.
 fn find_streams<A: Allocator + Copy>(
     found: &mut Vec<Warning>,
     plan: &Plan<A>,
@@ -121,12 +123,12 @@ fn find_streams<A: Allocator + Copy>(
     Ok(())
 }
 
-/// Returns whether a stream gate is closed in all these entries of its list.
+/// Returns whether a stream gate is closed in all these entries of its list. `closing_time` and `is_always_closed` call it.
 fn are_all_closed(entries: &[(GateEntry, u64)]) -> bool {
     entries.iter().all(|entry| !entry.0.lets)
 }
 
-/// Returns whether a stream gate is always closed, also after a schedule change.
+/// Returns whether a stream gate is always closed, also after a schedule change. `find_gates` and `is_gate_closed` call it.
 fn is_always_closed<A: Allocator + Copy>(gate: &GatePlan<A>) -> bool {
     match &gate.schedule {
         Schedule::Fixed { lets, .. } => !*lets,
@@ -139,7 +141,7 @@ fn is_always_closed<A: Allocator + Copy>(gate: &GatePlan<A>) -> bool {
 }
 
 /// Returns the time in ns of the schedule change that closes a stream gate for ever. `None` without a change, if the gate opens after it,
-/// or never opened before.
+/// or never opened before. `find_gates` calls it.
 fn closing_time<A: Allocator + Copy>(gate: &GatePlan<A>) -> Option<u64> {
     match &gate.schedule {
         Schedule::Joined(joined) => {
@@ -154,7 +156,8 @@ fn closing_time<A: Allocator + Copy>(gate: &GatePlan<A>) -> Option<u64> {
     }
 }
 
-/// Returns the number of the first protected or grouped filter that uses stream gate `gate`, or `None`.
+/// Returns the number of the first protected or grouped filter that uses stream gate `gate`, or `None`. `find_gates` and `is_decision` call
+/// it.
 fn tested_filter_with_gate(filters: &[(u32, FilterPlan)], gate: u32) -> Option<u32>
     ensures { result ≡ spec.tested_with gate filters.now }
 {
@@ -166,7 +169,7 @@ fn tested_filter_with_gate(filters: &[(u32, FilterPlan)], gate: u32) -> Option<u
     None
 }
 
-/// Returns whether at least one filter uses stream gate `gate`.
+/// Returns whether at least one filter uses stream gate `gate`. `is_decision` calls it.
 fn is_used(filters: &[(u32, FilterPlan)], gate: u32) -> bool
     ensures { result ≡ spec.is_used gate filters.now }
 {
@@ -179,7 +182,7 @@ fn is_used(filters: &[(u32, FilterPlan)], gate: u32) -> bool
 }
 
 /// Returns whether a filter uses stream gate `gate`, but no protected or grouped filter does. Such a closed gate gives no warning: it may
-/// refuse stray frames.
+/// refuse stray frames. `find_gates` calls it.
 fn is_decision(filters: &[(u32, FilterPlan)], gate: u32) -> bool
     ensures { result ≡ spec.is_decision gate filters.now }
 {
@@ -187,7 +190,7 @@ fn is_decision(filters: &[(u32, FilterPlan)], gate: u32) -> bool
 }
 
 /// Adds a warning for each stream gate that is always closed, except gates that only unprotected filters use. Adds another for each
-/// protected or grouped filter's gate that a schedule change closes.
+/// protected or grouped filter's gate that a schedule change closes. `find_unused_parts` calls it.
 fn find_gates<A: Allocator + Copy>(
     found: &mut Vec<Warning>,
     gates: &[(u32, GatePlan<A>)],
@@ -214,7 +217,7 @@ fn find_gates<A: Allocator + Copy>(
     Ok(())
 }
 
-/// Adds a warning for each meter whose buckets are smaller than the shortest frame, or never refill.
+/// Adds a warning for each meter whose buckets are smaller than the shortest frame, or never refill. `find_unused_parts` calls it.
 fn find_meters(found: &mut Vec<Warning>, meters: &[(u32, MeterPlan)]) -> Result<(), AllocError> {
     for (number, meter) in meters {
         if meter.cbs < SHORTEST && meter.ebs < SHORTEST {
@@ -227,6 +230,7 @@ fn find_meters(found: &mut Vec<Warning>, meters: &[(u32, MeterPlan)]) -> Result<
 }
 
 /// Adds the warnings about each filter without effect: no stream, hidden by others, no possible length, or a low octet limit.
+/// `find_unused_parts` calls it.
 fn find_filters<A: Allocator + Copy>(
     found: &mut Vec<Warning>,
     plan: &Plan<A>,
@@ -240,7 +244,7 @@ fn find_filters<A: Allocator + Copy>(
     Ok(())
 }
 
-/// Adds a warning if filter `number` names a handle that no stream has: then it matches no frame.
+/// Adds a warning if filter `number` names a handle that no stream has: then it matches no frame. `find_filters` calls it.
 fn find_unused_handle(
     found: &mut Vec<Warning>,
     streams: &[StreamEntry],
@@ -258,6 +262,7 @@ fn find_unused_handle(
 }
 
 /// Returns whether a filter with handle `one` matches each frame that a filter with handle `other` matches. `None` matches every handle.
+/// `covers_filter` and `taking_filter` call it.
 fn covers_handle(one: Option<u32>, other: Option<u32>) -> bool
     ensures { result ≡ spec.covers one other }
 {
@@ -269,7 +274,7 @@ fn covers_handle(one: Option<u32>, other: Option<u32>) -> bool
 }
 
 /// Returns whether a filter with priority `one` matches each frame that a filter with priority `other` matches. `None` matches every
-/// priority.
+/// priority. `covers_filter` calls it.
 fn covers_priority(one: Option<u8>, other: Option<u8>) -> bool
     ensures { result ≡ spec.covers one other }
 {
@@ -280,14 +285,14 @@ fn covers_priority(one: Option<u8>, other: Option<u8>) -> bool
     }
 }
 
-/// Returns whether filter `one` matches each frame that filter `other` matches.
+/// Returns whether filter `one` matches each frame that filter `other` matches. `first_hiding_filter` calls it.
 fn covers_filter(one: &FilterPlan, other: &FilterPlan) -> bool
     ensures { result ≡ spec.covers_filter one.now other.now }
 {
     covers_handle(one.handle, other.handle) && covers_priority(one.priority, other.priority)
 }
 
-/// Returns the number of the first filter below `number` that matches each frame of `filter`, or `None`.
+/// Returns the number of the first filter below `number` that matches each frame of `filter`, or `None`. `find_hidden_filter` calls it.
 fn first_hiding_filter(
     filters: &[(u32, FilterPlan)],
     number: u32,
@@ -303,7 +308,8 @@ fn first_hiding_filter(
     None
 }
 
-/// Returns whether a filter with this optional priority matches frames of `priority`. `None` matches every priority.
+/// Returns whether a filter with this optional priority matches frames of `priority`. `None` matches every priority. `taking_filter` calls
+/// it.
 fn takes_value(own: Option<u8>, priority: u8) -> bool
     ensures { result ≡ is_priority_match own priority }
 {
@@ -314,6 +320,7 @@ fn takes_value(own: Option<u8>, priority: u8) -> bool
 }
 
 /// Returns the number of the first filter below `number` that matches each frame of `filter` with priority `priority`, or `None`.
+/// `is_priority_taken` and `taking_filters` call it.
 fn taking_filter(
     filters: &[(u32, FilterPlan)],
     number: u32,
@@ -333,7 +340,7 @@ fn taking_filter(
     None
 }
 
-/// Returns whether a filter with a lower number matches each frame of `filter` with priority `priority`.
+/// Returns whether a filter with a lower number matches each frame of `filter` with priority `priority`. `are_all_taken` calls it.
 fn is_priority_taken(
     filters: &[(u32, FilterPlan)],
     number: u32,
@@ -345,7 +352,7 @@ fn is_priority_taken(
     taking_filter(filters, number, filter, priority).is_some()
 }
 
-/// Returns whether filters with lower numbers match all frames of `filter`, for all priorities.
+/// Returns whether filters with lower numbers match all frames of `filter`, for all priorities. `find_hidden_filter` calls it.
 fn are_all_taken(filters: &[(u32, FilterPlan)], number: u32, filter: &FilterPlan) -> bool
     ensures { result ≡ spec.are_all_taken filter.now number filters.now }
 {
@@ -360,7 +367,7 @@ fn are_all_taken(filters: &[(u32, FilterPlan)], number: u32, filter: &FilterPlan
 }
 
 /// Returns for each priority, from 0, the number of the first filter below `number` that matches the frames of `filter`; 0 without such a
-/// filter.
+/// filter. `find_hidden_filter` calls it.
 fn taking_filters(filters: &[(u32, FilterPlan)], number: u32, filter: &FilterPlan) -> [u32; 8] {
     let mut takers = [0u32; 8];
     for priority in 0..8u8 {
@@ -369,7 +376,7 @@ fn taking_filters(filters: &[(u32, FilterPlan)], number: u32, filter: &FilterPla
     takers
 }
 
-/// Adds a warning if one filter below `number`, or several together, match all frames of filter `number`.
+/// Adds a warning if one filter below `number`, or several together, match all frames of filter `number`. `find_filters` calls it.
 fn find_hidden_filter(
     found: &mut Vec<Warning>,
     filters: &[(u32, FilterPlan)],
@@ -394,6 +401,7 @@ fn find_hidden_filter(
 }
 
 /// Adds a warning if the SDU of every frame is longer than the largest SDU of filter `number`. Then the filter refuses all frames.
+/// `find_filters` calls it.
 fn find_no_length(
     found: &mut Vec<Warning>,
     number: u32,
@@ -408,7 +416,7 @@ fn find_no_length(
     }
 }
 
-/// Returns the first octet limit of an open entry that is less than `sdu` octets, or `None`.
+/// Returns the first octet limit of an open entry that is less than `sdu` octets, or `None`. `low_schedule_limit` calls it.
 fn first_low_limit(entries: &[(GateEntry, u64)], sdu: u32) -> Option<u32>
     ensures { IfSome result (λ octets. octets < sdu) }
 {
@@ -425,7 +433,7 @@ fn first_low_limit(entries: &[(GateEntry, u64)], sdu: u32) -> Option<u32>
 }
 
 /// Returns the first octet limit of a stream gate's open entries that is less than `sdu` octets, or `None`. The old list comes before the
-/// new list.
+/// new list. `low_gate_limit` calls it.
 fn low_schedule_limit<A: Allocator + Copy>(schedule: &Schedule<A>, sdu: u32) -> Option<u32>
     ensures { IfSome result (λ octets. octets < sdu) }
 {
@@ -440,6 +448,7 @@ fn low_schedule_limit<A: Allocator + Copy>(schedule: &Schedule<A>, sdu: u32) -> 
 }
 
 /// Returns the first octet limit of stream gate `number` that is less than `sdu`. Returns `None` without such a limit or gate.
+/// `find_low_limit` calls it.
 fn low_gate_limit<A: Allocator + Copy>(
     gates: &[(u32, GatePlan<A>)],
     number: u32,
@@ -455,7 +464,8 @@ fn low_gate_limit<A: Allocator + Copy>(
     None
 }
 
-/// Adds a warning if an open entry of filter `number`'s stream gate passes fewer octets than the filter's largest SDU.
+/// Adds a warning if an open entry of filter `number`'s stream gate passes fewer octets than the filter's largest SDU. `find_filters` calls
+/// it.
 fn find_low_limit<A: Allocator + Copy>(
     found: &mut Vec<Warning>,
     gates: &[(u32, GatePlan<A>)],

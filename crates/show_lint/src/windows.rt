@@ -16,7 +16,7 @@ const LENGTH_STEPS: [u32; 14] = [
 ];
 
 /// Returns the text of the window with index `place`, from 0: `{0}` is its start and `{1}` its end, offsets in ns. Only the first eight
-/// windows are listed.
+/// windows are listed. `put_window` calls it.
 fn window_template(place: usize) -> &'static str {
     match place {
         0 => "open {0} to {1} ns",
@@ -27,11 +27,12 @@ fn window_template(place: usize) -> &'static str {
 }
 
 /// Writes the window with index `place`, from 0, from offset `from` to `to` in ns. After eight windows, writes once that there are more.
+/// `put_list_windows` calls it.
 fn put_window(said: &mut LintText, place: usize, from: u64, to: u64) {
     said.put_template(window_template(place), &[from, to], &[]);
 }
 
-/// Writes the windows of a class in one cycle of a list, at most eight, and the cycle time.
+/// Writes the windows of a class in one cycle of a list, at most eight, and the cycle time. `put_open_windows` calls it.
 fn put_list_windows<A: Allocator + Copy>(said: &mut LintText, list: &CyclicList<u8, A>, class: u8)
     requires { class < 8 }
 {
@@ -82,7 +83,8 @@ pub(crate) fn put_open_windows<A: Allocator + Copy>(
     }
 }
 
-/// Returns whether a window as long as `run` suffices for a frame of `length` octets on a link with speed `speed`.
+/// Returns whether a window as long as `run` suffices for a frame of `length` octets on a link with speed `speed`. `longest_frame_in_run`
+/// calls it.
 fn can_fit(run: Run, speed: Speed, length: u32) -> bool
     ensures { (result ≡ true) ↔ Allows run (transmission_time length speed) }
 {
@@ -90,7 +92,7 @@ fn can_fit(run: Run, speed: Speed, length: u32) -> bool
 }
 
 /// Returns the length in octets, at most 9,216, of the longest frame that fits a window as long as `run`. `None` if no frame fits. Lengths
-/// exclude the check sequence.
+/// exclude the check sequence. `longest_frame_of_class` calls it.
 pub(crate) fn longest_frame_in_run(run: Run, speed: Speed) -> Option<u32>
     ensures fits { IfSome result (λ length. Allows run (transmission_time length speed)) }
 {
@@ -107,7 +109,7 @@ pub(crate) fn longest_frame_in_run(run: Run, speed: Speed) -> Option<u32>
     Some(longest)
 }
 
-/// Returns the shorter of two longest windows: frames must fit before and after a schedule change.
+/// Returns the shorter of two longest windows: frames must fit before and after a schedule change. `class_run` calls it.
 fn shorter_run(one: Run, other: Run) -> Run {
     match one {
         Run::Always => other,
@@ -121,6 +123,7 @@ fn shorter_run(one: Run, other: Run) -> Run {
 }
 
 /// Returns the longest window of a class at a port. If a schedule change joins two lists, returns the shorter of their longest windows.
+/// `longest_frame_of_class` and `put_remedy` call it.
 pub(crate) fn class_run<A: Allocator + Copy>(port: &PortPlan<A>, class: u8) -> Run
     requires { class < 8 }
 {
