@@ -78,7 +78,7 @@ pub(crate) struct FrameSelection {
     pub marks: DrawnGroup,
 }
 
-/// Returns why a filter refused a frame; the empty text if the frame passed.
+/// Returns why a filter refused a frame; the empty text if the frame passed. `visit_filter` calls it.
 fn refusal_cause(verdict: Verdict) -> &'static str {
     match verdict {
         Verdict::Pass { .. } => "",
@@ -108,7 +108,8 @@ impl DrawnGroup {
         }
     }
 
-    /// Counts a frame at position `x`, or selects it if its time part may have more frames. The current pass decides.
+    /// Counts a frame at position `x`, or selects it if its time part may have more frames. The current pass decides. `visit_frame` calls
+    /// it.
     fn add_frame(&mut self, pass: Pass, frame: DrawnFrame, x: u64) {
         let part = (x.saturating_sub(AXIS_LEFT) / PART_WIDTH) as usize;
         let place = usize::from(frame.port) * TIME_PARTS + part.min(TIME_PARTS - 1);
@@ -126,7 +127,7 @@ impl DrawnGroup {
         }
     }
 
-    /// Returns how many frames are drawn if each time part may have `each` frames.
+    /// Returns how many frames are drawn if each time part may have `each` frames. `allot_shares` and `left_out` call it.
     fn drawn_count(&self, each: u64) -> u64 {
         let mut drawn: u64 = 0;
         for share in &self.shares {
@@ -136,7 +137,7 @@ impl DrawnGroup {
     }
 
     /// Allots equal shares to all time parts, so that at most `most` frames are drawn. The share grows by a quarter in each step; 128 steps
-    /// exceed any count.
+    /// exceed any count. `select_frames` calls it.
     fn allot_shares(&mut self, most: u64) {
         let mut each: u64 = 1;
         for _ in 0..128 {
@@ -178,7 +179,7 @@ impl Picture {
 
 impl FrameSelection {
     /// Visits a frame: completes its arrival time, then extends the span, counts the frame or selects it, by the current pass. Ignores
-    /// frames outside `part`.
+    /// frames outside `part`. `visit_filter` calls it.
     fn visit_frame(&mut self, part: &Selection, origins: &[StoredOrigin], frame: DrawnFrame) {
         let Some(stored) = origins.get(frame.own.saturating_sub(1) as usize) else {
             return;
@@ -260,7 +261,8 @@ impl FrameSelection {
         }
     }
 
-    /// Visits all frames of the filters that `part` selects, for the purpose `pass`. Filters get colours 0 to 7 in turn.
+    /// Visits all frames of the filters that `part` selects, for the purpose `pass`. Filters get colours 0 to 7 in turn. `select_frames`
+    /// calls it.
     fn visit_frames<B: Allocator>(&mut self, part: &Selection, outcome: &Outcome<B>, pass: Pass) {
         let mut colour: u64 = 0;
         self.pass = pass;

@@ -48,7 +48,8 @@ pub(crate) fn digit_count(number: u32) -> usize {
     number.checked_ilog10().unwrap_or(0) as usize + 1
 }
 
-/// Returns the template of a lane's name, the number in it, and how many letters of filter numbers fit next to the name.
+/// Returns the template of a lane's name, the number in it, and how many letters of filter numbers fit next to the name. `draw_lane` calls
+/// it.
 fn lane_name(lane: Lane) -> (&'static str, u64, usize) {
     match lane {
         Lane::Class(_, class) => ("class {0}", u64::from(class), 11),
@@ -60,7 +61,8 @@ fn lane_name(lane: Lane) -> (&'static str, u64, usize) {
     }
 }
 
-/// Returns whether only one list applies from time `from` in ns on. Then a state that lasts a whole cycle lasts for ever.
+/// Returns whether only one list applies from time `from` in ns on. Then a state that lasts a whole cycle lasts for ever. `collect_windows`
+/// calls it.
 fn has_single_list<A: Allocator + Copy>(times: &LaneTimes<A>, from: u64) -> bool {
     match times {
         LaneTimes::Lists(Egress::Joined(joined)) => joined.change_time() <= from,
@@ -80,7 +82,8 @@ fn can_enter_port(streams: &[StreamEntry], handle: Option<u32>, port: u8) -> boo
     false
 }
 
-/// Returns whether a filter is protected or grouped. Pictures show the windows and stream gates of such filters.
+/// Returns whether a filter is protected or grouped. Pictures show the windows and stream gates of such filters. `add_gates` and
+/// `is_filter_in_lane` call it.
 fn is_shown(filter: &FilterPlan) -> bool {
     filter.protected || filter.group.is_some()
 }
@@ -96,7 +99,7 @@ pub(crate) fn has_groups<A: Allocator + Copy>(plan: &Plan<A>) -> bool {
 }
 
 /// Returns whether a lane names a filter. A stream gate's lane names its filters, other lanes the protected and grouped filters whose
-/// frames can wait there.
+/// frames can wait there. `put_lane` calls it.
 fn is_filter_in_lane<A: Allocator + Copy>(plan: &Plan<A>, filter: &FilterPlan, lane: Lane) -> bool {
     let (port, first, last) = match lane {
         Lane::Gate(gate) => return filter.gate == gate,
@@ -139,6 +142,7 @@ impl Picture {
     }
 
     /// Returns the interval of a lane that begins at time `from` in ns, with its state: open or closed, at fault, assigned priority.
+    /// `collect_windows` calls it.
     fn window_at_time<A: Allocator + Copy>(
         &self,
         lane: Lane,
@@ -166,7 +170,8 @@ impl Picture {
         Window { from, to, open }
     }
 
-    /// Adds an open interval to the current lane's windows, or extends the last window by it. Ignores a closed interval.
+    /// Adds an open interval to the current lane's windows, or extends the last window by it. Ignores a closed interval. `collect_windows`
+    /// calls it.
     fn append_window(&mut self, turn: Window) {
         match self.windows.last_mut() {
             _ if turn.open.is_none() => {}
@@ -176,7 +181,7 @@ impl Picture {
     }
 
     /// Collects the windows of a lane in the span, at most one more than its limit. Returns whether they are complete. Examines at most
-    /// 20,000 intervals.
+    /// 20,000 intervals. `put_lane` calls it.
     fn collect_windows<A: Allocator + Copy>(&mut self, lane: Lane, times: &LaneTimes<A>) -> bool {
         let (from, end) = (self.span.from, self.span.to.min(END_OF_TURNS));
         let mut at = from;
@@ -203,6 +208,7 @@ impl Picture {
     }
 
     /// Draws a window of the current lane, in a colour of its own if it is at fault. If it is wide enough, writes the assigned priority.
+    /// `put_windows` calls it.
     fn put_window(&mut self, style: &str, window: Window) {
         let (is_at_fault, value) = window.open.unwrap_or((false, None));
         let (x, width) = self.span.page_extent(window.from, window.to);
@@ -218,6 +224,7 @@ impl Picture {
     }
 
     /// Draws the windows of the current lane. If `is_all` is false, there are too many windows, and a hatched band replaces them.
+    /// `draw_lane` calls it.
     fn put_windows(&mut self, style: &str, is_all: bool) {
         if is_all {
             for place in 0..self.windows.len() {
@@ -235,7 +242,7 @@ impl Picture {
         self.page.skip_height(BAR_HEIGHT + 20);
     }
 
-    /// Writes the numbers of the current lane's filters that fit `room` letters, and how many more filters there are.
+    /// Writes the numbers of the current lane's filters that fit `room` letters, and how many more filters there are. `draw_lane` calls it.
     fn put_filter_numbers(&mut self, room: usize) {
         let (mut room, mut more, mut gap) = (room, 0u64, "");
         for number in &self.named {
@@ -275,7 +282,7 @@ impl Picture {
         self.put_windows(choose_word(is_bold, "own", open), is_all);
     }
 
-    /// Finds the filters and windows of a lane, then draws the lane.
+    /// Finds the filters and windows of a lane, then draws the lane. `put_gates` and `put_port` call it.
     fn put_lane<A: Allocator + Copy>(&mut self, plan: &Plan<A>, lane: Lane, times: &LaneTimes<A>) {
         self.named.clear();
         for (number, filter) in plan.filters() {

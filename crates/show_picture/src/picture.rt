@@ -57,7 +57,8 @@ impl Picture {
         }
     }
 
-    /// Returns the picture as SVG text of at most 2,000,000 octets. Returns `NoMemory` if memory ran out at any step.
+    /// Returns the picture as SVG text of at most 2,000,000 octets. Returns `NoMemory` if memory ran out at any step. `draw_plan` and
+    /// `draw_run` call it.
     pub(crate) fn finish(self, alloc: Global) -> Result<String, NoMemory>
         ensures { IfOk result (λ text. length (string_bytes text) ≤ 2000000) }
     {

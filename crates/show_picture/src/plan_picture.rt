@@ -49,6 +49,7 @@ fn fault_template(fault: CheckFault) -> (&'static str, u32, u8, u8) {
 }
 
 /// Writes how much of the hypercycle the picture shows. If the arguments select a part of the time, writes only the hypercycle's length.
+/// `put_title` calls it.
 fn put_hypercycle(page: &mut Page, times: Hypercycle, is_part: bool) {
     if times.length == 0 {
         return page.add_words("no gate control list");
@@ -72,13 +73,15 @@ impl Picture {
     }
 
     /// Writes one port or filter of the selection: `only port 3` first, `, filter 10` later. Adds a note if the plan lacks the number.
+    /// `put_selection` calls it.
     fn put_selected(&mut self, form: &str, number: u32, is_first: bool, is_there: bool) {
         let lead = choose_word(is_first, "only ", ", ");
         self.page.add_piece(form, &[u64::from(number)], lead);
         self.page.add_words(choose_word(is_there, "", NOT_IN_PLAN));
     }
 
-    /// Writes which ports and filters the picture shows, unless it shows all, and which of them the plan lacks.
+    /// Writes which ports and filters the picture shows, unless it shows all, and which of them the plan lacks. `draw_plan` and `draw_run`
+    /// call it.
     pub(crate) fn put_selection<A: Allocator + Copy>(&mut self, plan: &Plan<A>, part: &Selection) {
         if part.ports.is_empty() && part.filters.is_empty() {
             return;
@@ -101,7 +104,8 @@ impl Picture {
         self.page.end_text();
     }
 
-    /// Writes the head of a plan's picture: how much of the hypercycle it shows, the schedule change, and the time span.
+    /// Writes the head of a plan's picture: how much of the hypercycle it shows, the schedule change, and the time span. `draw_plan` calls
+    /// it.
     fn put_title(&mut self, times: Hypercycle, is_part: bool) {
         let span = self.span;
         self.begin_head("plan");
@@ -117,7 +121,8 @@ impl Picture {
         page.end_text();
     }
 
-    /// Writes in the head why a plan is refused. Stores the port and class at fault, whose windows are drawn in another colour.
+    /// Writes in the head why a plan is refused. Stores the port and class at fault, whose windows are drawn in another colour. `draw_plan`
+    /// calls it.
     fn put_fault(&mut self, alloc: Global, fault: CheckFault) {
         let (template, other, class, port) = fault_template(fault);
         let is_beside = matches!(fault, CheckFault::WindowShared { .. });
@@ -172,6 +177,7 @@ impl Picture {
     }
 
     /// Draws the time axis below the lanes, and writes above them how many lanes are hatched. `top` is the upper edge of the lanes.
+    /// `put_ports` calls it.
     fn finish_ports(&mut self, top: u64) {
         self.page.put_axis(self.span, top, self.change);
         if self.hatched_lanes > 0 {

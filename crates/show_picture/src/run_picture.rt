@@ -45,7 +45,8 @@ fn longest_delay<A: Allocator + Copy>(
     }
 }
 
-/// Returns the longest delay bound in ns of a group's queues at `port`. Returns `None` without a group or a queue.
+/// Returns the longest delay bound in ns of a group's queues at `port`. Returns `None` without a group or a queue. `longest_delay` calls
+/// it.
 fn longest_group_delay(rows: &[SharedQueue], group: Option<u32>, port: u8) -> Option<u64> {
     let mut longest = None;
     for row in rows {
@@ -57,6 +58,7 @@ fn longest_group_delay(rows: &[SharedQueue], group: Option<u32>, port: u8) -> Op
 }
 
 /// Returns whether the span and ports of the picture show an arrival or a frame that left of a filter. Only then the legend has the filter.
+/// `put_shown_filters` calls it.
 fn is_drawn(
     span: Span,
     part: &Selection,
@@ -93,7 +95,7 @@ impl Picture {
     }
 
     /// Draws a frame that left, higher for a protected filter, wide enough to be visible. If the delay bound `longest` is known, draws the
-    /// latest end too.
+    /// latest end too. `put_port_link` calls it.
     fn put_frame(&mut self, frame: &DrawnFrame, longest: Option<u64>) {
         let (filter, own, came) = (u64::from(frame.filter), frame.own, frame.arrival);
         let (colour, start, done) = (frame.colour, frame.start, frame.done);
@@ -125,7 +127,7 @@ impl Picture {
     }
 
     /// Draws the mark of a refused or dropped frame, larger and with an edge for a protected filter. Its tip is up for a refused frame,
-    /// down for a dropped one.
+    /// down for a dropped one. `put_port_link` calls it.
     fn put_mark(&mut self, frame: &DrawnFrame) {
         let is_stopped = frame.is_stopped;
         let high = if frame.is_protected { 120 } else { 80 };
@@ -179,7 +181,8 @@ impl Picture {
         self.page.skip_height(170);
     }
 
-    /// Writes how many frames and marks aren't drawn, if any, and a legend row for each filter with frames in the picture.
+    /// Writes how many frames and marks aren't drawn, if any, and a legend row for each filter with frames in the picture. `draw_run` calls
+    /// it.
     fn put_shown_filters<A: Allocator + Copy, B: Allocator>(
         &mut self,
         plan: &Plan<A>,

@@ -34,7 +34,8 @@ impl Selection<'_> {
     }
 }
 
-/// Returns how much of a hypercycle a picture shows before or after a schedule change, in ns; 1 ms without a list.
+/// Returns how much of a hypercycle a picture shows before or after a schedule change, in ns; 1 ms without a list. `plan_span` and
+/// `put_hypercycle` call it.
 pub(crate) fn shown_length(times: Hypercycle) -> u64 {
     match times.length {
         0 => 1_000_000,
