@@ -55,7 +55,8 @@ fn has_option_value(name: &str) -> Option<bool> {
     }
 }
 
-/// Returns the first option among the arguments that no command has, or `None`. Arguments after `--` aren't options.
+/// Returns the first option among the arguments that no command has, or `None`. Arguments after `--` aren't options. `explain_arguments`
+/// calls it.
 fn unknown_option(words: &[String]) -> Option<&str> {
     for word in words {
         if word.as_str() == "--" {
@@ -71,6 +72,7 @@ fn unknown_option(words: &[String]) -> Option<&str> {
 }
 
 /// Returns the first argument that isn't an option: it should be a command. Returns `None` if all arguments are options.
+/// `explain_arguments` calls it.
 fn first_operand(words: &[String]) -> Option<&str> {
     for word in words {
         if option_name(word.as_str()).is_none() {
@@ -80,7 +82,7 @@ fn first_operand(words: &[String]) -> Option<&str> {
     None
 }
 
-/// Writes that an option is unknown, and the nearest option.
+/// Writes that an option is unknown, and the nearest option. `explain_arguments` calls it.
 fn put_unknown_option(alloc: Global, said: &mut Said, name: &str) {
     put_text(said, name);
     said.put(" isn't an option.\n");
@@ -95,7 +97,7 @@ fn put_unknown_option(alloc: Global, said: &mut Said, name: &str) {
 }
 
 /// Writes that the command `word` is unknown, or missing if `None`, and the usage of the nearest command. Writes all usages if none is
-/// near.
+/// near. `explain_arguments` and `put_command_refusal` call it.
 fn put_usages(alloc: Global, said: &mut Said, word: Option<&str>) {
     let Ok(names) = command_names(alloc) else {
         return said.discard();
@@ -116,7 +118,7 @@ fn put_usages(alloc: Global, said: &mut Said, word: Option<&str>) {
     }
 }
 
-/// Writes `template` with the usage of the command with name `name`. Writes nothing for an unknown name.
+/// Writes `template` with the usage of the command with name `name`. Writes nothing for an unknown name. `put_usages` calls it.
 fn put_usage(said: &mut Said, template: &str, name: &str) {
     if let Some(call) = find_usage(name) {
         fill_with_word(said, template, 0, call.line);
@@ -124,6 +126,7 @@ fn put_usage(said: &mut Said, template: &str, name: &str) {
 }
 
 /// Returns the number of arguments after the command that aren't options or their values. A wrong number is reported before other faults.
+/// `put_command_refusal` calls it.
 fn count_operands(words: &[String]) -> usize {
     let mut count = 0usize;
     let mut is_value = false;
@@ -158,7 +161,8 @@ enum OptionFault {
 /// Start of the reasons of most usages, which applies to any option. A sentence about one option replaces it.
 const ANY_OPTION: &str = "An option is unknown here, repeated, or lacks its value.\n";
 
-/// Returns the name, without its `--`, of the option at the start of `part`: the rest of a command's usage line after `[--`.
+/// Returns the name, without its `--`, of the option at the start of `part`: the rest of a command's usage line after `[--`. `has_option`
+/// and `put_options` call it.
 fn called_option(part: &str) -> &str {
     let front = match part.split_once(']') {
         Some((front, _)) => front,
@@ -170,7 +174,8 @@ fn called_option(part: &str) -> &str {
     }
 }
 
-/// Returns whether a command has option `name`, with its `--`, by its usage line. Every command has `--explain`.
+/// Returns whether a command has option `name`, with its `--`, by its usage line. Every command has `--explain`. `option_fault` and
+/// `put_options` call it.
 fn has_option(call: &Usage, name: &str) -> bool {
     if name == "--explain" {
         return true;
@@ -205,6 +210,7 @@ fn is_value(word: Option<&String>) -> bool {
 }
 
 /// Returns why option `name`, the argument with index `place`, is refused, or `None`. `is_early` is true if the command comes later.
+/// `wrong_option` calls it.
 fn option_fault(
     words: &[String],
     place: usize,
@@ -233,6 +239,7 @@ fn option_fault(
 }
 
 /// Returns the first refused option among a command's arguments and why it is refused. Returns `None` if no option is at fault.
+/// `put_reason` calls it.
 fn wrong_option<'a>(words: &'a [String], call: &Usage) -> Option<(&'a str, OptionFault)> {
     let mut place = 0usize;
     let mut is_early = true;
@@ -254,7 +261,7 @@ fn wrong_option<'a>(words: &'a [String], call: &Usage) -> Option<(&'a str, Optio
     None
 }
 
-/// Writes the options of a command, each once, for the explanation of an option that it doesn't have.
+/// Writes the options of a command, each once, for the explanation of an option that it doesn't have. `put_wrong` calls it.
 fn put_options(said: &mut Said, call: &Usage) {
     fill_with_word(said, "The options of `{a}` are --explain", 0, call.name);
     let mut last = "";
@@ -271,7 +278,7 @@ fn put_options(said: &mut Said, call: &Usage) {
     said.put(".\n");
 }
 
-/// Writes why an option of a command is refused, and what to change.
+/// Writes why an option of a command is refused, and what to change. `put_reason` calls it.
 fn put_wrong(said: &mut Said, call: &Usage, name: &str, fault: OptionFault) {
     let template = match fault {
         OptionFault::Early =>
@@ -297,6 +304,7 @@ fn reason_alone(reason: &'static str) -> &'static str {
 }
 
 /// Writes why arguments of the right number are refused: the option at fault or, without one, the command's own reason.
+/// `put_command_refusal` calls it.
 fn put_reason(said: &mut Said, words: &[String], call: &Usage) {
     match wrong_option(words, call) {
         Some((name, fault)) => put_wrong(said, call, name, fault),
@@ -305,7 +313,7 @@ fn put_reason(said: &mut Said, words: &[String], call: &Usage) {
 }
 
 /// Writes why the arguments of command `word` are refused: a wrong number of operands, otherwise its reason. If `word` is no command,
-/// writes usages.
+/// writes usages. `explain_arguments` calls it.
 fn put_command_refusal(alloc: Global, said: &mut Said, words: &[String], word: &str) {
     let Some(call) = find_usage(word) else {
         return put_usages(alloc, said, Some(word));

@@ -11,7 +11,7 @@ use std::alloc::Global;
 /// Length of a capture's header in octets.
 const HEADER_LENGTH: u64 = 24;
 
-/// Returns whether all octets are printable text: the user may have given a text file as capture.
+/// Returns whether all octets are printable text: the user may have given a text file as capture. `capture_sentence` calls it.
 fn is_text(octets: &[u8]) -> bool {
     for octet in octets {
         if !matches!(*octet, b' '..=b'~' | b'\n' | b'\r' | b'\t') {
@@ -21,7 +21,8 @@ fn is_text(octets: &[u8]) -> bool {
     true
 }
 
-/// Returns the kind of a file by its first octets, if another program can convert it. Returns `None` for other files.
+/// Returns the kind of a file by its first octets, if another program can convert it. Returns `None` for other files. `capture_sentence`
+/// and `explain_capture` call it.
 fn file_kind(octets: &[u8]) -> Option<&'static str> {
     match octets {
         [0x0A, 0x0D, 0x0D, 0x0A, ..] => Some("a pcapng file"),
@@ -60,7 +61,7 @@ pub fn explain_capture(
 }
 
 /// Returns the sentence for a capture's fault. Marks: path `{a}`, kind `{b}`, lengths of file `{0}` and header `{1}`, record `{2}`, version
-/// `{3}.{4}`, link type `{5}`.
+/// `{3}.{4}`, link type `{5}`. `explain_capture` calls it.
 fn capture_sentence(octets: &[u8], fault: &CaptureFault) -> &'static str {
     match fault {
         CaptureFault::BadMagic if file_kind(octets).is_some() =>
@@ -102,7 +103,7 @@ fn capture_sentence(octets: &[u8], fault: &CaptureFault) -> &'static str {
     }
 }
 
-/// Returns the number, from 1, of the record that a fault names; 0 if it names none.
+/// Returns the number, from 1, of the record that a fault names; 0 if it names none. `explain_capture` calls it.
 fn fault_record(fault: &CaptureFault) -> u64 {
     match fault {
         CaptureFault::RecordCut(n)
@@ -114,7 +115,8 @@ fn fault_record(fault: &CaptureFault) -> u64 {
     }
 }
 
-/// Returns two numbers from a capture's header: the link type, and the upper half of its word, which must be 0.
+/// Returns two numbers from a capture's header: the link type, and the upper half of its word, which must be 0. `capture_sentence` and
+/// `explain_capture` call it.
 fn link_type(octets: &[u8]) -> (u64, u64) {
     let (one, other) = (read_u16(octets, 20), read_u16(octets, 22));
     if is_little_endian(octets) {
@@ -124,12 +126,14 @@ fn link_type(octets: &[u8]) -> (u64, u64) {
     }
 }
 
-/// Returns whether numbers in the capture's headers begin with their lowest octet, by the first octet of the file.
+/// Returns whether numbers in the capture's headers begin with their lowest octet, by the first octet of the file. `link_type` and
+/// `read_u16` call it.
 fn is_little_endian(octets: &[u8]) -> bool {
     octets.first() == Some(&0xD4) || octets.first() == Some(&0x4D)
 }
 
 /// Returns the number in the two octets from index `place` on, in the byte order of the capture. Missing octets count as 0.
+/// `explain_capture` and `link_type` call it.
 fn read_u16(octets: &[u8], place: usize) -> u64 {
     let one = octets.get(place).copied().unwrap_or(0);
     let other = octets.get(place.saturating_add(1)).copied().unwrap_or(0);

@@ -13,7 +13,7 @@ use bridge_text::{
 use std::alloc::Global;
 use toml::{Table, Value};
 
-/// Returns whether all items are numbers in a range.
+/// Returns whether all items are numbers in a range. `is_allowed` calls it.
 fn are_in_range(items: &[Value], range: &NumberRange) -> bool {
     for item in items {
         if range.read(item).is_err() {
@@ -23,7 +23,8 @@ fn are_in_range(items: &[Value], range: &NumberRange) -> bool {
     true
 }
 
-/// Returns whether a value is allowed for a key of a list's entry. Kinds of values that no entry has are never allowed.
+/// Returns whether a value is allowed for a key of a list's entry. Kinds of values that no entry has are never allowed. `first_flawed_key`
+/// calls it.
 fn is_allowed(allowed: AllowedValue, value: &Value) -> bool {
     match (allowed, value) {
         (AllowedValue::Between(range), _) => range.read(value).is_ok(),
@@ -35,7 +36,7 @@ fn is_allowed(allowed: AllowedValue, value: &Value) -> bool {
 }
 
 /// Returns the first of `keys` that an entry lacks although it is required, or whose value isn't allowed. Returns `None` if the entry is
-/// sound.
+/// sound. `put_entry_flaws` calls it.
 fn first_flawed_key(keys: &'static [KeyRule], entry: &Table) -> Option<&'static KeyRule> {
     for key in keys {
         let KeyRule(field, allowed, presence) = *key;
@@ -79,6 +80,7 @@ pub(crate) fn put_entry_flaws(
 }
 
 /// Writes the value of an entry's key and the allowed values. `number` is the entry's number, from 1; `list` is the key of its list.
+/// `put_entry_flaws` calls it.
 fn put_flaw(said: &mut Said, number: u64, list: &str, key: KeyRule, entry: &Table) {
     let KeyRule(field, allowed, _) = key;
     let value = entry.get(field.key());
@@ -87,7 +89,7 @@ fn put_flaw(said: &mut Said, number: u64, list: &str, key: KeyRule, entry: &Tabl
     put_allowed(said, allowed);
 }
 
-/// Returns the interval (key `ns`) of a list's entry in ns; 0 if it has none.
+/// Returns the interval (key `ns`) of a list's entry in ns; 0 if it has none. `is_list_refused` and `put_list_refusal` call it.
 fn entry_interval(entry: &Value) -> u64 {
     unsigned_number(key_value(entry.as_table(), Field::Ns)).unwrap_or(0)
 }
@@ -148,7 +150,7 @@ pub(crate) fn put_refused_list(
 }
 
 /// Returns the sentence for a refused list. Marks: keys `{a}` and `{b}`, entries `{0}`, at most `{1}`, cycle `{2}`, at most `{3}`, first
-/// empty entry `{4}`, total `{5}`.
+/// empty entry `{4}`, total `{5}`. `put_list_refusal` calls it.
 fn refusal_sentence(fault: ListFault) -> &'static str {
     match fault {
         ListFault::Empty => "`{a}` has no entry.\nIt must have 1 to {1}.\n",
@@ -162,7 +164,7 @@ fn refusal_sentence(fault: ListFault) -> &'static str {
     }
 }
 
-/// Writes why a list with this cycle and these entries is refused: fills the sentence with their values.
+/// Writes why a list with this cycle and these entries is refused: fills the sentence with their values. `put_refused_list` calls it.
 fn put_list_refusal(
     said: &mut Said,
     keys: ListKeys,

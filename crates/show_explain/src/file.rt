@@ -25,7 +25,7 @@ pub fn explain_file(alloc: Global, path: &str, cause: Cause) -> Result<String, N
     finish_with_path(alloc, path, said)
 }
 
-/// Returns the sentence for a cause, about the file at the path `{a}`.
+/// Returns the sentence for a cause, about the file at the path `{a}`. `explain_file` calls it.
 fn cause_sentence(cause: Cause) -> &'static str {
     match cause {
         Cause::NotFound => ": no such file. Check the spelling and the current folder.\n",

@@ -21,7 +21,8 @@ pub(crate) fn find_key(keys: &'static [KeyRule], name: &str) -> Option<&'static 
     None
 }
 
-/// Writes the key in `keys` that is nearest to `word`, or all keys if none is near.
+/// Writes the key in `keys` that is nearest to `word`, or all keys if none is near. `put_misplaced_entry_key` and `put_misplaced_table_key`
+/// call it.
 fn put_nearest_key(alloc: Global, said: &mut Said, word: &str, keys: &'static [KeyRule]) {
     let (mut names, mut is_refused) = (Vec::new(alloc), false);
     for key in keys {
@@ -51,6 +52,7 @@ pub(crate) fn put_top_key(alloc: Global, said: &mut Said, source: SourceText<'_>
 }
 
 /// Returns the first key of a table that is unknown or conflicts with another key. `has_change` is true if the plan has a schedule change.
+/// `first_misplaced_entry_key` and `put_misplaced_key` call it.
 fn first_misplaced_key<'a>(
     keys: &'static [KeyRule],
     table: &'a Table,
@@ -69,7 +71,7 @@ fn first_misplaced_key<'a>(
 }
 
 /// Returns the position, from 1, of the first entry with a key that isn't allowed there, and the key. Returns `None` if all entries are
-/// sound.
+/// sound. `put_misplaced_entry_key` calls it.
 fn first_misplaced_entry_key<'a>(
     keys: &'static [KeyRule],
     table: &'a Table,
@@ -107,7 +109,7 @@ pub(crate) fn put_misplaced_key(
     put_misplaced_entry_key(alloc, said, source, section, index, table);
 }
 
-/// Writes which key of an entry of an instance's list is unknown, and the nearest key.
+/// Writes which key of an entry of an instance's list is unknown, and the nearest key. `put_misplaced_key` calls it.
 fn put_misplaced_entry_key(
     alloc: Global,
     said: &mut Said,
@@ -130,7 +132,7 @@ fn put_misplaced_entry_key(
     put_instance_position(said, source, section, index, None);
 }
 
-/// Writes that a key isn't a key of its section and the nearest key, or why it isn't allowed there.
+/// Writes that a key isn't a key of its section and the nearest key, or why it isn't allowed there. `put_misplaced_key` calls it.
 fn put_misplaced_table_key(
     alloc: Global,
     said: &mut Said,

@@ -43,7 +43,8 @@ pub(crate) fn put_net_place(
     }
 }
 
-/// Returns the name of a network's first bridge, for examples in explanations. Returns `NAME` if it has none.
+/// Returns the name of a network's first bridge, for examples in explanations. Returns `NAME` if it has none. `put_allowed` and `put_hop`
+/// call it.
 pub(crate) fn example_bridge<'a>(document: Document<'a>) -> &'a str {
     let bridges = section_instances(document.table, NetSection::Bridge.name());
     let first = match bridges.first() {
@@ -77,12 +78,12 @@ pub(crate) fn put_key_value(
     }
 }
 
-/// Returns whether a key is `period`, `from` or `to`. Only a row of periodic traffic needs all three.
+/// Returns whether a key is `period`, `from` or `to`. Only a row of periodic traffic needs all three. `put_key_value` calls it.
 fn is_of_phases(field: NetField) -> bool {
     matches!(field, NetField::Period | NetField::From | NetField::To)
 }
 
-/// Returns whether a key is a key of a stream's talker.
+/// Returns whether a key is a key of a stream's talker. `put_key_value` calls it.
 fn is_of_talker(field: NetField) -> bool {
     for key in &TALKER_KEYS {
         if *key == field {
@@ -92,7 +93,7 @@ fn is_of_talker(field: NetField) -> bool {
     false
 }
 
-/// Writes that a stream has all keys of a talker or none of them, because one is missing.
+/// Writes that a stream has all keys of a talker or none of them, because one is missing. `put_key_value` calls it.
 fn put_talker_keys(said: &mut Said) {
     let mut template = "A stream has all of `{a}`";
     for key in &TALKER_KEYS {
@@ -102,7 +103,7 @@ fn put_talker_keys(said: &mut Said) {
     said.put(", or none of these keys.\n");
 }
 
-/// Writes the allowed values for key `field` of an instance. Numbers also depend on other keys of the instance.
+/// Writes the allowed values for key `field` of an instance. Numbers also depend on other keys of the instance. `put_key_value` calls it.
 fn put_allowed(said: &mut Said, instance: Instance<'_>, field: NetField) {
     let example = example_bridge(instance.document);
     match allowed_value(field) {
@@ -158,7 +159,7 @@ fn allowed_number(instance: Instance<'_>, field: NetField) -> Option<u64> {
 }
 
 /// Returns the key that limits `field` from below, its value, and the least value of `field`. Returns `None` without such a key or an
-/// allowed value of it.
+/// allowed value of it. `put_range` calls it.
 fn lower_limit(instance: Instance<'_>, field: NetField) -> Option<(NetField, u64, u64)> {
     let (key, more) = match field {
         NetField::Period => (NetField::From, 1),
@@ -171,7 +172,7 @@ fn lower_limit(instance: Instance<'_>, field: NetField) -> Option<(NetField, u64
 }
 
 /// Returns the key that limits `field` from above, its value, and the greatest value of `field`. Phases are below the period; a burst must
-/// contain the frame.
+/// contain the frame. `put_range` calls it.
 fn upper_limit(instance: Instance<'_>, field: NetField) -> Option<(NetField, u64, u64)> {
     let (key, less) = match field {
         NetField::From | NetField::To => (NetField::Period, 1),
@@ -187,6 +188,7 @@ fn upper_limit(instance: Instance<'_>, field: NetField) -> Option<(NetField, u64
 }
 
 /// Writes the range of the allowed numbers of key `field`, in `unit`, and the other keys that limit it. Says if no number fits.
+/// `put_allowed` calls it.
 fn put_range(
     said: &mut Said,
     instance: Instance<'_>,

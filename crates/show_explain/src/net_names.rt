@@ -10,12 +10,12 @@ use net_file::{MAX_HOPS, NetField, NetKeyLocation, NetSection, is_numbered_name}
 use std::alloc::Global;
 use toml::Value;
 
-/// Returns whether a value is a text, which each hop of a stream must be.
+/// Returns whether a value is a text, which each hop of a stream must be. `put_hops` calls it.
 fn is_text(value: &Value) -> bool {
     matches!(value, Value::String(_))
 }
 
-/// Returns whether a value is a text that ends in a dot and a filter number, such as `left.10`.
+/// Returns whether a value is a text that ends in a dot and a filter number, such as `left.10`. `put_hops` calls it.
 fn is_hop(value: &Value) -> bool {
     match value {
         Value::String(text) => is_numbered_name(text.as_str(), 0, u32::MAX),
@@ -44,7 +44,7 @@ pub(crate) fn put_hops(said: &mut Said, document: Document<'_>, items: &[Value])
     }
 }
 
-/// Writes item `number`, from 1, of an array of hops, which isn't a hop, and the form of a hop.
+/// Writes item `number`, from 1, of an array of hops, which isn't a hop, and the form of a hop. `put_hops` calls it.
 fn put_hop(said: &mut Said, document: Document<'_>, number: u64, item: &Value) {
     let key = NetField::Hops.key();
     put_value_sentence(said, "Item {0} of `{a}` is ", number, key, Some(item), "");
@@ -55,7 +55,7 @@ fn put_hop(said: &mut Said, document: Document<'_>, number: u64, item: &Value) {
     );
 }
 
-/// Returns the names of a network's bridges. If memory runs out, the explanation is discarded.
+/// Returns the names of a network's bridges. If memory runs out, the explanation is discarded. `put_unknown_bridge` calls it.
 fn bridge_names<'a>(alloc: Global, said: &mut Said, document: Document<'a>) -> Vec<&'a str> {
     let mut names = Vec::new(alloc);
     for bridge in section_instances(document.table, NetSection::Bridge.name()) {
@@ -68,7 +68,7 @@ fn bridge_names<'a>(alloc: Global, said: &mut Said, document: Document<'a>) -> V
     names
 }
 
-/// Returns the name of a bridge in a text: the part before its first dot.
+/// Returns the name of a bridge in a text: the part before its first dot. `put_unknown` and `put_unknown_bridge` call it.
 fn bridge_part(text: &str) -> &str {
     match text.split_once('.') {
         Some((name, _)) => name,

@@ -54,7 +54,7 @@ pub fn explain_traffic_text(
     )
 }
 
-/// Returns the explanation of a file's fault, without the path that precedes it.
+/// Returns the explanation of a file's fault, without the path that precedes it. `explain_network_text` and `explain_traffic_text` call it.
 fn file_explanation(
     alloc: Global,
     path: &str,
@@ -85,7 +85,8 @@ fn file_explanation(
     said
 }
 
-/// Writes the explanation of a network or traffic file's fault, to follow the path. Calls the function for its kind.
+/// Writes the explanation of a network or traffic file's fault, to follow the path. Calls the function for its kind. `file_explanation`
+/// calls it.
 fn put_fault(
     alloc: Global,
     said: &mut Said,
@@ -129,7 +130,7 @@ fn put_fault(
     }
 }
 
-/// Writes which key at the top level is unknown, and the nearest section of this kind of file.
+/// Writes which key at the top level is unknown, and the nearest section of this kind of file. `put_fault` calls it.
 fn put_top_key(alloc: Global, said: &mut Said, document: Document<'_>, kind: FileKind) {
     let (bridge, link, stream) = (
         NetSection::Bridge.name(),
@@ -147,7 +148,7 @@ fn put_top_key(alloc: Global, said: &mut Said, document: Document<'_>, kind: Fil
     }
 }
 
-/// Returns whether a word is the spelling of one of these keys.
+/// Returns whether a word is the spelling of one of these keys. `excluded_key` and `put_stray_key` call it.
 fn is_known(keys: &[NetField], word: &str) -> bool {
     for key in keys {
         if key.key() == word {
@@ -158,6 +159,7 @@ fn is_known(keys: &[NetField], word: &str) -> bool {
 }
 
 /// Writes which key of instance `index` is unknown, and the nearest key. If all keys are known, writes which key another one excludes.
+/// `put_fault` calls it.
 fn put_stray_key(
     alloc: Global,
     said: &mut Said,
@@ -203,7 +205,7 @@ fn put_excluded_key(
 }
 
 /// Returns the first key of a traffic row that its limit (burst or frames) excludes, and the first key of this limit. `None` if no key is
-/// excluded.
+/// excluded. `put_excluded_key` calls it.
 fn excluded_key(table: &Table) -> Option<(NetField, NetField)> {
     let limit = first_present(table, &LIMIT_KEYS)?;
     let allowed: &[NetField] = if let NetField::Frames = limit {
@@ -219,7 +221,7 @@ fn excluded_key(table: &Table) -> Option<(NetField, NetField)> {
     None
 }
 
-/// Returns the first of these keys that a table has, or `None`.
+/// Returns the first of these keys that a table has, or `None`. `excluded_key` calls it.
 fn first_present(table: &Table, keys: &[NetField]) -> Option<NetField> {
     for key in keys {
         if get_value(table, key.key()).is_some() {
@@ -229,7 +231,7 @@ fn first_present(table: &Table, keys: &[NetField]) -> Option<NetField> {
     None
 }
 
-/// Writes the key in `keys` that is nearest to `word`, or all keys if none is near.
+/// Writes the key in `keys` that is nearest to `word`, or all keys if none is near. `put_stray_key` calls it.
 fn put_nearest_key(alloc: Global, said: &mut Said, word: &str, keys: &[NetField]) {
     let (mut names, mut is_refused) = (Vec::new(alloc), false);
     for key in keys {
@@ -242,6 +244,7 @@ fn put_nearest_key(alloc: Global, said: &mut Said, word: &str, keys: &[NetField]
 }
 
 /// Writes the position and value of an instance's key with the allowed values. For an array of hops, writes its first wrong hop.
+/// `put_fault` calls it.
 fn put_key_explanation(said: &mut Said, document: Document<'_>, place: NetKeyLocation) {
     let key = place.field.key();
     put_net_place(said, document, place.section, place.index, Some(key));
@@ -252,7 +255,7 @@ fn put_key_explanation(said: &mut Said, document: Document<'_>, place: NetKeyLoc
     }
 }
 
-/// Writes which earlier instance of the section has the name or filter of instance `index`.
+/// Writes which earlier instance of the section has the name or filter of instance `index`. `put_fault` calls it.
 fn put_duplicate(said: &mut Said, document: Document<'_>, section: NetSection, index: u32) {
     let key = match section {
         NetSection::Traffic => NetField::Filter.key(),

@@ -46,6 +46,7 @@ pub fn explain_commands(
 }
 
 /// Returns the explanation of a file's fault, without the path that precedes it. `plan` is the plan's text, if the file has commands.
+/// `explain_commands` and `explain_plan` call it.
 fn explanation_body(
     alloc: Global,
     path: &str,
@@ -69,7 +70,7 @@ fn explanation_body(
     said
 }
 
-/// Writes the explanation of a fault. Reads the document again, because faults have locations but no values.
+/// Writes the explanation of a fault. Reads the document again, because faults have locations but no values. `explanation_body` calls it.
 fn put_document_fault(
     alloc: Global,
     said: &mut Said,

@@ -54,6 +54,7 @@ pub(crate) fn put_fault(alloc: Global, said: &mut Said, source: SourceText<'_>, 
 }
 
 /// Writes the position and value of an instance's key with the allowed values. For a list of tables, writes its first wrong entry.
+/// `put_fault` calls it.
 fn put_key_fault(said: &mut Said, source: SourceText<'_>, place: KeyLocation) {
     let key = place.field.key();
     put_instance_position(said, source, place.section, place.index, Some(key));
@@ -76,6 +77,7 @@ fn put_key_fault(said: &mut Said, source: SourceText<'_>, place: KeyLocation) {
 }
 
 /// Returns the section whose instance a command names, by the flag `value` that it clears. Returns `None` for an unknown flag.
+/// `allowed_value` calls it.
 fn cleared_section(value: Option<&Value>) -> Option<Section> {
     let Some(Value::String(flag)) = value else {
         return None;
@@ -88,13 +90,15 @@ fn cleared_section(value: Option<&Value>) -> Option<Section> {
     }
 }
 
-/// Returns the time in ns of the command before command `index`, from 1; 0 if there is none or it has no time.
+/// Returns the time in ns of the command before command `index`, from 1; 0 if there is none or it has no time. `allowed_value` and
+/// `put_falling_times` call it.
 fn previous_command_time(source: SourceText<'_>, index: u32) -> u64 {
     let before = instance_table(source.document, Section::Command, index.saturating_sub(1));
     unsigned_number(key_value(before, Field::At)).unwrap_or(0)
 }
 
-/// Returns the allowed values of a key. A command's time isn't before the previous one, and its number depends on its flag.
+/// Returns the allowed values of a key. A command's time isn't before the previous one, and its number depends on its flag. `put_key_fault`
+/// calls it.
 fn allowed_value(
     source: SourceText<'_>,
     place: KeyLocation,
@@ -120,6 +124,7 @@ fn allowed_value(
 }
 
 /// Writes the times of command `index` and of the command before it, if they aren't in order. Writes nothing without a time `at`.
+/// `put_key_fault` calls it.
 fn put_falling_times(said: &mut Said, source: SourceText<'_>, index: u32, at: Option<u64>) {
     let before = previous_command_time(source, index);
     let Some(at) = at else {
@@ -136,6 +141,7 @@ fn put_falling_times(said: &mut Said, source: SourceText<'_>, index: u32, at: Op
 }
 
 /// Returns the sentence for allowed values. Marks: numbers from `{0}` to `{1}`, lengths up to `{2}`, the key `{a}` of a `{b}`.
+/// `put_allowed` calls it.
 fn allowed_sentence(allowed: AllowedValue) -> &'static str {
     match allowed {
         AllowedValue::Between(_) => "It must be a whole number from {0} to {1}.\n",
@@ -174,7 +180,8 @@ pub(crate) fn put_allowed(said: &mut Said, allowed: AllowedValue) {
     );
 }
 
-/// Returns the section to whose instances a value must refer, or `None` if it refers to none.
+/// Returns the section to whose instances a value must refer, or `None` if it refers to none. `put_allowed` and `put_allowed_instances`
+/// call it.
 fn referenced_section(allowed: AllowedValue) -> Option<Section> {
     match allowed {
         AllowedValue::InstanceNumber(section) => Some(section),
@@ -183,7 +190,7 @@ fn referenced_section(allowed: AllowedValue) -> Option<Section> {
     }
 }
 
-/// Writes the numbers (key `own`) of a section's first sixteen instances.
+/// Writes the numbers (key `own`) of a section's first sixteen instances. `put_allowed_instances` calls it.
 fn put_instance_numbers(said: &mut Said, items: &[Value], own: Field) {
     let mut template = "{0}";
     for item in first_items(items, MAX_NUMBERS) {
@@ -197,7 +204,7 @@ fn put_instance_numbers(said: &mut Said, items: &[Value], own: Field) {
     }
 }
 
-/// Writes the allowed values; if they are numbers of instances, also the numbers that the plan has.
+/// Writes the allowed values; if they are numbers of instances, also the numbers that the plan has. `put_key_fault` calls it.
 fn put_allowed_instances(said: &mut Said, source: SourceText<'_>, allowed: AllowedValue) {
     put_allowed(said, allowed);
     let Some(section) = referenced_section(allowed) else {
@@ -217,7 +224,7 @@ fn put_allowed_instances(said: &mut Said, source: SourceText<'_>, allowed: Allow
     said.put(".\n");
 }
 
-/// Writes which earlier instance of the section has the number, VLAN or address of instance `index`.
+/// Writes which earlier instance of the section has the number, VLAN or address of instance `index`. `put_fault` calls it.
 fn put_duplicate(said: &mut Said, source: SourceText<'_>, section: Section, index: u32) {
     let (own, address) = (identifying_key(section).key(), Field::Address.key());
     let table = instance_table(source.document, section, index);
@@ -234,7 +241,7 @@ fn put_duplicate(said: &mut Said, source: SourceText<'_>, section: Section, inde
     put_twin(said, section.name(), twin, keys);
 }
 
-/// Writes that instance `twin`, from 1, of the section has equal values of `keys`, and that they must differ.
+/// Writes that instance `twin`, from 1, of the section has equal values of `keys`, and that they must differ. `put_duplicate` calls it.
 pub(crate) fn put_twin(said: &mut Said, section: &str, twin: u64, keys: &str) {
     said.put_template(
         "`{a}` {0} of the file has the same {b}. Each `{a}` needs a {b} of its own.\n",

@@ -6,7 +6,7 @@ use toml::Table;
 use toml::de::Error;
 
 /// Returns the text and the document in these octets. If they aren't UTF-8 or TOML, writes where and why, and returns `None`. Explanations
-/// of all such files begin with it.
+/// of all such files begin with it. `file_explanation` and `put_document_fault` call it.
 pub(crate) fn read_document<'a>(
     alloc: Global,
     said: &mut Said,
@@ -30,6 +30,7 @@ pub(crate) fn read_document<'a>(
 }
 
 /// Writes where and why a text isn't a TOML document. Adds a hint if a word stands where a value is expected, or a key is repeated.
+/// `read_document` calls it.
 fn put_syntax_error(said: &mut Said, text: &str, error: &Error) {
     let message = error.message();
     let Some(span) = error.span() else {
@@ -49,7 +50,7 @@ fn put_syntax_error(said: &mut Said, text: &str, error: &Error) {
 }
 
 /// Returns the word at offset `place` in the text, and the last octet before it that isn't blank. This octet is `None` at the start of the
-/// text.
+/// text. `put_syntax_error` calls it.
 fn word_with_context(text: &str, place: usize) -> (Option<u8>, &str) {
     let mut start = 0usize;
     let mut end = 0usize;
@@ -68,6 +69,7 @@ fn word_with_context(text: &str, place: usize) -> (Option<u8>, &str) {
 }
 
 /// Returns a hint for a word that stands where a value is expected: how to write true, false or a text. Empty for other words.
+/// `put_syntax_error` calls it.
 fn quoting_hint(word: &str) -> &'static str {
     let first = word.as_bytes().first().copied().unwrap_or(b'-');
     if word.eq_ignore_ascii_case("true") || word.eq_ignore_ascii_case("yes") {
