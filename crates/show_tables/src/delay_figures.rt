@@ -10,7 +10,7 @@ use bridge_semantics::{Departure, StoredDeparture, StoredOrigin};
 use bridge_text::TextBuilder;
 use std::alloc::Allocator;
 
-/// Appends the delay of a copy in ns, from the frame's arrival, to `delays`, if the copy left by `port`.
+/// Appends the delay of a copy in ns, from the frame's arrival, to `delays`, if the copy left by `port`. `port_delays` calls it.
 fn push_delay<A: Allocator>(
     delays: &mut Vec<u64, A>,
     origins: &[StoredOrigin],
@@ -27,7 +27,7 @@ fn push_delay<A: Allocator>(
 }
 
 /// Returns the delays in ns, from arrival to end of transmission, of a filter's copies that left by `port`. The filter's row for this port
-/// needs them.
+/// needs them. `put_row_of_port` calls it.
 pub(crate) fn port_delays<A: Allocator>(
     alloc: A,
     origins: &[StoredOrigin],

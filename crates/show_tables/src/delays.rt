@@ -22,7 +22,7 @@ use std::alloc::Allocator;
 pub const DELAYS_HEADER: &str =
     "filter,port,frames,least,mean,greatest,jitter,bound,blocked,oversize,gate-closed,shut-rx,shut-octets,octets-exceeded,red,yellow-dropped,full,never\n";
 
-/// Writes the field of a delay bound in ns; an empty field if the port has none.
+/// Writes the field of a delay bound in ns; an empty field if the port has none. `put_port_row` calls it.
 fn put_bound<A: Allocator>(text: &mut TextBuilder<A>, bound: Option<u64>)
     ensures { HasGrown text.old (spec.bound_field bound) text.new }
 {
@@ -33,6 +33,7 @@ fn put_bound<A: Allocator>(text: &mut TextBuilder<A>, bound: Option<u64>)
 }
 
 /// Writes the row of a filter at a port that sent copies of its frames: number and figures of `delays`, the bound, and losses.
+/// `put_row_if_any` calls it.
 fn put_port_row<A: Allocator>(
     text: &mut TextBuilder<A>,
     filter: u32,
@@ -57,7 +58,7 @@ fn put_port_row<A: Allocator>(
     );
 }
 
-/// Writes the row of a filter whose frames left by no port: an empty port, 0 frames, no delays, and its losses.
+/// Writes the row of a filter whose frames left by no port: an empty port, 0 frames, no delays, and its losses. `put_filter_rows` calls it.
 fn put_unsent_row<A: Allocator>(text: &mut TextBuilder<A>, filter: u32, view: &View<A>)
     ensures { HasGrown text.old (spec.unsent_row filter view.now) text.new }
 {
@@ -72,7 +73,8 @@ fn put_unsent_row<A: Allocator>(text: &mut TextBuilder<A>, filter: u32, view: &V
     );
 }
 
-/// Writes the row of a filter at a port. Writes nothing if `delays` is empty, because no copy left by this port.
+/// Writes the row of a filter at a port. Writes nothing if `delays` is empty, because no copy left by this port. `put_row_of_port` calls
+/// it.
 fn put_row_if_any<A: Allocator>(
     text: &mut TextBuilder<A>,
     filter: u32,
@@ -89,6 +91,7 @@ fn put_row_if_any<A: Allocator>(
 }
 
 /// Writes the row of a filter at port `port`, if copies of its frames left there. `bounds` has the delay bounds of all ports.
+/// `put_port_rows` calls it.
 fn put_row_of_port<A: Allocator + Copy>(
     alloc: A,
     text: &mut TextBuilder<A>,
@@ -113,6 +116,7 @@ fn put_row_of_port<A: Allocator + Copy>(
 }
 
 /// Writes the rows of a filter by rising port, for ports by which copies of its frames left. `bounds` has the delay bounds of all ports.
+/// `put_filter_rows` calls it.
 fn put_port_rows<A: Allocator + Copy>(
     alloc: A,
     text: &mut TextBuilder<A>,
@@ -128,7 +132,7 @@ fn put_port_rows<A: Allocator + Copy>(
 }
 
 /// Writes the rows of a filter by rising port. If no copy of its frames left, writes one row without a port, or nothing if no frame
-/// arrived.
+/// arrived. `put_filter_with_bounds` calls it.
 fn put_filter_rows<A: Allocator + Copy>(
     alloc: A,
     text: &mut TextBuilder<A>,
@@ -147,6 +151,7 @@ fn put_filter_rows<A: Allocator + Copy>(
 }
 
 /// Writes the rows of a filter to the table of delays. Computes the delay bounds of its ports first; `queues` has the plan's shared queues.
+/// `put_filters` calls it.
 fn put_filter_with_bounds<A: Allocator + Copy>(
     alloc: A,
     accepted: &Accepted<A>,
@@ -164,7 +169,8 @@ fn put_filter_with_bounds<A: Allocator + Copy>(
     Ok(())
 }
 
-/// Writes the rows of `filters`, in list order. `queues` has the plan's shared queues, from which the bounds of groups come.
+/// Writes the rows of `filters`, in list order. `queues` has the plan's shared queues, from which the bounds of groups come. `delay_table`
+/// calls it.
 fn put_filters<A: Allocator + Copy>(
     alloc: A,
     accepted: &Accepted<A>,

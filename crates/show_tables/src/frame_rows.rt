@@ -60,6 +60,7 @@ pub(crate) fn put_lone_row<A: Allocator>(text: &mut TextBuilder<A>, frame: &Filt
 }
 
 /// Writes the row of a copy that left: egress port, start and end of its transmission, and delay since the frame's arrival, in ns.
+/// `put_port_departure` calls it.
 fn put_departure_row<A: Allocator>(
     text: &mut TextBuilder<A>,
     frame: &FilterFrame,
@@ -81,7 +82,7 @@ fn put_departure_row<A: Allocator>(
     text.put("\n");
 }
 
-/// Writes the row of a dropped copy: the port that dropped it, and the reason.
+/// Writes the row of a dropped copy: the port that dropped it, and the reason. `put_port_drop` calls it.
 fn put_drop_row<A: Allocator>(text: &mut TextBuilder<A>, frame: &FilterFrame, dropped: &Dropped)
     ensures { HasGrown text.old (spec.drop_row frame.now dropped.now) text.new }
 {
@@ -92,7 +93,7 @@ fn put_drop_row<A: Allocator>(text: &mut TextBuilder<A>, frame: &FilterFrame, dr
     text.put("\n");
 }
 
-/// Writes the row of a copy that left, if it left by `port`.
+/// Writes the row of a copy that left, if it left by `port`. `put_departure_rows` calls it.
 fn put_port_departure<A: Allocator>(
     text: &mut TextBuilder<A>,
     frame: &FilterFrame,
@@ -106,7 +107,7 @@ fn put_port_departure<A: Allocator>(
     }
 }
 
-/// Writes the row of a dropped copy, if `port` dropped it.
+/// Writes the row of a dropped copy, if `port` dropped it. `put_drop_rows` calls it.
 fn put_port_drop<A: Allocator>(
     text: &mut TextBuilder<A>,
     frame: &FilterFrame,
@@ -120,7 +121,7 @@ fn put_port_drop<A: Allocator>(
     }
 }
 
-/// Writes the rows of those copies in `departures` that left by `port`. All belong to the frame `frame`.
+/// Writes the rows of those copies in `departures` that left by `port`. All belong to the frame `frame`. `put_port_copies` calls it.
 fn put_departure_rows<A: Allocator>(
     text: &mut TextBuilder<A>,
     frame: &FilterFrame,
@@ -134,7 +135,7 @@ fn put_departure_rows<A: Allocator>(
     }
 }
 
-/// Writes the rows of those copies in `drops` that `port` dropped. All belong to the frame `frame`.
+/// Writes the rows of those copies in `drops` that `port` dropped. All belong to the frame `frame`. `put_port_copies` calls it.
 fn put_drop_rows<A: Allocator>(
     text: &mut TextBuilder<A>,
     frame: &FilterFrame,
@@ -148,7 +149,7 @@ fn put_drop_rows<A: Allocator>(
     }
 }
 
-/// Writes the rows of the copies that left by `port`, then of the copies that it dropped.
+/// Writes the rows of the copies that left by `port`, then of the copies that it dropped. `put_copies` calls it.
 fn put_port_copies<A: Allocator>(
     text: &mut TextBuilder<A>,
     frame: &FilterFrame,

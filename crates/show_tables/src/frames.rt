@@ -11,7 +11,8 @@ use bridge_semantics::{Departure, Dropped, Outcome, StoredOrigin, StoredVerdict,
 use bridge_text::TextBuilder;
 use std::alloc::Allocator;
 
-/// Writes the rows of a frame. `departures` and `drops` are the frame's own; without any copy, the frame gets one row.
+/// Writes the rows of a frame. `departures` and `drops` are the frame's own; without any copy, the frame gets one row. `put_sorted_frame`
+/// calls it.
 fn put_frame<A: Allocator>(
     text: &mut TextBuilder<A>,
     frame: &FilterFrame,
@@ -27,7 +28,8 @@ fn put_frame<A: Allocator>(
     }
 }
 
-/// Writes the rows of a frame. `departures` and `drops` belong to all frames of its filter, and must rise by frame number.
+/// Writes the rows of a frame. `departures` and `drops` belong to all frames of its filter, and must rise by frame number. `put_frames`
+/// calls it.
 fn put_sorted_frame<A: Allocator>(
     text: &mut TextBuilder<A>,
     frame: &FilterFrame,
@@ -46,7 +48,7 @@ fn put_sorted_frame<A: Allocator>(
     );
 }
 
-/// Writes the rows of a filter's frames, numbered from 1. Departures and drops must rise by frame number.
+/// Writes the rows of a filter's frames, numbered from 1. Departures and drops must rise by frame number. `put_filter_frames` calls it.
 fn put_frames<A: Allocator>(
     text: &mut TextBuilder<A>,
     filter: u32,
@@ -80,6 +82,7 @@ fn put_frames<A: Allocator>(
 }
 
 /// Writes the rows of a filter's frames, from its record `view`. If memory runs out while copies are sorted, the whole text is discarded.
+/// `frame_table` calls it.
 fn put_filter_frames<A: Allocator + Copy>(
     alloc: A,
     text: &mut TextBuilder<A>,

@@ -12,7 +12,7 @@ use bridge_groups::SharedQueue;
 use bridge_limits::NoMemory;
 use std::alloc::Allocator;
 
-/// Returns the group of a filter; `None` if the filter is in no group, or if the plan lacks it.
+/// Returns the group of a filter; `None` if the filter is in no group, or if the plan lacks it. `filter_bounds` calls it.
 fn filter_group(filters: &[(u32, FilterPlan)], filter: u32) -> Option<u32>
     ensures { result ≡ spec.group_of (lookup (nat_eq filter) filters.now) }
 {
@@ -22,7 +22,7 @@ fn filter_group(filters: &[(u32, FilterPlan)], filter: u32) -> Option<u32>
     }
 }
 
-/// Returns the bound of a shared queue in ns if it is a queue of group `group` at port `port`, otherwise `None`.
+/// Returns the bound of a shared queue in ns if it is a queue of group `group` at port `port`, otherwise `None`. `group_bound` calls it.
 fn bound_at(queue: &SharedQueue, group: u32, port: u8) -> Option<u64>
     ensures { result ≡ spec.bound_at group port queue.now }
 {
@@ -33,7 +33,8 @@ fn bound_at(queue: &SharedQueue, group: u32, port: u8) -> Option<u64>
     }
 }
 
-/// Returns the greatest bound in ns of the queues that a group shares at `port`; `None` if it shares no queue there.
+/// Returns the greatest bound in ns of the queues that a group shares at `port`; `None` if it shares no queue there. `group_bounds` calls
+/// it.
 fn group_bound(queues: &[SharedQueue], group: u32, port: u8) -> Option<u64>
     ensures { result ≡ spec.group_bound queues.now group port }
 {
@@ -44,7 +45,7 @@ fn group_bound(queues: &[SharedQueue], group: u32, port: u8) -> Option<u64>
     bound
 }
 
-/// Returns the bounds in ns of a group at ports 1 to 16; `None` for a port at which the group shares no queue.
+/// Returns the bounds in ns of a group at ports 1 to 16; `None` for a port at which the group shares no queue. `filter_bounds` calls it.
 fn group_bounds<A: Allocator>(
     alloc: A,
     queues: &[SharedQueue],

@@ -45,7 +45,7 @@ fn put_refused_count<A: Allocator>(
     put_field(text, count_refused(reason, verdicts));
 }
 
-/// Writes the fields of frames that the filter itself refused: blocked, and oversize.
+/// Writes the fields of frames that the filter itself refused: blocked, and oversize. `put_losses` calls it.
 fn put_filter_losses<A: Allocator>(text: &mut TextBuilder<A>, verdicts: &[StoredVerdict])
     ensures { HasGrown text.old (spec.filter_fields verdicts.now) text.new }
 {
@@ -53,7 +53,7 @@ fn put_filter_losses<A: Allocator>(text: &mut TextBuilder<A>, verdicts: &[Stored
     put_refused_count(text, Reason::Oversize, verdicts);
 }
 
-/// Writes the fields of frames that the stream gate refused, one field for each of four reasons.
+/// Writes the fields of frames that the stream gate refused, one field for each of four reasons. `put_losses` calls it.
 fn put_gate_losses<A: Allocator>(text: &mut TextBuilder<A>, verdicts: &[StoredVerdict])
     ensures { HasGrown text.old (spec.gate_fields verdicts.now) text.new }
 {
@@ -63,7 +63,7 @@ fn put_gate_losses<A: Allocator>(text: &mut TextBuilder<A>, verdicts: &[StoredVe
     put_refused_count(text, Reason::OctetsExceeded, verdicts);
 }
 
-/// Writes the fields of frames that the meter refused: red, and yellow if it drops yellow frames.
+/// Writes the fields of frames that the meter refused: red, and yellow if it drops yellow frames. `put_losses` calls it.
 fn put_meter_losses<A: Allocator>(text: &mut TextBuilder<A>, verdicts: &[StoredVerdict])
     ensures { HasGrown text.old (spec.meter_fields verdicts.now) text.new }
 {

@@ -7,7 +7,7 @@ use bridge_check::Accepted;
 use bridge_limits::NoMemory;
 use std::alloc::Allocator;
 
-/// Returns the greater of two optional bounds; a missing bound (`None`) counts as less.
+/// Returns the greater of two optional bounds; a missing bound (`None`) counts as less. `group_bound` and `port_bound` call it.
 pub(crate) fn greater_bound(one: Option<u64>, other: Option<u64>) -> Option<u64>
     ensures { result ≡ spec.greater_bound one other }
 {
@@ -19,7 +19,7 @@ pub(crate) fn greater_bound(one: Option<u64>, other: Option<u64>) -> Option<u64>
 }
 
 /// Returns the delay bound in ns of `port` for a filter: the greatest tight bound of its classes. `None` if the filter is unprotected or
-/// has no queue there.
+/// has no queue there. `port_bounds` calls it.
 fn port_bound<A: Allocator + Copy>(accepted: &Accepted<A>, filter: u32, port: u8) -> Option<u64>
     requires from { 1 ≤ port }
     requires to { port ≤ 16 }
