@@ -59,7 +59,7 @@ pub fn explain_traffic<H: AllocGlobal + Files>(
     said
 }
 
-/// Returns the traffic file (`path`, `text`, `table`) and the path of its plan in one value.
+/// Returns the traffic file (`path`, `text`, `table`) and the path of its plan in one value. `explain_traffic` calls it.
 fn traffic_text<'a>(
     plan: &'a str,
     path: &'a str,
@@ -86,7 +86,7 @@ fn put_place(said: &mut TextBuilder<Global>, asked: TrafficText<'_>, index: u32,
 }
 
 /// Explains the first row that doesn't suit the plan; only this row is in the fault line. Returns `None` without such a row or without
-/// memory.
+/// memory. `explain_traffic` calls it.
 fn explain_rows(
     alloc: Global,
     asked: TrafficText<'_>,
@@ -111,7 +111,7 @@ fn explain_rows(
 }
 
 /// Explains the fault of row `index`, with periodic traffic. Its period isn't a multiple of a cycle time, or its filter is missing, grouped
-/// or unprotected.
+/// or unprotected. `explain_rows` calls it.
 fn explain_periodic_row(
     alloc: Global,
     asked: TrafficText<'_>,
@@ -131,7 +131,7 @@ fn explain_periodic_row(
 }
 
 /// Explains a row with periodic traffic whose filter belongs to group `group`. Names the limit that the row can have instead: `frames` and
-/// `period`.
+/// `period`. `explain_periodic_row` calls it.
 fn explain_grouped_filter(
     alloc: Global,
     asked: TrafficText<'_>,
@@ -156,6 +156,7 @@ fn explain_grouped_filter(
 }
 
 /// Explains row `index`, with a limit of its frames: its filter `number` is missing, protected, or in no group. Lists the grouped filters.
+/// `explain_rows` calls it.
 fn explain_limited_row(
     alloc: Global,
     asked: TrafficText<'_>,
@@ -190,6 +191,7 @@ fn explain_limited_row(
 }
 
 /// Explains row `index`, with periodic traffic: its filter `number` is missing or unprotected. Lists the protected filters.
+/// `explain_periodic_row` calls it.
 fn explain_unusable_filter(
     alloc: Global,
     asked: TrafficText<'_>,
@@ -233,7 +235,7 @@ struct Cycles<'a> {
 
 impl<'a> Cycles<'a> {
     /// Appends a sentence with the cycle time `cycle` of a gate or port (`what`) with number `number`, and whether the period is a multiple
-    /// of it. Updates `common`.
+    /// of it. Updates `common`. `put_gate` and `put_port_cycles` call it.
     fn put_cycle(&mut self, said: &mut TextBuilder<Global>, what: &str, number: u32, cycle: u64) {
         let common = self.common;
         self.common = if common == 0 || cycle == 0 {
@@ -259,6 +261,7 @@ impl<'a> Cycles<'a> {
     }
 
     /// Appends the cycle times of stream gate `number`: none for a fixed or missing gate, two if a schedule change replaces its list.
+    /// `put_route` calls it.
     fn put_gate(&mut self, said: &mut TextBuilder<Global>, plan: &Plan<Global>, number: u32) {
         let Some(gate) = find_gate(plan.gates(), number) else {
             return;
@@ -274,7 +277,7 @@ impl<'a> Cycles<'a> {
         }
     }
 
-    /// Appends the cycle times of port `number`: none without a list, two if a schedule change replaces its list.
+    /// Appends the cycle times of port `number`: none without a list, two if a schedule change replaces its list. `put_ports` calls it.
     fn put_port_cycles(&mut self, said: &mut TextBuilder<Global>, plan: &Plan<Global>, number: u8) {
         let Some(port) = plan.port(number) else {
             return;
@@ -291,7 +294,7 @@ impl<'a> Cycles<'a> {
         }
     }
 
-    /// Appends the cycle times of each port at which the filter has a reachable queue.
+    /// Appends the cycle times of each port at which the filter has a reachable queue. `put_route` calls it.
     fn put_ports(
         &mut self,
         said: &mut TextBuilder<Global>,
@@ -307,7 +310,7 @@ impl<'a> Cycles<'a> {
     }
 
     /// Appends the cycle times on the route of the frames of filter `number`: its stream gate, then its ports. Appends nothing if the
-    /// filter is missing.
+    /// filter is missing. `explain_period` and `explain_row` call it.
     fn put_route(&mut self, said: &mut TextBuilder<Global>, plan: &Plan<Global>, number: u32) {
         if let Some(filter) = find_filter(plan.filters(), number) {
             self.put_gate(said, plan, filter.gate);
@@ -316,6 +319,7 @@ impl<'a> Cycles<'a> {
     }
 
     /// Appends a sentence with suitable periods: multiples of `common` or, if `common` is 0, common multiples of the listed cycles.
+    /// `explain_period` and `explain_row` call it.
     fn put_remedy(self, said: &mut TextBuilder<Global>) {
         if self.common == 0 {
             return said.put("Use a common multiple of these cycles.\n");
@@ -325,6 +329,7 @@ impl<'a> Cycles<'a> {
 }
 
 /// Explains row `index`, whose period isn't a multiple of each cycle time on its filter's route. Lists these cycle times and a remedy.
+/// `explain_periodic_row` calls it.
 fn explain_row(
     alloc: Global,
     asked: TrafficText<'_>,

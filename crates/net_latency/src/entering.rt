@@ -19,7 +19,7 @@ use net_model::{
 use std::alloc::Allocator;
 
 /// Returns whether port `on` is open and has a stream entry with this handle. Then devices outside the network can send frames that get the
-/// handle.
+/// handle. `is_other_entry_port` and `is_talker_port` call it.
 fn enters<A: Allocator + Copy>(
     links: &[Link],
     bridge: u16,
@@ -36,6 +36,7 @@ fn enters<A: Allocator + Copy>(
 }
 
 /// Returns whether port `port` is the talker's port: the first open port, in the plan's order, that has a stream entry with this handle.
+/// `is_other_entry_port` calls it.
 fn is_talker_port<A: Allocator + Copy>(
     links: &[Link],
     bridge: u16,
@@ -54,7 +55,7 @@ fn is_talker_port<A: Allocator + Copy>(
 }
 
 /// Returns whether frames of other devices can get the handle at port `on`. It is open and has an entry, and isn't the first hop's talker
-/// port.
+/// port. `can_others_enter` calls it.
 fn is_other_entry_port<A: Allocator + Copy>(
     links: &[Link],
     is_first: bool,
@@ -90,7 +91,7 @@ pub fn can_others_enter<A: Allocator + Copy>(
 }
 
 /// Returns whether no port of the hop's bridge lets frames of other devices get the hop's handle. Otherwise delays would depend on these
-/// devices.
+/// devices. `is_single_entry` calls it.
 fn is_entry_exclusive<A: Allocator + Copy>(
     links: &[Link],
     is_first: bool,
@@ -108,7 +109,7 @@ fn is_entry_exclusive<A: Allocator + Copy>(
 }
 
 /// Returns whether only the talker's frames can get the handle of a hop from outside the network. Returns true if the hop's bridge is
-/// missing.
+/// missing. `are_single_entries` calls it.
 fn is_single_entry<A: Allocator + Copy>(
     plans: &[Accepted<A>],
     links: &[Link],
@@ -143,6 +144,7 @@ fn are_single_entries<A: Allocator + Copy>(
 }
 
 /// Returns whether each frame that leaves queue `queue` gets the filter of the stream's next hop. True if the queue's port leads to no hop.
+/// `are_handed` calls it.
 fn is_handed<A: Allocator + Copy>(
     plans: &[Accepted<A>],
     links: &[Link],
@@ -162,7 +164,7 @@ fn is_handed<A: Allocator + Copy>(
 }
 
 /// Returns whether each frame that leaves a queue of the stream gets the filter of the next hop. Otherwise the stream's line says
-/// `refusable`.
+/// `refusable`. `checked_stream_latency` calls it.
 fn are_handed<A: Allocator + Copy>(
     plans: &[Accepted<A>],
     links: &[Link],
@@ -181,6 +183,7 @@ fn are_handed<A: Allocator + Copy>(
 }
 
 /// Returns the delays `course`. Clears their flag `passes` if frames of a hop may miss the next hop's filter (`handed` is false).
+/// `tested_course` calls it.
 fn handed_course(handed: bool, course: StreamLatency) -> StreamLatency
     ensures { result ≡ spec.handed_course handed course }
 {
@@ -213,7 +216,7 @@ pub fn checked_stream_latency<A: Allocator + Copy>(
 }
 
 /// Returns the delays `course` after both tests. Returns `None` if they are unknown, or other devices' frames can get a handle of the
-/// stream (`once` is false).
+/// stream (`once` is false). `checked_stream_latency` calls it.
 fn tested_course(once: bool, handed: bool, course: Option<StreamLatency>) -> Option<StreamLatency>
     ensures { result ≡ spec.tested_course once handed course }
 {

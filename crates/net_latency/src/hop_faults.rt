@@ -54,12 +54,12 @@ pub fn explain_hop_fault(
     said.finish().ok()
 }
 
-/// Returns the plan of the bridge with index `bridge`, from 0, or `None` if the network lacks the bridge.
+/// Returns the plan of the bridge with index `bridge`, from 0, or `None` if the network lacks the bridge. `explain_hop_fault` calls it.
 fn bridge_plan(refused: &RefusedNetwork<Global>, bridge: u16) -> Option<&Accepted<Global>> {
     refused.plans.get(bridge as usize)
 }
 
-/// Returns the name of stream `stream`, from 1, or an empty text if the file lacks the stream.
+/// Returns the name of stream `stream`, from 1, or an empty text if the file lacks the stream. `put_hop` and `put_twice` call it.
 fn stream_name<'a>(asked: NetworkText<'a>, stream: usize) -> &'a str {
     match asked.file.streams().get(stream.wrapping_sub(1)) {
         Some(row) => row.name(),
@@ -68,7 +68,7 @@ fn stream_name<'a>(asked: NetworkText<'a>, stream: usize) -> &'a str {
 }
 
 /// Appends the position of the stream's key `hops`, the refused hop's number, and the hop as the file writes it. All explanations of hops
-/// begin like this.
+/// begin like this. `explain_hop_fault` calls it.
 fn put_hop(said: &mut TextBuilder<Global>, asked: NetworkText<'_>, found: RefusedHop<'_>) {
     let key = NetField::Hops.key();
     asked.put_place(said, NetSection::Stream, found.stream, Some(key));
@@ -80,7 +80,7 @@ fn put_hop(said: &mut TextBuilder<Global>, asked: NetworkText<'_>, found: Refuse
 }
 
 /// Appends that the hop's filter is missing or unprotected in the plan of its bridge. Then appends the protected filters of this plan and a
-/// remedy.
+/// remedy. `explain_hop_fault` calls it.
 fn put_filters(
     alloc: Global,
     said: &mut TextBuilder<Global>,
@@ -107,7 +107,7 @@ fn put_filters(
 }
 
 /// Appends a sentence with the numbers of a plan's protected filters, from which the reader can choose. Discards the whole explanation if
-/// memory runs out.
+/// memory runs out. `explain_unusable_filter` and `put_filters` call it.
 pub(crate) fn put_protected(
     alloc: Global,
     said: &mut TextBuilder<Global>,
@@ -148,7 +148,7 @@ pub(crate) fn put_grouped(
     said.put(".\n");
 }
 
-/// Returns the number, from 1, of the first hop in `hops` with the bridge and filter of `hop`, or 0 if there is none.
+/// Returns the number, from 1, of the first hop in `hops` with the bridge and filter of `hop`, or 0 if there is none. `put_twice` calls it.
 fn hop_index(hops: &[StreamHop], hop: StreamHop) -> u64 {
     let mut place = 0u64;
     for other in hops {
@@ -160,7 +160,8 @@ fn hop_index(hops: &[StreamHop], hop: StreamHop) -> u64 {
     0
 }
 
-/// Appends which earlier hop has the refused hop's bridge and filter: its number and its stream. Then appends a remedy.
+/// Appends which earlier hop has the refused hop's bridge and filter: its number and its stream. Then appends a remedy. `explain_hop_fault`
+/// calls it.
 fn put_twice(
     said: &mut TextBuilder<Global>,
     asked: NetworkText<'_>,
@@ -188,6 +189,7 @@ fn put_twice(
 }
 
 /// Appends that no open port of the bridge has a stream entry with the handle of the first hop's filter, so no talker's frame can reach it.
+/// `explain_hop_fault` calls it.
 fn put_no_entry(
     said: &mut TextBuilder<Global>,
     accepted: &Accepted<Global>,
@@ -204,7 +206,7 @@ fn put_no_entry(
     );
 }
 
-/// Returns whether a link joins a bridge to the bridge of one of these hops.
+/// Returns whether a link joins a bridge to the bridge of one of these hops. `put_unfed` calls it.
 fn is_joined(links: &[Link], hops: &[StreamHop], bridge: u16) -> bool {
     for link in links {
         let (one, other) = (link.one.bridge, link.other.bridge);
@@ -218,7 +220,7 @@ fn is_joined(links: &[Link], hops: &[StreamHop], bridge: u16) -> bool {
 }
 
 /// Appends why no frame of another hop in `hops` can reach the refused hop. No link joins their bridges, or its filter accepts no such
-/// frame.
+/// frame. `explain_hop_fault` calls it.
 fn put_unfed(
     said: &mut TextBuilder<Global>,
     links: &[Link],

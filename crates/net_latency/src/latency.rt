@@ -43,7 +43,8 @@ fn both_phases(a: Phases, b: Phases) -> Phases
     }
 }
 
-/// Returns delays that hold for two routes with delays `a` and `b`: the greater worst and the lesser best delay.
+/// Returns delays that hold for two routes with delays `a` and `b`: the greater worst and the lesser best delay. `combine_if_both` calls
+/// it.
 fn combine(a: StreamLatency, b: StreamLatency) -> StreamLatency
     ensures { result ≡ spec.combine a b }
 {
@@ -55,7 +56,7 @@ fn combine(a: StreamLatency, b: StreamLatency) -> StreamLatency
     }
 }
 
-/// Returns delays that hold for two routes. Returns `None` if the delays of at least one route are unknown.
+/// Returns delays that hold for two routes. Returns `None` if the delays of at least one route are unknown. `add_latency` calls it.
 fn combine_if_both(a: Option<StreamLatency>, b: Option<StreamLatency>) -> Option<StreamLatency>
     ensures { result ≡ spec.combine_if_both a b }
 {
@@ -65,7 +66,8 @@ fn combine_if_both(a: Option<StreamLatency>, b: Option<StreamLatency>) -> Option
     }
 }
 
-/// Returns `gathered` with the delays `more` of one more queue. Unknown delays (`None`) make the result unknown.
+/// Returns `gathered` with the delays `more` of one more queue. Unknown delays (`None`) make the result unknown. `add_queue_latency` calls
+/// it.
 fn add_latency(gathered: CombinedLatency, more: Option<StreamLatency>) -> CombinedLatency
     ensures { result ≡ spec.add_latency gathered more }
 {
@@ -77,7 +79,7 @@ fn add_latency(gathered: CombinedLatency, more: Option<StreamLatency>) -> Combin
     }
 }
 
-/// Returns the delays of all added queues. Returns `None` if no queue was added or a queue's delays are unknown.
+/// Returns the delays of all added queues. Returns `None` if no queue was added or a queue's delays are unknown. `hop_latency` calls it.
 fn known_latency(gathered: CombinedLatency) -> Option<StreamLatency>
     ensures { result ≡ spec.known_latency gathered }
 {
@@ -87,7 +89,8 @@ fn known_latency(gathered: CombinedLatency) -> Option<StreamLatency>
     }
 }
 
-/// Returns whether a queue belongs to hop `hop`. Compares only bridges: the hops of a tree are at different bridges.
+/// Returns whether a queue belongs to hop `hop`. Compares only bridges: the hops of a tree are at different bridges. `add_queue_latency`
+/// calls it.
 fn is_queue_of_hop(hop: StreamHop, queue: &HopQueue) -> bool
     ensures { result ≡ spec.is_queue_of_hop hop queue.now }
 {
@@ -95,7 +98,7 @@ fn is_queue_of_hop(hop: StreamHop, queue: &HopQueue) -> bool
 }
 
 /// Returns the delays over all routes that begin at `queue` and pass at most `depth` hops after it. `came` is the arrival at the queue's
-/// hop. Returns `None` if they are unknown.
+/// hop. Returns `None` if they are unknown. `add_queue_latency` calls it.
 #[cycle(hop_latency)]
 fn queue_latency<A: Allocator + Copy>(
     case: &StreamContext<'_, A>,
@@ -145,7 +148,7 @@ fn add_queue_latency<A: Allocator + Copy>(
 }
 
 /// Returns the delays over all routes that begin at `hop`, where frames arrive as `came` says, and have at most `depth` hops. `None` if
-/// they are unknown.
+/// they are unknown. `queue_latency` and `stream_latency` call it.
 #[cycle(hop_latency)]
 fn hop_latency<A: Allocator + Copy>(
     case: &StreamContext<'_, A>,
@@ -170,7 +173,7 @@ fn hop_latency<A: Allocator + Copy>(
     known_latency(gathered)
 }
 
-/// Returns the arrival of a talker's frames at the first hop: no delay yet, and all frames passed.
+/// Returns the arrival of a talker's frames at the first hop: no delay yet, and all frames passed. `stream_latency` calls it.
 fn first_hop_arrival(traffic: &Traffic) -> HopArrival
     ensures { result ≡ spec.first_hop_arrival traffic.now }
 {

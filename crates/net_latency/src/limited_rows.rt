@@ -29,6 +29,7 @@ use net_file::{FrameLimit, LimitedRow};
 use std::alloc::Allocator;
 
 /// Returns the metered octets of `frames` frames of `longest` octets: each is padded to 60 octets and has a check sequence of 4.
+/// `limit_burst` and `limit_rate` call it.
 fn metered_frames(frames: u64, longest: u32) -> u64
     requires frames { frames ≤ 1024 }
     requires longest { longest ≤ LONGEST_FRAME }
@@ -39,7 +40,7 @@ fn metered_frames(frames: u64, longest: u32) -> u64
 }
 
 /// Returns the largest burst, in metered octets, of a talker that keeps `limit` with frames of at most `longest` octets. Its filter's meter
-/// must pass this burst.
+/// must pass this burst. `admits_row` and `put_lacking_tokens` call it.
 pub(crate) fn limit_burst(limit: FrameLimit, longest: u32) -> u64
     requires limit { IsFrameLimit limit }
     requires longest { longest ≤ LONGEST_FRAME }
@@ -51,7 +52,7 @@ pub(crate) fn limit_burst(limit: FrameLimit, longest: u32) -> u64
     }
 }
 
-/// Returns the least rate in bit/s, rounded up, with which `octets` octets are sent in any `period` ns.
+/// Returns the least rate in bit/s, rounded up, with which `octets` octets are sent in any `period` ns. `limit_rate` calls it.
 fn least_rate(octets: u64, period: u64) -> u64
     requires octets { octets ≤ 9_441_280 }
     requires some { 1 ≤ period }
@@ -61,7 +62,7 @@ fn least_rate(octets: u64, period: u64) -> u64
 }
 
 /// Returns the least rate in bit/s that suffices for a talker that keeps `limit` with frames of at most `longest` octets. Its filter's
-/// meter must have this rate.
+/// meter must have this rate. `admits_row` and `put_lacking_tokens` call it.
 pub(crate) fn limit_rate(limit: FrameLimit, longest: u32) -> u64
     requires limit { IsFrameLimit limit }
     requires longest { longest ≤ LONGEST_FRAME }
@@ -73,7 +74,7 @@ pub(crate) fn limit_rate(limit: FrameLimit, longest: u32) -> u64
     }
 }
 
-/// Returns whether a filter passes each frame of a row's talker, by the filter's gate, SDU limit and meter.
+/// Returns whether a filter passes each frame of a row's talker, by the filter's gate, SDU limit and meter. `limited_timings` calls it.
 fn admits_row<A: Allocator + Copy>(plan: &Plan<A>, row: &LimitedRow, filter: &FilterPlan) -> bool
     requires row { IsLimitedRow row.now }
     ensures { result ≡ spec.admits_row plan.now row.now (Some filter.now) }
@@ -85,6 +86,7 @@ fn admits_row<A: Allocator + Copy>(plan: &Plan<A>, row: &LimitedRow, filter: &Fi
 }
 
 /// Returns whether a filter is in the group of a shared queue, and its frames can enter this queue. `reach` is the filter's reach.
+/// `push_limited_timing` calls it.
 fn shares_queue<A: Allocator + Copy>(
     plan: &Plan<A>,
     shared: &SharedQueue,
@@ -118,7 +120,8 @@ struct TestedRow {
     admits: bool,
 }
 
-/// Appends the delays of a tested row in a shared queue to `made`, if frames of the row's filter can enter the queue.
+/// Appends the delays of a tested row in a shared queue to `made`, if frames of the row's filter can enter the queue. `tested_timings`
+/// calls it.
 fn push_limited_timing<A: Allocator + Copy>(
     accepted: &Accepted<A>,
     shared: &SharedQueue,
@@ -156,7 +159,7 @@ fn push_limited_timing<A: Allocator + Copy>(
     Ok(())
 }
 
-/// Returns the delays of a tested row, one item for each shared queue that frames of its filter can enter.
+/// Returns the delays of a tested row, one item for each shared queue that frames of its filter can enter. `limited_timings` calls it.
 fn tested_timings<A: Allocator + Copy>(
     alloc: A,
     accepted: &Accepted<A>,

@@ -9,7 +9,7 @@ use bridge_limits::NoMemory;
 use std::alloc::{AllocError, Allocator};
 
 /// Appends the warning for a queue whose delay only its capacity bounds, because a filter of its group has no meter, or the meters pass
-/// more than the windows carry.
+/// more than the windows carry. `push_shared_warning` calls it.
 #[tactic(auto, unfolding(crate::specs::SharedWarnings::unmetered_warning))]
 fn push_unmetered_warning<A: Allocator + Copy>(
     text: &mut String<A>,
@@ -29,7 +29,8 @@ fn push_unmetered_warning<A: Allocator + Copy>(
     )
 }
 
-/// Appends the warning for a queue that may be full and drop copies, because its capacity isn't known to suffice.
+/// Appends the warning for a queue that may be full and drop copies, because its capacity isn't known to suffice. `push_shared_warning`
+/// calls it.
 #[tactic(auto, unfolding(crate::specs::SharedWarnings::lossy_words))]
 fn push_lossy_warning<A: Allocator + Copy>(
     text: &mut String<A>,
@@ -56,7 +57,7 @@ fn push_lossy_warning<A: Allocator + Copy>(
     }
 }
 
-/// Appends the warning about a shared queue, at most one. Appends nothing for a queue without a mark.
+/// Appends the warning about a shared queue, at most one. Appends nothing for a queue without a mark. `rows_warnings` calls it.
 fn push_shared_warning<A: Allocator + Copy>(
     text: &mut String<A>,
     row: &SharedQueue,
@@ -72,7 +73,7 @@ fn push_shared_warning<A: Allocator + Copy>(
     Ok(())
 }
 
-/// Returns one warning for each queue of `rows` with the mark `unmetered` or `lossy`, in the order of `rows`.
+/// Returns one warning for each queue of `rows` with the mark `unmetered` or `lossy`, in the order of `rows`. `shared_warnings` calls it.
 fn rows_warnings<A: Allocator + Copy>(alloc: A, rows: &[SharedQueue]) -> Result<String<A>, NoMemory>
     ensures { IfOk result (λ text. string_bytes text ≡ shared_warnings rows.now) }
 {

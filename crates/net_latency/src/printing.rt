@@ -12,14 +12,14 @@ use bridge_limits::NoMemory;
 use std::alloc::{AllocError, Allocator, Global};
 use std::io::Read;
 
-/// Returns ` coarse` for a coarse bound (`TightBound::coarse`), otherwise an empty text.
+/// Returns ` coarse` for a coarse bound (`TightBound::coarse`), otherwise an empty text. `push_bound_line` calls it.
 fn coarse_mark(coarse: bool) -> &'static str
     ensures { result.now ≡ coarse_mark coarse }
 {
     if coarse { " coarse" } else { "" }
 }
 
-/// Appends the bound for frames of at least 60 octets, or nothing if there is no such bound.
+/// Appends the bound for frames of at least 60 octets, or nothing if there is no such bound. `push_bound_line` calls it.
 fn push_padded_figure<A: Allocator + Copy>(
     text: &mut String<A>,
     padded: Option<u64>,
@@ -32,7 +32,7 @@ fn push_padded_figure<A: Allocator + Copy>(
     }
 }
 
-/// Appends the line of a queue's delay bound, such as `filter 1 port 2 class 7 bound 12336`.
+/// Appends the line of a queue's delay bound, such as `filter 1 port 2 class 7 bound 12336`. `bounds_text` calls it.
 #[tactic(auto, unfolding(crate::specs::Printing::bound_line))]
 fn push_bound_line<A: Allocator + Copy>(
     text: &mut String<A>,

@@ -47,7 +47,7 @@ pub(crate) enum QueueExit {
     Next(StreamHop, HopArrival),
 }
 
-/// Returns the plan of the bridge with index `bridge`, or `None` if the bridge is missing.
+/// Returns the plan of the bridge with index `bridge`, or `None` if the bridge is missing. `hop_passes` and `queue_exit` call it.
 fn accepted_plan<'a, A: Allocator + Copy>(
     plans: &'a [Accepted<A>],
     bridge: u16,
@@ -78,7 +78,7 @@ pub(crate) fn hop_passes<A: Allocator + Copy>(
 }
 
 /// Returns the delays of a route that ends at a queue. `worst` is the lesser of two limits: summed worst delays, and time from phase `from`
-/// to the last of `done`.
+/// to the last of `done`. `exit_over_link` calls it.
 fn latency_at_last_queue(
     from: u64,
     came: &HopArrival,
@@ -99,7 +99,7 @@ fn latency_at_last_queue(
 }
 
 /// Returns the arrival at the next hop over a link of `delay` ns. `x` and `done` are the queue's delays and phases. `None` if phases of
-/// arrival lie in two periods.
+/// arrival lie in two periods. `exit_over_link` calls it.
 fn next_hop_arrival(
     came: &HopArrival,
     x: &Timing,
@@ -138,7 +138,7 @@ fn next_hop_arrival(
 }
 
 /// Returns the next step of frames that leave a queue in the phases `done`. `onward` is the next hop; `None` ends the route. `None` if
-/// phases lie in two periods.
+/// phases lie in two periods. `queue_exit` calls it.
 fn exit_over_link(
     from: u64,
     came: &HopArrival,

@@ -46,7 +46,8 @@ pub fn explain_refusable<H: AllocGlobal + Files>(
     said
 }
 
-/// Returns one sentence for each row and queue in which frames may be refused. Returns `None` if memory runs out.
+/// Returns one sentence for each row and queue in which frames may be refused. Returns `None` if memory runs out. `explain_refusable` calls
+/// it.
 fn explain_refusable_rows(
     alloc: Global,
     accepted: &Accepted<Global>,
@@ -67,7 +68,7 @@ fn explain_refusable_rows(
 }
 
 /// Appends a sentence for each queue in which frames of row `index` may be refused. `timings` has the results of all rows, `shared` the
-/// shared queues.
+/// shared queues. `explain_refusable_rows` calls it.
 fn put_row(
     said: &mut TextBuilder<Global>,
     plan: &Plan<Global>,
@@ -87,7 +88,7 @@ fn put_row(
     }
 }
 
-/// Appends a sentence: the traffic row, its filter, the queue's port, and the first condition that fails there.
+/// Appends a sentence: the traffic row, its filter, the queue's port, and the first condition that fails there. `put_row` calls it.
 fn put_queue(
     said: &mut TextBuilder<Global>,
     plan: &Plan<Global>,
@@ -116,7 +117,7 @@ fn put_queue(
 }
 
 /// Appends the first condition that fails for a talker of a group. It concerns its filter's gate, SDU limit or meter, or the capacity of
-/// the queue.
+/// the queue. `put_queue` calls it.
 fn put_limited_reason(
     said: &mut TextBuilder<Global>,
     plan: &Plan<Global>,
@@ -145,7 +146,8 @@ fn put_limited_reason(
     }
 }
 
-/// Appends that the longest frame's SDU has `octets` octets, more than `most`, the filter's `max_sdu`.
+/// Appends that the longest frame's SDU has `octets` octets, more than `most`, the filter's `max_sdu`. `put_limited_reason` and
+/// `put_reason` call it.
 fn put_long(said: &mut TextBuilder<Global>, octets: u32, most: u32) {
     said.put_template(
         "the SDU of its longest frame has {0} octets, and `max_sdu` is {1}.",
@@ -155,7 +157,7 @@ fn put_long(said: &mut TextBuilder<Global>, octets: u32, most: u32) {
 }
 
 /// Appends why the filter's meter doesn't suffice for the talker: it is missing, or its burst size or rate is too small. Returns whether it
-/// appended a sentence.
+/// appended a sentence. `put_limited_reason` calls it.
 fn put_lacking_tokens(
     said: &mut TextBuilder<Global>,
     plan: &Plan<Global>,
@@ -192,7 +194,8 @@ fn put_lacking_tokens(
     true
 }
 
-/// Appends that the shared queue's capacity doesn't suffice, or that no capacity is known to suffice, and a remedy.
+/// Appends that the shared queue's capacity doesn't suffice, or that no capacity is known to suffice, and a remedy. `put_limited_reason`
+/// calls it.
 fn put_lacking_room(said: &mut TextBuilder<Global>, shared: &[SharedQueue], queue: &QueueTiming) {
     for row in shared {
         if row.port == queue.port && row.class == queue.class {
@@ -252,7 +255,8 @@ pub fn put_reason(
     put_gate(said, plan, filter, traffic, octets);
 }
 
-/// Appends that the filter's stream gate may refuse a frame, and a hint if the lengths may include the frame check sequence.
+/// Appends that the filter's stream gate may refuse a frame, and a hint if the lengths may include the frame check sequence. `put_reason`
+/// calls it.
 fn put_gate(
     said: &mut TextBuilder<Global>,
     plan: &Plan<Global>,

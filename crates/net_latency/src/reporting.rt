@@ -29,6 +29,7 @@ pub struct TrafficReport<A: Allocator + Copy> {
 }
 
 /// Returns the program's fault for refused traffic, with the fault line of `fault`. Returns `NoMemory` if memory runs out for the line.
+/// `check_and_report` and `parse_rows` call it.
 fn traffic_refusal(heap: Global, fault: &TrafficFault) -> Failure
     ensures { IsTrafficFailure fault.now result }
 {
@@ -39,7 +40,7 @@ fn traffic_refusal(heap: Global, fault: &TrafficFault) -> Failure
 }
 
 /// Returns the rows of a traffic file with the contents `text`. For refused contents, returns the program's fault with the fault line, or
-/// `NoMemory`.
+/// `NoMemory`. `read_rows` calls it.
 fn parse_rows<A: Allocator + Copy>(
     alloc: A,
     heap: Global,
@@ -59,7 +60,7 @@ fn parse_rows<A: Allocator + Copy>(
     }
 }
 
-/// Reads the rows of a traffic file from a reader. `path` names the file in faults.
+/// Reads the rows of a traffic file from a reader. `path` names the file in faults. `explain_refusable` and `traffic_job` call it.
 pub(crate) fn read_rows<R: Read + Drop, A: Allocator + Copy>(
     alloc: A,
     heap: Global,
@@ -81,6 +82,7 @@ pub(crate) fn read_rows<R: Read + Drop, A: Allocator + Copy>(
 }
 
 /// Returns the output for an accepted plan and rows without a fault (`traffic_fault`): lines of bounds, then lines of traffic.
+/// `check_and_report` calls it.
 fn report_traffic<A: Allocator + Copy>(
     alloc: A,
     accepted: &Accepted<A>,
@@ -106,7 +108,7 @@ fn report_traffic<A: Allocator + Copy>(
 }
 
 /// Returns the output for an accepted plan and traffic rows: lines of bounds, then lines of traffic. Returns the program's fault if a row
-/// doesn't suit the plan.
+/// doesn't suit the plan. `traffic_job` calls it.
 fn check_and_report<A: Allocator + Copy>(
     alloc: A,
     heap: Global,

@@ -18,7 +18,7 @@ pub(crate) fn is_lossy(room: Option<u16>, capacity: u16) -> bool
 }
 
 /// Returns the mark of a shared queue's line, with a blank before it: ` unmetered` or ` lossy`. Empty for a queue that is metered and drops
-/// no copy as full.
+/// no copy as full. `push_shared_line` calls it.
 fn shared_mark(row: &SharedQueue) -> &'static str
     ensures { result.now ≡ shared_mark row.now }
 {
@@ -32,7 +32,7 @@ fn shared_mark(row: &SharedQueue) -> &'static str
     }
 }
 
-/// Appends the capacity that suffices for a queue, `none` if none is known, and the queue's own capacity.
+/// Appends the capacity that suffices for a queue, `none` if none is known, and the queue's own capacity. `push_shared_line` calls it.
 fn push_room<A: Allocator + Copy>(
     text: &mut String<A>,
     room: Option<u16>,
@@ -46,7 +46,7 @@ fn push_room<A: Allocator + Copy>(
     }
 }
 
-/// Appends the line of a shared queue, such as `group 1 port 3 class 6 bound 351055 room 134 of 256`.
+/// Appends the line of a shared queue, such as `group 1 port 3 class 6 bound 351055 room 134 of 256`. `push_shared_text` calls it.
 #[tactic(auto, unfolding(crate::specs::SharedLines::shared_line))]
 fn push_shared_line<A: Allocator + Copy>(
     text: &mut String<A>,

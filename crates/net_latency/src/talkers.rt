@@ -28,6 +28,7 @@ use net_model::{Link, StreamHop};
 use std::alloc::Allocator;
 
 /// Returns whether the period is a multiple of each cycle time on the route of filter `filter`'s frames. True if the filter is missing.
+/// `suits_hop` calls it.
 fn suits_filter<A: Allocator + Copy>(plan: &Plan<A>, filter: u32, period: u64) -> bool
     ensures { result ≡ spec.suits_filter plan.now period (lookup (nat_eq filter) plan.now.filters) }
 {
@@ -37,7 +38,7 @@ fn suits_filter<A: Allocator + Copy>(plan: &Plan<A>, filter: u32, period: u64) -
     }
 }
 
-/// Returns the plan of the bridge with index `bridge`, or `None` if the bridge is missing.
+/// Returns the plan of the bridge with index `bridge`, or `None` if the bridge is missing. `suits_hop` calls it.
 fn accepted_plan<A: Allocator + Copy>(plans: &[Accepted<A>], bridge: u16) -> Option<&Accepted<A>>
     ensures { option_map (λ p. p.now) result ≡ slice_get plans.now bridge }
 {
@@ -45,7 +46,7 @@ fn accepted_plan<A: Allocator + Copy>(plans: &[Accepted<A>], bridge: u16) -> Opt
 }
 
 /// Returns whether the period suits a hop's filter (`suits_filter`). `hop` has bridge index and filter number. True if the bridge is
-/// missing.
+/// missing. `suits_each` calls it.
 fn suits_hop<A: Allocator + Copy>(plans: &[Accepted<A>], hop: (u16, u32), period: u64) -> bool
     ensures { result ≡ spec.suits_hop (slice_get plans.now hop.0) hop.1 period }
 {
@@ -55,14 +56,14 @@ fn suits_hop<A: Allocator + Copy>(plans: &[Accepted<A>], hop: (u16, u32), period
     }
 }
 
-/// Returns whether the period suits all of these hops.
+/// Returns whether the period suits all of these hops. `suits_hops` calls it.
 fn suits_each<A: Allocator + Copy>(plans: &[Accepted<A>], hops: &[(u16, u32)], period: u64) -> bool
     ensures { result ≡ list_all (λ (h : ℕ × ℕ). spec.suits_hop (slice_get plans.now h.0) h.1 period) hops.now }
 {
     hops.iter().all(|h| suits_hop(plans, *h, period))
 }
 
-/// Returns whether the talker's period suits all hops of its stream. Returns true without a periodic talker.
+/// Returns whether the talker's period suits all hops of its stream. Returns true without a periodic talker. `first_misfit` calls it.
 fn suits_hops<A: Allocator + Copy>(
     plans: &[Accepted<A>],
     talker: Option<Talker>,
@@ -99,7 +100,7 @@ pub fn first_misfit<A: Allocator + Copy>(
     None
 }
 
-/// Returns a talker of a network file as traffic of `bridge_bounds`, which computes delays.
+/// Returns a talker of a network file as traffic of `bridge_bounds`, which computes delays. `latency_through_hops` calls it.
 fn talker_traffic(talker: &Talker) -> Traffic
     requires { IsTalker talker.now }
     ensures traffic { result ≡ spec.talker_traffic talker.now }
@@ -114,7 +115,7 @@ fn talker_traffic(talker: &Talker) -> Traffic
     }
 }
 
-/// Appends the queue of `row` to `queues` if it belongs to the hop's filter.
+/// Appends the queue of `row` to `queues` if it belongs to the hop's filter. `put_filter_queues` calls it.
 #[tactic(auto, using(crate::proofs::Queued::one_more, crate::proofs::Queued::none_more))]
 fn put_hop_queue<A: Allocator + Copy>(
     row: &QueueBound,
@@ -138,6 +139,7 @@ fn put_hop_queue<A: Allocator + Copy>(
 }
 
 /// Appends to `queues` the reachable queues of a hop's filter. `rows` has the delay bounds of all protected filters of the hop's bridge.
+/// `put_queues` calls it.
 fn put_filter_queues<A: Allocator + Copy>(
     rows: &[QueueBound],
     hop: StreamHop,
@@ -156,7 +158,7 @@ fn put_filter_queues<A: Allocator + Copy>(
     Ok(())
 }
 
-/// Appends to `queues` the reachable queues of a hop. `bounds` has the delay bounds of all bridges, by bridge index.
+/// Appends to `queues` the reachable queues of a hop. `bounds` has the delay bounds of all bridges, by bridge index. `hop_queues` calls it.
 fn put_queues<A: Allocator + Copy>(
     bounds: &[Vec<QueueBound, A>],
     hop: StreamHop,
@@ -170,7 +172,7 @@ fn put_queues<A: Allocator + Copy>(
     put_filter_queues(bounds_of_bridge(bounds, hop.bridge), hop, queues)
 }
 
-/// Returns the reachable queues of all hops, hop by hop. `bounds` has an item for each reachable queue.
+/// Returns the reachable queues of all hops, hop by hop. `bounds` has an item for each reachable queue. `latency_through_hops` calls it.
 fn hop_queues<A: Allocator + Copy>(
     alloc: A,
     bounds: &[Vec<QueueBound, A>],

@@ -54,7 +54,8 @@ pub enum TrafficFigures {
     },
 }
 
-/// Returns whether the filter of a row with periodic traffic passes each of its frames. False if the plan lacks the filter.
+/// Returns whether the filter of a row with periodic traffic passes each of its frames. False if the plan lacks the filter. `row_timings`
+/// calls it.
 fn row_passes<A: Allocator + Copy>(accepted: &Accepted<A>, row: &TrafficRow) -> bool
     requires row { IsRow row.now }
     ensures { (result ≡ true) ↔ RowPasses accepted.now row.now }
@@ -67,7 +68,7 @@ fn row_passes<A: Allocator + Copy>(accepted: &Accepted<A>, row: &TrafficRow) -> 
 }
 
 /// Appends to `made` the delays of row `index` in the queue of `bound`, if the queue belongs to the row's filter. `passes`: the filter
-/// passes each frame.
+/// passes each frame. `row_timings` calls it.
 fn push_queue_timing<A: Allocator + Copy>(
     accepted: &Accepted<A>,
     bound: &QueueBound,
@@ -108,7 +109,7 @@ fn push_queue_timing<A: Allocator + Copy>(
 }
 
 /// Returns the delays of row `index`, with periodic traffic, in each queue of its filter in `bounds`, in this order. Empty if no queue is
-/// reachable.
+/// reachable. `talker_row_timings` calls it.
 fn row_timings<A: Allocator + Copy>(
     alloc: A,
     accepted: &Accepted<A>,
@@ -130,7 +131,7 @@ fn row_timings<A: Allocator + Copy>(
     Ok(made)
 }
 
-/// Appends one `TrafficFigures::Queue` to `made` for each of these queue timings.
+/// Appends one `TrafficFigures::Queue` to `made` for each of these queue timings. `put_row` calls it.
 fn put_queues<A: Allocator + Copy>(
     queues: &[QueueTiming],
     made: &mut Vec<TrafficFigures, A>,
@@ -145,7 +146,7 @@ fn put_queues<A: Allocator + Copy>(
     Ok(())
 }
 
-/// Appends the delays of a row to `made`, one item for each queue. Appends one `Nowhere` if there is no queue.
+/// Appends the delays of a row to `made`, one item for each queue. Appends one `Nowhere` if there is no queue. `queue_timings` calls it.
 fn put_row<A: Allocator + Copy>(
     row: u32,
     filter: u32,
@@ -163,7 +164,8 @@ fn put_row<A: Allocator + Copy>(
     Ok(())
 }
 
-/// Returns the delays of a row: in the queues of its protected filter, or in the shared queues of its filter's group.
+/// Returns the delays of a row: in the queues of its protected filter, or in the shared queues of its filter's group. `queue_timings` calls
+/// it.
 fn talker_row_timings<A: Allocator + Copy>(
     alloc: A,
     accepted: &Accepted<A>,
@@ -214,7 +216,7 @@ pub fn queue_timings<A: Allocator + Copy>(
     Ok(made)
 }
 
-/// Returns whether the worst delay `worst` in ns meets the deadline. True without a deadline.
+/// Returns whether the worst delay `worst` in ns meets the deadline. True without a deadline. `is_in_time` and `is_kept` call it.
 pub(crate) fn is_met(deadline: Option<u64>, worst: u128) -> bool
     ensures { result ≡ spec.is_met deadline worst }
 {
@@ -225,7 +227,7 @@ pub(crate) fn is_met(deadline: Option<u64>, worst: u128) -> bool
 }
 
 /// Returns whether each frame of a row passes and meets its deadline in a queue. Returns false for a row whose filter has no reachable
-/// queue.
+/// queue. `are_in_time` calls it.
 fn is_kept(figures: &TrafficFigures) -> bool
     ensures { result ≡ spec.is_row_kept figures.now }
 {
@@ -243,7 +245,7 @@ pub fn are_in_time(timings: &[TrafficFigures]) -> bool
     timings.iter().all(|x| is_kept(x))
 }
 
-/// Returns `met` or `missed` for a deadline of `limit` ns and a worst delay in ns.
+/// Returns `met` or `missed` for a deadline of `limit` ns and a worst delay in ns. `put_deadline` calls it.
 fn deadline_word(limit: u64, worst: u128) -> &'static str
     ensures { result.now ≡ printing.deadline_word (spec.is_met (Some limit) worst) }
 {
@@ -254,7 +256,8 @@ fn deadline_word(limit: u64, worst: u128) -> &'static str
     }
 }
 
-/// Writes a deadline in ns and whether the worst delay `worst` meets it. Writes nothing without a deadline.
+/// Writes a deadline in ns and whether the worst delay `worst` meets it. Writes nothing without a deadline. `put_stream` and
+/// `put_timing_line` call it.
 pub(crate) fn put_deadline<A: Allocator>(
     text: &mut TextBuilder<A>,
     deadline: Option<u64>,
@@ -270,7 +273,7 @@ pub(crate) fn put_deadline<A: Allocator>(
     }
 }
 
-/// Writes the start of a timing line: row, filter, port and class of the queue.
+/// Writes the start of a timing line: row, filter, port and class of the queue. `put_timing_line` calls it.
 fn put_queue<A: Allocator>(text: &mut TextBuilder<A>, x: &QueueTiming)
     ensures { HasGrown text.old (printing.queue_words x.now) text.new }
 {
@@ -284,7 +287,7 @@ fn put_queue<A: Allocator>(text: &mut TextBuilder<A>, x: &QueueTiming)
     text.put_number(u64::from(x.class));
 }
 
-/// Writes the phases of the ends of transmission, if they are known.
+/// Writes the phases of the ends of transmission, if they are known. `put_delays` calls it.
 fn put_phases<A: Allocator>(text: &mut TextBuilder<A>, phases: Option<Phases>)
     ensures { HasGrown text.old (printing.phase_words phases) text.new }
 {
@@ -297,7 +300,8 @@ fn put_phases<A: Allocator>(text: &mut TextBuilder<A>, phases: Option<Phases>)
     text.put_number(to);
 }
 
-/// Writes worst delay, best delay and jitter in ns, and the phases of the ends of transmission.
+/// Writes worst delay, best delay and jitter in ns, and the phases of the ends of transmission. `put_course` and `put_timing_words` call
+/// it.
 pub(crate) fn put_delays<A: Allocator>(
     text: &mut TextBuilder<A>,
     worst: u128,
@@ -315,7 +319,7 @@ pub(crate) fn put_delays<A: Allocator>(
     put_phases(text, phases);
 }
 
-/// Writes worst delay, best delay and jitter in a queue, in ns, and the phases of the ends of transmission.
+/// Writes worst delay, best delay and jitter in a queue, in ns, and the phases of the ends of transmission. `put_timing_line` calls it.
 fn put_timing_words<A: Allocator>(text: &mut TextBuilder<A>, x: &QueueTiming)
     ensures { HasGrown text.old (printing.figure_words x.now) text.new }
 {
@@ -327,7 +331,8 @@ fn put_timing_words<A: Allocator>(text: &mut TextBuilder<A>, x: &QueueTiming)
     put_delays(text, worst as u128, best as u128, phases);
 }
 
-/// Writes the line of a row's frames in a queue: `passes` or `refusable`, the delays, and whether the deadline is met.
+/// Writes the line of a row's frames in a queue: `passes` or `refusable`, the delays, and whether the deadline is met. `put_row_line` calls
+/// it.
 fn put_timing_line<A: Allocator>(text: &mut TextBuilder<A>, x: &QueueTiming)
     ensures { HasGrown text.old (printing.timing_line x.now) text.new }
 {
@@ -339,14 +344,14 @@ fn put_timing_line<A: Allocator>(text: &mut TextBuilder<A>, x: &QueueTiming)
     text.put("\n");
 }
 
-/// Returns `passes` if each frame passes, otherwise `refusable`.
+/// Returns `passes` if each frame passes, otherwise `refusable`. `put_timing_line` calls it.
 fn passing_word(passes: bool) -> &'static str
     ensures { result.now ≡ printing.passing_word passes }
 {
     if passes { "passes" } else { "refusable" }
 }
 
-/// Writes the line of a row without reachable queue: it ends with `nowhere`.
+/// Writes the line of a row without reachable queue: it ends with `nowhere`. `put_row_line` calls it.
 fn put_nowhere<A: Allocator>(text: &mut TextBuilder<A>, row: u32, filter: u32)
     ensures { HasGrown text.old (printing.nowhere_line row filter) text.new }
 {
@@ -357,7 +362,7 @@ fn put_nowhere<A: Allocator>(text: &mut TextBuilder<A>, row: u32, filter: u32)
     text.put(" nowhere\n");
 }
 
-/// Writes one line: the delays of a row in a queue, or `nowhere` for a row without reachable queue.
+/// Writes one line: the delays of a row in a queue, or `nowhere` for a row without reachable queue. `timings_text` calls it.
 fn put_row_line<A: Allocator>(text: &mut TextBuilder<A>, figures: &TrafficFigures)
     ensures { HasGrown text.old (printing.figures_line figures.now) text.new }
 {

@@ -34,7 +34,7 @@ fn suits_schedule<A: Allocator + Copy>(period: u64, schedule: &Schedule<A>) -> b
 }
 
 /// Returns whether a period is a multiple of each cycle time of a port: of the old and of the new gate control list. Returns true without a
-/// list.
+/// list. `suits_port` calls it.
 fn suits_lists<A: Allocator + Copy>(period: u64, lists: &Option<Egress<A>>) -> bool
     ensures { result ≡ spec.suits_lists period lists.now }
 {
@@ -49,6 +49,7 @@ fn suits_lists<A: Allocator + Copy>(period: u64, lists: &Option<Egress<A>>) -> b
 }
 
 /// Returns whether a period is a multiple of the cycle times of the stream gate with this number. Returns true if the gate is missing.
+/// `suits` calls it.
 fn suits_gate<A: Allocator + Copy>(plan: &Plan<A>, gate: u32, period: u64) -> bool
     ensures { result ≡ spec.suits_gate period (lookup (nat_eq gate) plan.now.gates) }
 {
@@ -65,7 +66,8 @@ fn either(a: bool, b: bool) -> bool
     a || b
 }
 
-/// Returns whether the filter has a reachable queue at a port, in any class. `reach` is the filter's reach.
+/// Returns whether the filter has a reachable queue at a port, in any class. `reach` is the filter's reach. `has_misfit_at_port` and
+/// `put_ports` call it.
 pub(crate) fn can_wait_at_port<A: Allocator + Copy>(
     plan: &Plan<A>,
     filter: &FilterPlan,
@@ -85,7 +87,7 @@ pub(crate) fn can_wait_at_port<A: Allocator + Copy>(
     found
 }
 
-/// Returns whether a period is a multiple of the cycle times of a port. Returns true if the port is missing.
+/// Returns whether a period is a multiple of the cycle times of a port. Returns true if the port is missing. `has_misfit_at_port` calls it.
 fn suits_port<A: Allocator + Copy>(period: u64, port: Option<&PortPlan<A>>) -> bool
     ensures { result ≡ spec.suits_port period (option_map (λ p. p.now) port.entry) }
 {
@@ -95,7 +97,8 @@ fn suits_port<A: Allocator + Copy>(period: u64, port: Option<&PortPlan<A>>) -> b
     }
 }
 
-/// Returns whether the filter has a reachable queue at `port`, and the period isn't a multiple of this port's cycle times.
+/// Returns whether the filter has a reachable queue at `port`, and the period isn't a multiple of this port's cycle times. `has_misfit`
+/// calls it.
 fn has_misfit_at_port<A: Allocator + Copy>(
     plan: &Plan<A>,
     filter: &FilterPlan,
@@ -113,7 +116,8 @@ fn has_misfit_at_port<A: Allocator + Copy>(
     comes && !suits
 }
 
-/// Returns whether the filter has a reachable queue at some port, and the period isn't a multiple of this port's cycle times.
+/// Returns whether the filter has a reachable queue at some port, and the period isn't a multiple of this port's cycle times. `suits` calls
+/// it.
 fn has_misfit<A: Allocator + Copy>(
     plan: &Plan<A>,
     filter: &FilterPlan,
@@ -144,7 +148,7 @@ pub(crate) fn suits<A: Allocator + Copy>(plan: &Plan<A>, filter: &FilterPlan, pe
 }
 
 /// Returns the fault of row `index`, with periodic traffic, or `None`. Its filter is missing or unprotected, or its period doesn't suit a
-/// cycle time on the route.
+/// cycle time on the route. `talker_row_fault` calls it.
 pub(crate) fn row_fault<A: Allocator + Copy>(
     plan: &Plan<A>,
     index: u32,
@@ -173,6 +177,7 @@ pub(crate) fn row_fault<A: Allocator + Copy>(
 }
 
 /// Returns the fault of row `index` with a limit of its frames, or `None`. The filter is missing, or belongs to no group.
+/// `talker_row_fault` calls it.
 fn group_fault<A: Allocator + Copy>(plan: &Plan<A>, index: u32, filter: u32) -> Option<TrafficFault>
     ensures { result ≡ kinds.group_fault index (lookup (nat_eq filter) plan.now.filters) }
 {
@@ -189,7 +194,8 @@ fn group_fault<A: Allocator + Copy>(plan: &Plan<A>, index: u32, filter: u32) -> 
     }
 }
 
-/// Returns the fault of row `index`, from 1, compared with the plan, or `None`. Explanations find the row by it.
+/// Returns the fault of row `index`, from 1, compared with the plan, or `None`. Explanations find the row by it. `explain_rows` and
+/// `traffic_fault` call it.
 pub(crate) fn talker_row_fault<A: Allocator + Copy>(
     plan: &Plan<A>,
     index: u32,

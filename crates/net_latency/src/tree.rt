@@ -16,7 +16,7 @@ pub struct HopQueue {
     pub class: u8,
 }
 
-/// Returns whether the port of a queue has a link to `bridge`, so that the queue's frames arrive there.
+/// Returns whether the port of a queue has a link to `bridge`, so that the queue's frames arrive there. `count_feeders` calls it.
 fn is_feeder(links: &[Link], bridge: u16, queue: &HopQueue) -> bool
     ensures { result ≡ spec.is_feeder links.now bridge queue.now }
 {
@@ -27,6 +27,7 @@ fn is_feeder(links: &[Link], bridge: u16, queue: &HopQueue) -> bool
 }
 
 /// Returns the number of `queues` whose port has a link to `bridge`. In a tree, it is at most 1, and 0 for the bridge of the root.
+/// `have_single_feeders` and `is_tree` call it.
 fn count_feeders(links: &[Link], queues: &[HopQueue], bridge: u16) -> usize
     ensures { result ≡ spec.count_feeders links.now queues.now bridge }
 {
@@ -37,7 +38,7 @@ fn count_feeders(links: &[Link], queues: &[HopQueue], bridge: u16) -> usize
 }
 
 /// Returns whether the first of `hops` at the bridge of `hop` has the filter of `hop`. Otherwise two hops are at this bridge, so the stream
-/// may cross it twice.
+/// may cross it twice. `have_distinct_bridges` calls it.
 fn is_first_at_bridge(hops: &[StreamHop], hop: &StreamHop) -> bool
     ensures { result ≡ spec.is_first_at_bridge hops.now hop.now }
 {
@@ -47,14 +48,14 @@ fn is_first_at_bridge(hops: &[StreamHop], hop: &StreamHop) -> bool
     }
 }
 
-/// Returns whether no two hops are at one bridge with different filters: each is the first of `hops` at its bridge.
+/// Returns whether no two hops are at one bridge with different filters: each is the first of `hops` at its bridge. `is_tree` calls it.
 fn have_distinct_bridges(hops: &[StreamHop]) -> bool
     ensures { result ≡ spec.have_distinct_bridges hops.now }
 {
     hops.iter().all(|h| is_first_at_bridge(hops, h))
 }
 
-/// Returns whether at most one of `queues` leads to the bridge of each hop (`count_feeders`).
+/// Returns whether at most one of `queues` leads to the bridge of each hop (`count_feeders`). `is_tree` calls it.
 fn have_single_feeders(links: &[Link], hops: &[StreamHop], queues: &[HopQueue]) -> bool
     ensures { result ≡ spec.have_single_feeders links.now hops.now queues.now }
 {
@@ -70,6 +71,7 @@ fn all_three(a: bool, b: bool, c: bool) -> bool
 }
 
 /// Returns whether the hops are a tree with root `first`: different bridges, at most one queue leads to each hop, and none to the root.
+/// `stream_latency` calls it.
 pub(crate) fn is_tree(
     links: &[Link],
     hops: &[StreamHop],
