@@ -59,7 +59,7 @@ impl LineBlock {
         self.start = start;
     }
 
-    /// Writes the decimal digits of `number` in front of the block's text.
+    /// Writes the decimal digits of `number` in front of the block's text. `prepend_number` calls it.
     #[inline(always)]
     fn prepend_digits(&mut self, number: u64)
         requires { 20 + length self.old ≤ 1920 }

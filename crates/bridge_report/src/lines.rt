@@ -21,7 +21,7 @@ pub fn put_header<T: ReportSink>(text: &mut T, filter: u32, protected: bool)
     text.put("\n");
 }
 
-/// Writes the line with the number of frames that the filter matched.
+/// Writes the line with the number of frames that the filter matched. `put_counters` calls it.
 fn put_matching<T: ReportSink>(text: &mut T, matching: u64)
     ensures { HasGrown T.contents text.old (matching_line matching) text.new }
 {
@@ -29,7 +29,7 @@ fn put_matching<T: ReportSink>(text: &mut T, matching: u64)
     text.put("\n");
 }
 
-/// Writes the line of a test, `sdu` or `gate`: the numbers of frames that passed it and that it refused.
+/// Writes the line of a test, `sdu` or `gate`: the numbers of frames that passed it and that it refused. `put_counters` calls it.
 fn put_test<T: ReportSink>(text: &mut T, test: &str, passed: u64, refused: u64)
     ensures { HasGrown T.contents text.old (test_line test.now passed refused) text.new }
 {
@@ -39,7 +39,7 @@ fn put_test<T: ReportSink>(text: &mut T, test: &str, passed: u64, refused: u64)
     text.put("\n");
 }
 
-/// Writes the line with the number of frames that the meter refused.
+/// Writes the line with the number of frames that the meter refused. `put_counters` calls it.
 fn put_red<T: ReportSink>(text: &mut T, red: u64)
     ensures { HasGrown T.contents text.old (red_line red) text.new }
 {
@@ -57,7 +57,7 @@ pub fn put_counters<T: ReportSink>(text: &mut T, counters: &Counters)
     put_red(text, counters.red);
 }
 
-/// Writes a space, a flag's name and its value, for the line of flags.
+/// Writes a space, a flag's name and its value, for the line of flags. `put_all_flags` calls it.
 fn put_flag<T: ReportSink>(text: &mut T, name: &str, flag: bool)
     ensures { HasGrown T.contents text.old (named_flag name.now flag) text.new }
 {
@@ -67,7 +67,7 @@ fn put_flag<T: ReportSink>(text: &mut T, name: &str, flag: bool)
     text.put(flag_word(flag));
 }
 
-/// Writes the names and values of the flags `blocked`, `rx`, `octets` and `red`.
+/// Writes the names and values of the flags `blocked`, `rx`, `octets` and `red`. `put_flags` calls it.
 fn put_all_flags<T: ReportSink>(text: &mut T, flags: &Flags)
     ensures { HasGrown T.contents text.old (all_flags flags.now) text.new }
 {
@@ -86,7 +86,7 @@ pub fn put_flags<T: ReportSink>(text: &mut T, flags: &Flags)
     text.put("\n");
 }
 
-/// Writes the line of a meter's buckets: both levels in bucket units, and their time in ns.
+/// Writes the line of a meter's buckets: both levels in bucket units, and their time in ns. `put_optional_buckets` calls it.
 fn put_buckets<T: ReportSink>(text: &mut T, buckets: &Buckets)
     ensures { HasGrown T.contents text.old (bucket_line (Some buckets.now)) text.new }
 {

@@ -38,7 +38,7 @@ impl ListedCopy for StoredDeparture {
     }
 }
 
-/// Writes the end of a frame's line in front of `block`: a space, the word for its verdict and a line feed.
+/// Writes the end of a frame's line in front of `block`: a space, the word for its verdict and a line feed. `prepend_frame` calls it.
 #[inline(always)]
 fn prepend_verdict(block: &mut LineBlock, verdict: Verdict)
     requires { 17 + length block.old ≤ 1920 }
@@ -73,7 +73,7 @@ pub fn prepend_frame(block: &mut LineBlock, number: usize, verdict: Verdict)
     block.prepend_number("frame ", number as u64);
 }
 
-/// Writes the end of a dropped copy's line in front of `block`: a space, the word for the reason and a line feed.
+/// Writes the end of a dropped copy's line in front of `block`: a space, the word for the reason and a line feed. `prepend_drop` calls it.
 #[inline(always)]
 fn prepend_refusal(block: &mut LineBlock, refusal: Refusal)
     requires { 7 + length block.old ≤ 1920 }
@@ -86,7 +86,7 @@ fn prepend_refusal(block: &mut LineBlock, refusal: Refusal)
     }
 }
 
-/// Writes the line of a dropped copy in front of `block`: its frame's number, the port and the reason.
+/// Writes the line of a dropped copy in front of `block`: its frame's number, the port and the reason. `prepend_line` calls it.
 #[inline(always)]
 fn prepend_drop(block: &mut LineBlock, dropped: &Dropped)
     requires { 128 + length block.old ≤ 1920 }
@@ -100,6 +100,7 @@ fn prepend_drop(block: &mut LineBlock, dropped: &Dropped)
 }
 
 /// Writes the line of a copy that left in front of `block`: its frame's number, the port, and start and end of its transmission in ns.
+/// `prepend_line` calls it.
 #[inline(always)]
 fn prepend_departure(block: &mut LineBlock, departure: &Departure)
     requires { 128 + length block.old ≤ 1920 }

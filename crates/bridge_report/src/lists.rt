@@ -12,7 +12,7 @@ use bridge_semantics::{StoredDeparture, StoredDrop, StoredVerdict};
 const BLOCK_LINES: usize = 15;
 
 /// Writes the lines of frames, numbered from `number`, into the empty `block`. Writes the last frame first, because a block grows from its
-/// end.
+/// end. `put_frames` calls it.
 #[inline(always)]
 fn fill_frames(block: &mut LineBlock, number: usize, verdicts: &[StoredVerdict])
     requires empty { length block.old ≡ 0 }
@@ -42,7 +42,8 @@ pub fn put_frames<T: ReportSink>(text: &mut T, verdicts: &[StoredVerdict])
     }
 }
 
-/// Writes the lines of copies into the empty `block`. Writes the last copy first, because a block grows from its end.
+/// Writes the lines of copies into the empty `block`. Writes the last copy first, because a block grows from its end. `put_copies` calls
+/// it.
 #[inline(always)]
 fn fill_copies<C: ListedCopy>(block: &mut LineBlock, copies: &[C])
     requires empty { length block.old ≡ 0 }
@@ -56,7 +57,7 @@ fn fill_copies<C: ListedCopy>(block: &mut LineBlock, copies: &[C])
     }
 }
 
-/// Writes one line for each copy in `copies`, in list order, by blocks of at most 15 lines.
+/// Writes one line for each copy in `copies`, in list order, by blocks of at most 15 lines. `put_departures` and `put_drops` call it.
 fn put_copies<T: ReportSink, C: ListedCopy>(text: &mut T, copies: &[C])
     ensures { HasGrown T.contents text.old (flat_map C.line copies.now) text.new }
 {

@@ -57,7 +57,7 @@ pub struct Losses {
     pub never: u64,
 }
 
-/// Returns whether a filter refused a frame, by its verdict `verdict`, for reason `reason`.
+/// Returns whether a filter refused a frame, by its verdict `verdict`, for reason `reason`. `count_refused` calls it.
 fn has_reason(reason: Reason, verdict: &StoredVerdict) -> bool
     ensures { result ≡ spec.is_for reason verdict.now }
 {
@@ -100,7 +100,7 @@ pub fn count_never_fitting(drops: &[StoredDrop]) -> usize
         .count()
 }
 
-/// Returns the numbers of refused frames and dropped copies of a filter, by reason.
+/// Returns the numbers of refused frames and dropped copies of a filter, by reason. `put_lost` calls it.
 fn count_losses(verdicts: &[StoredVerdict], drops: &[StoredDrop]) -> Losses
     ensures { result ≡ spec.losses_of verdicts.now drops.now }
 {
@@ -118,7 +118,7 @@ fn count_losses(verdicts: &[StoredVerdict], drops: &[StoredDrop]) -> Losses
     }
 }
 
-/// Returns the number of refused frames and dropped copies, for all reasons together.
+/// Returns the number of refused frames and dropped copies, for all reasons together. `put_if` and `put_line` call it.
 fn total(losses: &Losses) -> u128
     ensures { result ≡ spec.total losses.now }
 {
@@ -130,6 +130,7 @@ fn total(losses: &Losses) -> u128
 }
 
 /// Writes a comma, `place`, the reason `word` and its number `count`. `place` says where frames were lost; it is empty for one bridge.
+/// `put_reason` calls it.
 fn put_counted<A: Allocator>(text: &mut TextBuilder<A>, place: &str, word: &str, count: u128)
     ensures { HasGrown text.old (spec.counted_words place.now word.now count) text.new }
 {
@@ -171,7 +172,7 @@ pub fn put_losses<A: Allocator>(text: &mut TextBuilder<A>, place: &str, losses: 
     put_reason(text, place, "never", losses.never as u128);
 }
 
-/// Writes the line of filter `filter`, which lost frames or copies, of `frames` frames in all. `run --strict` prints it.
+/// Writes the line of filter `filter`, which lost frames or copies, of `frames` frames in all. `run --strict` prints it. `put_if` calls it.
 fn put_line<A: Allocator>(text: &mut TextBuilder<A>, filter: u32, frames: u64, losses: &Losses)
     ensures { HasGrown text.old (spec.lost_line filter frames losses.now) text.new }
 {
@@ -186,7 +187,7 @@ fn put_line<A: Allocator>(text: &mut TextBuilder<A>, filter: u32, frames: u64, l
     text.put("\n");
 }
 
-/// Writes the line of a filter if the filter is protected and lost a frame or a copy. Otherwise writes nothing.
+/// Writes the line of a filter if the filter is protected and lost a frame or a copy. Otherwise writes nothing. `put_lost` calls it.
 fn put_if<A: Allocator>(
     text: &mut TextBuilder<A>,
     protected: bool,
@@ -201,7 +202,7 @@ fn put_if<A: Allocator>(
     }
 }
 
-/// Counts the losses in a filter's record, and writes the filter's line if it is protected and has losses.
+/// Counts the losses in a filter's record, and writes the filter's line if it is protected and has losses. `lost_lines` calls it.
 fn put_lost<A: Allocator>(text: &mut TextBuilder<A>, filter: u32, view: &View<A>)
     ensures { HasGrown text.old (spec.lost_lines_of filter view.now) text.new }
 {

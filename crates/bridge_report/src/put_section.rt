@@ -10,7 +10,7 @@ use crate::report_sink::ReportSink;
 use bridge_semantics::View;
 use std::alloc::Allocator;
 
-/// Writes the header, and the final counters, flags and buckets of a filter, its stream gate and its meter.
+/// Writes the header, and the final counters, flags and buckets of a filter, its stream gate and its meter. `put_section` calls it.
 fn put_state<A: Allocator, T: ReportSink>(text: &mut T, filter: u32, view: &View<A>)
     ensures { HasGrown T.contents text.old (state_lines filter view.now) text.new }
 {
@@ -20,7 +20,7 @@ fn put_state<A: Allocator, T: ReportSink>(text: &mut T, filter: u32, view: &View
     put_optional_buckets(text, view.buckets);
 }
 
-/// Writes the counts of the copies of a filter's frames, and their longest delay.
+/// Writes the counts of the copies of a filter's frames, and their longest delay. `put_section` calls it.
 fn put_copies<A: Allocator, T: ReportSink>(text: &mut T, view: &View<A>)
     ensures { HasGrown T.contents text.old (copy_lines view.now) text.new }
 {
@@ -28,7 +28,7 @@ fn put_copies<A: Allocator, T: ReportSink>(text: &mut T, view: &View<A>)
     put_delay(text, view.delay);
 }
 
-/// Writes the last part of a section: the lists of frames, drops and departures.
+/// Writes the last part of a section: the lists of frames, drops and departures. `put_section` calls it.
 fn put_lists<A: Allocator, T: ReportSink>(text: &mut T, view: &View<A>)
     ensures { HasGrown T.contents text.old (list_lines view.now) text.new }
 {

@@ -23,7 +23,8 @@ pub struct BufferedWriter<W: Write + Drop, A: Allocator> {
 }
 
 impl<W: Write + Drop, A: Allocator> BufferedWriter<W, A> {
-    /// Writes the buffered octets to the writer, and empties the buffer. The fault is `Broken` if the writer fails.
+    /// Writes the buffered octets to the writer, and empties the buffer. The fault is `Broken` if the writer fails. `finish` and
+    /// `make_room` call it.
     #[cold]
     #[inline(never)]
     fn flush_octets(&mut self) -> Result<(), ReportFault>
@@ -78,7 +79,7 @@ fn push_octets<A: Allocator>(octets: &mut Vec<u8, A>, more: &[u8]) -> Result<(),
     }
 }
 
-/// Returns the number of decimal digits of `number`, at most 20.
+/// Returns the number of decimal digits of `number`, at most 20. `push_number` calls it.
 #[inline(always)]
 #[tactic(auto, using(crate::proofs::Digits::counts))]
 fn count_digits(number: u64) -> usize
@@ -91,7 +92,8 @@ fn count_digits(number: u64) -> usize
     number.ilog10() as usize + 1
 }
 
-/// Appends the digits of `number` to `octets`. First extends `octets` by 20, a constant number, then cuts the unused end.
+/// Appends the digits of `number` to `octets`. First extends `octets` by 20, a constant number, then cuts the unused end. `put_number`
+/// calls it.
 #[inline(always)]
 fn push_number<A: Allocator>(octets: &mut Vec<u8, A>, number: u64) -> Result<(), ReportFault>
     ensures { OnOk result (octets.new.items ≡ octets.old.items ++ decimal number) }

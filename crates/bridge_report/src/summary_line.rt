@@ -6,42 +6,42 @@ use bridge_limits::NoMemory;
 use bridge_semantics::{Outcome, PortCount};
 use std::alloc::{AllocError, Allocator};
 
-/// Returns the number of frames that arrived at all ports.
+/// Returns the number of frames that arrived at all ports. `summary` calls it.
 fn total_frames(ports: &[(u8, PortCount)]) -> u128
     ensures { result ≡ sum_over_ports (λ c. c.frames) ports.now }
 {
     ports.iter().map(|p| u128::from(p.1.frames)).sum()
 }
 
-/// Returns the number of malformed frames at all ports.
+/// Returns the number of malformed frames at all ports. `summary` calls it.
 fn total_malformed(ports: &[(u8, PortCount)]) -> u128
     ensures { result ≡ sum_over_ports (λ c. c.malformed) ports.now }
 {
     ports.iter().map(|p| u128::from(p.1.malformed)).sum()
 }
 
-/// Returns the number of frames without an egress port, over all ports.
+/// Returns the number of frames without an egress port, over all ports. `summary` calls it.
 fn total_nowhere(ports: &[(u8, PortCount)]) -> u128
     ensures { result ≡ sum_over_ports (λ c. c.nowhere) ports.now }
 {
     ports.iter().map(|p| u128::from(p.1.nowhere)).sum()
 }
 
-/// Returns the number of frames that no filter matched, over all ports.
+/// Returns the number of frames that no filter matched, over all ports. `summary` calls it.
 fn total_unfiltered(ports: &[(u8, PortCount)]) -> u128
     ensures { result ≡ sum_over_ports (λ c. c.unfiltered) ports.now }
 {
     ports.iter().map(|p| u128::from(p.1.unfiltered)).sum()
 }
 
-/// Returns the number of queued copies, over all ports. When a run has ended, all of them have left.
+/// Returns the number of queued copies, over all ports. When a run has ended, all of them have left. `summary` calls it.
 fn total_sent(ports: &[(u8, PortCount)]) -> u128
     ensures { result ≡ sum_over_ports (λ c. c.sent) ports.now }
 {
     ports.iter().map(|p| u128::from(p.1.sent)).sum()
 }
 
-/// Returns the number of dropped copies at all ports.
+/// Returns the number of dropped copies at all ports. `summary` calls it.
 fn total_dropped(ports: &[(u8, PortCount)]) -> u128
     ensures { result ≡ sum_over_ports (λ c. c.dropped) ports.now }
 {
@@ -49,6 +49,7 @@ fn total_dropped(ports: &[(u8, PortCount)]) -> u128
 }
 
 /// Appends the numbers of frames that arrived, were malformed, weren't forwarded, and were policed. A filter judges each policed frame.
+/// `summary` calls it.
 fn push_arrivals<A: Allocator>(
     text: &mut String<A>,
     frames: u128,
@@ -65,7 +66,7 @@ fn push_arrivals<A: Allocator>(
     )
 }
 
-/// Appends the number of unfiltered frames, and the numbers of queued and dropped copies.
+/// Appends the number of unfiltered frames, and the numbers of queued and dropped copies. `summary` calls it.
 fn push_copies<A: Allocator>(
     text: &mut String<A>,
     unfiltered: u128,
