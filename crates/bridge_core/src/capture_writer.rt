@@ -53,7 +53,7 @@ pub fn begin_writers<W: ByteSink, A: Allocator + Copy>(
 }
 
 /// Returns the index of the writer of port `port`; `None` if it has none. Tries index `port` - 1 first, because ports are often numbered 1,
-/// 2, 3 and so on.
+/// 2, 3 and so on. `write_frame` calls it.
 #[inline(always)]
 fn writer_index(lines: &[CaptureWriter], port: u8) -> Option<usize>
     ensures within { IfSome result (λ place. place < length lines.now) }

@@ -20,7 +20,7 @@ use bridge_relay::Relay;
 use std::alloc::Allocator;
 
 /// Sets the agenda's entry `place`, from 1, to the time of the next frame of reader `lane`. Clears the entry if the capture has no more
-/// frames.
+/// frames. `make_heads` and `update_head` call it.
 #[inline(always)]
 fn set_reader_head<H: Agenda, A: Allocator + Copy>(
     heads: &mut H,
@@ -66,7 +66,8 @@ pub fn make_heads<H: Agenda, A: Allocator + Copy>(lanes: &[CaptureReader<A>]) ->
     heads
 }
 
-/// Removes the next frame from the reader with index `place`, which must have one. Returns the frame with its port.
+/// Removes the next frame from the reader with index `place`, which must have one. Returns the frame with its port. `process_frame` calls
+/// it.
 fn take_frame<A: Allocator + Copy>(lanes: &mut [CaptureReader<A>], place: usize) -> (u8, Packet<A>)
     requires place { place < length lanes.old }
     requires first { IsEarliestReader lanes.old place }
@@ -80,7 +81,7 @@ fn take_frame<A: Allocator + Copy>(lanes: &mut [CaptureReader<A>], place: usize)
 }
 
 /// Reads the next record of the capture with index `place`, after `take_frame` has removed a frame. The record's octets use the buffer
-/// `spare`.
+/// `spare`. `process_frame` calls it.
 fn read_next_ahead<R: ByteSource, A: Allocator + Copy>(
     spare: Vec<u8, A>,
     place: usize,
@@ -101,7 +102,7 @@ fn read_next_ahead<R: ByteSource, A: Allocator + Copy>(
 }
 
 /// Handles the earliest frame, from the reader with index `place`. Makes and writes all earlier starts, gives the frame to the relay, and
-/// reads the capture's next record.
+/// reads the capture's next record. `process_earlier_frames` calls it.
 fn process_frame<R: ByteSource, W: ByteSink, G: Agenda + Drop, A: Allocator + Copy>(
     place: usize,
     relay: &mut Relay<'_, G, A>,
@@ -173,7 +174,7 @@ fn is_earlier(time: u64, until: Option<u64>) -> bool
 }
 
 /// Returns the index of the reader with the earliest frame, if this frame is before `until`; otherwise `None`. Reads only the agenda, not
-/// the frames.
+/// the frames. `process_earlier_frames` calls it.
 #[inline(always)]
 fn next_reader<H: Agenda, A: Allocator + Copy>(
     heads: &H,

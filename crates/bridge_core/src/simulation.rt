@@ -63,7 +63,7 @@ fn make_run_lists<A: Allocator + Copy>(alloc: A, plan: &Plan<A>) -> Result<RunLi
     })
 }
 
-/// Returns an empty pool of buffers, in which a run reuses the memory of frames that have left.
+/// Returns an empty pool of buffers, in which a run reuses the memory of frames that have left. `simulate_with_agenda` calls it.
 fn make_buffer_pool<A: Allocator + Copy>(alloc: A) -> Result<BufferPool<A>, NoMemory> {
     match BufferPool::new(alloc) {
         Ok(spares) => Ok(spares),
