@@ -49,7 +49,7 @@ fn number_step<A: Allocator + Copy>(tables: &FilterRecorders<A>, first: u32) -> 
 }
 
 /// Returns `apart` divided by `step`, rounded down. The steps 1, 10 and 100 are common, and division by a constant is faster than by a
-/// variable.
+/// variable. `index_by_guess` calls it.
 #[inline(always)]
 fn whole_steps(apart: u32, step: u32) -> u32
     requires { 0 < step }
@@ -63,6 +63,7 @@ fn whole_steps(apart: u32, step: u32) -> u32
 }
 
 /// Returns `place` if the recorder at this index has number `number`, otherwise `None`. Look-ups test hints and guesses by it.
+/// `index_by_guess` and `recorder_index_by_hint` call it.
 #[inline(always)]
 fn index_if_number<A: Allocator + Copy>(
     tables: &FilterRecorders<A>,
@@ -78,7 +79,7 @@ fn index_if_number<A: Allocator + Copy>(
 }
 
 /// Returns the index of the recorder with number `number` without a hash, or `None` if the guess is wrong. Numbers often rise in equal
-/// steps; the catch-all filter is often last.
+/// steps; the catch-all filter is often last. `recorder_index` calls it.
 #[inline(always)]
 fn index_by_guess<A: Allocator + Copy>(tables: &FilterRecorders<A>, number: u32) -> Option<usize>
     ensures { IfSome result (λ place. slice_get (keys_of tables.now.entries) place ≡ Some number) }

@@ -171,7 +171,7 @@ impl<A: Allocator + Copy> PortState<A> {
     }
 }
 
-/// Moves the octets of a dropped copy to `back`. The relay then returns them to the pool of spare buffers.
+/// Moves the octets of a dropped copy to `back`. The relay then returns them to the pool of spare buffers. `offer` calls it.
 #[inline(always)]
 fn return_octets<A: Allocator + Copy>(item: Item<QueuedFrame<A>>, back: &mut Option<Vec<u8, A>>) {
     let Item { load, .. } = item;

@@ -73,7 +73,7 @@ fn update_next_start<G: Agenda>(agenda: &mut G, port: u8, before: Option<u64>, d
 }
 
 /// Returns the set of the ports that exist: bit n - 1 stands for port n. `Ports` stores it, so that `count_outputs` needn't look at the
-/// ports.
+/// ports. `new` calls it.
 fn present_ports<A: Allocator + Copy>(slots: &[Option<PortState<A>>]) -> u16
     requires { length slots.now ≡ 16 }
     ensures { IsPresentSet slots.now result }

@@ -50,7 +50,7 @@ use std::mem;
 const MAX_RECORDERS: usize = 4_294_967_295;
 
 /// Returns the stream handle of a frame with the header `head` in VLAN `vid`, which arrived on port `port`; `None` if no stream entry
-/// matches.
+/// matches. `find_destination` calls it.
 #[inline(always)]
 fn stream_handle<A: Allocator + Copy>(
     ident: &Ident<A>,
@@ -231,7 +231,7 @@ impl<'a, G: Agenda + Drop, A: Allocator + Copy> Relay<'a, G, A> {
     }
 
     /// Returns the egress ports of a frame that arrived on port `port`, and the values by which filters judge it. Otherwise returns why it
-    /// isn't forwarded.
+    /// isn't forwarded. `arrive` calls it.
     #[inline(always)]
     fn find_destination(&self, at: u64, port: u8, octets: &[u8], len: u32) -> Destination
         requires from { 1 ≤ port }
@@ -305,7 +305,7 @@ impl<'a, G: Agenda + Drop, A: Allocator + Copy> Relay<'a, G, A> {
     }
 
     /// Offers the copy `load` of a frame to port `number`. If the port drops it, the filter's recorder records the drop, and its buffer
-    /// returns to the pool.
+    /// returns to the pool. `offer_copy` calls it.
     #[inline(always)]
     fn offer_to_port(
         &mut self,
@@ -346,7 +346,7 @@ impl<'a, G: Agenda + Drop, A: Allocator + Copy> Relay<'a, G, A> {
     }
 
     /// Offers a copy of a frame to port `number` of `set`, after the lower ports of `set`. If `eligible` is true, first marks the copy's
-    /// tag drop eligible.
+    /// tag drop eligible. `offer_listed_copy` and `offer_only_copy` call it.
     #[inline(always)]
     fn offer_copy(
         &mut self,
@@ -491,7 +491,7 @@ impl<'a, G: Agenda + Drop, A: Allocator + Copy> Relay<'a, G, A> {
     }
 
     /// Offers the frame `load` to the port of `set` that the bridge has; does nothing without such a port. If `eligible` is true, first
-    /// marks the frame's tag drop eligible.
+    /// marks the frame's tag drop eligible. `offer_copies` calls it.
     #[inline(always)]
     fn offer_only_copy(
         &mut self,
@@ -544,7 +544,7 @@ impl<'a, G: Agenda + Drop, A: Allocator + Copy> Relay<'a, G, A> {
     }
 
     /// Counts a malformed frame, or a frame without egress ports, at ingress port `port`. The next event may then happen at the arrival
-    /// time `t` in ns or later.
+    /// time `t` in ns or later. `arrive` calls it.
     fn count_unforwarded(&mut self, port: u8, t: u64, came: Ingress)
         requires known { (s : PortState A) × (port_state self.old.ports port ≡ Some s) }
         requires from { 1 ≤ port }
@@ -606,7 +606,7 @@ impl<'a, G: Agenda + Drop, A: Allocator + Copy> Relay<'a, G, A> {
     }
 
     /// Releases the capacity that was reserved for a frame that filter `filter` refused: one copy for each port of `set`. Tries the
-    /// recorder's index `hint` first.
+    /// recorder's index `hint` first. `relay_frame` calls it.
     #[inline(always)]
     fn release_room(&mut self, filter: u32, hint: usize, set: PortSet)
         requires { (own : ℕ) × AwaitsCopies self.old (count_outputs self.old.ports.slots set 16) own 1 filter }
@@ -617,7 +617,8 @@ impl<'a, G: Agenda + Drop, A: Allocator + Copy> Relay<'a, G, A> {
         release_room(&mut self.tables, filter, hint, count);
     }
 
-    /// Returns the copies of a refused frame to the pool, and keeps their list for the next frame with several egress ports.
+    /// Returns the copies of a refused frame to the pool, and keeps their list for the next frame with several egress ports. `relay_frame`
+    /// calls it.
     #[inline(always)]
     fn keep_copies(&mut self, copies: Vec<Vec<u8, A>, A>, spares: &mut BufferPool<A>)
         ensures same { self.new ≡ self.old }
@@ -630,7 +631,7 @@ impl<'a, G: Agenda + Drop, A: Allocator + Copy> Relay<'a, G, A> {
     }
 
     /// Judges a frame with the egress ports `set`, and offers it to them if it passes. `prepare_copies` has made `copies` and reserved
-    /// capacity. Octets that no queue accepts return to the pool.
+    /// capacity. Octets that no queue accepts return to the pool. `arrive` calls it.
     #[inline(always)]
     fn relay_frame(
         &mut self,
@@ -809,7 +810,7 @@ fn first_port_with_copy(copies: usize, last: u8) -> u8
 }
 
 /// Returns VLAN, priority and drop eligible indication of a received frame: from its tag, or from the port's `vid` and `priority`. A
-/// priority-tagged frame gets `vid`.
+/// priority-tagged frame gets `vid`. `find_destination` calls it.
 #[inline(always)]
 fn classify(tag: Option<Tag>, vid: u16, priority: u8) -> (u16, u8, bool)
     ensures { result ≡ classify tag vid priority }
