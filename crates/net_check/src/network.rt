@@ -97,9 +97,8 @@ fn check_periods<A: Allocator + Copy>(
     }
 }
 
-/// Checks a network file with its plans: tests of links and streams, then the periods of talkers. Returns the accepted network.
-///
-/// Returns `Network` with the line of the first fault, or `NoMemory`.
+/// Checks a network file with its plans: tests of links and streams, then periods of talkers. Returns the accepted network, the fault
+/// `Network` with its line, or `NoMemory`. All commands for networks call it.
 pub fn check_network_file<A: Allocator + Copy>(
     alloc: A,
     heap: Global,
@@ -189,9 +188,8 @@ fn network_lines<A: Allocator + Copy>(
     Ok(StreamLines { text, kept })
 }
 
-/// Reads the network of the file at `path`.
-///
-/// Returns `File` if the file can't be read, `Network` with the line of the text's first fault, or `NoMemory`.
+/// Reads the network of the file at `path`. Returns the fault `File` if the file can't be read, `Network` with the line of the text's first
+/// fault, or `NoMemory`. Commands for networks call it.
 pub fn read_network<F: ReadFiles>(
     alloc: Global,
     files: &mut F,
@@ -332,9 +330,8 @@ fn push_plan<F: ReadFiles>(
     }
 }
 
-/// Reads the plans of the bridges, in order.
-///
-/// Returns `File` for a plan that can't be read, `Network` with the lines of a refused plan, or `NoMemory`.
+/// Reads the plans of the bridges, in order. Returns the fault `File` for a plan that can't be read, `Network` with a refused plan's lines,
+/// or `NoMemory`. Commands for networks call it.
 pub fn read_plans<F: ReadFiles>(
     alloc: Global,
     files: &mut F,
