@@ -25,7 +25,8 @@ fn read_word(octets: &[u8], at: usize) -> u64
     u32::from_le_bytes([octets[at], octets[at + 1], octets[at + 2], octets[at + 3]]) as u64
 }
 
-/// Returns `moment` plus `delay` in ns, but at most `END_OF_TIME`, because captures have no later times. `append_delayed_record` calls it.
+/// Returns the time `moment` plus `delay`, in ns, but at most `END_OF_TIME`, because captures have no later times. `append_delayed_record`
+/// calls it.
 fn delayed_time(moment: u64, delay: u64) -> u64
     ensures { result ≡ delayed_time moment delay }
 {
