@@ -59,7 +59,8 @@ pub(crate) fn has_port_change<A: Allocator + Copy>(port: &PortPlan<A>) -> bool {
     matches!(&port.list, Some(Egress::Joined(_)))
 }
 
-/// Returns the stages for which callers look for warnings: `Always` without a schedule change, otherwise before and after the change.
+/// Returns the stages for which callers look for warnings: before and after the schedule change if `is_changed` is true, otherwise
+/// `Always`.
 pub(crate) fn change_stages(is_changed: bool) -> &'static [ScheduleStage] {
     if is_changed {
         &[ScheduleStage::BeforeChange, ScheduleStage::AfterChange]
