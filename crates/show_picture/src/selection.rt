@@ -16,12 +16,12 @@ pub struct Selection<'a> {
 }
 
 impl Selection<'_> {
-    /// Returns whether the picture shows port `port`: the arguments name it, or no port.
+    /// Returns whether the picture shows port `port`: the arguments name it, or they name no port.
     pub(crate) fn has_port(&self, port: u8) -> bool {
         self.ports.is_empty() || self.ports.contains(&u32::from(port))
     }
 
-    /// Returns whether the picture shows filter `filter`: the arguments name it, or no filter.
+    /// Returns whether the picture shows filter `filter`: the arguments name it, or they name no filter.
     pub(crate) fn has_filter(&self, filter: u32) -> bool {
         self.filters.is_empty() || self.filters.contains(&filter)
     }
