@@ -28,7 +28,7 @@ losses_at c = record {
 abbrev pub hop_words : {A : Type 0} → HopLosses A → List ℕ
 hop_words h = loss_words (string_bytes h.place) (losses_at h.counts)
 
--- Holds if no copy of a frame was delivered, refused, dropped or astray: the last hop of the frame forwarded it to no port.
+-- True if no copy of a frame was delivered, refused, dropped or astray: the last hop of the frame forwarded it to no port.
 abbrev pub is_nowhere : CopyCounts → Bool
 is_nowhere t = nat_eq t.delivered 0 && (nat_eq t.refused 0 && nat_le t.sent_on t.taken)
 

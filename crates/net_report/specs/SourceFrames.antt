@@ -32,7 +32,8 @@ abbrev pub source_over_link : List (Option SourceFrame) → ℕ → ℕ → List
 source_over_link roots delay at [] = None
 source_over_link roots delay at (d ∷ ds) = if nat_eq (d.done + delay) at then source_frame roots d.own else None
 
--- The source of the first copy that left the other end of a link one delay before the frame arrived.
+-- The source of the sender's first copy that arrives at the frame's arrival time or later, if this copy arrives exactly then. Otherwise
+-- `None`.
 abbrev pub source_by_copy : Sender → List Departure → List (Option SourceFrame) → Origin → Option SourceFrame
 source_by_copy s sent roots o = source_over_link roots s.delay o.at (due_departures s.from.port s.delay o.at sent)
 

@@ -14,7 +14,7 @@ statistics_words (Some f) = decimal f.least ++ (codes "," ++ (decimal f.mean ++ 
 abbrev pub lost_copies : HopCounts → ℕ
 lost_copies c = c.blocked + c.oversize + c.gate_closed + (c.shut_rx + c.shut_octets) + (c.octets_exceeded + c.red) + (c.yellow_dropped + c.full + c.never)
 
--- Number of losses at a hop for each cause.
+-- The fields with the number of losses at a hop for each cause.
 unfoldable pub reason_words : HopCounts → List ℕ
 reason_words c = decimal c.blocked ++ (codes "," ++ (decimal c.oversize ++ (codes "," ++ (decimal c.gate_closed ++ (codes "," ++ (decimal c.shut_rx
     ++ (codes "," ++ (decimal c.shut_octets ++ (codes "," ++ (decimal c.octets_exceeded ++ (codes "," ++ (decimal c.red ++ (codes ","
