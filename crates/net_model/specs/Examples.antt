@@ -43,15 +43,19 @@ left b q = if_there (nat_eq b 0 && nat_eq q 3)
 abbrev captures : ℕ → ℕ → List CapturedFrame
 captures b q = frame_at 7 ∷ []
 
+-- No bridge has commands.
 no_commands : ℕ → List Input
 no_commands b = []
 
+-- Port 3 of bridge 0 sends to port 1 of bridge 1, with a delay of 500 ns.
 second_hears_first : sender links 1 1 ≡ Some (record { from = record { bridge = 0; port = 3 }; delay = 500 })
 second_hears_first = refl
 
+-- In the other direction, port 1 of bridge 1 sends to port 3 of bridge 0.
 first_hears_second : sender links 0 3 ≡ Some (record { from = record { bridge = 1; port = 1 }; delay = 500 })
 first_hears_second = refl
 
+-- Port 1 of bridge 0 has no link, so it has no sender.
 port_is_open : sender links 0 1 ≡ None
 port_is_open = refl
 
