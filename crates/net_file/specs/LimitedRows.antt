@@ -44,14 +44,14 @@ has_limited_keys members = if has_any_key rate_keys members then has_only_keys r
 abbrev pub row_key : ℕ → NetField → NetKeyLocation
 row_key index key = record { section = section.Traffic; index = index; field = key }
 
--- Reads a burst of at least one shortest frame, and a rate of at most 100 Gbit/s.
+-- Reads burst and rate of row `index`. The burst is at least one shortest frame, 64 metered octets; the rate is at most 100 Gbit/s.
 unfoldable pub read_rate : ℕ → Members → Result FrameLimit NetFault
 read_rate index members = do
   burst ← read_required (row_key index field.Burst) (number_in_range 64 (2 ^ 32 - 1)) members
   rate ← read_required (row_key index field.Rate) (number_in_range 0 (10 ^ 11)) members
   Ok (limit.Rate burst rate)
 
--- Reads the largest number of frames in any period, 1 to 1,024, and the period in ns.
+-- Reads the limit of row `index`: the largest number of frames in any period, 1 to 1,024, and the period in ns.
 unfoldable pub read_count : ℕ → Members → Result FrameLimit NetFault
 read_count index members = do
   frames ← read_required (row_key index field.Frames) (number_in_range 1 1024) members
