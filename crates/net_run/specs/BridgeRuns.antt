@@ -38,7 +38,7 @@ pub record RunsBridge {A : Type 0} (p : Plan A) (ports : List ℕ) (commands : L
   pub ends : EndsRun p (input_events inputs) left o
   pub written : (i q : ℕ) (tap : List ℕ) → slice_get ports i ≡ Some q → slice_get taps i ≡ Some tap → IsCaptureOfFrames (left q) tap
 
--- The text with the index of port `q` in a list of ports; empty if the port is missing.
+-- The text of port `q`: it has the index that `q` has in the list of ports. Empty if the list lacks the port.
 abbrev pub text_of_port : List ℕ → List (List ℕ) → ℕ → List ℕ
 text_of_port [] texts q = []
 text_of_port (p ∷ ports) [] q = []

@@ -32,7 +32,7 @@ AppendsDelayedRecord delay octets old new rest =
 abbrev pub word_at : List ℕ → ℕ → ℕ
 word_at octets at = from_le_bytes w32 (take 4 (drop at octets))
 
--- The first record of `octets`, delayed: its time, then the `captured` octets and two words after the time.
+-- The first record of `octets` with its time delayed. The rest of the record stays: two words after the time, and the `captured` octets.
 abbrev pub delayed_octets : ℕ → ℕ → List ℕ → List ℕ
 delayed_octets delay captured octets = time_words (delayed_time (word_at octets 0 * 1000000000 + word_at octets 4) delay) ++ take (16 + captured - 8) (drop 8 octets)
 
