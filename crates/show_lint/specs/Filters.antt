@@ -4,7 +4,7 @@ use Rattle.bridge_filter.specs.declared.FilterPlan.{FilterPlan}
 use Rattle.bridge_filter.specs.Verdicts.{is_priority_match}
 use Rattle.bridge_check.specs.Faults.{is_tested}
 
--- True if a key of filter `one` matches every frame that the key of filter `other` matches: it is absent, or both are equal.
+-- True if an optional key `one` (handle or priority) matches every frame that key `other` matches: `one` is absent, or both are equal.
 abbrev pub covers : Option ℕ → Option ℕ → Bool
 covers None other = true
 covers (Some one) None = false
