@@ -45,10 +45,11 @@ pub one_refused : frame_rows (make_frame 10 4 (came 160000) verdict.GateClosed) 
 unfolding row_start lone_row digits
 one_refused = refl
 
--- The delays of a port, and their figures.
+-- The delays of the two copies that left by port 3.
 pub delays : port_delays (came 100000 ∷ came 190000 ∷ []) 3 left ≡ 10672 ∷ 200672 ∷ []
 delays = refl
 
+-- The figures of three delays: least, mean, greatest and jitter.
 pub figures : figure_fields (672 ∷ 700 ∷ 675 ∷ []) ≡ codes "672,682,700,28,"
 unfolding digits
 figures = refl
