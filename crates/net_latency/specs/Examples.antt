@@ -14,10 +14,11 @@ use Rattle.net_latency.specs.Ways.{RouteHop}
 pub one_period : whole_periods 1000000 1250000 ≡ 1000000
 one_period = refl
 
--- Three frames of 1,000 octets in any millisecond are a burst of 3,012 metered octets at 24,096,000 bit/s.
+-- Three frames of 1,000 octets in any millisecond are a burst of 3,012 metered octets.
 pub burst_of_three : limit_burst (limit.Count 3 1000000) 1000 ≡ 3012
 burst_of_three = refl
 
+-- Three frames of 1,000 octets in any millisecond need a rate of 24,096,000 bit/s.
 pub rate_of_three : limit_rate (limit.Count 3 1000000) 1000 ≡ 24096000
 rate_of_three = refl
 
@@ -29,13 +30,15 @@ rate_rounded_up = refl
 pub no_input : AreCommands (λ (b : ℕ). [])
 no_input = λ b x i. absurd i
 
--- A route of two hops leaves by the ports of both, and has its own copies. It doesn't leave by one port.
+-- A route of two hops leaves by the ports of both.
 pub ports_of_two : {A : Type 0} (x y : RouteHop A) → HasPorts x ((500, y) ∷ []) x.port (y.port ∷ [])
 ports_of_two x y = (refl, refl)
 
+-- A route of two hops has the same copies as itself.
 pub copies_of_two : {A : Type 0} (x y : RouteHop A) → HaveSameCopies x ((500, y) ∷ []) x ((500, y) ∷ [])
 copies_of_two x y = (refl, refl)
 
+-- A route of two hops doesn't leave by one port.
 pub not_one_port : {A : Type 0} (x y : RouteHop A) → HasPorts x ((500, y) ∷ []) x.port [] → ⊥
 not_one_port x y h = h
 
@@ -47,24 +50,27 @@ talker = record { period = 250000; from = 5000; to = 15000; least = 100; longest
 abbrev pub position : StreamLatency
 position = record { passes = true; worst = 1984; best = 1984; phases = record { from = 6984; to = 16984 } }
 
--- The word of this stream, and its delays with a bound of 989,436 ns.
+-- The word of this stream: all frames arrive.
 pub word_of_position : arrival_word (is_passing (Some talker) (Some position)) (Some position) ≡ codes " arrives"
 word_of_position = refl
 
+-- The delays of this stream, with a bound of 989,436 ns.
 pub words_of_position : latency_words (Some position) 989436 ≡ delay_words 1984 1984 (Some (record { from = 6984; to = 16984 })) ++ (codes " bound " ++ decimal 989436)
 words_of_position = refl
 
--- A stream has no word and only a bound without a periodic talker, and is refusable if its talker's delays are unknown.
+-- Without a periodic talker, a stream has no word and only a bound.
 pub word_of_any : arrival_word (is_passing None None) None ++ latency_words None 989436 ≡ codes " bound " ++ decimal 989436
 word_of_any = refl
 
+-- A stream is refusable if its talker's delays are unknown.
 pub word_of_unknown : arrival_word (is_passing (Some talker) None) None ≡ codes " refusable"
 word_of_unknown = refl
 
--- A worst delay of 1,984 ns meets a deadline of 100,000 ns by 98,016 ns, and a deadline of 1,984 ns by 0 ns.
+-- A worst delay of 1,984 ns meets a deadline of 100,000 ns by 98,016 ns.
 pub margin_of_position : margin_words (Some 100000) position.worst ≡ codes " margin " ++ decimal 98016
 margin_of_position = refl
 
+-- A worst delay of 1,984 ns meets a deadline of 1,984 ns by 0 ns.
 pub no_margin_left : margin_words (Some 1984) position.worst ≡ codes " margin " ++ decimal 0
 no_margin_left = refl
 
@@ -72,5 +78,6 @@ no_margin_left = refl
 pub margin_lacking : margin_words (Some 60000) 80920 ≡ codes " lacks " ++ decimal 20920
 margin_lacking = refl
 
+-- Without a deadline, there is no margin.
 pub no_deadline : margin_words None 80920 ≡ []
 no_deadline = refl

@@ -44,7 +44,7 @@ pub record IsQueue (x : HopQueue) : Type 0 where
 
 -- ONE QUEUE
 
--- Holds if each frame of the traffic passes filter `n` of the optional plan.
+-- Holds if the optional plan is present and has filter `n`, and this filter passes each frame of the traffic.
 abbrev pub HopPasses : {A : Type 0} → Option (Plan A) → ℕ → Traffic → Type 0
 HopPasses None n t = ⊥
 HopPasses (Some p) n t = (f : FilterPlan) × (lookup (nat_eq n) p.filters ≡ Some f) × Passes p f t
