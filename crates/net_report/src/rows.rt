@@ -1,4 +1,4 @@
-//! Rows of the picture of a run: copies that left a hop, copies that it dropped, and frames that it refused.
+//! Rows of the picture of a run: copies that left a hop, copies that it dropped, and frames that it refused. `run_picture` arranges them.
 use crate::copy_counting::HopRun;
 use crate::hop_counting::is_pass;
 use crate::run_picture::{
