@@ -1,4 +1,4 @@
-//! The tests that a network must pass to be accepted: three for links, then four for hops.
+//! The tests that a network must pass to be accepted: three for links, then four for hops. `check_network` runs them.
 ghost use Rattle.std.specs.Prelude.{◌≡◌, ◌+◌, ◌<◌, Some, IfSome, length, option_map, slice_get};
 ghost use Rattle.bridge_config.specs.Rules.{IsPlan};
 ghost use Rattle.bridge_check.specs.Faults.{first_option};
