@@ -1,4 +1,4 @@
-//! Collects the warnings of a plan in the order of the report.
+//! Collects the warnings of a plan, in the order in which commands print them.
 
 use crate::closed::find_closed_classes;
 use crate::hidden_stream::find_hidden_streams;
@@ -23,7 +23,7 @@ pub fn find_warnings<A: Allocator + Copy>(
     Ok(found)
 }
 
-/// Adds the warnings of a plan to `found`, in the order of the report. `find_warnings` calls it.
+/// Adds the warnings of a plan to `found`, in the order in which commands print them. `find_warnings` calls it.
 fn find_plan_warnings<A: Allocator + Copy>(
     alloc: Global,
     found: &mut Vec<Warning>,

@@ -1,4 +1,4 @@
-//! Writes the sentences of warnings, with remedies.
+//! Writes the sentences of warnings, with remedies: `put_warning` writes the sentence of any warning.
 use crate::queue_sentences::{
     put_cycle_mismatch, put_long_wait, put_low_rate, put_never_open, put_overload, put_small_burst,
     put_small_queue,
