@@ -1,4 +1,4 @@
-//! Explains why a capture is refused.
+//! Explains why a capture is refused, for `--explain`: by the file's first octets and the fault.
 ghost use Rattle.std.specs.Prelude.{IfOk, string_bytes};
 ghost use Rattle.bridge_text.specs.PathPrefix.{StartsWithName};
 

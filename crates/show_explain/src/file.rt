@@ -1,4 +1,4 @@
-//! Explains why a file can't be opened, created, read or written.
+//! Explains why a file can't be opened, created, read or written, for `--explain`.
 ghost use Rattle.std.specs.Prelude.{IfOk, string_bytes};
 ghost use Rattle.bridge_text.specs.PathPrefix.{StartsWithName};
 

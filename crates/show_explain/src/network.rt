@@ -1,4 +1,4 @@
-//! Explains why a network file or a traffic file is refused.
+//! Explains why a network file or a traffic file is refused, for `--explain`.
 ghost use Rattle.std.specs.Prelude.{IfOk, string_bytes};
 ghost use Rattle.bridge_text.specs.PathPrefix.{StartsWithName};
 

@@ -1,4 +1,4 @@
-//! Explains why a file isn't a plan, or has no commands for a plan's bridge.
+//! Explains why a file isn't a plan, or has no commands for a plan's bridge, for `--explain`.
 ghost use Rattle.std.specs.Prelude.{IfOk, string_bytes};
 ghost use Rattle.bridge_text.specs.PathPrefix.{StartsWithName};
 

@@ -1,4 +1,4 @@
-//! Explains why a run stopped, or why the text of standard input wasn't run.
+//! Explains why a run stopped, or why the text of standard input wasn't run, for `--explain`.
 ghost use Rattle.std.specs.Prelude.{IfOk, codes, string_bytes};
 ghost use Rattle.bridge_text.specs.PathPrefix.{StartsWithName};
 
