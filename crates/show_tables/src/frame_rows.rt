@@ -1,4 +1,4 @@
-//! Rows of the table of `run --frames`.
+//! Rows of the table of `run --frames`, which `frames` puts together.
 ghost use Rattle.std.specs.Prelude.{◌++◌, codes, decimal};
 ghost use Rattle.bridge_text.specs.Growth.{HasGrown};
 ghost use Rattle.show_tables.specs.FrameTable as spec;

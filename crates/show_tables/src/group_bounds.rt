@@ -1,4 +1,4 @@
-//! Delay bounds of the ports by which the frames of a protected or grouped filter can leave.
+//! Delay bounds of the ports by which the frames of a protected or grouped filter can leave, for the table of delays.
 ghost use Rattle.std.specs.Prelude.{◌≡◌, nat_eq, IfOk};
 ghost use Rattle.std.specs.Map.{lookup};
 ghost use Rattle.bridge_groups.specs.GroupRows.{AreSharedQueues};
