@@ -1,4 +1,4 @@
-//! Conversion of a stream's hops from the form of network files to the form of `net_model`.
+//! Conversion of a stream's hops from the form of network files to the form of `net_model`, for checks and delays.
 ghost use Rattle.std.specs.Prelude.{◌≡◌, map, IfOk};
 ghost use Rattle.net_latency.specs.Streams.{stream_hop_value};
 
