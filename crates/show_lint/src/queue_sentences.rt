@@ -47,7 +47,7 @@ fn stage_prefix(stage: ScheduleStage) -> &'static str {
     }
 }
 
-/// Writes that a meter's buckets are too small for a filter's longest frame.
+/// Writes that a meter's buckets are too small for a filter's longest frame. `put_warning` calls it.
 pub(crate) fn put_small_burst<A: Allocator>(said: &mut TextBuilder<A>, burst: &SmallBurst) {
     let numbers = [
         u64::from(burst.meter),
@@ -65,7 +65,7 @@ pub(crate) fn put_small_burst<A: Allocator>(said: &mut TextBuilder<A>, burst: &S
     said.put_template(rest, &numbers, &[]);
 }
 
-/// Writes that a meter's rate is too low for the frames that the stream gate passes.
+/// Writes that a meter's rate is too low for the frames that the stream gate passes. `put_warning` calls it.
 pub(crate) fn put_low_rate<A: Allocator>(said: &mut TextBuilder<A>, rate: &LowRate) {
     let numbers = [
         u64::from(rate.gate),
@@ -86,7 +86,7 @@ pub(crate) fn put_low_rate<A: Allocator>(said: &mut TextBuilder<A>, rate: &LowRa
     said.put_template(rest, &numbers, &[]);
 }
 
-/// Writes that frames enter a queue faster than its class has time to send them.
+/// Writes that frames enter a queue faster than its class has time to send them. `put_warning` calls it.
 pub(crate) fn put_overload<A: Allocator>(said: &mut TextBuilder<A>, flood: &QueueOverload) {
     let numbers = [
         u64::from(flood.spot.gate),
@@ -103,7 +103,7 @@ pub(crate) fn put_overload<A: Allocator>(said: &mut TextBuilder<A>, flood: &Queu
     said.put_template(OVERLOAD, &numbers, &[]);
 }
 
-/// Writes that a queue gets more frames from a stream gate's entry than its capacity.
+/// Writes that a queue gets more frames from a stream gate's entry than its capacity. `put_warning` calls it.
 pub(crate) fn put_small_queue<A: Allocator>(said: &mut TextBuilder<A>, rooms: &SmallQueue) {
     let numbers = [
         u64::from(rooms.spot.gate),
@@ -119,7 +119,7 @@ pub(crate) fn put_small_queue<A: Allocator>(said: &mut TextBuilder<A>, rooms: &S
     said.put_template(SMALL_QUEUE, &numbers, &[]);
 }
 
-/// Writes that a queue's class isn't open while the stream gate is, so that frames wait.
+/// Writes that a queue's class isn't open while the stream gate is, so that frames wait. `put_warning` calls it.
 pub(crate) fn put_long_wait<A: Allocator>(said: &mut TextBuilder<A>, pause: &LongWait) {
     let numbers = [
         u64::from(pause.spot.gate),
@@ -136,7 +136,7 @@ pub(crate) fn put_long_wait<A: Allocator>(said: &mut TextBuilder<A>, pause: &Lon
     said.put_template(LONG_WAIT, &numbers, &[]);
 }
 
-/// Writes that a class never opens although frames of an unprotected filter can enter it.
+/// Writes that a class never opens although frames of an unprotected filter can enter it. `put_warning` calls it.
 pub(crate) fn put_never_open<A: Allocator>(said: &mut TextBuilder<A>, never: &NeverOpen) {
     let numbers = [
         u64::from(never.port),
@@ -147,7 +147,7 @@ pub(crate) fn put_never_open<A: Allocator>(said: &mut TextBuilder<A>, never: &Ne
     said.put_template(NEVER_OPEN, &numbers, &[]);
 }
 
-/// Writes that neither the stream gate's nor the port's cycle is a multiple of the other.
+/// Writes that neither the stream gate's nor the port's cycle is a multiple of the other. `put_warning` calls it.
 pub(crate) fn put_cycle_mismatch<A: Allocator>(said: &mut TextBuilder<A>, cycles: &CycleMismatch) {
     let numbers = [
         u64::from(cycles.gate),
