@@ -11,7 +11,7 @@ use bridge_filter::{Counters, Flags};
 use bridge_meter::Buckets;
 use bridge_semantics::{StoredDeparture, StoredDrop};
 
-/// Writes the header line: the filter's number, and whether it is protected.
+/// Writes the header line: the filter's number, and whether it is protected. `put_state` calls it.
 pub fn put_header<T: ReportSink>(text: &mut T, filter: u32, protected: bool)
     ensures { HasGrown T.contents text.old (header_line filter protected) text.new }
 {
@@ -47,7 +47,7 @@ fn put_red<T: ReportSink>(text: &mut T, red: u64)
     text.put("\n");
 }
 
-/// Writes the lines of a filter's counters: matching frames, the tests of size and stream gate, and red frames.
+/// Writes the lines of a filter's counters: matching frames, the tests of size and stream gate, and red frames. `put_state` calls it.
 pub fn put_counters<T: ReportSink>(text: &mut T, counters: &Counters)
     ensures { HasGrown T.contents text.old (counter_lines counters.now) text.new }
 {
@@ -77,7 +77,7 @@ fn put_all_flags<T: ReportSink>(text: &mut T, flags: &Flags)
     put_flag(text, "red", flags.red);
 }
 
-/// Writes the line of the flags of a filter, its stream gate and its meter.
+/// Writes the line of the flags of a filter, its stream gate and its meter. `put_state` calls it.
 pub fn put_flags<T: ReportSink>(text: &mut T, flags: &Flags)
     ensures { HasGrown T.contents text.old (flags_line flags.now) text.new }
 {
@@ -96,7 +96,7 @@ fn put_buckets<T: ReportSink>(text: &mut T, buckets: &Buckets)
     text.put("\n");
 }
 
-/// Writes the line of the buckets of a filter's meter; `bucket none` if it has no meter.
+/// Writes the line of the buckets of a filter's meter; `bucket none` if it has no meter. `put_state` calls it.
 pub fn put_optional_buckets<T: ReportSink>(text: &mut T, buckets: Option<Buckets>)
     ensures { HasGrown T.contents text.old (bucket_line buckets) text.new }
 {
@@ -106,7 +106,7 @@ pub fn put_optional_buckets<T: ReportSink>(text: &mut T, buckets: Option<Buckets
     }
 }
 
-/// Writes the line with the numbers of queued and dropped copies of a filter's frames.
+/// Writes the line with the numbers of queued and dropped copies of a filter's frames. `put_copies` calls it.
 pub fn put_queued<T: ReportSink>(text: &mut T, departures: &[StoredDeparture], drops: &[StoredDrop])
     ensures { HasGrown T.contents text.old (queued_line departures.now drops.now) text.new }
 {
@@ -124,7 +124,7 @@ fn put_known_delay<T: ReportSink>(text: &mut T, delay: u64)
     text.put("\n");
 }
 
-/// Writes the line of the longest delay in ns; `delay none` if no copy of the filter's frames left.
+/// Writes the line of the longest delay in ns; `delay none` if no copy of the filter's frames left. `put_copies` calls it.
 pub fn put_delay<T: ReportSink>(text: &mut T, delay: Option<u64>)
     ensures { HasGrown T.contents text.old (delay_line delay) text.new }
 {
