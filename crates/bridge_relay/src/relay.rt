@@ -138,7 +138,7 @@ impl<'a, G: Agenda + Drop, A: Allocator + Copy> Relay<'a, G, A> {
         self.ports.due()
     }
 
-    /// Returns the number of frames that have arrived so far.
+    /// Returns the number of frames that have arrived so far. `Bridge::arrived` returns it.
     pub fn arrived(&self) -> u64
         ensures { result ≡ self.now.arrived }
     {
@@ -156,7 +156,7 @@ impl<'a, G: Agenda + Drop, A: Allocator + Copy> Relay<'a, G, A> {
         self.ports.started(port)
     }
 
-    /// Returns the earliest time in ns at which the next event may happen.
+    /// Returns the earliest time in ns at which the next event may happen. `Bridge::earliest` returns it.
     pub fn earliest(&self) -> u64
         ensures { result ≡ self.now.earliest }
     {
@@ -215,8 +215,8 @@ impl<'a, G: Agenda + Drop, A: Allocator + Copy> Relay<'a, G, A> {
         }
     }
 
-    /// Clears the flag `clear` of the filter, stream gate or meter with number `number`, at time `t` in ns. Commands do this. Allocates no
-    /// memory.
+    /// Clears the flag `clear` of the filter, stream gate or meter with number `number`, at time `t` in ns. Allocates no memory.
+    /// `process_command` and `Bridge::command` call it.
     pub fn clear(&mut self, t: u64, clear: Clear, number: u32)
         requires time { self.old.earliest ≤ t }
         requires instance { IsTrue (has_instance self.old.plan clear number) }
