@@ -36,12 +36,13 @@ impl<'a> SourceText<'a> {
     }
 }
 
-/// Returns the instances of a section of a document; an empty list if the section is missing.
+/// Returns the instances of a section of a document; an empty list if the section is missing. Explanations of plan faults call it.
 pub(crate) fn section_items<'a>(document: &'a Table, section: Section) -> &'a [Value] {
     bridge_text::section_instances(document, section.name())
 }
 
-/// Returns the table of instance `index`, from 1, of a section. Returns `None` if it is missing or isn't a table.
+/// Returns the table of instance `index`, from 1, of a section. Returns `None` if it is missing or isn't a table. Explanations of plan
+/// faults call it.
 pub(crate) fn instance_table<'a>(
     document: &'a Table,
     section: Section,
@@ -50,12 +51,13 @@ pub(crate) fn instance_table<'a>(
     bridge_text::instance_table(document, section.name(), index)
 }
 
-/// Returns the value of a key of an instance, or `None` if the key or the table is missing.
+/// Returns the value of a key of an instance, or `None` if the key or the table is missing. Explanations of plan faults call it.
 pub(crate) fn key_value<'a>(table: Option<&'a Table>, key: Field) -> Option<&'a Value> {
     bridge_text::table_value(table, key.key())
 }
 
-/// Writes the position of instance `index`, from 1, of a section, or of its key `key`, and the instance's number or address.
+/// Writes the position of instance `index`, from 1, of a section, or of its key `key`, and the instance's number or address. Explanations
+/// of plan faults begin with it.
 pub(crate) fn put_instance_position(
     said: &mut Said,
     source: SourceText<'_>,
