@@ -16,17 +16,18 @@ pub struct Selection<'a> {
 }
 
 impl Selection<'_> {
-    /// Returns whether the picture shows port `port`: the arguments name it, or they name no port.
+    /// Returns whether the picture shows port `port`: the arguments name it, or they name no port. Pictures leave out other ports.
     pub(crate) fn has_port(&self, port: u8) -> bool {
         self.ports.is_empty() || self.ports.contains(&u32::from(port))
     }
 
-    /// Returns whether the picture shows filter `filter`: the arguments name it, or they name no filter.
+    /// Returns whether the picture shows filter `filter`: the arguments name it, or they name no filter. Pictures leave out other filters.
     pub(crate) fn has_filter(&self, filter: u32) -> bool {
         self.filters.is_empty() || self.filters.contains(&filter)
     }
 
-    /// Returns the requested span, at least 1 ns long. A start or end that isn't given is taken from `whole`.
+    /// Returns the requested span, at least 1 ns long. A start or end that isn't given is taken from `whole`. `draw_plan` and
+    /// `select_frames` call it.
     pub(crate) fn span(&self, whole: Span) -> Span {
         let from = self.from.unwrap_or(whole.from);
         let to = self.to.unwrap_or(whole.to).max(from.saturating_add(1));
