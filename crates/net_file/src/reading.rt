@@ -13,7 +13,7 @@ use bridge_schema::{ValueKind, get_value, optional_value, required_value, value_
 use toml::{Table, Value};
 
 /// Reads the value of the required key at `place` from its table. `kind` defines the allowed values. Returns the fault `Missing` if the key
-/// is absent. Allocates no memory.
+/// is absent. Allocates no memory. Sections are read by it.
 #[tactic(auto, unfolding(crate::specs::Keys::read_required))]
 pub fn read_required<K: ValueKind>(
     table: &Table,
@@ -28,7 +28,7 @@ pub fn read_required<K: ValueKind>(
 }
 
 /// Reads the value of the optional key at `place` from its table. `kind` defines the allowed values. Returns `None` if the key is absent.
-/// Allocates no memory.
+/// Allocates no memory. Sections are read by it.
 #[tactic(auto, unfolding(crate::specs::Keys::read_optional))]
 pub fn read_optional<K: ValueKind>(
     table: &Table,
