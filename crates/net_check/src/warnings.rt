@@ -254,8 +254,8 @@ fn push_warnings<A: Allocator + Copy>(
     named.push_streams(alloc, text, bounds, file.streams())
 }
 
-/// Returns the warnings of an accepted network, one a line. After the lines of `network_warnings`, each stream has lines about ports at
-/// which other devices' frames can enter, and hops without queue.
+/// Returns the warnings of an accepted network, one a line, for `net check` and `net`. After those of `network_warnings`, each stream has
+/// lines about ports where other devices' frames can enter, and hops without queue.
 pub fn all_warnings<A: Allocator + Copy>(
     alloc: A,
     heap: Global,
