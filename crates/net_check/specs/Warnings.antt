@@ -69,7 +69,7 @@ abbrev pub hops_text : {A : Type 0} → file.Network → NetworkParts A → List
 hops_text f n bounds i periodic hops =
     collect_below (length hops) (λ (k : ℕ). place_text f n bounds i periodic k (slice_get hops k))
 
--- The warnings about stream `i`: those of its hops, in order.
+-- The warnings about stream `i`: the warnings of its hops, in order.
 abbrev pub stream_text : {A : Type 0} → file.Network → NetworkParts A → List (Vec QueueBound A) → ℕ → Stream → List ℕ
 stream_text f n bounds i s =
     hops_text f n bounds i (is_some s.talker) (map stream_hop_value s.hops)
@@ -79,7 +79,7 @@ abbrev pub streams_text : {A : Type 0} → file.Network → NetworkParts A → L
 streams_text f n bounds i [] = []
 streams_text f n bounds i (s ∷ ss) = stream_text f n bounds i s ++ streams_text f n bounds (suc i) ss
 
--- Holds if `text` has all warnings of an accepted network: those that need no delays, then those of its streams' hops.
+-- Holds if `text` has all warnings of an accepted network: warnings that need no delays, then warnings of its streams' hops.
 pub record AreWarnings {A : Type 0} (f : file.Network) (n : NetworkParts A) (text : List ℕ) : Type 0 where
   pub bounds : List (Vec QueueBound A)
   pub are_bounds : AreQueueBoundsOfPlans n.plans bounds

@@ -1,4 +1,4 @@
-//! Explanations of the streams of an accepted network: why frames may be refused, times at each hop, and changes by which late streams meet
+//! Explanations of an accepted network's streams: why frames may be refused, times at each hop, and changes by which late streams meet
 //! their deadlines.
 ghost use Rattle.std.specs.Prelude.{◌≤◌, All, length};
 ghost use Rattle.std.specs.Option.{ForSome};

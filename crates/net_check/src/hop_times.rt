@@ -289,8 +289,8 @@ fn shifted_traffic(traffic: &Traffic, earlier: u64) -> Option<Traffic>
     })
 }
 
-/// Appends to `arrivals` the arrival at the hop after the queue of `found`; nothing if the queue's port leads to no hop. Returns `None` if
-/// memory runs out. `put_rows` calls it.
+/// Appends to `arrivals` the arrival at the hop after the queue of `found`, if the queue's port leads to a hop. Returns `None` if memory
+/// runs out. `put_rows` calls it.
 fn put_next_arrival(
     route: &StreamRoute<'_>,
     found: &HopTimes,

@@ -369,7 +369,7 @@ pub fn network_paths(
     Ok(paths)
 }
 
-/// What `network_job` returns for an accepted network. `app_networks` makes the output of `net check` from it.
+/// Result of `network_job` for an accepted network. `app_networks` makes the output of `net check` from it.
 #[derive(Drop)]
 pub struct NetworkOutput {
     /// Lines for standard output: numbers of bridges, links, streams and hops, and the delays of each stream.

@@ -1,4 +1,5 @@
-//! All warnings of an accepted network, which `net check` and `net` print: those of `warning_lines`, then warnings about hops of streams.
+//! All warnings of an accepted network, which `net check` and `net` print: warnings of `warning_lines`, then warnings about hops of
+//! streams.
 ghost use Rattle.std.specs.Prelude.{◌≡◌, ◌<◌, ◌≤◌, ◌++◌, All, IfOk, OnOk, Some, length, string_bytes, true};
 ghost use Rattle.net_latency.specs.Streams.{AreQueueBoundsOfPlans, stream_hop_value};
 ghost use Rattle.net_check.specs.Warnings as spec;
@@ -122,7 +123,7 @@ impl<'a, A: Allocator + Copy> Named<'a, A> {
         }
     }
 
-    /// Appends the warnings about hop `k` of stream `i`: ports where other devices' frames can enter, if the talker is periodic; no
+    /// Appends the warnings about hop `k` of stream `i`: ports where other devices' frames can enter (for a periodic talker), and a missing
     /// reachable queue. `push_hops` calls it.
     fn push_hop(
         &self,
@@ -254,7 +255,7 @@ fn push_warnings<A: Allocator + Copy>(
     named.push_streams(alloc, text, bounds, file.streams())
 }
 
-/// Returns the warnings of an accepted network, one a line, for `net check` and `net`. After those of `network_warnings`, each stream has
+/// Returns the warning lines of an accepted network, for `net check` and `net`. After the lines of `network_warnings`, each stream has
 /// lines about ports where other devices' frames can enter, and hops without queue.
 pub fn all_warnings<A: Allocator + Copy>(
     alloc: A,
