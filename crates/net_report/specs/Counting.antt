@@ -84,8 +84,8 @@ abbrev pub with_hop : {A : Type 0} → Bool → List Bool → List (Option Sourc
 with_hop true ways roots ts v = with_view ways roots ts v
 with_hop false ways roots ts v = with_arrivals (with_view ways roots ts v) roots
 
--- Holds if `us` are the counts `ts` plus those of the hops in the last list. `first` is true if this list begins with the stream's first
--- hop.
+-- Holds if `us` are the counts `ts` plus the counts of the hops in the last list. `first` is true if this list begins with the stream's
+-- first hop.
 abbrev pub AreCounted : {A : Type 0} → List Link → List (HopRun A) → Bool → List (HopRun A) → List (Vec (Option SourceFrame) A) → List CopyCounts → List CopyCounts → Type 0
 AreCounted links hops first [] known ts us = us ≡ ts
 AreCounted links hops first (h ∷ hs) [] ts us = us ≡ ts

@@ -80,12 +80,12 @@ pass links ts all = upto (hop_step links ts) (length ts) all
 abbrev pub own_root : ℕ → Origin → SourceFrame
 own_root n o = record { number = n; came = o.at }
 
--- One source for each of these first-hop frames: the frame itself, with numbers from `n` on.
+-- The sources of these first-hop frames: each frame is its own source, with numbers from `n` on.
 abbrev pub own_from : ℕ → List Origin → List (Option SourceFrame)
 own_from n [] = []
 own_from n (o ∷ os) = Some (own_root n o) ∷ own_from (n + 1) os
 
--- One unknown source for each of these frames.
+-- A list of unknown sources, one for each of these frames.
 abbrev pub unknown : List Origin → List (Option SourceFrame)
 unknown [] = []
 unknown (o ∷ os) = None ∷ unknown os

@@ -42,8 +42,8 @@ abbrev pub or_else : Option SourceFrame → Option SourceFrame → Option Source
 or_else None r = r
 or_else (Some x) r = Some x
 
--- The source of a frame after tracing: its known source `x` or, if it arrived on port `q`, the source of the matching
--- copy in `sent`.
+-- The source of a frame after tracing: `x` if it is known. Otherwise, if the frame arrived on port `q`, the source of the matching copy in
+-- `sent`.
 abbrev pub source_after_tracing : Sender → List Departure → List (Option SourceFrame) → ℕ → Origin → Option SourceFrame → Option SourceFrame
 source_after_tracing s sent roots q o x = if nat_eq o.port q then or_else x (source_by_copy s sent roots o) else x
 

@@ -24,7 +24,7 @@ reason_words c = decimal c.blocked ++ (codes "," ++ (decimal c.oversize ++ (code
 unfoldable pub hop_start : List ℕ → List ℕ → HopCounts → List ℕ
 hop_start stream hop c = stream ++ (codes "," ++ (hop ++ (codes "," ++ (decimal c.frames ++ (codes "," ++ (decimal c.delivered ++ (codes "," ++ (decimal (lost_copies c) ++ codes ","))))))))
 
--- The last two fields of a hop's row: least and greatest delay at the hop; empty fields if no copy left.
+-- The last two fields of a hop's row: least and greatest delay at the hop, or empty fields if no copy left.
 abbrev pub hop_delay_words : Option DelayStatistics → List ℕ
 hop_delay_words None = codes ",\n"
 hop_delay_words (Some f) = decimal f.least ++ (codes "," ++ (decimal f.greatest ++ codes "\n"))

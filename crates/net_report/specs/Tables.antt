@@ -35,7 +35,7 @@ AreDelays links hops (h ∷ hs) (k ∷ ks) delays =
     × (delays ≡ departure_delays ways k.items h.view.now.departures.items ++ rest)
 AreDelays links hops hs ks delays = delays ≡ []
 
--- Heading of a stream in the tables: its name, the names of its hops, its bound, its worst delay if it is known, and its deadline.
+-- Heading of a stream in the tables: name, names of its hops, bound, worst delay if it is known, and deadline if there is one.
 pub record Heading : Type 0 where
   pub name : List ℕ
   pub hops : List (List ℕ)

@@ -71,7 +71,7 @@ fn add_fate(tally: CopyCounts, fate: CopyFate) -> CopyCounts
     }
 }
 
-/// Counts one copy or frame with fate `fate` for the first-hop frame with index `place`. Does nothing if `tallies` has no such index.
+/// Counts one copy or frame with fate `fate` for the first-hop frame with index `place`. Does nothing if `tallies` lacks this index.
 /// `count_frame` calls it.
 fn count_at_index(tallies: &mut [CopyCounts], place: usize, fate: CopyFate)
     ensures { tallies.new ≡ spec.count_at_index tallies.old place fate }

@@ -22,7 +22,7 @@ use std::alloc::Allocator;
 /// arrival time at this hop. Times and delays are in ns.
 pub const FRAMES_HEADER: &str = "stream,hop,frame,came,at,fate,port,start,done,delay\n";
 
-/// Writes the number of the source frame and its arrival time at the first hop in ns, or two empty fields if the source is unknown.
+/// Writes the source frame's number and its arrival time at the first hop in ns, or two empty fields if the source is unknown.
 /// `put_line_start` calls it.
 fn put_source_frame<A: Allocator>(text: &mut TextBuilder<A>, root: Option<SourceFrame>)
     ensures { HasGrown text.old (spec.source_frame_words root) text.new }

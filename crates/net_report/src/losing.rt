@@ -69,8 +69,8 @@ fn count_not_forwarded(tallies: &[CopyCounts]) -> usize
     tallies.iter().filter(|tally| is_nowhere(*tally)).count()
 }
 
-/// Writes why a stream lost frames: the causes at its hops, the number of astray copies, and the number of frames that were forwarded to no
-/// port. `put_lost` calls it.
+/// Writes why a stream lost frames: causes at its hops, number of astray copies, and number of frames that were forwarded to no port.
+/// `put_lost` calls it.
 fn put_why<A: Allocator>(text: &mut TextBuilder<A>, tallies: &[CopyCounts], hops: &[HopLosses<A>])
     ensures { HasGrown text.old (spec.why_words tallies.now hops.now) text.new }
 {

@@ -73,8 +73,8 @@ fn hop_reached<A: Allocator>(
     None
 }
 
-/// Draws the line of a copy over its link, from the row at height `y` to the row of the hop that accepted it. Draws nothing without such a
-/// hop. `put_hop` calls it.
+/// Draws the line of a copy over its link, from the row at height `y` to the accepting hop's row. Draws it only if a hop accepted the copy.
+/// `put_hop` calls it.
 fn put_link<A: Allocator>(
     picture: &mut RunPicture,
     links: &[Link],

@@ -16,7 +16,7 @@ use net_model::Link;
 use std::alloc::Allocator;
 use std::io::Write;
 
-/// One of the two tables. A fault names the table that couldn't be written.
+/// Table that is written: the table of streams or of frames. A fault names the table that couldn't be written.
 #[derive(Clone, Copy, Debug, PartialEq, Eq)]
 pub enum Table {
     /// The table of streams.
@@ -40,7 +40,7 @@ impl From<NoMemory> for TableFault {
     }
 }
 
-/// Names of a stream and its hops in the tables, with its bound, its worst delay and its deadline. `write_stream` takes it.
+/// Names of a stream and its hops in the tables, with its bound, its worst delay and its deadline. `write_stream` writes them.
 #[derive(Clone, Copy)]
 pub struct Heading<'a, A: Allocator> {
     /// Name of the stream.
