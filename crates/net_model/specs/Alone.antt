@@ -15,8 +15,8 @@ use Rattle.bridge_semantics.specs.Outputs.{departed_frame}
 use Rattle.bridge_semantics.specs.Runs.{AreSolo, IsFilterView}
 use Rattle.net_model.specs.Networks.{Network, Sender, sender, delayed_frame, external_inputs, Hop, hop, IsHop}
 
--- Holds if input `x` at port `q` is an own frame of hop `h` that another hop of the stream sent from bridge port
--- `s.from` one link delay earlier.
+-- Holds if input `x` at port `q` is an own frame of hop `h` from another hop of the stream. That hop sent it from bridge port `s.from` one
+-- link delay earlier.
 pub record ArrivesOverLink {A : Type 0} (n : Network A) (stream : List (ℕ × ℕ)) (lists : Hop A → ℕ → ℕ → List (Copy CarriedFrame))
     (h : Hop A) (q : ℕ) (s : Sender) (x : Input) : Type 0 where
   pub plan : Plan A

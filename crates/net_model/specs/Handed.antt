@@ -14,8 +14,8 @@ abbrev pub is_other_handle : Option ℕ → ℕ → Bool
 is_other_handle None h = false
 is_other_handle (Some own) h = not (nat_eq own h)
 
--- Holds if the sender's port number and the next bridge's port number are from 1 to 16, and the sender's filter gets only
--- frames with its handle, if this handle is known.
+-- Holds if the port numbers at both ends are from 1 to 16, and the sender's filter gets only frames with its handle. The handle may be
+-- unknown.
 pub record IsHanding {A : Type 0} (h : Handing A) : Type 0 where
   pub from : 1 ≤ h.port
   pub to : h.port ≤ 16

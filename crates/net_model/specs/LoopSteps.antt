@@ -43,7 +43,7 @@ collect_below (suc n) tell = collect_below n tell ++ tell n
 abbrev pub bridge_port : ℕ → ℕ → BridgePort
 bridge_port b q = record { bridge = b; port = q }
 
--- The step from ingress port `from` to the port at the other end of a link; no step without a link.
+-- The step from ingress port `from` to the port at the other end of a link, or an empty list without a link.
 abbrev pub step_to_peer : BridgePort → Option End → List Step
 step_to_peer from None = []
 step_to_peer from (Some e) = step from (bridge_port e.bridge e.port) ∷ []

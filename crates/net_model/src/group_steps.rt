@@ -69,8 +69,8 @@ fn egress_ports<A: Allocator + Copy>(
     }
 }
 
-/// Appends to `steps` the step from ingress port `from` over the link of egress port `port`. Appends nothing if `outs` lacks the port or it
-/// has no link. `push_steps_over_links` calls it.
+/// Appends to `steps` the step from ingress port `from` over the link of egress port `port`. Appends nothing if `outs` lacks the port or
+/// the port is open. `push_steps_over_links` calls it.
 fn push_step_over_link<A: Allocator + Copy>(
     steps: &mut Vec<Step, A>,
     links: &[Link],

@@ -107,8 +107,7 @@ fn is_other_handle(own: Option<u32>, handle: u32) -> bool
     }
 }
 
-/// One link under test: plan, filter and egress port of the sending bridge, and the filter at the receiving end that must get the sender's
-/// frames.
+/// Link under test: plan, filter and egress port of the sending bridge, and the filter at the other end that must get the sender's frames.
 #[derive(Drop)]
 struct Handing<'a, A: Allocator + Copy> {
     plan: &'a Plan<A>,

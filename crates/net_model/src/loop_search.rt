@@ -17,8 +17,8 @@ fn is_reached(start: BridgePort, reached: &[BridgePort], x: BridgePort) -> bool
     is_same_port(start, x) || has_port(reached, x)
 }
 
-/// Returns those of `steps` that don't begin at a reached port or at `start`. Later rounds of the search explore them. `is_on_loop` calls
-/// it.
+/// Returns the steps in `steps` that don't begin at a reached port or at `start`. Later rounds of the search explore them. `is_on_loop`
+/// calls it.
 #[tactic(auto, using(std::proofs::lemmas::List::Elements::filter_more))]
 fn unexplored_steps<A: Allocator + Copy>(
     alloc: A,

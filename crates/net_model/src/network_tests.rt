@@ -24,7 +24,7 @@ use std::alloc::Allocator;
 pub(crate) enum LinkTest {
     /// The ports at both ends exist.
     PortsExist,
-    /// Neither port has an earlier link, and the link doesn't join a port to itself.
+    /// The ports have no earlier link, and the link joins two different ports.
     SingleLink,
     /// Both ports have one speed.
     SameSpeed,
