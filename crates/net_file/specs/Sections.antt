@@ -26,7 +26,7 @@ no_duplicate stands e = provided (not stands) e
 
 -- BRIDGE
 
--- Reads bridge `index` from its table, or gives its first fault. None of the bridges in `earlier` may have its name.
+-- Reads bridge `index` from its table, or gives its first fault. No bridge in `earlier` may have its name.
 unfoldable pub read_bridge : List Bridge → ℕ → Members → Result Bridge NetFault
 read_bridge earlier index members =
     let at : NetField → NetKeyLocation = λ key. record { section = section.Bridge; index = index; field = key } in do
