@@ -188,8 +188,7 @@ pub record AreGiven {A : Type 0} (ran given : List (BridgeRunState A)) : Type 0 
   pub same : map constant_part given ≡ map constant_part ran
   pub each : (b i : ℕ) (x : BridgeRunState A) → slice_get given b ≡ Some x → i < length x.ports → IsPortUpToDate ran x i
 
--- Holds if delivery has reached port index `i` of bridge `b`: all earlier bridges, and the earlier ports of `b`, have
--- the frames sent to them.
+-- Holds if delivery has reached port index `i` of bridge `b`: earlier bridges, and earlier ports of `b`, have the frames sent to them.
 pub record AreGivenBeforePort {A : Type 0} (ran given : List (BridgeRunState A)) (b i : ℕ) : Type 0 where
   pub same : map constant_part given ≡ map constant_part ran
   pub taps : map run_captures given ≡ map run_captures ran

@@ -75,8 +75,7 @@ OthersChangeNothing {A} n came settled =
     → lookup (nat_eq h.number) (o h.bridge).filters.items ≡ Some u → lookup (nat_eq h.number) (r h.bridge).filters.items ≡ Some v
     → AreSameViews u v
 
--- Holds if the results `settled` are those of the bridges `xs`: each has its bridge's outcome, and the captures of the
--- frames that the bridge sent.
+-- Holds if `settled` has the results of the bridges `xs`: each bridge's outcome, and the captures of the frames that the bridge sent.
 pub record AreBridgeResults {A : Type 0} (xs : List (BridgeRunState A)) (settled : List (BridgeResult A)) : Type 0 where
   pub outcomes : map (λ (s : BridgeResult A). Some s.outcome) settled ≡ map (λ x. x.outcome) xs
   pub taps : map (λ (s : BridgeResult A). sink_octets s.taps.items) settled ≡ map (λ x. x.taps) xs

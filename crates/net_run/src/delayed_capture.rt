@@ -1,5 +1,4 @@
-//! Captures of a port's sent frames, converted to the input of the port at the other end of the link: each frame arrives one link delay
-//! later.
+//! Conversion of a port's sent frames to the input of the port at the link's other end: each frame arrives one link delay later.
 ghost use Rattle.std.specs.Prelude.{◌≡◌, ℕ, ◌≤◌, ◌<◌, ◌+◌, ◌*◌, ◌^◌, ◌++◌, All, List, Some, None, flat_map, length, map, option_map, IfOk, OnOk};
 ghost use Rattle.std.specs.Int.{to_le_bytes};
 ghost use Rattle.bridge_capture.specs.Grammar.{CapturedFrame};

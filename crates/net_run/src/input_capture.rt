@@ -133,7 +133,7 @@ impl<A: Allocator + Copy> InputCapture<A> {
         }
     }
 
-    /// Returns whether both inputs come over links with equal delays from captures with equal octets. Then both inputs have equal octets,
+    /// Returns whether both inputs arrive over links with equal delays from captures with equal octets. Then both inputs have equal octets,
     /// without copying them. `has_same_octets` calls it.
     fn has_same_sender_octets(&self, other: &InputCapture<A>) -> bool
         ensures { result ≡ true → self.now ≡ other.now }
