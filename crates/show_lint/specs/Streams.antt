@@ -63,7 +63,7 @@ named_alone tag.All = Some tag.Tagged
 named_alone tag.Tagged = Some tag.Tagged
 named_alone tag.Priority = None
 
--- The tag kind of the frames that entry `e` can match on a port whose untagged frames get VLAN `own`; `None` if it can match no frame.
+-- The tag kind of the frames that entry `e` can match on a port with default VLAN `own`. `None` if it can match no frame.
 abbrev pub tag_on : ℕ → StreamEntry → Option TagKind
 tag_on own e = if nat_eq own e.vid then Some e.tag else named_alone e.tag
 

@@ -80,7 +80,7 @@ pub(crate) struct OfferedLoad {
     pub times: [u64; 16],
 }
 
-/// Returns the length in octets of the longest frame with `sdu` SDU octets: 16 octets of header more, but at most 9,216.
+/// Returns the length in octets of the longest frame with `sdu` SDU octets: 16 octets of header more, but at most 9,216 octets.
 /// `find_meter_warnings` and `offered_load` call it.
 pub(crate) fn longest_length(sdu: u32) -> u32 {
     sdu.saturating_add(16).min(LONGEST_FRAME)

@@ -175,8 +175,8 @@ fn put_bound<A: Allocator + Copy>(
     }
 }
 
-/// Writes the bounds by octet limits that are below `bound`, the bound by capacity: one for any capture, one for frames of at least 60
-/// octets. `tight` is the result of `tight_queue_bound`. `put_classes` calls it.
+/// Writes the bounds by octet limits that are below `bound`, the bound by capacity: for any capture, and for frames of at least 60 octets.
+/// `tight` is the result of `tight_queue_bound`. `put_classes` calls it.
 fn put_gate_bounds<A: Allocator + Copy>(
     said: &mut LintText,
     accepted: &Accepted<A>,

@@ -27,7 +27,7 @@ struct ProtectedFilter<'a, A: Allocator + Copy> {
     feed: OfferedLoad,
 }
 
-/// Adds warnings about each queue of protected filter `number`. Does nothing if the filter has no handle, no largest SDU or no stream gate.
+/// Adds warnings about each queue of protected filter `number`. Does nothing if the filter lacks a handle, a largest SDU or a stream gate.
 /// `find_plan_warnings` calls it.
 pub(crate) fn find_queues<A: Allocator + Copy>(
     alloc: Global,
@@ -121,7 +121,7 @@ fn find_cycles<A: Allocator + Copy>(
     push_warning(found, Warning::CycleMismatch(cycles))
 }
 
-/// Adds warnings about a queue of a protected filter at `stage`. Does nothing if the stream gate or the port has no list.
+/// Adds warnings about a queue of a protected filter at `stage`. Does nothing if the stream gate or the port lacks a list.
 /// `find_port_warnings` calls it.
 fn find_queue_stage_warnings<A: Allocator + Copy>(
     alloc: Global,

@@ -181,8 +181,8 @@ fn is_used(filters: &[(u32, FilterPlan)], gate: u32) -> bool
     false
 }
 
-/// Returns whether a filter uses stream gate `gate`, but no protected or grouped filter does. Such a closed gate gives no warning: it may
-/// refuse stray frames. `find_gates` calls it.
+/// Returns whether a filter uses stream gate `gate`, but no protected or grouped filter does. If it is closed, there is no warning: the
+/// gate may refuse stray frames. `find_gates` calls it.
 fn is_decision(filters: &[(u32, FilterPlan)], gate: u32) -> bool
     ensures { result ≡ spec.is_decision gate filters.now }
 {
@@ -229,7 +229,7 @@ fn find_meters(found: &mut Vec<Warning>, meters: &[(u32, MeterPlan)]) -> Result<
     Ok(())
 }
 
-/// Adds the warnings about each filter without effect: no stream, hidden by others, no possible length, or a low octet limit.
+/// Adds the warnings about filters that match no frame, are hidden by others, refuse every length, or have a gate with a low octet limit.
 /// `find_unused_parts` calls it.
 fn find_filters<A: Allocator + Copy>(
     found: &mut Vec<Warning>,

@@ -51,7 +51,7 @@ pub enum Warning {
     SmallQueue(SmallQueue),
     /// Frames of a protected filter wait longer than their stream gate's entry lasts.
     LongWait(LongWait),
-    /// Neither the stream gate's cycle nor the port's cycle is a multiple of the other.
+    /// The stream gate's cycle and the port's cycle aren't multiples of each other.
     CycleMismatch(CycleMismatch),
 }
 
@@ -97,7 +97,7 @@ pub struct OtherVlan {
 pub struct ClosedFrom {
     /// Number of the stream gate.
     pub gate: u32,
-    /// Number of the protected filter that uses the stream gate.
+    /// Number of the first protected or grouped filter that uses the stream gate.
     pub filter: u32,
     /// Time of the change in ns.
     pub at: u64,
@@ -187,19 +187,19 @@ pub struct Flooded {
 /// Why a stream isn't forwarded.
 #[derive(Clone, Copy)]
 pub enum NotForwardedCause {
-    /// No bridge forwards its address.
+    /// No bridge forwards the stream's address.
     Reserved,
-    /// The plan lacks its VLAN.
+    /// The plan lacks the stream's VLAN.
     NoVlan,
-    /// Its ingress port isn't a member of the VLAN.
+    /// The stream's ingress port isn't a member of its VLAN.
     Ingress,
-    /// Its static entry names no port.
+    /// The stream's static entry names no port.
     NoPorts,
-    /// Its static entry names only the ingress port.
+    /// The stream's static entry names only its ingress port.
     OwnPort,
-    /// Its static entry names a port that isn't a member of the VLAN, and no other egress port.
+    /// The stream's static entry names a port that isn't a member of the VLAN, and no other egress port.
     Egress { port: u8 },
-    /// The ingress port is the only member of the VLAN.
+    /// The stream's ingress port is the only member of its VLAN.
     Alone,
 }
 
@@ -335,7 +335,7 @@ pub struct LongWait {
     pub wait: u64,
 }
 
-/// Cycles of a stream gate and of a port. Neither is a multiple of the other.
+/// Cycles of a stream gate and of a port that aren't multiples of each other.
 #[derive(Clone, Copy)]
 pub struct CycleMismatch {
     /// Schedule to which both cycles belong.

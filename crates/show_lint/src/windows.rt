@@ -58,7 +58,7 @@ fn put_list_windows<A: Allocator + Copy>(said: &mut LintText, list: &CyclicList<
     said.put_template(" of each {0} ns", &[cycle], &[]);
 }
 
-/// Writes the windows of a class at a port; with a schedule change, those of the old list and of the new list. `put_queue` and
+/// Writes the windows of a class at a port; with a schedule change, the windows of the old list and of the new list. `put_queue` and
 /// `put_too_long` call it.
 pub(crate) fn put_open_windows<A: Allocator + Copy>(
     said: &mut LintText,
