@@ -14,7 +14,7 @@ const TIME_PARTS: usize = 100;
 /// Width of one of the `TIME_PARTS` parts of a time axis on the page, in tenths of a pixel.
 const PART_WIDTH: u64 = AXIS_WIDTH / TIME_PARTS as u64;
 
-/// Frame of a filter at a port, as `put_frame` or `put_mark` draws it: a frame that left, a refused frame, or a dropped copy.
+/// Frame of a filter at a port, for `put_frame` or `put_mark`: a frame that left, a refused frame, or a dropped copy.
 #[derive(Clone, Copy)]
 pub(crate) struct DrawnFrame {
     /// Number of the filter.
