@@ -18,7 +18,7 @@ pub(crate) struct SourceText<'a> {
 }
 
 impl<'a> SourceText<'a> {
-    /// Returns the text with its document, as `bridge_text` needs them for positions.
+    /// Returns the text with its document, which `bridge_text` needs for positions.
     pub(crate) fn document(self) -> Document<'a> {
         Document {
             text: self.text,

@@ -90,7 +90,7 @@ fn cleared_section(value: Option<&Value>) -> Option<Section> {
     }
 }
 
-/// Returns the time in ns of the command before command `index`, from 1; 0 if there is none or it has no time. `allowed_value` and
+/// Returns the time in ns of the command before command `index`, from 1, or 0 if this command or its time is missing. `allowed_value` and
 /// `put_falling_times` call it.
 fn previous_command_time(source: SourceText<'_>, index: u32) -> u64 {
     let before = instance_table(source.document, Section::Command, index.saturating_sub(1));
