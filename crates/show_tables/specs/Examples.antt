@@ -62,7 +62,7 @@ greatest = refl
 pub shared : group_bound (queue 1 5 300 ∷ queue 2 5 900 ∷ queue 1 4 800 ∷ queue 1 5 700 ∷ []) 1 5 ≡ Some 700
 shared = refl
 
--- The row of a filter with two frames, one of which left by port 3.
+-- The row of a filter with two frames: one left by port 3, and the stream gate refused the other.
 pub one_left : {A : Type 0} (v : View A) → v.verdicts.items ≡ verdict.Pass None false ∷ verdict.GateClosed ∷ [] → v.drops.items ≡ []
     → port_row 10 v 3 (Some 525918) (672 ∷ []) ≡ codes "10,3,1,672,672,672,0,525918,0,0,1,0,0,0,0,0,0,0\n"
 unfolding port_row loss_fields filter_fields gate_fields meter_fields digits

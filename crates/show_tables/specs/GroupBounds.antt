@@ -1,4 +1,4 @@
--- The delay bounds of a filter's ports: those of a protected filter, or those of the queues that its group shares.
+-- The delay bounds of a filter's ports: bounds of a protected filter, or bounds of the queues that its group shares.
 use Rattle.std.specs.Prelude.{◌≡◌, ℕ, ◌+◌, ◌&&◌, nat_eq, Option, None, Some, MatchOption, List, fold, length, slice_get, if◌then◌else◌}
 use Rattle.std.specs.Map.{lookup}
 use Rattle.bridge_filter.specs.declared.FilterPlan.{FilterPlan}
@@ -37,6 +37,6 @@ pub record AreGroupBounds (queues : List SharedQueue) (group : ℕ) (bounds : Li
 abbrev pub AreMemberBounds : {A : Type 0} → Plan A → List (Option ℕ) → ℕ → Type 0
 AreMemberBounds p bounds group = (queues : List SharedQueue) × AreSharedQueues p queues × AreGroupBounds queues group bounds
 
--- Holds if the list has the delay bounds of ports 1 to 16 for filter `n`: the bounds of its group, if it is in a group.
+-- Holds if the list has the delay bounds of ports 1 to 16 for filter `n`: its group's bounds, if it is in a group.
 abbrev pub AreFilterBounds : {A : Type 0} → Plan A → ℕ → List (Option ℕ) → Type 0
 AreFilterBounds p n bounds = MatchOption (group_of (lookup (nat_eq n) p.filters)) (ArePortBounds p n bounds) (AreMemberBounds p bounds)

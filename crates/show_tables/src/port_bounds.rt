@@ -1,4 +1,4 @@
-//! Delay bounds of the ports by which the frames of a protected filter can leave. `group_bounds` adds those of grouped filters.
+//! Delay bounds of the ports by which the frames of a protected filter can leave. `group_bounds` adds the bounds of grouped filters.
 ghost use Rattle.std.specs.Prelude.{◌≡◌, ◌≤◌, IfOk};
 ghost use Rattle.show_tables.specs.PortBounds as spec;
 
