@@ -1,4 +1,4 @@
--- What printed delays promise: each frame of a talker is delivered in every complete run of the network.
+-- The promise of printed delays: each frame of a talker is delivered in every complete run of the network.
 use Rattle.std.specs.Prelude.{◌≡◌, ℕ, true, List, Some, Vec, map, slice_get}
 use Rattle.bridge_limits.specs.Members.{IsMember}
 use Rattle.bridge_capture.specs.Grammar.{CapturedFrame}

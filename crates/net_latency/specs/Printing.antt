@@ -25,7 +25,7 @@ bound_line r = codes "filter " ++ (decimal r.filter ++ (codes " port " ++ (decim
 abbrev pub bounds_text : List TightBound → List ℕ
 bounds_text rows = flat_map bound_line rows
 
--- Holds if `lines` has the lines of all tight bounds of a plan, then those of all queues that groups share.
+-- Holds if `lines` has the lines of all tight bounds of a plan, then the lines of all queues that groups share.
 abbrev pub AreBoundLines : {A : Type 0} → Plan A → List ℕ → Type 0
 AreBoundLines p lines = (rows : List TightBound) × (shared : List SharedQueue) × AreTightBounds p rows × AreSharedQueues p shared × (lines ≡ bounds_text rows ++ shared_text shared)
 

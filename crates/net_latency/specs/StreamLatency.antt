@@ -188,8 +188,7 @@ IsLatencyAfterExit T (Some (stop.Next h a)) r = T h a r
 abbrev pub IsQueueLatency : {A : Type 0} → (StreamHop → HopArrival → Option StreamLatency → Type 0) → StreamModel A → HopArrival → Bool → HopQueue → Option StreamLatency → Type 0
 IsQueueLatency T n a passes x r = (s : Option QueueExit) × IsQueueExit n x a passes s × IsLatencyAfterExit T s r
 
--- Holds if `after` has the delays of `before` and of queue `x` if the queue belongs to hop `h`, otherwise those of
--- `before`.
+-- Holds if `after` has the delays of `before` and, if queue `x` belongs to hop `h`, of this queue too.
 abbrev pub AddsQueueLatency : {A : Type 0} → (StreamHop → HopArrival → Option StreamLatency → Type 0) → StreamModel A → StreamHop → HopArrival → Bool → HopQueue → CombinedLatency → CombinedLatency → Type 0
 AddsQueueLatency T n h a passes x before after =
     IfElse (is_queue_of_hop h x) ((r : Option StreamLatency) × IsQueueLatency T n a passes x r × (after ≡ add_latency before r)) (after ≡ before)

@@ -64,8 +64,8 @@ suits_port period (Some out) = suits_lists period out.list
 abbrev pub has_misfit_at_port : {A : Type 0} → Plan A → FilterPlan → ℕ → ℕ → Bool
 has_misfit_at_port p f period q = some_number_passes 8 (λ c. reaches_queue p f q c) && not (suits_port period (find_port p.ports q))
 
--- True if a period is a multiple of each cycle time on a filter's route. These are cycles of its stream gate, and of each port at which it
--- has a reachable queue.
+-- True if a period is a multiple of each cycle time on a filter's route. The route is its stream gate, and each port at which it has a
+-- reachable queue.
 abbrev pub suits : {A : Type 0} → Plan A → FilterPlan → ℕ → Bool
 suits p f period =
     suits_gate period (lookup (nat_eq f.gate) p.gates)

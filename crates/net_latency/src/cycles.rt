@@ -234,8 +234,8 @@ struct Cycles<'a> {
 }
 
 impl<'a> Cycles<'a> {
-    /// Appends a sentence with the cycle time `cycle` of a gate or port (`what`) with number `number`, and whether the period is a multiple
-    /// of it. Updates `common`. `put_gate` and `put_port_cycles` call it.
+    /// Appends a sentence with the cycle time `cycle` of gate or port (`what`) `number`, and whether the period is a multiple of it.
+    /// Updates `common`. `put_gate` and `put_port_cycles` call it.
     fn put_cycle(&mut self, said: &mut TextBuilder<Global>, what: &str, number: u32, cycle: u64) {
         let common = self.common;
         self.common = if common == 0 || cycle == 0 {

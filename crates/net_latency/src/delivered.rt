@@ -1,5 +1,5 @@
-//! Laws of a stream with a periodic talker in complete runs of an accepted network. Each law is the contract of a function that does
-//! nothing, and that nobody calls.
+//! Laws of a stream with a periodic talker in complete runs of an accepted network. Each law is the contract of an empty function that no
+//! code calls.
 ghost use Rattle.std.specs.Prelude.{◌≡◌, ◌∷◌, ℕ, List, Some, Vec, slice_get, true};
 ghost use Rattle.bridge_limits.specs.Members.{IsMember};
 ghost use Rattle.bridge_config.specs.Model.{Plan};

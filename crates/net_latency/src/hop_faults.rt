@@ -188,7 +188,7 @@ fn put_twice(
     );
 }
 
-/// Appends that no open port of the bridge has a stream entry with the handle of the first hop's filter, so no talker's frame can reach it.
+/// Appends that no open port of the bridge has a stream entry with the first hop's handle, so no talker's frame can reach the hop.
 /// `explain_hop_fault` calls it.
 fn put_no_entry(
     said: &mut TextBuilder<Global>,

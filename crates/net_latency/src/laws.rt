@@ -1,5 +1,5 @@
-//! Laws of a frame's route through a network: the promises that reviewers read. Each law is the contract of a function that does nothing,
-//! and that nobody calls.
+//! Laws of a frame's route through a network: the promises that reviewers read. Each law is the contract of an empty function that no code
+//! calls.
 ghost use Rattle.std.specs.Prelude.{◌≡◌, ◌<◌, ◌≤◌, ◌+◌, ◌++◌, ◌∷◌, ℕ, List, Option, Some, nat_eq, slice_get, true};
 ghost use Rattle.std.specs.List.{list_all};
 ghost use Rattle.std.specs.Map.{lookup};

@@ -19,7 +19,7 @@ fn coarse_mark(coarse: bool) -> &'static str
     if coarse { " coarse" } else { "" }
 }
 
-/// Appends the bound for frames of at least 60 octets, or nothing if there is no such bound. `push_bound_line` calls it.
+/// Appends the bound for frames of at least 60 octets, if there is one. `push_bound_line` calls it.
 fn push_padded_figure<A: Allocator + Copy>(
     text: &mut String<A>,
     padded: Option<u64>,
@@ -96,8 +96,8 @@ pub(crate) fn bound_lines<A: Allocator + Copy>(
     Ok(text)
 }
 
-/// Returns the output of `bounds`: a line for each reachable queue of protected filters, and for each shared queue. Its faults are those of
-/// `check`.
+/// Returns the output of `bounds`: a line for each reachable queue of protected filters, and for each shared queue. Its faults are the
+/// faults of `check`.
 pub fn bounds_job<R: Read + Drop, A: Allocator + Copy>(
     alloc: A,
     heap: Global,

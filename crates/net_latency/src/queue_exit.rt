@@ -1,4 +1,4 @@
-//! What follows a queue of a hop: the end of the route, or the arrival at the next hop. `latency` follows routes by it.
+//! The step that follows a queue of a hop: the end of the route, or the arrival at the next hop. `latency` follows routes by it.
 ghost use Rattle.std.specs.Prelude.{◌≡◌, ◌+◌, ◌↔◌, IfSome, option_map, slice_get, true, ℕ};
 ghost use Rattle.bridge_bounds.specs.Traffic.{IsTraffic};
 ghost use Rattle.net_latency.specs.StreamLatency as spec;
