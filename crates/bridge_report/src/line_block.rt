@@ -8,8 +8,8 @@ use std::marker::Model;
 /// Largest number of octets of a block: 15 lines of at most 128 octets.
 const BLOCK_WIDTH: usize = 1920;
 
-/// Block of lines, at most 1,920 octets, which grows from its end: each call writes its text in front. Numbers need no digit count, lines
-/// no allocation.
+/// Block of lines, at most 1,920 octets, which grows from its end: each call writes its text in front. So numbers need no digit count, and
+/// lines need no allocation.
 #[derive(Drop)]
 pub struct LineBlock {
     /// Buffer; the block's text is its end.

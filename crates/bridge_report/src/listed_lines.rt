@@ -99,8 +99,8 @@ fn prepend_drop(block: &mut LineBlock, dropped: &Dropped)
     block.prepend_number("drop ", own);
 }
 
-/// Writes the line of a copy that left in front of `block`: its frame's number, the port, and start and end of its transmission in ns.
-/// `prepend_line` calls it.
+/// Writes the line of a copy that left in front of `block`: frame number, port, and start and end of its transmission in ns. `prepend_line`
+/// calls it.
 #[inline(always)]
 fn prepend_departure(block: &mut LineBlock, departure: &Departure)
     requires { 128 + length block.old ≤ 1920 }

@@ -81,8 +81,8 @@ fn push_copies<A: Allocator>(
     )
 }
 
-/// Returns the line of counts over all ports: frames that arrived, malformed, not forwarded, policed and unfiltered; copies queued and
-/// dropped. `run` prints it.
+/// Returns the line of counts over all ports: arrived, malformed, unforwarded, policed and unfiltered frames, then queued and dropped
+/// copies. `run` prints it.
 pub fn summary<A: Allocator + Copy>(alloc: A, outcome: &Outcome<A>) -> Result<String<A>, NoMemory>
     ensures { IfOk result (λ line. string_bytes line ≡ summary_text outcome.now.ports.items) }
 {
