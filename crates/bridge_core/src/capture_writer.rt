@@ -72,7 +72,7 @@ fn writer_index(lines: &[CaptureWriter], port: u8) -> Option<usize>
     None
 }
 
-/// Writes a frame that left to the capture of its port. A failed write is `RunFault::Write` of this port. Does nothing if the port has no
+/// Writes a frame that left to the capture of its port. A failed write is `RunFault::Write` of this port. Does nothing if the port lacks a
 /// writer.
 #[inline(always)]
 pub fn write_frame<W: ByteSink, A: Allocator + Copy>(
