@@ -21,7 +21,7 @@ use std::marker::Model;
 /// Ports of a bridge, and the time of each port's next start.
 #[derive(Drop)]
 pub struct Ports<G: Agenda + Drop, A: Allocator + Copy> {
-    /// Ports by number: port n is at index n - 1 of 16; `None` if the plan lacks this port.
+    /// Ports by number: port n is at index n - 1 of 16, or `None` if the plan lacks it.
     slots: Vec<Option<PortState<A>>, A>,
     /// Set of the ports that exist: bit n - 1 stands for port n.
     present: u16,
