@@ -51,7 +51,8 @@ fn index_of_stream(sends: &[SendShift], stream: usize) -> usize {
     index
 }
 
-/// Returns the index in `shifts` of the port's shift, or the length of `shifts` without one. `put_shift` replaces the item with this index.
+/// Returns the index in `shifts` of the shift of port `port` of bridge `bridge`, or the length of `shifts` without one. `put_shift`
+/// replaces the item with this index.
 fn index_of_port(shifts: &[ListShift], bridge: u16, port: u8) -> usize {
     let mut index = 0usize;
     for shift in shifts {

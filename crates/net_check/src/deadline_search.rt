@@ -152,8 +152,8 @@ fn relieve_streams(
     Some(is_met)
 }
 
-/// Calls `relieve_stream` for the stream with index `index` of the file. Returns whether the stream needed no change; without a periodic
-/// talker, it needs none. `relieve_streams` calls it.
+/// Calls `relieve_stream` for the stream with index `index` of the file, in pass `pass`. Returns whether the stream needed no change;
+/// without a periodic talker, it needs none. `relieve_streams` calls it.
 fn relieve_listed_stream(
     alloc: Global,
     network: &Network<Global>,
@@ -180,8 +180,8 @@ fn relieve_listed_stream(
     relieve_stream(alloc, &route, deadline, index, pass, changes)
 }
 
-/// Changes lists and the talker until the stream meets its deadline, or no change helps. Then marks its ports as used in this pass. Returns
-/// whether the stream needed no change. `relieve_listed_stream` calls it.
+/// Changes lists and the talker until stream `index` meets its deadline, or no change helps. Then marks its ports as used in pass `pass`.
+/// Returns whether it needed no change. `relieve_listed_stream` calls it.
 fn relieve_stream(
     alloc: Global,
     route: &StreamRoute<'_>,
@@ -269,8 +269,8 @@ fn is_kept(shifts: &[ListShift], hop: &HopTimes, pass: u32) -> bool {
     false
 }
 
-/// Removes the wait of the latest frame at the costliest hop: its talker sends later, or its list begins earlier. Returns whether a change
-/// stays. `relieve_stream` calls it.
+/// Removes the latest frame's wait at the costliest hop of stream `index` in pass `pass`: talker later, or list earlier. Returns whether a
+/// change stays. `relieve_stream` calls it.
 fn relieve_hop(
     alloc: Global,
     route: &StreamRoute<'_>,
@@ -339,8 +339,8 @@ fn relieve_list(
     Some(false)
 }
 
-/// Returns whether, after the changes, the stream's times are known and all its frames pass each hop. Otherwise the last change is undone.
-/// `relieve_list` and `relieve_talker` call it.
+/// Returns whether, after the changes, the times of stream `index` are known and all its frames pass each hop. Otherwise the last change is
+/// undone. `relieve_list` and `relieve_talker` call it.
 fn is_passing(alloc: Global, route: &StreamRoute<'_>, index: usize, changes: &Changes) -> bool
     requires placed { All (λ v. All HasValidPort v.items) route.now.bounds.now }
     requires talker { IsTalker route.now.talker }

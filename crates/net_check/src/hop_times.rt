@@ -96,8 +96,8 @@ struct QueueTimes {
     worst: u64,
 }
 
-/// Returns the time in ns by which a port's list begins earlier, from the last item of `shifts` for the port. Returns 0 without such an
-/// item.
+/// Returns the time in ns by which the list of port `port` of bridge `bridge` begins earlier, by its last item in `shifts`. Returns 0
+/// without such an item.
 pub(crate) fn shift_of_port(shifts: &[ListShift], bridge: u16, port: u8) -> u64 {
     let mut earlier = 0;
     for shift in shifts {
@@ -157,8 +157,8 @@ fn put_hop_times(
     )
 }
 
-/// Appends the times of those queues in `rows` that belong to the hop's filter to `times`, and the arrivals at the next hops to `arrivals`.
-/// `None` as in `hop_times`. `put_hop_times` calls it.
+/// Appends the times of the queues in `rows` that belong to the hop's filter to `times`, and arrivals at the next hops to `arrivals`.
+/// `sent`, `is_first` and `None` as in `times_in_queue`.
 fn put_rows(
     route: &StreamRoute<'_>,
     rows: &[QueueBound],
@@ -182,8 +182,8 @@ fn put_rows(
     Some(())
 }
 
-/// Returns the times of the frames of `arrival` in the queue of `row`. `sent` is the talker's first phase in ns. Returns `None` if phases
-/// are unknown or the plan lacks the queue.
+/// Returns the times of the frames of `arrival` in the queue of `row`; `None` if phases are unknown or the queue is missing. `sent` is the
+/// talker's first phase in ns. `is_first`: first hop.
 fn times_in_queue(
     route: &StreamRoute<'_>,
     row: &QueueBound,
@@ -312,8 +312,8 @@ fn put_next_arrival(
     arrivals.push(next).ok()
 }
 
-/// Returns the stream's first hop at the other end of the port's link, and the link's delay in ns. Returns `None` if the port is open or
-/// leads to no hop. `put_next_arrival` calls it.
+/// Returns the stream's first hop at the other end of the link of a port of bridge `bridge`, and the link's delay in ns. Returns `None`
+/// without link or hop. `put_next_arrival` calls it.
 fn hop_over_link(
     links: &[Link],
     hops: &[StreamHop],
@@ -329,7 +329,7 @@ fn hop_over_link(
     None
 }
 
-/// Returns the delay in ns of the link at a port; 0 for an open port. `hop_over_link` calls it.
+/// Returns the delay in ns of the link at port `port` of bridge `bridge`; 0 for an open port. `hop_over_link` calls it.
 fn delay_at_port(links: &[Link], bridge: u16, port: u8) -> u64 {
     for link in links {
         if is_bridge_port(link.one, bridge, port) || is_bridge_port(link.other, bridge, port) {

@@ -81,8 +81,8 @@ fn put_end(
     );
 }
 
-/// Explains a port with two links. Appends which other link ends at the port of `end`: an earlier link, or the other end of this link.
-/// `explain_link_fault` calls it.
+/// Explains a port with two links. Appends which other link ends at the port of `end` of link `place`: an earlier link, or this link
+/// itself. `explain_link_fault` calls it.
 fn put_twice(
     said: &mut TextBuilder<Global>,
     asked: NetworkText<'_>,
@@ -120,7 +120,8 @@ fn port_mbps(plans: &[Accepted<Global>], end: BridgePort) -> u64 {
     }
 }
 
-/// Explains a link between ports of different speeds: appends both speeds, and the plans to correct. `explain_link_fault` calls it.
+/// Explains link `place`, from 1, between ports of different speeds: appends both speeds, and the plans to correct. `explain_link_fault`
+/// calls it.
 fn put_speeds(
     said: &mut TextBuilder<Global>,
     asked: NetworkText<'_>,
@@ -150,8 +151,8 @@ fn has_port(plans: &[Accepted<Global>], end: BridgePort) -> bool {
     }
 }
 
-/// Explains a link to a missing port: appends the link's end, and the ports that its bridge has. If memory runs out, the whole text is
-/// discarded. `explain_link_fault` calls it.
+/// Explains link `place`, from 1, to a missing port: appends the link's end, and the ports that its bridge has. If memory runs out, the
+/// whole text is discarded. `explain_link_fault` calls it.
 fn put_ports(
     alloc: Global,
     said: &mut TextBuilder<Global>,

@@ -94,8 +94,8 @@ fn is_hop<A: Allocator + Copy>(streams: &[Vec<StreamHop, A>], bridge: u16, filte
     false
 }
 
-/// Returns whether frames of a hop of the stream may arrive on this port over its link. At the link's other end, a hop's frames can leave
-/// by the linked port. `is_left_out` calls it.
+/// Returns whether frames of a hop of the stream may arrive over the link of port `port` of bridge `bridge`. The hop's frames can leave by
+/// the link's other end. `is_left_out` calls it.
 fn is_fed<A: Allocator + Copy>(
     plans: &[Accepted<A>],
     links: &[Link],

@@ -242,8 +242,8 @@ fn put_hop(
     }
 }
 
-/// Appends the first condition that fails for this traffic at a hop. If delays are known (`has_figures`) and the filter passes the traffic,
-/// names the hop before. `put_hop` calls it.
+/// Appends the first condition that fails for this traffic at a hop and its queue's class `class`. If delays are known (`has_figures`) and
+/// the filter passes the traffic, names the hop before.
 fn put_condition(
     said: &mut TextBuilder<Global>,
     plan: &Plan<Global>,
@@ -262,8 +262,8 @@ fn put_condition(
     put_reason(said, plan, filter, traffic, class);
 }
 
-/// Returns the number of the first port of a hop's bridge on which frames of other devices may get the hop's handle, or `None`. `put_hop`
-/// calls it.
+/// Returns the first port of a hop's bridge on which frames of other devices may get the hop's handle, or `None`. `is_first` is true for
+/// the stream's first hop. `put_hop` calls it.
 fn port_of_others(
     links: &[Link],
     is_first: bool,

@@ -101,7 +101,7 @@ fn put_port<A: Allocator, B: Allocator + Copy>(
     text.put_number(u64::from(port));
 }
 
-/// Writes the number of the filter that sends stray frames, or `none`, and the sending bridge's port on which the frames arrive.
+/// Writes the number of the filter that sends stray frames, or `none`, and `from`, the sending bridge's port on which the frames arrive.
 /// `put_network_fault` calls it.
 fn put_sender<A: Allocator>(text: &mut TextBuilder<A>, filter: &Option<u32>, from: u8)
     ensures { HasGrown text.old (sender_text filter.now from) text.new }

@@ -136,8 +136,8 @@ fn has_linked_entry(links: &[LinkRow], bridge: u16, entries: &[StreamEntry], han
     entries.iter().any(|entry| entry.handle == handle && has_link(links, bridge, entry.port))
 }
 
-/// Returns whether frames can get handle `handle` over a link: an entry of the plan has the handle and is on a linked port. False for
-/// `None`.
+/// Returns whether frames can get handle `handle` over a link: an entry of the plan, of bridge `bridge`, has the handle and a linked port.
+/// False for `None`.
 fn is_entered_by_link<A: Allocator + Copy>(
     links: &[LinkRow],
     bridge: u16,
@@ -155,8 +155,8 @@ fn is_entered_by_link<A: Allocator + Copy>(
     }
 }
 
-/// Returns whether a filter is protected, its frames can arrive over a link, and it is a hop of no stream. The filter is then likely a
-/// forgotten hop. `push_unlisted_filter` calls it.
+/// Returns whether a filter of bridge `bridge` is protected, its frames can arrive over a link, and it is a hop of no stream. The filter is
+/// then likely a forgotten hop.
 fn is_unlisted<A: Allocator + Copy>(
     links: &[LinkRow],
     streams: &[StreamRow<A>],

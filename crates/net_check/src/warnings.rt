@@ -80,8 +80,8 @@ impl<'a, A: Allocator + Copy> Named<'a, A> {
         push_entering_line(text, i, k, name, on.number)
     }
 
-    /// Appends a warning for each port of the hop's bridge at which frames of other devices can get the hop's handle. `push_entering_hop`
-    /// calls it.
+    /// Appends a warning for each port at which other devices' frames can get the handle of hop `k` of stream `i`, both indexes from 0.
+    /// `push_entering_hop` calls it.
     fn push_entry_warnings(
         &self,
         text: &mut String,
