@@ -95,8 +95,8 @@ fn count_frame(tallies: &mut [CopyCounts], root: Option<SourceFrame>, fate: Copy
     count_at_index(tallies, (root.number - 1) as usize, fate);
 }
 
-/// Returns the fate of a copy that left: `Forwarded` if its port leads to a bridge with a hop of the stream, otherwise `Delivered`.
-/// `count_departures` calls it.
+/// Returns the fate of a copy that left: `Forwarded` if its port leads to a hop by `ways`, otherwise `Delivered`. `count_departures` calls
+/// it.
 fn departure_fate(ways: &[bool], departure: &Departure) -> CopyFate
     ensures { result ≡ spec.departure_fate ways.now departure.now }
 {
@@ -177,8 +177,8 @@ fn count_arrivals(tallies: &mut [CopyCounts], roots: &[Option<SourceFrame>])
     }
 }
 
-/// Counts everything that a hop's record reports: copies that left, dropped copies and refused frames, each for its first-hop frame.
-/// `count_hop` calls it.
+/// Counts everything that a hop's record reports: copies that left (by `ways`), dropped copies and refused frames, each for its first-hop
+/// frame. `count_hop` calls it.
 fn count_hop_record<A: Allocator>(
     tallies: &mut [CopyCounts],
     roots: &[Option<SourceFrame>],
@@ -219,8 +219,8 @@ fn zero_counts<A: Allocator + Copy>(alloc: A, count: usize) -> Result<Vec<CopyCo
     Ok(Vec::from_elem(alloc, none, count)?)
 }
 
-/// Counts the copies and frames of hop `hop`, each for its first-hop frame. `roots` has the source of each of its frames. Arrivals count
-/// only at later hops than the first. `count_hops` calls it.
+/// Counts the copies and frames of hop `hop`, each for its first-hop frame. `roots` has their sources. Arrivals count only if `is_first` is
+/// false. `count_hops` calls it.
 fn count_hop<A: Allocator + Copy>(
     alloc: A,
     links: &[Link],

@@ -256,7 +256,7 @@ pub fn hop_counts<A: Allocator + Copy>(
     Ok(counts_by_ports(&ways, hop.view))
 }
 
-/// Appends the delay of a copy to `delays` if it was delivered and its source frame is known. `departure_delays` calls it.
+/// Appends the delay of a copy to `delays` if it was delivered (by `ways`) and its source frame is known. `departure_delays` calls it.
 fn push_delay<A: Allocator>(
     delays: &mut Vec<u64, A>,
     ways: &[bool],
@@ -274,8 +274,8 @@ fn push_delay<A: Allocator>(
     Ok(())
 }
 
-/// Returns the delays in ns of the copies that a hop delivered, from arrival at the first hop, in the order of leaving. Leaves out copies
-/// with unknown source. Rows of `streams.csv` need them.
+/// Returns the delays in ns of the copies that a hop delivered (by `ways`), from arrival at the first hop, in the order of leaving. Leaves
+/// out copies with unknown source.
 pub(crate) fn departure_delays<A: Allocator + Copy>(
     alloc: A,
     ways: &[bool],

@@ -44,12 +44,13 @@ fn put_text(shapes: &mut Shapes, style: &str, at: Point, form: &str, word: &str)
     shapes.end_text();
 }
 
-/// Returns the middle of a bridge's column, in pixels.
+/// Returns the middle of the column of the bridge with index `place`, in pixels. Links, boxes and hops are drawn there.
 fn column_middle(place: u16) -> u64 {
     LEFT_MARGIN + COLUMN_WIDTH * u64::from(place) + COLUMN_WIDTH / 2
 }
 
-/// Returns the distance of two bridges in columns, but at most 10. So arcs of distant bridges don't get too high. `arc_height` calls it.
+/// Returns the distance of bridges `one` and `other` in columns, but at most 10. So arcs of distant bridges don't get too high.
+/// `arc_height` calls it.
 fn column_distance(one: u16, other: u16) -> u64 {
     let most = u64::from(one.max(other));
     let least = u64::from(one.min(other));
@@ -103,7 +104,7 @@ fn put_link<A: Allocator + Copy>(
     shapes.end_shape();
 }
 
-/// Draws the box of a bridge, with its name. `top` is its upper edge. `put_all` calls it.
+/// Draws the box of the bridge with index `place`, with its name. `top` is its upper edge. `put_all` calls it.
 fn put_bridge<A: Allocator + Copy>(
     shapes: &mut Shapes,
     bridge: &BridgeRow<A>,
@@ -128,8 +129,8 @@ fn put_bridge<A: Allocator + Copy>(
     shapes.end_shape();
 }
 
-/// Draws a hop of a stream with its filter as title, and the line from the hop before, whose x is `before`. `None` stands for the first
-/// hop. `put_stream` calls it.
+/// Draws a hop of a stream at height `y`, with its filter as title, and the line from the hop before, whose x is `before`. `None` stands
+/// for the first hop. `put_stream` calls it.
 fn put_hop<A: Allocator + Copy>(
     shapes: &mut Shapes,
     bridges: &[BridgeRow<A>],
@@ -186,7 +187,7 @@ fn stream_y(top: u64, place: usize) -> u64 {
         .saturating_add(ROW_HEIGHT.saturating_mul(place as u64))
 }
 
-/// Draws all links, bridges and streams. `top` is the upper edge of the boxes. `draw_network` calls it.
+/// Draws all links, bridges and streams, with the streams' delay bounds. `top` is the upper edge of the boxes. `draw_network` calls it.
 fn put_all<A: Allocator + Copy>(
     alloc: Global,
     shapes: &mut Shapes,

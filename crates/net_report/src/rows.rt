@@ -73,8 +73,8 @@ fn hop_reached<A: Allocator>(
     None
 }
 
-/// Draws the line of a copy over its link, from the row at height `y` to the accepting hop's row. Draws it only if a hop accepted the copy.
-/// `put_hop` calls it.
+/// Draws the line of a copy from bridge `bridge` over its link, from the row at height `y` to the accepting hop's row. Draws it only if a
+/// hop accepted the copy. `put_hop` calls it.
 fn put_link<A: Allocator>(
     picture: &mut RunPicture,
     links: &[Link],
@@ -118,8 +118,8 @@ fn put_departure(
     put_titled(picture, "out", sends, LEFT_WORDS, &numbers, "");
 }
 
-/// Returns a triangle at time `at` in the row at height `y`. The tip is up for a refused frame and down for a dropped copy. `put_dropped`
-/// and `put_refused` call it.
+/// Returns a triangle at time `at` in the row at height `y`. The tip is up for a refused frame (`is_refused`), and down for a dropped copy.
+/// `put_dropped` and `put_refused` call it.
 fn time_mark(picture: &RunPicture, at: u64, y: u64, is_refused: bool) -> Element {
     let x = time_x(picture, at);
     let (above, below) = (y.saturating_sub(HALF), y.saturating_add(HALF));

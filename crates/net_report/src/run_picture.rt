@@ -103,7 +103,7 @@ pub(crate) fn row_y(row: u64) -> u64 {
     row.saturating_mul(ROW_HEIGHT).saturating_add(TOP_MARGIN)
 }
 
-/// Returns a bar between two times, `y` pixels from the top and `height` pixels high. Rows and windows are drawn by it.
+/// Returns a bar from time `from` to time `to`, `y` pixels from the top and `height` pixels high. Rows and windows are drawn by it.
 pub(crate) fn bar_x_and_width(
     picture: &RunPicture,
     from: u64,

@@ -54,8 +54,8 @@ fn unknown_sources<A: Allocator + Copy>(
     Ok(roots)
 }
 
-/// Returns the initial sources of a hop's frames. Frames of the first hop are their own sources; for other hops all are `None`, unknown.
-/// `initial_sources` calls it.
+/// Returns the initial sources of a hop's frames. Frames of the first hop (`is_first`) are their own sources; for other hops all are
+/// `None`, unknown. `initial_sources` calls it.
 fn initial_sources_of_hop<A: Allocator + Copy>(
     alloc: A,
     is_first: bool,
@@ -98,7 +98,7 @@ fn is_due(departure: &Departure, port: u8, delay: u64, at: u64) -> bool
     departure.port == port && at as u128 <= departure.done as u128 + delay as u128
 }
 
-/// Returns the rest of `departures` from the first copy on that left by `port` and arrives over its link at time `at` or later.
+/// Returns the rest of `departures` from the first copy on that left by `port` and arrives `delay` ns later, at time `at` or after.
 /// `resume_due_departures` calls it.
 fn due_departures(
     departures: &[StoredDeparture],
@@ -131,8 +131,8 @@ pub fn source_frame(roots: &[Option<SourceFrame>], own: u64) -> Option<SourceFra
     }
 }
 
-/// Returns the source of the first copy in `departures` if the copy arrives over the link exactly at time `at`, otherwise `None`.
-/// `trace_frame` calls it.
+/// Returns the source of the first copy in `departures` if the copy arrives over the link of `delay` ns exactly at time `at`, otherwise
+/// `None`. `trace_frame` calls it.
 fn source_over_link(
     roots: &[Option<SourceFrame>],
     departures: &[StoredDeparture],

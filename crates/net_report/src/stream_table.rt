@@ -235,8 +235,8 @@ fn put_margin<A: Allocator>(text: &mut TextBuilder<A>, deadline: Option<u64>, wo
     }
 }
 
-/// Returns the row of a whole stream in `streams.csv`. `figures` is `None` if no copy was delivered. `worst` is `None` if the talker's
-/// worst delay is unknown. `write_stream` calls it.
+/// Returns the row of a whole stream in `streams.csv`, with its bound and deadline. `figures` is `None` if no copy was delivered, `worst`
+/// if the talker's worst delay is unknown. `write_stream` calls it.
 pub fn stream_line<A: Allocator + Copy>(
     alloc: A,
     stream: &str,
