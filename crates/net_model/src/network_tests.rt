@@ -473,8 +473,8 @@ impl<'a, A: Allocator + Copy> TestedNetwork<'a, A> {
 }
 
 impl<'a, A: Allocator + Copy> TestedNetwork<'a, A> {
-    /// Returns the fault of the test `Closed` or `Fed` for a hop of the bridge with plan `next`. Returns `None` if the hop passes or its
-    /// filter names no handle. `hop_test_fault_by_handle` calls it.
+    /// Returns the fault of `test` (`Closed` or `Fed`) for hop `k` of stream `i`, at the bridge with plan `next`. Returns `None` if the hop
+    /// passes or its filter names no handle.
     fn hop_test_fault_in_plan(
         &self,
         test: HopTest,
@@ -506,8 +506,8 @@ impl<'a, A: Allocator + Copy> TestedNetwork<'a, A> {
         }
     }
 
-    /// Returns the fault of the test `Closed` or `Fed` for a hop. Returns `None` if the hop's bridge is missing or its filter names no
-    /// handle. `hop_test_fault` calls it.
+    /// Returns the fault of `test` (`Closed` or `Fed`) for hop `k` of stream `i`. Returns `None` if the hop passes, its bridge is missing
+    /// or its filter names no handle. `hop_test_fault` calls it.
     fn hop_test_fault_by_handle(
         &self,
         test: HopTest,

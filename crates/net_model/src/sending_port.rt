@@ -309,8 +309,8 @@ impl<'a, A: Allocator + Copy> SendingPort<'a, A> {
         }
     }
 
-    /// Returns the first example among frames of tag `tag` and the address of `named` that arrive on port `port`, or `None`. Tries the
-    /// handles that they can get. `first_frame_on_ingress` calls it.
+    /// Returns the first example among frames of pattern `tag` and address of `named` on port `port`, in VLAN `vid` with priority
+    /// `priority`, or `None`. Tries the handles that they can get.
     fn first_by_handle(
         &self,
         named: &StreamEntry,

@@ -103,8 +103,8 @@ impl<'a, A: Allocator + Copy> TakingFilter<'a, A> {
     }
 }
 
-/// Returns example frames that the bridge with plan `plan` can send from `end`, or `None`. The hop's filter would accept them although they
-/// belong to no hop. `first_stray_from_peer` calls it.
+/// Returns example frames that the bridge with plan `plan` can send from `end`, or `None`. The hop's filter, with handle `handle`, would
+/// accept them although they belong to no hop.
 fn first_stray_of_sender<A: Allocator + Copy>(
     stream: &[StreamHop],
     hop: StreamHop,
@@ -142,8 +142,8 @@ fn first_stray_of_sender<A: Allocator + Copy>(
     }
 }
 
-/// Returns example stray frames that the hop's filter would accept over a link from `end`, or `None`. Looks up the plan of the sending
-/// bridge. `first_stray_over_link` calls it.
+/// Returns example stray frames that the hop's filter, with handle `handle`, would accept over a link from `end`, or `None`. Looks up the
+/// plan of the sending bridge. `first_stray_over_link` calls it.
 fn first_stray_from_peer<A: Allocator + Copy>(
     plans: &[Accepted<A>],
     stream: &[StreamHop],
@@ -166,8 +166,8 @@ fn first_stray_from_peer<A: Allocator + Copy>(
     }
 }
 
-/// Returns example stray frames that the hop's filter would accept over the link of port `on`. `None` without such frames or without a
-/// link. `first_stray_on_port` calls it.
+/// Returns example stray frames that the hop's filter, with handle `handle`, would accept over the link of port `on`. `None` without frames
+/// or link. `first_stray_on_port` calls it.
 fn first_stray_over_link<A: Allocator + Copy>(
     plans: &[Accepted<A>],
     links: &[Link],
