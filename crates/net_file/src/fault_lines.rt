@@ -117,7 +117,7 @@ fn key_refusal<A: Allocator + Copy>(
     refusal_with_detail(alloc, kind, name, key_words.as_str())
 }
 
-/// Returns the section's name and the instance's number from 1, such as `link 2`. If the number is 0, returns only the name.
+/// Returns the section's name and the instance's number `index`, from 1, such as `link 2`. If the number is 0, returns only the name.
 /// `instance_refusal` and `key_refusal` call it.
 fn instance_words<A: Allocator + Copy>(
     alloc: A,
