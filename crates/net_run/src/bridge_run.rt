@@ -106,8 +106,8 @@ fn as_memory_fault(fault: RunFault) -> RunFault
     }
 }
 
-/// Runs a bridge over copies of its input captures, one for each port by rising number. Returns its result, and the captures of the frames
-/// that each port sent. `run` calls it.
+/// Runs a bridge over copies of its input captures, one for each port in `ports`. Returns its result, and the captures of the frames that
+/// each port sent. `run` calls it.
 fn run_over_inputs<A: Allocator + Copy>(
     alloc: A,
     accepted: &Accepted<A>,
@@ -139,8 +139,8 @@ fn run_over_inputs<A: Allocator + Copy>(
     Ok((outcome, taps))
 }
 
-/// Returns the capture in `taps` of the frames that port `port` sent. Returns `None` if the port is missing or has no capture, because the
-/// bridge hasn't run. `delivered_capture` calls it.
+/// Returns the capture in `taps` of the frames that port `port` of `ports` sent. Returns `None` if the port is missing, or if the bridge
+/// hasn't run. `delivered_capture` calls it.
 fn find_port_capture<'a, A: Allocator + Copy>(
     ports: &[u8],
     taps: &'a [SharedCapture<A>],
@@ -175,7 +175,7 @@ pub fn is_linked(links: &[Link], bridge: usize, port: u8) -> bool
     find_sender(links, bridge, port).is_some()
 }
 
-/// Returns for each port of a bridge the port that sends to it over a link, or `None` for an open port. `begin` calls it.
+/// Returns for each port in `ports` of a bridge the port that sends to it over a link, or `None` for an open port. `begin` calls it.
 fn port_senders<A: Allocator + Copy>(
     alloc: A,
     links: &[Link],

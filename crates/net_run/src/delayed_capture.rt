@@ -32,8 +32,8 @@ fn delayed_time(moment: u64, delay: u64) -> u64
     moment.saturating_add(delay).min(END_OF_TIME)
 }
 
-/// Returns the eight octets of a record's time: four octets of seconds, then four of nanoseconds within the second, both little-endian.
-/// `append_delayed_record` calls it.
+/// Returns the eight octets of the time `moment` in a record: four octets of seconds, then four of nanoseconds within the second, both
+/// little-endian. `append_delayed_record` calls it.
 #[tactic(auto, unfolding(crate::specs::DelayedCapture::time_words))]
 fn time_words(moment: u64) -> [u8; 8]
     requires { moment < 2 ^ 32 * 10 ^ 9 }
@@ -101,8 +101,8 @@ fn append_delayed_records<A: Allocator>(
     Ok(())
 }
 
-/// Returns a capture with each frame delayed by `delay` ns, at most to the end of time. Without a whole header it is empty. `copy_octets`
-/// calls it.
+/// Returns the capture `text` with each frame delayed by `delay` ns, at most to the end of time. The result is empty if `text` lacks a
+/// whole header. `copy_octets` calls it.
 pub fn delay_capture<A: Allocator>(
     alloc: A,
     text: &[u8],

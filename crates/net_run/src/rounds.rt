@@ -89,8 +89,8 @@ fn has_skipped_round(ran: &[bool], bridge: u16) -> bool
     }
 }
 
-/// Delivers to the linked port with index `place` the frames that its sender sent. Returns the port's number if its input changed,
-/// otherwise `None`. `feed_port` calls it.
+/// Delivers to the linked port with index `place` of bridge `bridge` the frames that its sender sent. Returns the port's number if its
+/// input changed, otherwise `None`. `feed_port` calls it.
 fn deliver_capture<A: Allocator + Copy>(
     alloc: A,
     stations: &mut [BridgeRun<'_, A>],
@@ -115,8 +115,8 @@ fn deliver_capture<A: Allocator + Copy>(
     Ok(Some(port))
 }
 
-/// Delivers to the port with index `place` the frames sent to it, if its sender ran in this round. Returns the port's number if its input
-/// changed, otherwise `None`. `feed_bridge` calls it.
+/// Delivers to port index `place` of bridge `bridge` the frames sent to it, if its sender ran in this round (`ran`). Returns the port's
+/// number if its input changed. `feed_bridge` calls it.
 fn feed_port<A: Allocator + Copy>(
     alloc: A,
     stations: &mut [BridgeRun<'_, A>],
@@ -138,8 +138,8 @@ fn feed_port<A: Allocator + Copy>(
     deliver_capture(alloc, stations, bridge, place, sender)
 }
 
-/// Delivers to each linked port of bridge `bridge` the frames sent to it. Returns the number of the first port whose input changed, or
-/// `None`. `feed_bridges` calls it.
+/// Delivers to each linked port of bridge `bridge` the frames that senders sent in this round (`ran`). Returns the first port whose input
+/// changed, or `None`. `feed_bridges` calls it.
 fn feed_bridge<A: Allocator + Copy>(
     alloc: A,
     stations: &mut [BridgeRun<'_, A>],
@@ -168,8 +168,8 @@ fn with_bridge(bridge: usize, port: Option<u8>) -> Option<(usize, u8)>
     }
 }
 
-/// Delivers to every linked port the frames sent to it in this round. Returns the first bridge and port whose input changed, or `None` if
-/// none changed. `run_round` calls it.
+/// Delivers to every linked port the frames sent to it in this round (`ran`). Returns the first bridge and port whose input changed, or
+/// `None` if none changed. `run_round` calls it.
 fn feed_bridges<A: Allocator + Copy>(
     alloc: A,
     stations: &mut [BridgeRun<'_, A>],
