@@ -291,8 +291,8 @@ fn put_shared_meter(
     put_shared_part(said, filters, METER_SHARED, number, other, meter);
 }
 
-/// Writes the explanation of the queue that filters `number` and `other` share: why the frames of both can reach the port, and remedies.
-/// `put_check` calls it.
+/// Writes the explanation of the queue of class `class` that filters `number` and `other` share: why both filters' frames can reach the
+/// port, and remedies. `put_check` calls it.
 fn put_shared_queue<A: Allocator + Copy>(
     said: &mut LintText,
     plan: &Plan<A>,
@@ -366,8 +366,8 @@ fn shared_state<A: Allocator + Copy>(port: &PortPlan<A>, class: u8, at: u64) -> 
     }
 }
 
-/// Returns the result of `shared_state` for port `port` of the plan. Returns `None` if the plan lacks the port, or if `class` is above 7.
-/// `put_window` calls it.
+/// Returns the result of `shared_state` at offset `at` for port `port` of the plan. Returns `None` if the plan lacks the port, or if
+/// `class` is above 7. `put_window` calls it.
 fn shared_state_of_port<A: Allocator + Copy>(
     plan: &Plan<A>,
     port: u8,
@@ -485,8 +485,8 @@ fn window_remedy(has_list: bool, is_second: bool) -> &'static str {
     }
 }
 
-/// Writes the explanation of a longest frame that never fits: its transmission time, the class's windows, and what to change. `put_check`
-/// calls it.
+/// Writes the explanation of a longest frame of filter `number` that never fits: its transmission time, the class's windows, and what to
+/// change. `put_check` calls it.
 fn put_unfit_length<A: Allocator + Copy>(
     said: &mut LintText,
     plan: &Plan<A>,

@@ -45,8 +45,8 @@ fn frame_wait<A: Allocator + Copy>(
     first_fit(list, class, occupied, from) - from
 }
 
-/// Returns the waits of frames that arrive at `first` and then once in each `cycle` ns. `gate_waits` calls it if the frames fit the class's
-/// longest window.
+/// Returns the waits of frames of `occupied` ns that arrive at `first` and then once in each `cycle` ns. `gate_waits` calls it if the
+/// frames fit the class's longest window.
 fn waits_by_cycle<A: Allocator + Copy>(
     list: &CyclicList<u8, A>,
     class: u8,
@@ -76,8 +76,8 @@ fn waits_by_cycle<A: Allocator + Copy>(
     waits
 }
 
-/// Returns the waits of frames that arrive when a stream gate opens: at `first` and then every `cycle` ns. `None` if frames of `occupied`
-/// ns never fit. `opening_waits` calls it.
+/// Returns the waits of frames of class `class` that arrive when a stream gate opens: at `first` and then every `cycle` ns. `None` if
+/// frames of `occupied` ns never fit. `opening_waits` calls it.
 pub(crate) fn gate_waits<A: Allocator + Copy>(
     list: &CyclicList<u8, A>,
     class: u8,

@@ -28,8 +28,8 @@ pub(crate) fn cycles_until_aligned(round: u64, cycle: u64) -> u64 {
     if divisor == 0 { 0 } else { round / divisor }
 }
 
-/// Returns the time in ns after which both cycles begin together again. Returns `None` if one cycle is a multiple of the other, or 0.
-/// `find_cycles` calls it.
+/// Returns the time in ns after which cycles of `cycle` and `round` ns begin together again. Returns `None` if one cycle is a multiple of
+/// the other, or 0. `find_cycles` calls it.
 pub(crate) fn aligned_period(cycle: u64, round: u64) -> Option<u64> {
     if cycle == 0 || round == 0 || cycle % round == 0 || round % cycle == 0 {
         return None;

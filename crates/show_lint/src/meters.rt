@@ -62,8 +62,8 @@ fn has_small_buckets(limits: &MeterPlan, octets: u32) -> bool {
     limits.cbs < octets && (limits.drop_yellow || limits.ebs < octets)
 }
 
-/// Adds a warning if a meter's buckets are smaller than the longest frame, which has `octets` metered octets. Smaller than the shortest
-/// frame is warning `NoToken`. `find_meter_warnings` calls it.
+/// Adds a warning if the buckets of filter `filter`'s meter are smaller than its longest frame, which has `octets` metered octets. Smaller
+/// than the shortest frame is warning `NoToken`.
 fn find_burst(
     found: &mut Vec<Warning>,
     filter: u32,
@@ -97,8 +97,8 @@ fn tokens_per_cycle(limits: &MeterPlan, cycle: u64) -> u64 {
     octets.min(u128::from(u64::MAX)) as u64
 }
 
-/// Adds a warning if a cycle of the stream gate can pass more octets than the meter gets tokens. With a schedule change, tests the old and
-/// the new list. `find_meter_warnings` calls it.
+/// Adds a warning if a cycle of filter `number`'s stream gate can pass more octets than the meter gets tokens. With a schedule change,
+/// tests both lists. `find_meter_warnings` calls it.
 fn find_rates<A: Allocator + Copy>(
     alloc: Global,
     found: &mut Vec<Warning>,
@@ -124,8 +124,8 @@ fn find_rates<A: Allocator + Copy>(
     Ok(())
 }
 
-/// Returns the warning `LowRate` if the meter gets fewer tokens in a cycle of `list` than the stream gate passes octets, otherwise `None`.
-/// `find_rates` calls it.
+/// Returns the warning `LowRate` about filter `number` if its meter gets fewer tokens in a cycle of `list` than the gate passes octets,
+/// otherwise `None`. `find_rates` calls it.
 fn low_rate<A: Allocator + Copy>(
     alloc: Global,
     stage: ScheduleStage,

@@ -24,7 +24,7 @@ pub fn is_not_forwarded<A: Allocator + Copy>(plan: &Plan<A>, stream: &StreamEntr
         .is_empty()
 }
 
-/// Returns the ports of the static entry for a VLAN and an address, or `None` without such an entry.
+/// Returns the ports of the static entry for VLAN `vid` and an address, or `None` without such an entry.
 fn static_ports(statics: &[StaticEntry], vid: u16, address: [u8; 6]) -> Option<PortSet>
     ensures { result ≡ static_ports statics.now vid address }
 {
@@ -123,8 +123,8 @@ fn stream_cause<A: Allocator + Copy>(
     }
 }
 
-/// Adds a warning for each port of the stream's static entry that isn't a member of its VLAN. `place` is the stream's position, from 1.
-/// `find_ways` calls it.
+/// Adds a warning about filter `filter` for each port of the stream's static entry that isn't a member of its VLAN. `place` is the stream's
+/// position, from 1. `find_ways` calls it.
 fn find_non_member_ports<A: Allocator + Copy>(
     found: &mut Vec<Warning>,
     plan: &Plan<A>,
@@ -160,8 +160,8 @@ fn are_several(set: PortSet) -> bool {
     }
 }
 
-/// Adds a warning if frames of the stream leave by several ports because no static entry has their address. `place` is the stream's
-/// position, from 1. `find_ways` calls it.
+/// Adds a warning about filter `filter` if the stream's frames leave by several ports because no static entry has their address. `place` is
+/// the stream's position, from 1. `find_ways` calls it.
 fn find_flooded<A: Allocator + Copy>(
     found: &mut Vec<Warning>,
     plan: &Plan<A>,
@@ -182,8 +182,8 @@ fn find_flooded<A: Allocator + Copy>(
     push_warning(found, Warning::Flooded(Flooded { filter, place, vid }))
 }
 
-/// Adds warnings about the egress ports of a forwarded stream: ports that its VLAN lacks, and flooding. `place` is the stream's position,
-/// from 1. `find_stream_warnings` calls it.
+/// Adds warnings about egress ports of a forwarded stream of filter `filter`: ports that its VLAN lacks, and flooding. `place` is the
+/// stream's position, from 1. `find_stream_warnings` calls it.
 fn find_ways<A: Allocator + Copy>(
     found: &mut Vec<Warning>,
     plan: &Plan<A>,

@@ -156,8 +156,8 @@ pub(crate) fn put_queue<A: Allocator + Copy>(
     }
 }
 
-/// Writes the delay bound `bound` in ns of a queue by its capacity, with the frames that it assumes. Writes nothing without a largest SDU.
-/// `put_classes` calls it.
+/// Writes the delay bound `bound` in ns of a queue of class `class` by its capacity, with the frames that it assumes. Writes nothing
+/// without a largest SDU. `put_classes` calls it.
 fn put_bound<A: Allocator + Copy>(
     said: &mut LintText,
     filter: &FilterPlan,
@@ -175,8 +175,8 @@ fn put_bound<A: Allocator + Copy>(
     }
 }
 
-/// Writes the bounds by octet limits that are below `bound`, the bound by capacity: for any capture, and for frames of at least 60 octets.
-/// `tight` is the result of `tight_queue_bound`. `put_classes` calls it.
+/// Writes a queue's bounds by octet limits below `bound`, its bound by capacity: for any capture, and for frames of at least 60 octets.
+/// `tight` is its `tight_queue_bound`. `put_classes` calls it.
 fn put_gate_bounds<A: Allocator + Copy>(
     said: &mut LintText,
     accepted: &Accepted<A>,

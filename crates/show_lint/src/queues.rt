@@ -121,8 +121,8 @@ fn find_cycles<A: Allocator + Copy>(
     push_warning(found, Warning::CycleMismatch(cycles))
 }
 
-/// Adds warnings about a queue of a protected filter at `stage`. Does nothing if the stream gate or the port lacks a list.
-/// `find_port_warnings` calls it.
+/// Adds warnings about the queue of class `class` of a protected filter at `stage`. Does nothing if the stream gate or the port lacks a
+/// list. `find_port_warnings` calls it.
 fn find_queue_stage_warnings<A: Allocator + Copy>(
     alloc: Global,
     found: &mut Vec<Warning>,
@@ -190,7 +190,8 @@ fn is_opening_for_class(
     }
 }
 
-/// Returns the openings whose frames all enter class `class`. Only these certainly load the queue. `find_queue_stage_warnings` calls it.
+/// Returns the openings whose frames all enter class `class`, for a filter of priority `priority`. Only these certainly load the queue.
+/// `find_queue_stage_warnings` calls it.
 fn class_openings(
     alloc: Global,
     openings: &[GateOpening],

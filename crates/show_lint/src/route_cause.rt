@@ -29,8 +29,8 @@ const ENTRY: &str = "`stream` {1} leads filter {0} to port {2} by a `static` ent
 const FLOOD: &str =
     "`stream` {1} leads filter {0} to port {2}. VLAN {3} has no `static` entry for its address, so its frames go to all members.\n";
 
-/// Returns whether a VLAN has a static entry for an address. Without such an entry, frames to this address flood the VLAN. `route_cause`
-/// calls it.
+/// Returns whether VLAN `vid` has a static entry for an address. Without such an entry, frames to this address flood the VLAN.
+/// `route_cause` calls it.
 fn has_entry(statics: &[StaticEntry], vid: u16, address: [u8; 6]) -> bool {
     statics
         .iter()
@@ -138,7 +138,8 @@ pub(crate) fn put_other_way<A: Allocator + Copy>(
     true
 }
 
-/// Writes the sentence of a cause about filter `number`, the stream at position `place` (0 for none), port and VLAN. `put_route` calls it.
+/// Writes the sentence of a cause about filter `number`, the stream at position `place` (0 for none), port `port` and VLAN `vid`.
+/// `put_route` calls it.
 fn put_route_sentence(
     said: &mut LintText,
     way: RouteCause,

@@ -308,8 +308,8 @@ fn first_hiding_filter(
     None
 }
 
-/// Returns whether a filter with this optional priority matches frames of `priority`. `None` matches every priority. `taking_filter` calls
-/// it.
+/// Returns whether a filter with the optional priority `own` matches frames of `priority`. `None` matches every priority. `taking_filter`
+/// calls it.
 fn takes_value(own: Option<u8>, priority: u8) -> bool
     ensures { result ≡ is_priority_match own priority }
 {
