@@ -86,8 +86,8 @@ pub(crate) const GROUP_RUN: &[LegendRow] = &[
 ];
 
 impl Picture {
-    /// Draws the legend row of a filter: a sample of its colour, its number, and whether it is protected or grouped. `put_shown_filters`
-    /// calls it.
+    /// Draws the legend row of a filter: a sample of its colour, its number, and whether it is protected (`is_protected`) or grouped
+    /// (`is_grouped`). `put_shown_filters` calls it.
     pub(crate) fn put_filter_legend(
         &mut self,
         filter: u32,

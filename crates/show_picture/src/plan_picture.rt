@@ -48,8 +48,8 @@ fn fault_template(fault: CheckFault) -> (&'static str, u32, u8, u8) {
     }
 }
 
-/// Writes how much of the hypercycle the picture shows. If the arguments select a part of the time, writes only the hypercycle's length.
-/// `put_title` calls it.
+/// Writes how much of the hypercycle the picture shows. If the arguments select a part of the time (`is_part`), writes only the
+/// hypercycle's length. `put_title` calls it.
 fn put_hypercycle(page: &mut Page, times: Hypercycle, is_part: bool) {
     if times.length == 0 {
         return page.add_words("no gate control list");
@@ -72,8 +72,8 @@ impl Picture {
         self.page.begin_text_line("t", 220);
     }
 
-    /// Writes one port or filter of the selection: `only port 3` first, `, filter 10` later. Adds a note if the plan lacks the number.
-    /// `put_selection` calls it.
+    /// Writes one port or filter of the selection: `only port 3` for the first (`is_first`), `, filter 10` later. Adds a note if the plan
+    /// lacks it (`is_there` is false). `put_selection` calls it.
     fn put_selected(&mut self, form: &str, number: u32, is_first: bool, is_there: bool) {
         let lead = choose_word(is_first, "only ", ", ");
         self.page.add_piece(form, &[u64::from(number)], lead);
@@ -104,8 +104,8 @@ impl Picture {
         self.page.end_text();
     }
 
-    /// Writes the head of a plan's picture: how much of the hypercycle it shows, the schedule change, and the time span. `draw_plan` calls
-    /// it.
+    /// Writes the head of a plan's picture: how much of the hypercycle it shows, the schedule change, and the time span. `is_part`:
+    /// arguments select a part of the time. `draw_plan` calls it.
     fn put_title(&mut self, times: Hypercycle, is_part: bool) {
         let span = self.span;
         self.begin_head("plan");
