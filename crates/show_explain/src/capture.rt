@@ -115,8 +115,8 @@ fn fault_record(fault: &CaptureFault) -> u64 {
     }
 }
 
-/// Returns two numbers from a capture's header: the link type, and the upper half of its word, which must be 0. `capture_sentence` and
-/// `explain_capture` call it.
+/// Returns two numbers from the header of the capture `octets`: the link type, and the upper half of its word, which must be 0.
+/// `capture_sentence` and `explain_capture` call it.
 fn link_type(octets: &[u8]) -> (u64, u64) {
     let (one, other) = (read_u16(octets, 20), read_u16(octets, 22));
     if is_little_endian(octets) {
@@ -126,8 +126,8 @@ fn link_type(octets: &[u8]) -> (u64, u64) {
     }
 }
 
-/// Returns whether numbers in the capture's headers begin with their lowest octet, by the first octet of the file. `link_type` and
-/// `read_u16` call it.
+/// Returns whether numbers in the headers of the capture `octets` begin with their lowest octet, by the first octet of the file.
+/// `link_type` and `read_u16` call it.
 fn is_little_endian(octets: &[u8]) -> bool {
     octets.first() == Some(&0xD4) || octets.first() == Some(&0x4D)
 }

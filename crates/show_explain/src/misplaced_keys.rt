@@ -109,7 +109,7 @@ pub(crate) fn put_misplaced_key(
     put_misplaced_entry_key(alloc, said, source, section, index, table);
 }
 
-/// Writes which key of an entry of an instance's list is unknown, and the nearest key. `put_misplaced_key` calls it.
+/// Writes which key of an entry of a list of instance `index`, from 1, is unknown, and the nearest key. `put_misplaced_key` calls it.
 fn put_misplaced_entry_key(
     alloc: Global,
     said: &mut Said,

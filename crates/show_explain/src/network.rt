@@ -183,7 +183,7 @@ fn put_stray_key(
     put_excluded_key(said, document, section, index, table);
 }
 
-/// Writes which key of a traffic row another key excludes. `put_stray_key` calls it if the row has only known keys.
+/// Writes which key of traffic row `index`, from 1, another key excludes. `put_stray_key` calls it if the row has only known keys.
 fn put_excluded_key(
     said: &mut Said,
     document: Document<'_>,

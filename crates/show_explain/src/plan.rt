@@ -70,7 +70,8 @@ fn explanation_body(
     said
 }
 
-/// Writes the explanation of a fault. Reads the document again, because faults have locations but no values. `explanation_body` calls it.
+/// Writes the explanation of a fault of the text `octets`. Reads its document again, because faults have locations but no values.
+/// `explanation_body` calls it.
 fn put_document_fault(
     alloc: Global,
     said: &mut Said,
