@@ -73,7 +73,8 @@ fn put_unsent_row<A: Allocator>(text: &mut TextBuilder<A>, filter: u32, view: &V
     );
 }
 
-/// Writes the row of a filter at a port, if copies of its frames left by this port (`delays` has items). `put_row_of_port` calls it.
+/// Writes the row of a filter at a port with delay bound `bound`, if copies of its frames left by this port (`delays` has items).
+/// `put_row_of_port` calls it.
 fn put_row_if_any<A: Allocator>(
     text: &mut TextBuilder<A>,
     filter: u32,
@@ -130,8 +131,8 @@ fn put_port_rows<A: Allocator + Copy>(
     }
 }
 
-/// Writes the rows of a filter by rising port. If no copy of its frames left, writes one row without a port. A filter without frames has no
-/// row. `put_filter_with_bounds` calls it.
+/// Writes the rows of a filter by rising port, with the ports' `bounds`. If no copy left, writes one row without a port. A filter without
+/// frames has no row. `put_filter_with_bounds` calls it.
 fn put_filter_rows<A: Allocator + Copy>(
     alloc: A,
     text: &mut TextBuilder<A>,
