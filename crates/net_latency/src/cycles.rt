@@ -130,8 +130,8 @@ fn explain_periodic_row(
     }
 }
 
-/// Explains a row with periodic traffic whose filter belongs to group `group`. Names the limit that the row can have instead: `frames` and
-/// `period`. `explain_periodic_row` calls it.
+/// Explains row `index`, with periodic traffic, whose filter belongs to group `group`. Names the limit that the row can have instead:
+/// `frames` and `period`. `explain_periodic_row` calls it.
 fn explain_grouped_filter(
     alloc: Global,
     asked: TrafficText<'_>,

@@ -18,8 +18,8 @@ use net_model::{
 };
 use std::alloc::Allocator;
 
-/// Returns whether port `on` is open and has a stream entry with this handle. Then devices outside the network can send frames that get the
-/// handle. `is_other_entry_port` and `is_talker_port` call it.
+/// Returns whether port `on` of bridge `bridge` is open and has a stream entry with this handle. Then devices outside the network can send
+/// frames that get the handle.
 fn enters<A: Allocator + Copy>(
     links: &[Link],
     bridge: u16,
@@ -35,8 +35,8 @@ fn enters<A: Allocator + Copy>(
     has_entry(plan, on.number, handle)
 }
 
-/// Returns whether port `port` is the talker's port: the first open port, in the plan's order, that has a stream entry with this handle.
-/// `is_other_entry_port` calls it.
+/// Returns whether port `port` of bridge `bridge` is the talker's port: the plan's first open port that has a stream entry with this
+/// handle. `is_other_entry_port` calls it.
 fn is_talker_port<A: Allocator + Copy>(
     links: &[Link],
     bridge: u16,
@@ -54,8 +54,8 @@ fn is_talker_port<A: Allocator + Copy>(
     false
 }
 
-/// Returns whether frames of other devices can get the handle at port `on`. It is open and has an entry, and isn't the first hop's talker
-/// port. `can_others_enter` calls it.
+/// Returns whether frames of other devices can get the handle at port `on` of bridge `bridge`: an open port with an entry. If `is_first` is
+/// true, the talker's port doesn't count.
 fn is_other_entry_port<A: Allocator + Copy>(
     links: &[Link],
     is_first: bool,
@@ -72,8 +72,8 @@ fn is_other_entry_port<A: Allocator + Copy>(
     !is_first || !is_talker_port(links, bridge, plan, handle, on.number)
 }
 
-/// Returns whether frames of other devices than the talker can get the hop's handle at port `on` of its bridge. Warnings and explanations
-/// of net_check call it too.
+/// Returns whether frames of other devices than the talker can get the hop's handle at port `on` of its bridge. `is_first` is true for the
+/// first hop. Explanations call it too.
 pub fn can_others_enter<A: Allocator + Copy>(
     links: &[Link],
     is_first: bool,
@@ -90,8 +90,8 @@ pub fn can_others_enter<A: Allocator + Copy>(
     }
 }
 
-/// Returns whether no port of the hop's bridge lets frames of other devices get the hop's handle. Otherwise delays would depend on these
-/// devices. `is_single_entry` calls it.
+/// Returns whether no port of the hop's bridge lets frames of other devices get the hop's handle. `is_first` is true for the first hop.
+/// `is_single_entry` calls it.
 fn is_entry_exclusive<A: Allocator + Copy>(
     links: &[Link],
     is_first: bool,
@@ -108,8 +108,8 @@ fn is_entry_exclusive<A: Allocator + Copy>(
     true
 }
 
-/// Returns whether only the talker's frames can get the handle of a hop from outside the network. Returns true if the hop's bridge is
-/// missing. `are_single_entries` calls it.
+/// Returns whether only the talker's frames can get the handle of a hop from outside. True if the hop's bridge is missing. `is_first` is
+/// true for the first hop. `are_single_entries` calls it.
 fn is_single_entry<A: Allocator + Copy>(
     plans: &[Accepted<A>],
     links: &[Link],
@@ -215,8 +215,8 @@ pub fn checked_stream_latency<A: Allocator + Copy>(
     tested_course(once, handed, course)
 }
 
-/// Returns the delays `course` after both tests. Returns `None` if they are unknown, or other devices' frames can get a handle of the
-/// stream (`once` is false). `checked_stream_latency` calls it.
+/// Returns the delays `course` after both tests: `passes` is cleared if `handed` is false. `None` if they are unknown, or other devices'
+/// frames can get a handle (`once` is false).
 fn tested_course(once: bool, handed: bool, course: Option<StreamLatency>) -> Option<StreamLatency>
     ensures { result ≡ spec.tested_course once handed course }
 {

@@ -58,8 +58,8 @@ pub(crate) fn hop_at_bridge(hops: &[StreamHop], bridge: u16) -> Option<StreamHop
     None
 }
 
-/// Returns the hop of the stream at the other end of the port's link, and the link's delay. Returns `None` if the port is open or the
-/// stream has no hop there. `queue_exit` calls it.
+/// Returns the hop at the other end of the link of port `port` of bridge `bridge`, and the link's delay. Returns `None` without link or
+/// hop. `queue_exit` calls it.
 pub(crate) fn next_hop(links: &[Link], hops: &[StreamHop], bridge: u16, port: u8) -> Option<NextHop>
     ensures { result ≡ next_hop links.now hops.now bridge port }
 {

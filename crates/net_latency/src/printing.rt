@@ -19,7 +19,7 @@ fn coarse_mark(coarse: bool) -> &'static str
     if coarse { " coarse" } else { "" }
 }
 
-/// Appends the bound for frames of at least 60 octets, if there is one. `push_bound_line` calls it.
+/// Appends the bound `padded`, for frames of at least 60 octets, if there is one. `push_bound_line` calls it.
 fn push_padded_figure<A: Allocator + Copy>(
     text: &mut String<A>,
     padded: Option<u64>,

@@ -77,8 +77,8 @@ pub(crate) fn hop_passes<A: Allocator + Copy>(
     }
 }
 
-/// Returns the delays of a route that ends at a queue. `worst` is the lesser of two limits: summed worst delays, and time from phase `from`
-/// to the last of `done`. `exit_over_link` calls it.
+/// Returns the delays of a route that ends at a queue with delays `x`. `worst` is the lesser of two limits: summed worst delays, and time
+/// from phase `from` to the last of `done`.
 fn latency_at_last_queue(
     from: u64,
     came: &HopArrival,
@@ -137,7 +137,7 @@ fn next_hop_arrival(
     })
 }
 
-/// Returns the next step of frames that leave a queue in the phases `done`. `onward` is the next hop; `None` ends the route. `None` if
+/// Returns the next step of frames that leave a queue in the phases `done`, to hop `onward` or, for `None`, to the route's end. `None` if
 /// phases lie in two periods. `queue_exit` calls it.
 fn exit_over_link(
     from: u64,

@@ -255,8 +255,8 @@ pub fn put_reason(
     put_gate(said, plan, filter, traffic, octets);
 }
 
-/// Appends that the filter's stream gate may refuse a frame, and a hint if the lengths may include the frame check sequence. `put_reason`
-/// calls it.
+/// Appends that the filter's stream gate may refuse a frame of `octets` octets, and a hint if the lengths may include the frame check
+/// sequence. `put_reason` calls it.
 fn put_gate(
     said: &mut TextBuilder<Global>,
     plan: &Plan<Global>,
@@ -296,7 +296,8 @@ fn is_shorter_passing(plan: &Plan<Global>, filter: &FilterPlan, traffic: &Traffi
     passes(plan, filter, &shorter)
 }
 
-/// Appends a hint if frames would pass without 4 octets: their lengths may include the frame check sequence. Ends the line in any case.
+/// Appends a hint if frames would pass without 4 octets (`is_shorter_passing`): their lengths may include the frame check sequence. Ends
+/// the line in any case.
 fn put_hint(said: &mut TextBuilder<Global>, is_shorter_passing: bool) {
     if is_shorter_passing {
         said.put(

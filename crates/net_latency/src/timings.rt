@@ -146,7 +146,8 @@ fn put_queues<A: Allocator + Copy>(
     Ok(())
 }
 
-/// Appends the delays of a row to `made`, one item for each queue. Appends one `Nowhere` if there is no queue. `queue_timings` calls it.
+/// Appends the delays of row `row` of filter `filter` to `made`, one item for each queue. Appends one `Nowhere` if there is no queue.
+/// `queue_timings` calls it.
 fn put_row<A: Allocator + Copy>(
     row: u32,
     filter: u32,
@@ -164,8 +165,8 @@ fn put_row<A: Allocator + Copy>(
     Ok(())
 }
 
-/// Returns the delays of a row: in the queues of its protected filter, or in the shared queues of its filter's group. `queue_timings` calls
-/// it.
+/// Returns the delays of row `index`: in the queues of its protected filter, or in the shared queues of its filter's group. `queue_timings`
+/// calls it.
 fn talker_row_timings<A: Allocator + Copy>(
     alloc: A,
     accepted: &Accepted<A>,
@@ -351,7 +352,7 @@ fn passing_word(passes: bool) -> &'static str
     if passes { "passes" } else { "refusable" }
 }
 
-/// Writes the line of a row without reachable queue: it ends with `nowhere`. `put_row_line` calls it.
+/// Writes the line of row `row` of filter `filter` without reachable queue: it ends with `nowhere`. `put_row_line` calls it.
 fn put_nowhere<A: Allocator>(text: &mut TextBuilder<A>, row: u32, filter: u32)
     ensures { HasGrown text.old (printing.nowhere_line row filter) text.new }
 {

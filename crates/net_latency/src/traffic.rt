@@ -59,7 +59,7 @@ fn suits_gate<A: Allocator + Copy>(plan: &Plan<A>, gate: u32, period: u64) -> bo
     }
 }
 
-/// Returns whether at least one of two values is true. The loops of `can_wait_at_port` and `has_misfit` combine their results by it.
+/// Returns whether `a` or `b` is true. The loops of `can_wait_at_port` and `has_misfit` combine their results by it.
 fn either(a: bool, b: bool) -> bool
     ensures { result ≡ (a || b) }
 {

@@ -63,7 +63,7 @@ fn have_single_feeders(links: &[Link], hops: &[StreamHop], queues: &[HopQueue]) 
         .all(|h| count_feeders(links, queues, h.bridge) <= 1)
 }
 
-/// Returns whether all three values are true: the results of the three tests of `is_tree`.
+/// Returns whether `a`, `b` and `c` are true: the results of the three tests of `is_tree`.
 fn all_three(a: bool, b: bool, c: bool) -> bool
     ensures { result ≡ (a && b && c) }
 {
