@@ -21,7 +21,7 @@ pub fn put_header<T: ReportSink>(text: &mut T, filter: u32, protected: bool)
     text.put("\n");
 }
 
-/// Writes the line with the number of frames that the filter matched. `put_counters` calls it.
+/// Writes the line with `matching`, the number of frames that the filter matched. `put_counters` calls it.
 fn put_matching<T: ReportSink>(text: &mut T, matching: u64)
     ensures { HasGrown T.contents text.old (matching_line matching) text.new }
 {
@@ -39,7 +39,7 @@ fn put_test<T: ReportSink>(text: &mut T, test: &str, passed: u64, refused: u64)
     text.put("\n");
 }
 
-/// Writes the line with the number of frames that the meter refused. `put_counters` calls it.
+/// Writes the line with `red`, the number of frames that the meter refused. `put_counters` calls it.
 fn put_red<T: ReportSink>(text: &mut T, red: u64)
     ensures { HasGrown T.contents text.old (red_line red) text.new }
 {

@@ -187,7 +187,8 @@ fn put_line<A: Allocator>(text: &mut TextBuilder<A>, filter: u32, frames: u64, l
     text.put("\n");
 }
 
-/// Writes the line of a filter if the filter is protected and lost a frame or a copy. Otherwise writes nothing. `put_lost` calls it.
+/// Writes the line of a filter, with `frames` frames in all, if the filter is protected and lost a frame or a copy. Otherwise writes
+/// nothing. `put_lost` calls it.
 fn put_if<A: Allocator>(
     text: &mut TextBuilder<A>,
     protected: bool,

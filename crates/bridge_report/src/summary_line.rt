@@ -48,8 +48,8 @@ fn total_dropped(ports: &[(u8, PortCount)]) -> u128
     ports.iter().map(|p| u128::from(p.1.dropped)).sum()
 }
 
-/// Appends the numbers of frames that arrived, were malformed, weren't forwarded, and were policed. A filter judges each policed frame.
-/// `summary` calls it.
+/// Appends the numbers of frames that arrived, were malformed, weren't forwarded (`nowhere`), and were policed. A filter judges each
+/// policed frame. `summary` calls it.
 fn push_arrivals<A: Allocator>(
     text: &mut String<A>,
     frames: u128,
@@ -66,7 +66,7 @@ fn push_arrivals<A: Allocator>(
     )
 }
 
-/// Appends the number of unfiltered frames, and the numbers of queued and dropped copies. `summary` calls it.
+/// Appends the number of unfiltered frames, and the numbers of queued (`sent`) and dropped copies. `summary` calls it.
 fn push_copies<A: Allocator>(
     text: &mut String<A>,
     unfiltered: u128,
