@@ -7,7 +7,8 @@ use bridge_check::Accepted;
 use bridge_limits::NoMemory;
 use std::alloc::Allocator;
 
-/// Returns the greater of two optional bounds; a missing bound (`None`) counts as less. `group_bound` and `port_bound` call it.
+/// Returns the greater of the optional bounds `one` and `other`; a missing bound (`None`) counts as less. `group_bound` and `port_bound`
+/// call it.
 pub(crate) fn greater_bound(one: Option<u64>, other: Option<u64>) -> Option<u64>
     ensures { result ≡ spec.greater_bound one other }
 {
