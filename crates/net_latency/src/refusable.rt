@@ -255,8 +255,8 @@ pub fn put_reason(
     put_gate(said, plan, filter, traffic, octets);
 }
 
-/// Appends that the filter's stream gate may refuse a frame of `octets` octets, and a hint if the lengths may include the frame check
-/// sequence. `put_reason` calls it.
+/// Appends that the filter's stream gate may refuse a frame with `octets` SDU octets. Adds a hint if the lengths may include the frame
+/// check sequence. `put_reason` calls it.
 fn put_gate(
     said: &mut TextBuilder<Global>,
     plan: &Plan<Global>,
