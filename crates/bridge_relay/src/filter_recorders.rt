@@ -155,8 +155,8 @@ pub fn record_departure<A: Allocator + Copy>(
     }
 }
 
-/// If `answer` is a refusal, records a dropped copy of frame `own` of filter `flow`. Tries the index `hint` first. Does nothing for an
-/// unfiltered frame (`None`). `offer_to_port` calls it.
+/// If `answer` is a refusal by port `port`, records a dropped copy of frame `own` of filter `flow`. Tries index `hint` first. Does nothing
+/// for an unfiltered frame. `offer_to_port` calls it.
 #[inline(always)]
 pub fn record_answer<A: Allocator + Copy>(
     tables: &mut FilterRecorders<A>,

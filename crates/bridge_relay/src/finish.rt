@@ -27,8 +27,8 @@ use bridge_filter::{FilterPlan, Police};
 use bridge_semantics::{Outcome, PortCount, View};
 use std::alloc::Allocator;
 
-/// Returns the record of filter `number`: lists from its recorder, and counters, flags and buckets from `police`. Leaves the recorder
-/// empty. `make_views` calls it.
+/// Returns the record of filter `number`, with its flag `protected`. Lists are from its recorder, and counters, flags and buckets from
+/// `police`. Leaves the recorder empty. `make_views` calls it.
 fn make_view<A: Allocator + Copy>(
     alloc: A,
     police: &Police<A>,

@@ -230,8 +230,8 @@ impl<'a, G: Agenda + Drop, A: Allocator + Copy> Relay<'a, G, A> {
         self.earliest = t;
     }
 
-    /// Returns the egress ports of a frame that arrived on port `port`, and the values by which filters judge it. Otherwise returns why it
-    /// isn't forwarded. `arrive` calls it.
+    /// Returns egress ports and filter input of the frame `octets`, which arrived on port `port` at time `at` with length `len`. Otherwise
+    /// returns why it isn't forwarded. `arrive` calls it.
     #[inline(always)]
     fn find_destination(&self, at: u64, port: u8, octets: &[u8], len: u32) -> Destination
         requires from { 1 ≤ port }
@@ -304,8 +304,8 @@ impl<'a, G: Agenda + Drop, A: Allocator + Copy> Relay<'a, G, A> {
         Ok(copies)
     }
 
-    /// Offers the copy `load` of a frame to port `number`. If the port drops it, the filter's recorder records the drop, and its buffer
-    /// returns to the pool. `offer_copy` calls it.
+    /// Offers the copy `load`, of `len` octets with priority `priority`, to port `number`. If the port drops it, the recorder records the
+    /// drop, and its buffer returns to the pool. `offer_copy` calls it.
     #[inline(always)]
     fn offer_to_port(
         &mut self,
@@ -345,8 +345,8 @@ impl<'a, G: Agenda + Drop, A: Allocator + Copy> Relay<'a, G, A> {
         self.earliest = t;
     }
 
-    /// Offers a copy of a frame to port `number` of `set`, after the lower ports of `set`. If `eligible` is true, first marks the copy's
-    /// tag drop eligible. `offer_listed_copy` and `offer_only_copy` call it.
+    /// Offers a copy of `len` octets with priority `priority` to port `number` of `set`, after the lower ports of `set`. If `eligible` is
+    /// true, first marks its tag drop eligible. `offer_listed_copy` and `offer_only_copy` call it.
     #[inline(always)]
     fn offer_copy(
         &mut self,
@@ -391,7 +391,8 @@ impl<'a, G: Agenda + Drop, A: Allocator + Copy> Relay<'a, G, A> {
         );
     }
 
-    /// Offers a copy as `offer_copy` does. `offer_next_copy` and `offer_several_copies` call it, for a frame with several egress ports.
+    /// Offers a copy as `offer_copy` does, with equal arguments. `offer_next_copy` and `offer_several_copies` call it, for a frame with
+    /// several egress ports.
     #[inline(always)]
     fn offer_listed_copy(
         &mut self,
@@ -490,7 +491,7 @@ impl<'a, G: Agenda + Drop, A: Allocator + Copy> Relay<'a, G, A> {
         }
     }
 
-    /// Offers the frame `load` to the port of `set` that the bridge has; does nothing without such a port. If `eligible` is true, first
+    /// Offers the frame `load` with priority `priority` to the port of `set` that the bridge has, if any. If `eligible` is true, first
     /// marks the frame's tag drop eligible. `offer_copies` calls it.
     #[inline(always)]
     fn offer_only_copy(
@@ -514,7 +515,7 @@ impl<'a, G: Agenda + Drop, A: Allocator + Copy> Relay<'a, G, A> {
         }
     }
 
-    /// Offers copies of a frame to the ports of `set`, by rising number. If `eligible` is true, their tags are marked drop eligible. An
+    /// Offers copies of a frame with priority `priority` to the ports of `set`, by rising number, with tags drop eligible if `eligible`. An
     /// empty list has no memory: it is forgotten, which is faster.
     #[inline(always)]
     fn offer_copies(
