@@ -33,7 +33,7 @@ pub(crate) struct ListShift {
 /// A stream with a periodic talker in an accepted network: everything that `hop_times` needs besides changes.
 #[derive(Clone, Copy)]
 pub(crate) struct StreamRoute<'a> {
-    /// The network.
+    /// Accepted network of the stream.
     pub network: &'a Network<Global>,
     /// Delay bounds of each bridge's queues.
     pub bounds: &'a [Vec<QueueBound>],
@@ -46,7 +46,7 @@ pub(crate) struct StreamRoute<'a> {
 /// Arrival of a talker's frames at a hop. `hop_times` collects arrivals, and computes each hop's times from its arrival.
 #[derive(Clone, Copy)]
 struct HopArrival {
-    /// The hop.
+    /// Hop at which the frames arrive.
     hop: StreamHop,
     /// Earliest and latest arrival in ns from the start of a period.
     phases: Phases,
@@ -61,7 +61,7 @@ struct HopArrival {
 /// Times of a talker's frames in one queue of a hop. Phases are in ns from the start of the period in which the frame arrives at the hop.
 #[derive(Clone, Copy)]
 pub(crate) struct HopTimes {
-    /// The hop.
+    /// Hop to which the queue belongs.
     pub hop: StreamHop,
     /// Whether this is the stream's first hop, which receives the frames from the talker.
     pub is_first: bool,
