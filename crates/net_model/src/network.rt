@@ -64,13 +64,13 @@ impl<A: Allocator + Copy> Network<A> {
 /// A refused network: its unchanged parts and its first fault. `--explain` needs the parts to explain the fault.
 #[derive(Drop)]
 pub struct RefusedNetwork<A: Allocator + Copy> {
-    /// The plans, unchanged.
+    /// Plans of the bridges, unchanged.
     pub plans: Vec<Accepted<A>, A>,
-    /// The links, unchanged.
+    /// Links between the bridges' ports, unchanged.
     pub links: Vec<Link, A>,
-    /// The streams, unchanged.
+    /// Streams, each as a list of hops, unchanged.
     pub streams: Vec<Vec<StreamHop, A>, A>,
-    /// The first fault.
+    /// First fault, in the order of the tests.
     pub fault: NetworkFault,
 }
 

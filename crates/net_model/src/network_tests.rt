@@ -192,7 +192,7 @@ pub(crate) struct TestedHop<'a, A: Allocator + Copy> {
     pub case: TestedNetwork<'a, A>,
     /// Stream of the hop.
     pub stream: &'a [StreamHop],
-    /// The hop.
+    /// Hop under test.
     pub hop: StreamHop,
     /// Plan of the hop's bridge.
     pub next: &'a Plan<A>,
