@@ -155,7 +155,7 @@ pub fn section_fields(section: NetSection) -> &'static [NetField] {
 pub enum NetAllowed {
     /// Array of tables: the value is a section.
     Tables,
-    /// Name.
+    /// Name of a bridge or stream.
     Name,
     /// Path of a plan's file.
     Path,
@@ -165,15 +165,15 @@ pub enum NetAllowed {
     Hops,
     /// Filter number, in this range.
     Number(NumberRange),
-    /// Time in ns.
+    /// Time in ns, in this range.
     Time(NumberRange),
-    /// Length of frames in octets.
+    /// Length of frames in octets, in this range.
     Octets(NumberRange),
-    /// Burst in metered octets.
+    /// Burst in metered octets, in this range.
     Burst(NumberRange),
-    /// Rate in bit/s.
+    /// Rate in bit/s, in this range.
     Rate(NumberRange),
-    /// Number of frames.
+    /// Number of frames, in this range.
     Frames(NumberRange),
 }
 
