@@ -17,7 +17,7 @@ struct RefusedHop<'a> {
     stream: usize,
     /// Number of the hop in the stream, from 1.
     place: usize,
-    /// The hop.
+    /// Hop that is refused.
     hop: StreamHop,
     /// Bridge of the hop.
     bridge: &'a BridgeRow<Global>,

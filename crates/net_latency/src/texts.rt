@@ -24,7 +24,7 @@ pub struct NetworkText<'a> {
     pub path: &'a str,
     /// Contents and document of the file.
     pub document: Document<'a>,
-    /// The network.
+    /// Network that the file describes.
     pub file: &'a NetworkFile<Global>,
 }
 

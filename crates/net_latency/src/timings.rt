@@ -26,7 +26,7 @@ use std::alloc::Allocator;
 pub struct QueueTiming {
     /// Number of the row in the file, from 1.
     pub row: u32,
-    /// Filter number.
+    /// Number of the row's filter.
     pub filter: u32,
     /// Port number, 1 to 16.
     pub port: u8,
@@ -49,7 +49,7 @@ pub enum TrafficFigures {
     Nowhere {
         /// Number of the row in the file, from 1.
         row: u32,
-        /// Filter number.
+        /// Number of the row's filter.
         filter: u32,
     },
 }

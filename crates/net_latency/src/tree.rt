@@ -8,7 +8,7 @@ use net_model::{Link, StreamHop};
 /// A reachable queue of a stream's hop. The hop's frames leave its bridge by such queues.
 #[derive(Clone, Copy)]
 pub struct HopQueue {
-    /// The hop.
+    /// Hop whose frames enter the queue.
     pub hop: StreamHop,
     /// Port number, 1 to 16.
     pub port: u8,
