@@ -58,7 +58,7 @@ pub struct FilterRecord<A: Allocator + Copy> {
     pub verdicts: Vec<StoredVerdict, A>,
     /// Ingress port and arrival time of each frame.
     pub origins: Vec<StoredOrigin, A>,
-    /// Copies that left.
+    /// Copies of the filter's frames that left.
     pub departures: Vec<StoredDeparture, A>,
     /// Copies that ports dropped.
     pub drops: Vec<StoredDrop, A>,
@@ -70,7 +70,7 @@ pub struct FilterRecord<A: Allocator + Copy> {
 /// be dropped.
 #[derive(Drop)]
 pub struct FilterRecorder<A: Allocator + Copy> {
-    /// Copies that have neither left nor been dropped.
+    /// Number of copies that are queued or about to be offered.
     owed: usize,
     /// Whether capacity for a verdict is reserved.
     is_open: bool,
@@ -80,9 +80,9 @@ pub struct FilterRecorder<A: Allocator + Copy> {
     verdicts: Vec<StoredVerdict, A>,
     /// Ingress port and arrival time of each frame.
     origins: Vec<StoredOrigin, A>,
-    /// Copies that left.
+    /// Copies of the filter's frames that left so far.
     departures: Vec<StoredDeparture, A>,
-    /// Dropped copies.
+    /// Copies that ports dropped so far.
     drops: Vec<StoredDrop, A>,
 }
 

@@ -115,9 +115,9 @@ impl<'a, G: Agenda + Drop, A: Allocator + Copy> Model for Relay<'a, G, A> {
 /// Frame whose transmission has started, with its start and end. `advance` returns it.
 #[derive(Drop)]
 pub struct Sent<A: Allocator + Copy> {
-    /// Egress port.
+    /// Egress port by which the frame leaves.
     pub port: u8,
-    /// Class of its queue.
+    /// Class of the queue in which the frame waited, 0 to 7.
     pub class: u8,
     /// Start of transmission in ns.
     pub start: u64,
@@ -125,7 +125,7 @@ pub struct Sent<A: Allocator + Copy> {
     pub done: u64,
     /// Length on the link in octets.
     pub len: u32,
-    /// Octets as sent.
+    /// Octets of the frame, as they are sent.
     pub octets: Vec<u8, A>,
 }
 
