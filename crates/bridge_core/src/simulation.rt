@@ -23,7 +23,7 @@ use std::alloc::Allocator;
 /// Lists that a run needs. `make_run_lists` makes them before the run, so that the end of the run allocates no memory.
 #[derive(Drop)]
 struct RunLists<A: Allocator + Copy> {
-    /// Port numbers, rising.
+    /// Numbers of the ports, in rising order.
     ports: Vec<u8, A>,
     /// Filters by rising number.
     order: Vec<(u32, FilterPlan), A>,
