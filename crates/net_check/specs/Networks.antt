@@ -51,7 +51,7 @@ count_hops streams = sum_by (λ (s : Stream). length s.hops) streams
 unfoldable pub accepted_line : file.Network → List ℕ
 accepted_line f = codes "accepted: " ++ (decimal (length f.bridges) ++ (codes " bridges " ++ (decimal (length f.links) ++ (codes " links " ++ (decimal (length f.streams) ++ (codes " streams " ++ (decimal (count_hops f.streams) ++ codes " hops\n")))))))
 
--- A port as network files write it: its bridge's name, a dot, and its number.
+-- Port `q` of bridge `b` as network files write it: the bridge's name, a dot, and the port's number.
 abbrev pub port_text : List Bridge → ℕ → ℕ → List ℕ
 port_text bridges b q = bridge_name bridges b ++ (codes "." ++ decimal q)
 
@@ -60,7 +60,7 @@ abbrev pub filter_text : Option ℕ → List ℕ
 filter_text None = codes "none"
 filter_text (Some n) = decimal n
 
--- The number of the filter that sends stray frames, or `none`, and the sending bridge's port on which the frames arrive.
+-- The number of the filter that sends stray frames, or `none`, and `from`, the sending bridge's port on which the frames arrive.
 abbrev pub sender_text : Option ℕ → ℕ → List ℕ
 sender_text filter from = codes " sends " ++ (filter_text filter ++ (codes " from " ++ decimal from))
 
@@ -205,8 +205,8 @@ RefusesPlanBy A name text (fault.Network line) = (e : Failure) × RefusesPlan A 
 RefusesPlanBy A name text fault.NoMemory = Unit {0}
 RefusesPlanBy A name text f = ⊥
 
--- Holds if the failure says why bridge `b` has no accepted plan. It is an error of the plan's file, the lines for a refused plan, or
--- `NoMemory`.
+-- Holds if the failure says why bridge `b` of the network file at `path` has no accepted plan. It is an error of the plan's file, a refused
+-- plan's lines, or `NoMemory`.
 abbrev pub EndsPlanOf : (A : Type 0) → List ℕ → Bridge → Failure → Type 0
 EndsPlanOf A path b (fault.File e) = string_bytes e.path ≡ beside path b.plan
 EndsPlanOf A path b (fault.Network line) = RefusesPlanOf A b (string_bytes line)

@@ -22,11 +22,11 @@ abbrev pub vlan_text : Option ℕ → List ℕ
 vlan_text None = codes "none"
 vlan_text (Some vid) = decimal vid
 
--- An octet as two hexadecimal digits.
+-- Octet `n` as two hexadecimal digits.
 abbrev pub octet_text : ℕ → List ℕ
 octet_text n = padded_integral (format_spec 32 0 4 2 (2 ^ 64 - 1)) false [] (digits 16 true n)
 
--- An address as six octets, joined by hyphens.
+-- Address `a` as six octets, joined by hyphens.
 unfoldable pub address_text : List ℕ → List ℕ
 address_text a =
     octet_text (slice_index a 0) ++ (codes "-" ++ (octet_text (slice_index a 1) ++ (codes "-" ++ (octet_text (slice_index a 2) ++ (codes "-"

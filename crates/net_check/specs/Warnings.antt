@@ -23,12 +23,14 @@ unfoldable pub entering_line : ℕ → ℕ → List ℕ → ℕ → List ℕ
 entering_line i k name port =
     codes "may also come in: stream " ++ (decimal (i + 1) ++ (codes " hop " ++ (decimal (k + 1) ++ (codes " " ++ (name ++ (codes "." ++ (decimal port ++ codes "\n")))))))
 
--- The warning about port `on` of plan `p`, if frames of other devices can get the handle of hop `h` there; otherwise empty.
+-- The warning about port `on` of plan `p`, if other devices' frames can get the handle of hop `h` there; otherwise empty. `h` is hop `k` of
+-- stream `i`.
 abbrev pub entering_text : {A : Type 0} → file.Network → NetworkParts A → ℕ → ℕ → StreamHop → Plan A → PortPlan A → List ℕ
 entering_text f n i k h p on =
     if may_come_in n.links (nat_eq k 0) h p on then entering_line i k (bridge_name f.bridges h.bridge) on.number else []
 
--- The warnings about the ports of the hop's bridge at which other devices' frames can get its handle. Empty if its plan is missing.
+-- The warnings about ports at which other devices' frames can get the handle of hop `h`, hop `k` of stream `i`. Empty if the plan of its
+-- bridge is missing.
 abbrev pub entering_at : {A : Type 0} → file.Network → NetworkParts A → ℕ → ℕ → StreamHop → Option (Plan A) → List ℕ
 entering_at f n i k h None = []
 entering_at f n i k h (Some p) = flat_map (entering_text f n i k h p) p.ports
@@ -55,11 +57,12 @@ nowhere_text bounds i k h = if has_queue bounds h then [] else nowhere_line i k
 
 -- ALL WARNINGS
 
--- The warnings about hop `k` of stream `i`: ports where other devices' frames can enter, and no reachable queue.
+-- The warnings about hop `k` of stream `i`: ports where other devices' frames can enter, if the talker is `periodic`, and no reachable
+-- queue.
 abbrev pub hop_text : {A : Type 0} → file.Network → NetworkParts A → List (Vec QueueBound A) → ℕ → Bool → ℕ → StreamHop → List ℕ
 hop_text f n bounds i periodic k h = entering_if f n i periodic k h ++ nowhere_text bounds i k h
 
--- The warnings about hop `k` of stream `i`; empty if the hop is missing.
+-- The warnings about hop `k` of stream `i`, whose talker may be `periodic`; empty if the hop is missing.
 abbrev pub place_text : {A : Type 0} → file.Network → NetworkParts A → List (Vec QueueBound A) → ℕ → Bool → ℕ → Option StreamHop → List ℕ
 place_text f n bounds i periodic k None = []
 place_text f n bounds i periodic k (Some h) = hop_text f n bounds i periodic k h
