@@ -14,7 +14,7 @@ use Rattle.net_report.specs.Hops.{AreOnwardPorts, is_onward}
 use Rattle.net_report.specs.HopCounts.{is_pass}
 use Rattle.net_report.specs.SourceFrames.{source_frame}
 
--- The number plus one, or the number itself if it is the largest.
+-- The number `n` plus one, or `n` if it is the largest 64-bit number.
 abbrev pub saturating_increment : ℕ → ℕ
 saturating_increment n = if nat_lt n (2 ^ 64 - 1) then n + 1 else n
 
@@ -40,15 +40,16 @@ abbrev pub count_frame : CopyFate → List CopyCounts → Option SourceFrame →
 count_frame f ts None = ts
 count_frame f ts (Some r) = if nat_eq r.number 0 then ts else count_at_index ts (r.number - 1) f
 
--- The fate of a copy that left: forwarded if its port leads to a hop, otherwise delivered.
+-- The fate of a copy that left: forwarded if `ways` says that its port leads to a hop, otherwise delivered.
 abbrev pub departure_fate : List Bool → Departure → CopyFate
 departure_fate ways d = if is_onward ways d.port then fate.Forwarded else fate.Delivered
 
--- The counts `ts` after a copy left: one more for its first-hop frame. `roots` has the source of each frame of the hop.
+-- The counts `ts` after a copy left: one more for its first-hop frame. `roots` has the source of each frame of the hop, `ways` whether each
+-- port leads to a hop.
 abbrev pub with_departure : List Bool → List (Option SourceFrame) → List CopyCounts → Departure → List CopyCounts
 with_departure ways roots ts d = count_frame (departure_fate ways d) ts (source_frame roots d.own)
 
--- The counts with copies that left, one after another.
+-- The counts with copies that left, one after another. `ways` has whether each port leads to a hop.
 abbrev pub with_departures : List Bool → List (Option SourceFrame) → List CopyCounts → List Departure → List CopyCounts
 with_departures ways roots ts ds = fold (with_departure ways roots) ts ds
 
@@ -74,12 +75,12 @@ with_verdicts roots n ts (v ∷ vs) = with_verdicts roots (n + 1) (with_verdict 
 abbrev pub with_arrivals : List CopyCounts → List (Option SourceFrame) → List CopyCounts
 with_arrivals ts roots = fold (count_frame fate.Arrived) ts roots
 
--- The counts with everything that a hop's record reports: copies that left, dropped copies and refused frames.
+-- The counts with everything that a hop's record reports: copies that left (by `ways`), dropped copies and refused frames.
 abbrev pub with_view : {A : Type 0} → List Bool → List (Option SourceFrame) → List CopyCounts → View A → List CopyCounts
 with_view ways roots ts v = with_verdicts roots 1 (with_drops roots (with_departures ways roots ts v.departures.items) v.drops.items) v.verdicts.items
 
--- The counts `ts` plus everything that record `v` of one hop reports. The flag is true for the first hop, whose arrivals don't count,
--- because no hop sent them.
+-- The counts `ts` plus everything that record `v` of one hop reports, by `ways`. The flag is true for the first hop, whose arrivals don't
+-- count, because no hop sent them.
 abbrev pub with_hop : {A : Type 0} → Bool → List Bool → List (Option SourceFrame) → List CopyCounts → View A → List CopyCounts
 with_hop true ways roots ts v = with_view ways roots ts v
 with_hop false ways roots ts v = with_arrivals (with_view ways roots ts v) roots

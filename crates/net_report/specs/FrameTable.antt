@@ -24,11 +24,11 @@ source_frame_words (Some r) = decimal r.number ++ (codes "," ++ (decimal r.came 
 unfoldable pub line_start : List ℕ → List ℕ → Option SourceFrame → ℕ → List ℕ
 line_start stream hop root at = stream ++ (codes "," ++ (hop ++ (codes "," ++ (source_frame_words root ++ (decimal at ++ codes ",")))))
 
--- The row of a refused frame, with the verdict as its fate.
+-- The row of a frame that arrived at time `at` at `hop` of `stream` and was refused, with the verdict as its fate.
 unfoldable pub refused_line : List ℕ → List ℕ → Option SourceFrame → ℕ → Verdict → List ℕ
 refused_line stream hop root at v = line_start stream hop root at ++ (verdict_word v ++ codes ",,,,\n")
 
--- The row of a dropped copy, with the reason of the drop as its fate.
+-- The row of a dropped copy of a frame that arrived at time `at` at `hop` of `stream`. Its fate is the reason of the drop.
 unfoldable pub drop_line : List ℕ → List ℕ → Option SourceFrame → ℕ → Dropped → List ℕ
 drop_line stream hop root at d = line_start stream hop root at ++ (refusal_word d.refusal ++ (codes "," ++ (decimal d.port ++ codes ",,,\n")))
 
@@ -37,41 +37,44 @@ abbrev pub departure_word : Bool → List ℕ
 departure_word true = codes "sent"
 departure_word false = codes "delivered"
 
--- The delay of a copy since its arrival at the first hop; empty if its source is unknown.
+-- The delay of a copy from its frame's arrival at the first hop to the end of transmission `done`; empty if its source is unknown.
 abbrev pub delay_word : ℕ → Option SourceFrame → List ℕ
 delay_word done None = []
 delay_word done (Some r) = decimal (done - r.came)
 
--- The row of a copy that left: `sent` if its port leads to a hop, otherwise `delivered`.
+-- The row of a copy that left `hop` of `stream`: `sent` if its port leads to a hop (`on`), otherwise `delivered`. Its frame arrived at time
+-- `at`.
 unfoldable pub departure_line : List ℕ → List ℕ → Option SourceFrame → ℕ → Departure → Bool → List ℕ
 departure_line stream hop root at d on = line_start stream hop root at ++ (departure_word on ++ (codes "," ++ (decimal d.port ++ (codes ","
     ++ (decimal d.start ++ (codes "," ++ (decimal d.done ++ (codes "," ++ (delay_word d.done root ++ codes "\n")))))))))
 
 -- THE LINES OF A HOP
 
--- The row of a frame that was refused; empty if it passed.
+-- The row of a frame that arrived at time `at` at `hop` of `stream` and was refused; empty if it passed.
 abbrev pub verdict_line : List ℕ → List ℕ → Option SourceFrame → ℕ → Verdict → List ℕ
 verdict_line stream hop root at v = if is_pass v then [] else refused_line stream hop root at v
 
--- The rows of the frames that a hop refused. The first verdict belongs to the frame with number `n`.
+-- The rows of the frames that a hop of `stream` refused. The first verdict belongs to the frame with number `n`.
 abbrev pub verdict_lines : List ℕ → List ℕ → List (Option SourceFrame) → List Origin → ℕ → List Verdict → List ℕ
 verdict_lines stream hop roots origins n [] = []
 verdict_lines stream hop roots origins n (v ∷ vs) = verdict_line stream hop (source_frame roots n) (at_of origins n) v ++ verdict_lines stream hop roots origins (n + 1) vs
 
--- The rows of the copies that a hop dropped.
+-- The rows of the copies that a hop of `stream` dropped.
 abbrev pub drop_lines : List ℕ → List ℕ → List (Option SourceFrame) → List Origin → List Dropped → List ℕ
 drop_lines stream hop roots origins ds = flat_map (λ (d : Dropped). drop_line stream hop (source_frame roots d.own) (at_of origins d.own) d) ds
 
--- The rows of the copies that left a hop.
+-- The rows of the copies that left a hop of `stream`. `ways` has whether each port leads to a hop.
 abbrev pub departure_lines : List ℕ → List ℕ → List (Option SourceFrame) → List Origin → List Bool → List Departure → List ℕ
 departure_lines stream hop roots origins ways ds = flat_map (λ (d : Departure). departure_line stream hop (source_frame roots d.own) (at_of origins d.own) d (is_onward ways d.port)) ds
 
--- The rows of a hop's record: refused frames, dropped copies, then copies that left, each in the order of the run.
+-- The rows of a record of a hop of `stream`: refused frames, dropped copies, then copies that left (by `ways`). Each follows the order of
+-- the run.
 abbrev pub view_lines : {A : Type 0} → List ℕ → List ℕ → List (Option SourceFrame) → List Bool → View A → List ℕ
 view_lines stream hop roots ways v =
     verdict_lines stream hop roots v.origins.items 1 v.verdicts.items
     ++ (drop_lines stream hop roots v.origins.items v.drops.items ++ departure_lines stream hop roots v.origins.items ways v.departures.items)
 
--- Holds if `lines` has the rows of record `v`, of a hop at bridge `b`, in the table of frames. `roots` has the source of each frame.
+-- Holds if `lines` has the rows of record `v` of a hop of `stream`, at bridge `b`, in the table of frames. `roots` has the source of each
+-- frame.
 abbrev pub AreFrameLines : {A : Type 0} → List Link → List (HopRun A) → ℕ → List (Option SourceFrame) → List ℕ → List ℕ → View A → List ℕ → Type 0
 AreFrameLines links hops b roots stream hop v lines = (ways : List Bool) × AreOnwardPorts links hops b ways × (lines ≡ view_lines stream hop roots ways v)

@@ -73,7 +73,7 @@ is_full d = is_full_queue d.refusal
 abbrev pub never_fits : Dropped → Bool
 never_fits d = not (is_full_queue d.refusal)
 
--- True if a copy left by a port without next hop.
+-- True if a copy left by a port that, by `ways`, leads to no hop.
 abbrev pub is_delivery : List Bool → Departure → Bool
 is_delivery ways d = not (is_onward ways d.port)
 
@@ -104,11 +104,11 @@ abbrev pub if_delivered : Bool → List ℕ → List ℕ
 if_delivered true delays = []
 if_delivered false delays = delays
 
--- The delay of a copy as a list; empty unless it was delivered and its source is known.
+-- The delay of a copy as a list; empty unless it was delivered (by `ways`) and its source is known.
 abbrev pub delay_of : List Bool → List (Option SourceFrame) → Departure → List ℕ
 delay_of ways roots d = if_delivered (is_onward ways d.port) (delay_if_known d (source_frame roots d.own))
 
--- The delays of the copies that a hop delivered, in the order of leaving.
+-- The delays of the copies that a hop delivered (by `ways`), in the order of leaving.
 abbrev pub departure_delays : List Bool → List (Option SourceFrame) → List Departure → List ℕ
 departure_delays ways roots departures = flat_map (delay_of ways roots) departures
 

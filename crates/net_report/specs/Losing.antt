@@ -49,17 +49,17 @@ lost_line stream tallies hops = if nat_eq (delivered_frames tallies) (length tal
 abbrev pub late_in : ℕ → List ℕ → ℕ
 late_in deadline delays = count_by (λ d. nat_lt deadline d) delays
 
--- The line of a stream whose deadline a copy missed.
+-- The line of a stream whose deadline a copy missed. `delays` has the delays of its delivered copies.
 unfoldable pub late_words : List ℕ → List ℕ → ℕ → List ℕ
 late_words stream delays deadline = codes "late: stream " ++ (stream ++ (codes ", " ++ (decimal (late_in deadline delays) ++ (codes " of "
     ++ (decimal (length delays) ++ (codes " delivered copies, worst delay " ++ (decimal (greatest_of delays) ++ (codes " ns, deadline "
     ++ (decimal deadline ++ codes " ns\n")))))))))
 
--- The line of a stream, if the stream has a deadline and a copy missed it.
+-- The line of a stream, if the stream has a deadline and one of `delays`, the delays of its delivered copies, exceeds it.
 abbrev pub late_line : List ℕ → List ℕ → Option ℕ → List ℕ
 late_line stream delays None = []
 late_line stream delays (Some deadline) = if nat_eq (late_in deadline delays) 0 then [] else late_words stream delays deadline
 
--- Both lines of a stream: losses, then missed deadline. A line is empty if it doesn't apply.
+-- Both lines of a stream: losses, then missed deadline by `delays`. A line is empty if it doesn't apply.
 unfoldable pub fault_lines : {A : Type 0} → List ℕ → List CopyCounts → List (HopLosses A) → List ℕ → Option ℕ → List ℕ
 fault_lines stream tallies hops delays deadline = lost_line stream tallies hops ++ late_line stream delays deadline

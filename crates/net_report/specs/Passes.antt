@@ -40,8 +40,8 @@ traced_list s sent sent_roots q [] xs = []
 traced_list s sent sent_roots q (o ∷ os) [] = []
 traced_list s sent sent_roots q (o ∷ os) (x ∷ xs) = source_after_tracing s sent sent_roots q o x ∷ traced_list s sent sent_roots q os xs
 
--- The sources after tracing frames of hop `h` on port `q` to copies of hop `g`, if `g` is at the sending bridge. `mine`
--- has the sources of `h`, `others` of `g`.
+-- The sources after tracing frames of hop `h`, index `i`, on port `q` to copies of hop `g`, if `g` is at the sending bridge. `mine` has the
+-- sources of `h`, `others` of `g`.
 abbrev pub paired : Sender → ℕ → ℕ → List (List (Option SourceFrame)) → Option Trace → Option Trace → Option (List (Option SourceFrame)) → Option (List (Option SourceFrame)) → List (List (Option SourceFrame))
 paired s i q all (Some h) (Some g) (Some mine) (Some others) = if nat_eq g.bridge s.from.bridge then slice_set all i (traced_list s g.departures others q h.origins mine) else all
 paired s i q all _ _ _ _ = all
@@ -59,7 +59,7 @@ abbrev pub sender_at : List Link → ℕ → Option Trace → Option Sender
 sender_at links q None = None
 sender_at links q (Some t) = sender (map link_value links) t.bridge q
 
--- The sources after tracing from an optional sender. Without a sender they stay the same.
+-- The sources after tracing arrivals on port `q` of hop `i` from an optional sender. Without a sender they stay the same.
 abbrev pub sent_step : List Trace → ℕ → ℕ → List (List (Option SourceFrame)) → Option Sender → List (List (Option SourceFrame))
 sent_step ts i q all None = all
 sent_step ts i q all (Some s) = sender_step ts s i q all
@@ -76,7 +76,7 @@ hop_step links ts i all = upto (λ k. port_step links ts i (k + 1)) 16 all
 abbrev pub pass : List Link → List Trace → List (List (Option SourceFrame)) → List (List (Option SourceFrame))
 pass links ts all = upto (hop_step links ts) (length ts) all
 
--- A first-hop frame with this number as its own source.
+-- First-hop frame `o` with number `n` as its own source.
 abbrev pub own_root : ℕ → Origin → SourceFrame
 own_root n o = record { number = n; came = o.at }
 

@@ -9,11 +9,11 @@ use Rattle.net_report.specs.declared.copy_counting.HopRun.{HopRun}
 use Rattle.bridge_semantics.specs.declared.outcome.Departure.{Departure}
 use Rattle.net_report.specs.declared.sources.SourceFrame.{SourceFrame}
 
--- True if a copy left by port `q` and arrives over its link at time `at` or later.
+-- True if a copy left by port `q` and arrives over its link, after `delay` ns, at time `at` or later.
 abbrev pub is_due : ℕ → ℕ → ℕ → Departure → Bool
 is_due q delay at d = nat_eq d.port q && nat_le at (d.done + delay)
 
--- The list of copies, without those before the first one that left by port `q` and arrives at time `at` or later.
+-- The list of copies, without those before the first one that left by port `q` and arrives `delay` ns later, at time `at` or after.
 abbrev pub due_departures : ℕ → ℕ → ℕ → List Departure → List Departure
 due_departures q delay at [] = []
 due_departures q delay at (d ∷ ds) = if is_due q delay at d then d ∷ ds else due_departures q delay at ds
@@ -102,7 +102,8 @@ pub record IsSourceByCopy (s : Sender) (sent : List Departure) (sent_roots : Lis
   pub moment : copy.done + s.delay ≡ o.at
   pub known : source_frame sent_roots copy.own ≡ Some r
 
--- Holds if each frame's source in `new` is its source in `old` or, if that is unknown, the source found over the link.
+-- Holds if each frame's source in `new` is its source in `old`. If that is unknown and the frame arrived on port `q`, it is the source
+-- found over the link.
 abbrev pub IsTracedByFrame : Sender → List Departure → List (Option SourceFrame) → ℕ → List Origin → List (Option SourceFrame) → List (Option SourceFrame) → Type 0
 IsTracedByFrame s sent sent_roots q origins old new = (k : ℕ) (o : Origin) (x y : Option SourceFrame) → slice_get origins k ≡ Some o → slice_get old k ≡ Some x → slice_get new k ≡ Some y
     → y ≡ source_after_tracing s sent sent_roots q o x

@@ -20,7 +20,7 @@ reason_words c = decimal c.blocked ++ (codes "," ++ (decimal c.oversize ++ (code
     ++ (codes "," ++ (decimal c.shut_octets ++ (codes "," ++ (decimal c.octets_exceeded ++ (codes "," ++ (decimal c.red ++ (codes ","
     ++ (decimal c.yellow_dropped ++ (codes "," ++ (decimal c.full ++ (codes "," ++ (decimal c.never ++ codes ","))))))))))))))))))
 
--- The beginning of a hop's row, up to the number of its losses.
+-- The beginning of a row of a hop of `stream`, up to the number of its losses.
 unfoldable pub hop_start : List ℕ → List ℕ → HopCounts → List ℕ
 hop_start stream hop c = stream ++ (codes "," ++ (hop ++ (codes "," ++ (decimal c.frames ++ (codes "," ++ (decimal c.delivered ++ (codes "," ++ (decimal (lost_copies c) ++ codes ","))))))))
 
@@ -29,7 +29,7 @@ abbrev pub hop_delay_words : Option DelayStatistics → List ℕ
 hop_delay_words None = codes ",\n"
 hop_delay_words (Some f) = decimal f.least ++ (codes "," ++ (decimal f.greatest ++ codes "\n"))
 
--- The row of a hop: counts, losses by cause, delays of delivered copies, and delays at the hop.
+-- The row of a hop of `stream`: counts, losses by cause, delays of delivered copies (`figures`), and delays at the hop (`here`).
 unfoldable pub hop_line : List ℕ → List ℕ → HopCounts → Option DelayStatistics → Option DelayStatistics → List ℕ
 hop_line stream hop c figures here = hop_start stream hop c ++ (reason_words c ++ (codes "," ++ (statistics_words figures ++ (codes ",,,,," ++ hop_delay_words here))))
 
@@ -67,7 +67,7 @@ abbrev pub worst_words : Option ℕ → List ℕ
 worst_words None = codes ","
 worst_words (Some w) = decimal w ++ codes ","
 
--- A deadline less a worst delay; negative if the delay exceeds the deadline.
+-- Deadline `d` less worst delay `w`; negative if the delay exceeds the deadline.
 abbrev pub difference_words : ℕ → ℕ → List ℕ
 difference_words d w = if nat_le w d then decimal (d - w) else codes "-" ++ decimal (w - d)
 

@@ -20,7 +20,7 @@ pub record AreRowsOfHop {A : Type 0} (links : List Link) (hops : List (HopRun A)
       (delay_statistics (delays_at_hop h.view.now.origins.items h.view.now.departures.items))
   pub lines_are : lines ≡ view_lines stream name roots ways h.view.now
 
--- Holds if `rows` and `lines` are the rows of these hops in the two tables, hop by hop.
+-- Holds if `rows` and `lines` are the rows of these hops of `stream` in the two tables, hop by hop.
 abbrev pub AreRowsOfHops : {A : Type 0} → List Link → List (HopRun A) → List ℕ → List (List ℕ) → List (HopRun A) → List (Vec (Option SourceFrame) A) → List ℕ → List ℕ → Type 0
 AreRowsOfHops links hops stream (n ∷ ns) (h ∷ hs) (k ∷ ks) rows lines =
     (row : List ℕ) × (line : List ℕ) × (more : List ℕ) × (rest : List ℕ)
@@ -59,14 +59,14 @@ pub record AreRowsOfStream {A : Type 0} (links : List Link) (hops : List (HopRun
 abbrev pub AddDelays : {A : Type 0} → List Link → List (HopRun A) → HopRun A → List (Option SourceFrame) → List ℕ → List ℕ → Type 0
 AddDelays links hops h roots old new = (ways : List Bool) × AreOnwardPorts links hops h.bridge ways × (new ≡ old ++ departure_delays ways roots h.view.now.departures.items)
 
--- Holds if the rows of a hop were written to both tables: `more_streams` and `more_frames` are the contents afterwards.
+-- Holds if the rows of a hop with name `name` of `stream` were written to both tables. `more_streams` and `more_frames` are the contents
+-- afterwards.
 abbrev pub WritesHop : {A : Type 0} → List Link → List (HopRun A) → List ℕ → List ℕ → HopRun A → List (Option SourceFrame)
     → Option (List ℕ) → Option (List ℕ) → Option (List ℕ) → Option (List ℕ) → Type 0
 WritesHop links hops stream name h roots streams more_streams frames more_frames =
     (row : List ℕ) × (lines : List ℕ) × AreRowsOfHop links hops stream name h roots row lines × Appends streams more_streams row × Appends frames more_frames lines
 
--- Holds if the rows of these hops were written to both tables: `more_streams` and `more_frames` are the contents
--- afterwards.
+-- Holds if the rows of these hops of `stream` were written to both tables. `more_streams` and `more_frames` are the contents afterwards.
 abbrev pub WriteHops : {A : Type 0} → List Link → List (HopRun A) → List ℕ → List (List ℕ) → List (HopRun A) → List (Vec (Option SourceFrame) A)
     → Option (List ℕ) → Option (List ℕ) → Option (List ℕ) → Option (List ℕ) → Type 0
 WriteHops links hops stream names hs known streams more_streams frames more_frames =
