@@ -31,7 +31,7 @@ links = record { one = record { bridge = 0; port = 3 }; other = record { bridge 
 abbrev frame_at : ℕ → CapturedFrame
 frame_at t = record { time = t; len = 60; octets = 2 ∷ 0 ∷ 0 ∷ 0 ∷ 0 ∷ 0x0a ∷ [] }
 
--- Departures by bridge and port: two frames left port 3 of bridge 0.
+-- Departures of port `q` of bridge `b`: two frames left port 3 of bridge 0.
 abbrev left : ℕ → ℕ → List CapturedFrame
 left b q = if_there (nat_eq b 0 && nat_eq q 3)
   where
@@ -39,7 +39,7 @@ left b q = if_there (nat_eq b 0 && nat_eq q 3)
     if_there true = frame_at 1000 ∷ frame_at 2000 ∷ []
     if_there false = []
 
--- Captures from outside, by bridge and port: each has one frame.
+-- Captures from outside, of port `q` of bridge `b`: each has one frame.
 abbrev captures : ℕ → ℕ → List CapturedFrame
 captures b q = frame_at 7 ∷ []
 
@@ -75,7 +75,7 @@ nothing_back = refl
 abbrev wires : List wiring.Link
 wires = record { one = record { bridge = 0; port = 3 }; other = record { bridge = 1; port = 1 }; delay = 500 } ∷ []
 
--- A hop in the form of the program.
+-- The hop of bridge `b` and filter `m` in the form of the program.
 abbrev a_hop : ℕ → ℕ → StreamHop
 a_hop b m = record { bridge = b; filter = m }
 
@@ -93,7 +93,7 @@ an_entry q = record { handle = 1; port = q; kind = Null; address = 2 ∷ 0 ∷ 0
 abbrev source_entry : ℕ → StreamEntry
 source_entry q = record { handle = 1; port = q; kind = Source; address = 2 ∷ 0 ∷ 0 ∷ 0 ∷ 0 ∷ 1 ∷ []; vid = 10; tag = Tagged }
 
--- A filter of the frames with a handle, or of all frames.
+-- A filter with stream gate `gate` of the frames with a handle, or of all frames; `protected` or not.
 abbrev a_filter : Option ℕ → ℕ → Bool → FilterPlan
 a_filter handle gate protected = record {
   handle = handle;

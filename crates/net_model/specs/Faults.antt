@@ -128,8 +128,8 @@ first_taken_at_port_number w n hops h next q = option_map (λ (f : FoundFrames).
 abbrev pub first_taken_by_port : {A : Type 0} → FrameQuery → NetworkParts A → List StreamHop → StreamHop → Plan A → Option (ℕ × FoundFrames)
 first_taken_by_port w n hops h next = first_among_numbers 16 (λ j. first_taken_at_port_number w n hops h next (j + 1))
 
--- Builds the fault NotClosed for hop `h`: stream and hop number from 1, bridge and port. The fault also names the
--- filter of the stray frames `x` and their ingress port at the sending bridge.
+-- The fault NotClosed for hop `h`, with index `k` in stream `i`. It names bridge, port, the filter of the stray frames `x`, and their
+-- ingress port at the sending bridge.
 abbrev pub not_closed : ℕ → ℕ → StreamHop → ℕ × FoundFrames → NetworkFault
 not_closed i k h x = fault.NotClosed (i + 1) (k + 1) h.bridge x.0 x.1.filter x.1.from
 
@@ -145,21 +145,21 @@ is_entry_port links b p m on = not (is_some (peer_port links b on.number)) && ha
 abbrev pub has_entry_port : {A : Type 0} → List Link → ℕ → Plan A → ℕ → Bool
 has_entry_port links b p m = list_any (is_entry_port links b p m) p.ports
 
--- True if frames of the stream can arrive at hop `h`: on an open port if its index `k` is 0, otherwise over a link.
+-- True if frames of the stream can arrive at hop `h`. If its index `k` is 0, an open port must have an entry of handle `m`; otherwise they
+-- arrive over a link.
 abbrev pub is_reached : {A : Type 0} → NetworkParts A → List StreamHop → ℕ → StreamHop → Plan A → ℕ → Bool
 is_reached n hops k h next m =
     if nat_eq k 0 then has_entry_port n.links h.bridge next m else is_some (first_taken_by_port question.Own n hops h next)
 
--- The fault that hop test `test` (Closed or Fed) finds for hop `h`, or `None`. The plan of its bridge is `next`, and
--- the stream handle of its filter is `m`.
+-- The fault that `test` (Closed or Fed) finds for hop `h`, with index `k` in stream `i`, or `None`. The plan of its bridge is `next`, the
+-- handle of its filter `m`.
 abbrev pub frames_test_fault : {A : Type 0} → NetworkParts A → HopTest → ℕ → List StreamHop → ℕ → StreamHop → Plan A → ℕ → Option NetworkFault
 frames_test_fault n hop_test.Closed i hops k h next m = option_map (not_closed i k h) (first_taken_by_port question.Strays n hops h next)
 frames_test_fault n hop_test.Fed i hops k h next m = fault_unless (is_reached n hops k h next m) (fault.NotFed (i + 1) (k + 1))
 frames_test_fault n hop_test.Protected i hops k h next m = None
 frames_test_fault n hop_test.Unique i hops k h next m = None
 
--- The fault of hop test `test` for hop `h`, if its bridge exists and its protected filter names a stream handle;
--- otherwise `None`.
+-- The fault of `test` for hop `h`, index `k` in stream `i`, if its bridge exists and its protected filter names a handle; otherwise `None`.
 abbrev pub hop_test_fault_by_handle : {A : Type 0} → NetworkParts A → HopTest → ℕ → List StreamHop → ℕ → StreamHop → Option (Plan A) → Option NetworkFault
 hop_test_fault_by_handle n test i hops k h None = None
 hop_test_fault_by_handle n test i hops k h (Some next) = if_some (frames_test_fault n test i hops k h next) (protected_handle next.filters h.filter)

@@ -41,8 +41,8 @@ abbrev pub frames_if_asked : Bool → Option (ℕ × FilterPlan) → ℕ → Opt
 frames_if_asked true m from = Some (record { filter = option_map (λ (x : ℕ × FilterPlan). x.0) m; from = from })
 frames_if_asked false m from = None
 
--- An example of frames with this priority and optional handle, received on port `from`, if the search looks for their
--- filter; otherwise `None`.
+-- An example of frames with this priority and optional handle, from port `from` to port `q`, if the search looks for their filter;
+-- otherwise `None`.
 abbrev pub frames_by_handle : {A : Type 0} → FrameQuery → Plan A → (ℕ → Bool) → ℕ → ℕ → ℕ → Option ℕ → Option FoundFrames
 frames_by_handle w p is_of_stream q from priority handle =
     frames_if_asked (is_asked w p is_of_stream q (matching_filter p handle priority)) (matching_filter p handle priority) from
@@ -64,14 +64,15 @@ first_frame_on_ingress_if_any w p is_of_stream q s (Some on) = first_frame_on_in
 abbrev pub first_sent_frame : {A : Type 0} → FrameQuery → Plan A → (ℕ → Bool) → ℕ → FramePattern → Option FoundFrames
 first_sent_frame w p is_of_stream q s = first_among_numbers 16 (λ i. first_frame_on_ingress_if_any w p is_of_stream q s (find_port p.ports (i + 1)))
 
--- An example of stray or own frames (chosen by `w`) with this tag and the address of `e`, or `None`. Entry `e` must give these frames to filter `n`.
+-- An example of stray or own frames (chosen by `w`) from port `q` with this tag and the address of `e`, or `None`. Entry `e` must give
+-- these frames to filter `n`.
 abbrev pub first_taken_with_tag : {A : Type 0} → FrameQuery → Plan A → (ℕ → Bool) → ℕ → Plan A → PortPlan A → ℕ → StreamEntry → Option Tag
     → Option FoundFrames
 first_taken_with_tag w p is_of_stream q next on n e tag =
     if is_feeding_entry next on n e tag then first_sent_frame w p is_of_stream q (frame_pattern e tag) else None
 
--- The first example of stray or own frames (chosen by `w`) from port `q` with the address of entry `e`, or `None`. The tags are tried in the order of
--- `possible_tags`.
+-- The first example of stray or own frames (chosen by `w`) from port `q` with the address of entry `e` for filter `n`, or `None`. Tags are
+-- tried in the order of `possible_tags`.
 abbrev pub first_taken_of_entry : {A : Type 0} → FrameQuery → Plan A → (ℕ → Bool) → ℕ → Plan A → PortPlan A → ℕ → StreamEntry → Option FoundFrames
 first_taken_of_entry w p is_of_stream q next on n e = find_first (first_taken_with_tag w p is_of_stream q next on n e) (possible_tags e.vid)
 

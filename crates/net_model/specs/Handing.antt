@@ -37,7 +37,7 @@ hands_tag p m q next on n e from tag =
     not (is_feeding_entry p from m e tag)
     || (not (can_leave p.database from.number (frame_vid from tag) (frame_pattern e tag) q) || takes_all next on n (frame_pattern e tag))
 
--- True if `hands_tag` holds for each of the 17 tags that the frames of stream entry `e` can have. True also if the plan
+-- True if `hands_tag` holds, from filter `m` at port `q` to filter `n`, for the 17 tags that frames of entry `e` can have. True if the plan
 -- lacks the entry's port.
 abbrev pub hands_entry : {A : Type 0} → Plan A → ℕ → ℕ → Plan A → PortPlan A → ℕ → StreamEntry → Option (PortPlan A) → Bool
 hands_entry p m q next on n e None = true
@@ -47,12 +47,12 @@ hands_entry p m q next on n e (Some from) = list_all (hands_tag p m q next on n 
 abbrev pub hands_all : {A : Type 0} → Plan A → ℕ → ℕ → Plan A → PortPlan A → ℕ → Bool
 hands_all p m q next on n = list_all (λ (e : StreamEntry). hands_entry p m q next on n e (find_port p.ports e.port)) p.streams
 
--- True if `hands_all` holds for the optional port of the next bridge; false without a port.
+-- True if `hands_all` holds, from filter `m` at port `q` to filter `n`, for the optional port of the next bridge; false without a port.
 abbrev pub hands_to_port : {A : Type 0} → Plan A → ℕ → ℕ → Plan A → Option (PortPlan A) → ℕ → Bool
 hands_to_port p m q next None n = false
 hands_to_port p m q next (Some on) n = hands_all p m q next on n
 
--- True if `hands_to_port` holds between two optional plans, for port number `r` of the next bridge; false without a plan.
+-- True if `hands_to_port` holds, from filter `m` at port `q` to filter `n` at port `r`, between two optional plans; false without a plan.
 abbrev pub hands_between : {A : Type 0} → Option (Plan A) → ℕ → ℕ → Option (Plan A) → ℕ → ℕ → Bool
 hands_between None m q next r n = false
 hands_between (Some p) m q None r n = false

@@ -42,7 +42,8 @@ can_match e port vid s =
     nat_eq e.port port && nat_eq e.vid vid && accepts_tag e.tag s.tag
     && (not (is_same_kind e.kind s.kind) || bytes_eq e.address s.address)
 
--- The handles that frames of pattern `s` may get, in entry order; `None` stands for a missing handle. The list stops at the first entry that surely matches.
+-- The handles that frames of pattern `s` may get on `port` in VLAN `vid`, in entry order; `None` stands for no handle. The list stops at
+-- the first entry that surely matches.
 abbrev pub possible_handles : List StreamEntry → ℕ → ℕ → FramePattern → List (Option ℕ)
 possible_handles [] port vid s = None ∷ []
 possible_handles (e ∷ es) port vid s =
@@ -102,7 +103,7 @@ is_feeding_entry p on n e tag =
 abbrev pub frame_pattern : StreamEntry → Option Tag → FramePattern
 frame_pattern e tag = record { tag = tag; kind = e.kind; address = e.address }
 
--- True if frames with this tag and the address of entry `e` are all of the stream, or filter `n` doesn't get them.
+-- True if frames from port `q` with this tag and the address of `e` are all of the stream, or filter `n` doesn't get them.
 abbrev pub takes_only_with_tag : {A : Type 0} → Plan A → (ℕ → Bool) → ℕ → Plan A → PortPlan A → ℕ → StreamEntry → Option Tag → Bool
 takes_only_with_tag p is_of_stream q next on n e tag =
     not (is_feeding_entry next on n e tag) || sends_only p is_of_stream q (frame_pattern e tag)
