@@ -58,7 +58,7 @@ read_count index members = do
   period ← read_required (row_key index field.Period) (number_in_range 1 END_OF_TIME) members
   Ok (limit.Count frames period)
 
--- Reads a burst and a rate if the table has one of these keys, otherwise a number of frames in any period.
+-- Reads the limit of row `index`: burst and rate if the table has one of these keys, otherwise a number of frames in any period.
 abbrev pub read_limit : ℕ → Members → Result FrameLimit NetFault
 read_limit index members = if has_any_key rate_keys members then read_rate index members else read_count index members
 

@@ -6,7 +6,7 @@ use Rattle.net_file.specs.declared.fault.NetFault.{NetFault}
 use Rattle.net_file.specs.declared.fault.NetFault.TheVariants as fault
 use Rattle.net_file.specs.Faults.{key_name, section_name}
 
--- A section's name and an instance's number from 1. If the number is 0, only the name.
+-- A section's name and an instance's number `index`, from 1. If the number is 0, only the name.
 abbrev pub instance_text : NetSection → ℕ → List ℕ
 instance_text section index = if index == 0 then section_name section else section_name section ++ (codes " " ++ decimal index)
 
@@ -14,11 +14,11 @@ instance_text section index = if index == 0 then section_name section else secti
 abbrev pub key_text : NetKeyLocation → List ℕ
 key_text place = instance_text place.section place.index ++ (codes " " ++ key_name place.field)
 
--- The line `KIND refused: NAME` of a fault without location.
+-- The line `KIND refused: NAME` of a fault without location, from `kind` and `name`.
 abbrev pub refusal_text : List ℕ → List ℕ → List ℕ
 refusal_text kind name = kind ++ (codes " refused: " ++ name)
 
--- The line `KIND refused: NAME PLACE` of a fault with a location.
+-- The line `KIND refused: NAME PLACE` of a fault with a location, from `kind`, `name` and `place`.
 abbrev pub refusal_with_detail : List ℕ → List ℕ → List ℕ → List ℕ
 refusal_with_detail kind name place = kind ++ (codes " refused: " ++ (name ++ (codes " " ++ place)))
 

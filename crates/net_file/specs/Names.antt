@@ -9,19 +9,19 @@ use Rattle.bridge_schema.specs.declared.plan_fault.Flaw.{Flaw}
 use Rattle.bridge_schema.specs.declared.plan_fault.Flaw.TheVariants as flaw
 use Rattle.net_file.specs.Model.{Bridge}
 
--- True if a name may contain the character: a letter, a digit, a hyphen or an underscore.
+-- True if a name may contain character `c`: a letter, a digit, a hyphen or an underscore.
 abbrev pub is_name_character : ℕ → Bool
 is_name_character c = (is_ascii_alphanumeric c || c == 45) || c == 95
 
--- True if a text is a name: 1 to 32 allowed characters.
+-- True if text `s` is a name: 1 to 32 allowed characters.
 abbrev pub is_valid_name : List ℕ → Bool
 is_valid_name s = (nat_le 1 (length s) && nat_le (length s) 32) && list_all is_name_character s
 
--- True if a text has at least one character, and all are decimal digits.
+-- True if text `s` has at least one character, and all are decimal digits.
 abbrev pub is_numeral : List ℕ → Bool
 is_numeral s = nat_lt 0 (length s) && all_ascii_digits s
 
--- The number that a text of decimal digits stands for, if it is from `low` to `high`, otherwise `None`.
+-- The number that text `s` of decimal digits stands for, if it is from `low` to `high`, otherwise `None`.
 abbrev pub parse_number : ℕ → ℕ → List ℕ → Option ℕ
 parse_number low high s =
     if is_numeral s && (nat_le low (digits_value 10 s) && nat_le (digits_value 10 s) high) then Some (digits_value 10 s) else None
@@ -31,19 +31,18 @@ pub record NumberedName : Type 0 where
   pub name : List ℕ
   pub number : ℕ
 
--- True if a character is a dot, which separates a bridge's name from a number.
+-- True if character `c` is a dot, which separates a bridge's name from a number.
 abbrev pub is_dot : ℕ → Bool
 is_dot c = c == 46
 
--- The text before the first dot and the number after it, or `None` without a dot or without a number from `low` to
--- `high`.
+-- The text before the first dot of `s` and the number after it. `None` without a dot or without a number from `low` to `high`.
 abbrev pub split_numbered_name : ℕ → ℕ → List ℕ → Option NumberedName
 split_numbered_name low high s =
     if nat_lt (position_or_len is_dot s) (length s)
     then option_map (λ n. record { name = before_first is_dot s; number = n }) (parse_number low high (after_first is_dot s))
     else None
 
--- True if a text has a dot, followed by a number from `low` to `high`.
+-- True if text `s` has a dot, followed by a number from `low` to `high`.
 abbrev pub is_numbered_name : ℕ → ℕ → List ℕ → Bool
 is_numbered_name low high s = is_some (split_numbered_name low high s)
 
@@ -56,7 +55,7 @@ bridge_index_from_start k (b ∷ bs) name = if bytes_eq b.name name then Some k 
 abbrev pub bridge_index : List Bridge → List ℕ → Option ℕ
 bridge_index bridges name = bridge_index_from_start 0 bridges name
 
--- Holds if an optional index is missing or is less than the number of bridges. Proofs of the code use it.
+-- Holds if the optional index `place` is missing or is less than the number of bridges. Proofs of the code use it.
 abbrev pub IsBridgeIndex : List Bridge → Option ℕ → Type 0
 IsBridgeIndex bridges place = ForSome place (λ k. k < length bridges)
 
@@ -70,6 +69,6 @@ abbrev pub resolve_if_named : List Bridge → Option NumberedName → Result (�
 resolve_if_named bridges None = Err flaw.OutOfRange
 resolve_if_named bridges (Some x) = pair_with_number (bridge_index bridges x.name) x.number
 
--- The bridge's index and the number, from `low` to `high`, that a text names, or why the text isn't allowed.
+-- The bridge's index and the number, from `low` to `high`, that text `s` names, or why the text isn't allowed.
 abbrev pub resolve_numbered_name : List Bridge → ℕ → ℕ → List ℕ → Result (ℕ × ℕ) Flaw
 resolve_numbered_name bridges low high s = resolve_if_named bridges (split_numbered_name low high s)

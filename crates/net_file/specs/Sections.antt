@@ -20,7 +20,7 @@ use Rattle.net_file.specs.Names.{resolve_numbered_name, is_numbered_name}
 use Rattle.net_file.specs.Keys.{provided, any_text, name_text, value_or_fault, read_required, read_optional, read_or_default, has_only_keys}
 use Rattle.net_file.specs.Rules.{has_bridge, has_stream}
 
--- Returns the fault `e` if the flag is true: an earlier instance has the name or filter. Otherwise reading continues.
+-- Returns the fault `e` if `stands` is true: an earlier instance has the name or filter. Otherwise reading continues.
 abbrev pub no_duplicate : Bool → NetFault → Result Bool NetFault
 no_duplicate stands e = provided (not stands) e
 
@@ -122,7 +122,7 @@ read_talker index members =
       longest ← read_required (at field.Longest) (number_in_range least LONGEST_FRAME) members
       Ok (record { period = period; from = from; to = to; least = least; longest = longest })
 
--- Reads the traffic of a stream's talker if the table has one of its keys; then all are required. Without keys there is no periodic talker.
+-- Reads the talker of stream `index` if the table has one of its keys; then all are required. Without keys there is no periodic talker.
 abbrev pub read_optional_talker : ℕ → Members → Result (Option Talker) NetFault
 read_optional_talker index members = if has_any_key talker_keys members then (read_talker index members >>= λ t. Ok (Some t)) else Ok None
 

@@ -49,7 +49,7 @@ abbrev pub row_filter : TalkerRow → ℕ
 row_filter (row.Periodic r) = r.filter
 row_filter (row.Limited r) = r.filter
 
--- Reads a row with a limit if the table has one of the limit's keys, otherwise a row with periodic traffic.
+-- Reads row `index`: with a limit if the table has one of the limit's keys, otherwise with periodic traffic.
 abbrev pub read_talker_row : ℕ → Members → Result TalkerRow NetFault
 read_talker_row index members =
     if is_limited members then (read_limited_row index members >>= λ r. Ok (row.Limited r))
