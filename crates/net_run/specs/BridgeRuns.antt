@@ -44,7 +44,8 @@ text_of_port [] texts q = []
 text_of_port (p ∷ ports) [] q = []
 text_of_port (p ∷ ports) (t ∷ texts) q = if nat_eq p q then t else text_of_port ports texts q
 
--- Holds if a run over captures in memory stops with this fault. A capture is refused for another cause than a failed read, or memory runs out.
+-- Holds if a run over captures of `ports` in memory stops with this fault. A capture is refused for another cause than a failed read, or
+-- memory runs out.
 abbrev pub StopsBridge : {A : Type 0} → Plan A → List ℕ → List Command → List (List ℕ) → RunFault → Type 0
 StopsBridge p ports commands texts (run.Capture port fault) =
     (fault ≢ faults.Read) × (rests : ℕ → Option (List ℕ)) × (olds : List MemoryDevice) × (news : List MemoryDevice)

@@ -11,7 +11,7 @@ AreUnchanged {A} ran old new = (c : ℕ) → slice_get ran c ≡ Some false → 
 abbrev pub AreRunsFed : {A : Type 0} → List (BridgeRunState A) → Type 0
 AreRunsFed {A} xs = (b i : ℕ) (x y : BridgeRunState A) (s : Sender) → slice_get xs b ≡ Some x → i < length x.ports → slice_get x.senders i ≡ Some (Some s) → slice_get xs s.from.bridge ≡ Some y → HasRun y → IsPortUpToDate xs x i
 
--- Holds if each port whose sender didn't run in this round has the frames that its sender sent.
+-- Holds if each port whose sender didn't run in this round (`ran` is false) has the frames that its sender sent.
 abbrev pub AreOthersFed : {A : Type 0} → List Bool → List (BridgeRunState A) → Type 0
 AreOthersFed {A} ran xs = (b i : ℕ) (x : BridgeRunState A) (s : Sender) → slice_get xs b ≡ Some x → i < length x.ports → slice_get x.senders i ≡ Some (Some s) → slice_get ran s.from.bridge ≡ Some false → IsPortUpToDate xs x i
 

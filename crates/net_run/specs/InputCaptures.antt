@@ -3,7 +3,7 @@ use Rattle.std.specs.Prelude.{ℕ, List, [], Option, Some, None}
 use Rattle.bridge_capture.specs.Memory.{MemoryDevice}
 use Rattle.net_run.specs.DelayedCapture.{delayed_text}
 
--- The octets of an input capture: the delayed octets that the sender sent, or without a sender its own octets.
+-- The octets of an input capture: what the sender sent, `delay` ns later, or without a sender its own octets.
 abbrev pub input_octets : List ℕ → Option MemoryDevice → ℕ → List ℕ
 input_octets octets None delay = octets
 input_octets octets (Some sent) delay = delayed_text delay sent.octets
