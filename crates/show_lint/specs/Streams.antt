@@ -48,7 +48,7 @@ covers (e ∷ es) other named = is_place e other && takes_named e.tag named || c
 abbrev pub cover : List StreamEntry → StreamEntry → Bool
 cover earlier other = covers earlier other true && covers earlier other false
 
--- True if some entry in the list matches the frame.
+-- True if some entry in the list matches the frame that arrives on `port` in VLAN `vid`.
 abbrev pub matches_any : List StreamEntry → ℕ → Head → ℕ → Bool
 matches_any [] port head vid = false
 matches_any (e ∷ es) port head vid = is_match e port head vid || matches_any es port head vid
