@@ -43,7 +43,7 @@ port_row filter v port bound delays = field filter ++ (field port ++ (field (len
 unfoldable pub unsent_row : {A : Type 0} → ℕ → View A → List ℕ
 unsent_row filter v = field filter ++ (codes ",0,,,,,," ++ loss_fields v.verdicts.items (count_full v.drops.items) (count_never_fits v.drops.items))
 
--- The row of a filter at a port, or the empty text without delays.
+-- The row of a filter at a port with delay bound `bound`, or the empty text without delays.
 abbrev pub row_if_any : {A : Type 0} → ℕ → View A → ℕ → Option ℕ → List ℕ → List ℕ
 row_if_any filter v port bound [] = []
 row_if_any filter v port bound (d ∷ ds) = port_row filter v port bound (d ∷ ds)

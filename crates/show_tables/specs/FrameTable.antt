@@ -9,7 +9,7 @@ use Rattle.bridge_semantics.specs.declared.outcome.View.{View}
 use Rattle.bridge_report.specs.Words.{refusal_word, verdict_word}
 use Rattle.show_tables.specs.declared.frame_rows.FilterFrame.{FilterFrame}
 
--- A field: a number and a comma.
+-- A field: the number `n` and a comma.
 abbrev pub field : ℕ → List ℕ
 field n = decimal n ++ codes ","
 
@@ -78,11 +78,11 @@ frame_drops own drops = filter (λ d. nat_eq d.own own) drops
 abbrev pub frame_rows : FilterFrame → List Departure → List Dropped → List ℕ
 frame_rows f departures drops = copies_or_lone_row f (frame_departures f.own departures) (frame_drops f.own drops)
 
--- Builds a frame of a filter from its filter number, frame number, origin and verdict.
+-- Builds frame `own` of filter `filter` from its origin and its verdict.
 abbrev pub make_frame : ℕ → ℕ → Origin → Verdict → FilterFrame
 make_frame filter own origin verdict = record { filter = filter; own = own; origin = origin; verdict = verdict }
 
--- The rows of the frames numbered from `own`, by their origins and verdicts.
+-- The rows of the frames of `filter`, numbered from `own`, by their origins and verdicts.
 abbrev pub frames_rows : ℕ → List Departure → List Dropped → ℕ → List Origin → List Verdict → List ℕ
 frames_rows filter departures drops own [] verdicts = []
 frames_rows filter departures drops own (o ∷ os) [] = []

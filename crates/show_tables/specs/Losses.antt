@@ -36,6 +36,6 @@ gate_fields vs = field (refused_for reason.GateClosed vs) ++ (field (refused_for
 unfoldable pub meter_fields : List Verdict → List ℕ
 meter_fields vs = field (refused_for reason.Red vs) ++ field (refused_for reason.YellowDropped vs)
 
--- The end of a row: fields of refused frames, then numbers of copies dropped by full queues and of copies that fit no window.
+-- The end of a row: fields of refused frames, then `full` (copies dropped by full queues) and `never` (copies that fit no window).
 unfoldable pub loss_fields : List Verdict → ℕ → ℕ → List ℕ
 loss_fields verdicts full never = filter_fields verdicts ++ (gate_fields verdicts ++ (meter_fields verdicts ++ (field full ++ (decimal never ++ codes "\n"))))

@@ -18,7 +18,7 @@ greatest_bound bounds = fold greater_bound None bounds
 abbrev pub IsClassBound : {A : Type 0} → Plan A → ℕ → ℕ → ℕ → Option ℕ → Type 0
 IsClassBound p n q c b = MatchOption b (HasNoBound p n q c) (IsTightBound p n q c)
 
--- Holds if the list has the tight bound of each class, from 0.
+-- Holds if the list has the tight bound of filter `n` at port `q` for each class, from 0.
 abbrev pub AreBoundsByClass : {A : Type 0} → Plan A → ℕ → ℕ → List (Option ℕ) → Type 0
 AreBoundsByClass p n q bounds = (c : ℕ) (b : Option ℕ) → slice_get bounds c ≡ Some b → IsClassBound p n q c b
 
@@ -33,7 +33,8 @@ pub record IsGreatestBound {A : Type 0} (p : Plan A) (n q classes : ℕ) (bound 
   pub are : AreClassBounds p n q classes bounds
   pub is : bound ≡ greatest_bound bounds
 
--- Holds if `bound` is the port's delay bound: the greatest tight bound of its eight classes. Each copy has left within this time of its frame's arrival.
+-- Holds if `bound` is the delay bound of filter `n` at port `q`: the greatest tight bound of its eight classes. Each copy has left within
+-- this time of its frame's arrival.
 abbrev pub IsPortBound : {A : Type 0} → Plan A → ℕ → ℕ → Option ℕ → Type 0
 IsPortBound p n q bound = IsGreatestBound p n q 8 bound
 
