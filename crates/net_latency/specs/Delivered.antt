@@ -101,8 +101,8 @@ pub record IsForwardedByPort {A : Type 0} (p : Plan A) (octets : List ℕ) (len 
   pub goes : has_port ports q ≡ true
   pub at : find_port p.ports q ≡ Some out
 
--- Holds if bridge `b` forwards a frame from port `r` by port `q`. The bridges of the next hops forward it by the ports in the list, in
--- order.
+-- Holds if bridge `b` forwards a frame with `octets` and length `len` from port `r` by port `q`. The bridges of the next hops forward it by
+-- the ports in the list, in order.
 abbrev pub IsForwardedAlong : {A : Type 0} → List (Plan A) → List Link → List StreamHop → List ℕ → ℕ → ℕ → ℕ → ℕ → List ℕ → Type 0
 IsForwardedAlong {A} plans links hops octets len b r q [] =
     (p : Plan A) × (slice_get plans b ≡ Some p) × IsForwardedByPort p octets len r q × (next_hop links hops b q ≡ None)
@@ -133,7 +133,7 @@ pub record CarriesFrame {A : Type 0} (octets : List ℕ) (len q : ℕ) (leg : Ro
   pub octets_are : leg.copy.item.octets ≡ octets
   pub len_is : leg.copy.item.len ≡ len
 
--- Holds if the route follows the path of ports `q ∷ ports`, with a copy of the frame at each hop.
+-- Holds if the route follows the path of ports `q ∷ ports`, with a copy of the frame (`octets` and length `len`) at each hop.
 abbrev pub FollowsPath : {A : Type 0} → List ℕ → ℕ → RouteHop A → List (ℕ × RouteHop A) → ℕ → List ℕ → Type 0
 FollowsPath octets len leg [] q [] = CarriesFrame octets len q leg
 FollowsPath octets len leg (x ∷ more) q (k ∷ ports) = CarriesFrame octets len q leg × FollowsPath octets len x.1 more k ports

@@ -18,7 +18,7 @@ use Rattle.net_latency.specs.NextHop.{hop_at_bridge}
 
 -- ENTRY OF FRAMES
 
--- True if `r` is the number of the talker's port: the first of the ports that is open and has an entry with the handle.
+-- True if `r` is the talker's port of bridge `b`: the first open one of the ports that has an entry with the handle.
 abbrev pub is_talker_port : {A : Type 0} → List Link → ℕ → Plan A → ℕ → List (PortPlan A) → ℕ → Bool
 is_talker_port links b p handle [] r = false
 is_talker_port links b p handle (on ∷ more) r =
@@ -30,22 +30,25 @@ abbrev pub also_enters : {A : Type 0} → List Link → Bool → ℕ → Plan A 
 also_enters links true b p handle on = is_entry_port links b p handle on && not (is_talker_port links b p handle p.ports on.number)
 also_enters links false b p handle on = is_entry_port links b p handle on
 
--- True if `also_enters` holds for the optional handle of the hop's filter; false without a handle.
+-- True if `also_enters` holds at bridge `b` for the optional handle of the hop's filter; false without a handle. `is_first` is true for the
+-- stream's first hop.
 abbrev pub also_enters_by : {A : Type 0} → List Link → Bool → ℕ → Plan A → Option ℕ → PortPlan A → Bool
 also_enters_by links is_first b p None on = false
 also_enters_by links is_first b p (Some handle) on = also_enters links is_first b p handle on
 
--- True if frames of other devices may get the handle of the hop at port `on` of its bridge.
+-- True if frames of other devices may get the handle of the hop at port `on` of its bridge. `is_first` is true for the stream's first hop.
 abbrev pub may_come_in : {A : Type 0} → List Link → Bool → StreamHop → Plan A → PortPlan A → Bool
 may_come_in links is_first h p on = also_enters_by links is_first h.bridge p (protected_handle p.filters h.filter) on
 
--- True if none of these ports lets frames of other devices get the handle of the hop (`may_come_in`).
+-- True if none of these ports lets frames of other devices get the handle of the hop (`may_come_in`). `is_first` is true for the stream's
+-- first hop.
 abbrev pub comes_in_at : {A : Type 0} → List Link → Bool → StreamHop → Plan A → List (PortPlan A) → Bool
 comes_in_at links is_first h p [] = true
 comes_in_at links is_first h p (on ∷ more) =
     if may_come_in links is_first h p on then false else comes_in_at links is_first h p more
 
--- True if no port of the hop's bridge lets frames of other devices get the handle of the hop. True without a plan.
+-- True if no port of the hop's bridge lets frames of other devices get the hop's handle. True without a plan. `is_first` is true for the
+-- stream's first hop.
 abbrev pub comes_in_once : {A : Type 0} → List Link → Bool → StreamHop → Option (Plan A) → Bool
 comes_in_once links is_first h None = true
 comes_in_once links is_first h (Some p) = comes_in_at links is_first h p p.ports

@@ -53,7 +53,8 @@ IsOwnInput inputs leg x =
 abbrev pub IsCommand : Input → Type 0
 IsCommand x = (clear : Clear) × (m : ℕ) × (x.event ≡ Cleared clear m)
 
--- Holds if each own input of hop `next` over the link from `leg` is a copy from the queue of `leg`, or a command.
+-- Holds if each own input of hop `next` is a command, or a copy from the queue of `leg` over a link of `delay` ns. It also holds without
+-- this link.
 abbrev pub IsFedByHop : {A : Type 0} → Network A → (ℕ → List Input) → (ℕ → ℕ → List (Copy CarriedFrame)) → RouteHop A → RouteHop A → ℕ → Type 0
 IsFedByHop n inputs lists leg next delay =
     (port : ℕ) (x : Input)

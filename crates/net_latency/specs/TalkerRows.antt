@@ -30,7 +30,7 @@ abbrev pub group_fault : ℕ → Option FilterPlan → Option TrafficFault
 group_fault index None = Some (fault.Text (net.Unresolved (row_key index field.Filter)))
 group_fault index (Some f) = if is_some f.group then None else Some (fault.NotGrouped index)
 
--- The fault of a row compared with the plan, or `None`.
+-- The fault of row `index` compared with the plan, or `None`.
 abbrev pub talker_row_fault : {A : Type 0} → Plan A → ℕ → TalkerRow → Option TrafficFault
 talker_row_fault p index (row.Periodic r) = row_fault p index r
 talker_row_fault p index (row.Limited r) = group_fault index (lookup (nat_eq r.filter) p.filters)
@@ -42,7 +42,7 @@ first_row_fault p index (r ∷ rs) = first_option (talker_row_fault p index r) (
 
 -- DELAYS
 
--- Holds if `xs` has the delays of a row: in the queues of its protected filter, or in the shared queues of its filter's group.
+-- Holds if `xs` has the delays of row `index`: in the queues of its protected filter, or in the shared queues of its filter's group.
 abbrev pub AreTimingsOfRow : {A : Type 0} → Plan A → List QueueBound → List SharedQueue → ℕ → TalkerRow → List QueueTiming → Type 0
 AreTimingsOfRow p bounds shared index (row.Periodic r) xs = AreRowTimings p index r bounds xs
 AreTimingsOfRow p bounds shared index (row.Limited r) xs = AreLimitedTimings p index r shared xs

@@ -86,7 +86,7 @@ filter_fault p index r (Some f) =
     else if not (suits p f r.traffic.period) then Some (fault.Text (net.OutOfRange (row_key index field.Period)))
     else None
 
--- The fault of a row with periodic traffic compared with the plan, or `None`.
+-- The fault of row `index`, with periodic traffic, compared with the plan, or `None`.
 abbrev pub row_fault : {A : Type 0} → Plan A → ℕ → TrafficRow → Option TrafficFault
 row_fault p index r = filter_fault p index r (lookup (nat_eq r.filter) p.filters)
 

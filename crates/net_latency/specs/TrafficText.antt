@@ -29,7 +29,7 @@ abbrev pub deadline_word : Bool → List ℕ
 deadline_word true = codes "met"
 deadline_word false = codes "missed"
 
--- An optional deadline and whether it is met; empty without a deadline.
+-- An optional deadline and whether the delay `worst` meets it; empty without a deadline.
 abbrev pub deadline_words : Option ℕ → ℕ → List ℕ
 deadline_words None worst = codes ""
 deadline_words (Some d) worst = codes " deadline " ++ (decimal d ++ (codes " " ++ deadline_word (is_met (Some d) worst)))
@@ -56,7 +56,7 @@ figure_words x = delay_words x.timing.worst x.timing.best x.timing.phases
 unfoldable pub timing_line : QueueTiming → List ℕ
 timing_line x = queue_words x ++ (codes " " ++ (passing_word x.passes ++ (figure_words x ++ (deadline_words x.deadline x.timing.worst ++ codes "\n"))))
 
--- The line of a row without reachable queue: it ends with `nowhere`.
+-- The line of row `row` of filter `filter` without reachable queue: it ends with `nowhere`.
 abbrev pub nowhere_line : ℕ → ℕ → List ℕ
 nowhere_line row filter = codes "traffic " ++ (decimal row ++ (codes " filter " ++ (decimal filter ++ codes " nowhere\n")))
 
@@ -107,7 +107,8 @@ RefusesRows words f = (f ≡ fault.NoMemory) ⊎ ((e : NetFault) × (rows_of_tex
 abbrev pub RefusesTimings : {A : Type 0} → Plan A → List TalkerRow → Failure → Type 0
 RefusesTimings p rows f = (f ≡ fault.NoMemory) ⊎ ((e : TrafficFault) × (first_row_fault p 1 rows ≡ Some e) × IsTrafficFailure e f)
 
--- Holds if fault `f` ends the command over an accepted plan. In this order: the file can't be read, its text is refused, or its rows don't suit the plan.
+-- Holds if fault `f` ends the command over an accepted plan. In this order: `file` can't be read, its text `words` is refused, or its rows
+-- don't suit the plan.
 abbrev pub EndsRows : {A : Type 0} → Plan A → List ℕ → List ℕ → Failure → Type 0
 EndsRows p file words f =
     IsFileFault file f
