@@ -158,7 +158,7 @@ fn put_hop_times(
 }
 
 /// Appends the times of the queues in `rows` that belong to the hop's filter to `times`, and arrivals at the next hops to `arrivals`.
-/// `sent`, `is_first` and `None` as in `times_in_queue`.
+/// `sent` and `is_first` as in `times_in_queue`; `None` as in `hop_times`.
 fn put_rows(
     route: &StreamRoute<'_>,
     rows: &[QueueBound],

@@ -242,8 +242,8 @@ fn put_hop(
     }
 }
 
-/// Appends the first condition that fails for this traffic at a hop and its queue's class `class`. If delays are known (`has_figures`) and
-/// the filter passes the traffic, names the hop before.
+/// Appends the first condition that fails for this traffic at a hop with class `class`. If the filter passes it and delays are known
+/// (`has_figures`), the filter may refuse frames of the hop before.
 fn put_condition(
     said: &mut TextBuilder<Global>,
     plan: &Plan<Global>,

@@ -309,8 +309,8 @@ impl<'a, A: Allocator + Copy> SendingPort<'a, A> {
         }
     }
 
-    /// Returns the first example among frames of pattern `tag` and address of `named` on port `port`, in VLAN `vid` with priority
-    /// `priority`, or `None`. Tries the handles that they can get.
+    /// Returns the first example among frames with tag `tag`, the address of `named`, VLAN `vid` and priority `priority` on port `port`, or
+    /// `None`. Tries the handles that they can get.
     fn first_by_handle(
         &self,
         named: &StreamEntry,

@@ -376,7 +376,8 @@ fn taking_filters(filters: &[(u32, FilterPlan)], number: u32, filter: &FilterPla
     takers
 }
 
-/// Adds a warning if one filter below `number`, or several together, match all frames of filter `number`. `find_filters` calls it.
+/// Adds a warning if one filter below `number` matches all frames of filter `number` or, for a filter without priority, several together
+/// do. `find_filters` calls it.
 fn find_hidden_filter(
     found: &mut Vec<Warning>,
     filters: &[(u32, FilterPlan)],
