@@ -74,8 +74,8 @@ fn searched_streams(
     Some(searched)
 }
 
-/// Returns whether the search may change a stream. Its talker is periodic, its delays are known, all its frames pass, and it can meet its
-/// deadline. `searched_streams` calls it.
+/// Returns whether the search may change a stream. Its talker is periodic, it has at most 64 hops and known delays, all its frames pass,
+/// and it can meet its deadline. False without memory.
 fn is_searched(
     alloc: Global,
     network: &Network<Global>,
@@ -181,7 +181,7 @@ fn relieve_listed_stream(
 }
 
 /// Changes lists and the talker until stream `index` meets its deadline, or no change helps. Then marks its ports as used in pass `pass`.
-/// Returns whether it needed no change. `relieve_listed_stream` calls it.
+/// Returns whether it needed no change; `None` without memory.
 fn relieve_stream(
     alloc: Global,
     route: &StreamRoute<'_>,
@@ -293,7 +293,7 @@ fn relieve_hop(
 }
 
 /// Lets the talker send later by the latest frame's wait at the first hop. Undoes this if a frame may then be refused. Returns whether the
-/// change stays. `relieve_hop` calls it.
+/// change stays, or `None` if memory runs out.
 fn relieve_talker(
     alloc: Global,
     route: &StreamRoute<'_>,
@@ -314,8 +314,8 @@ fn relieve_talker(
     Some(false)
 }
 
-/// Lets the list at the hop's port begin earlier by the latest frame's wait there. Undoes this if a frame may then be refused. Returns
-/// whether the change stays. `relieve_hop` calls it.
+/// Lets the hop's list begin earlier by the latest frame's wait. Undoes this if a frame may then be refused. Returns whether the change
+/// stays; false without a list that can shift (`cycle_of_port`).
 fn relieve_list(
     alloc: Global,
     route: &StreamRoute<'_>,

@@ -242,8 +242,8 @@ fn longest_transmission(plan: &Plan<Global>, row: &QueueBound, traffic: &Traffic
     Some(occupation(traffic.longest.min(longest), speed))
 }
 
-/// Returns the times in a queue whose list begins `earlier` ns earlier, computed with frames that arrive later instead. `None` if a
-/// transmission may end after the next period's earliest arrival. `times_in_queue` calls it.
+/// Returns the times in a queue whose list begins `earlier` ns earlier, computed with later arrivals instead. `None` if phases are unknown,
+/// or a transmission may end after the next period's earliest arrival.
 fn shifted_times(
     accepted: &Accepted<Global>,
     row: &QueueBound,
