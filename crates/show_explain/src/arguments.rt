@@ -238,7 +238,7 @@ fn option_fault(
     }
 }
 
-/// Returns the first refused option among a command's arguments and why it is refused. Returns `None` if no option is at fault.
+/// Returns the first refused option among a command's arguments and why it is refused. Returns `None` if no option before `--` is at fault.
 /// `put_reason` calls it.
 fn wrong_option<'a>(words: &'a [String], call: &Usage) -> Option<(&'a str, OptionFault)> {
     let mut place = 0usize;

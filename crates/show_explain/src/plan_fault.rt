@@ -76,7 +76,7 @@ fn put_key_fault(said: &mut Said, source: SourceText<'_>, place: KeyLocation) {
     }
 }
 
-/// Returns the section whose instance a command names, by the flag `value` that it clears. Returns `None` for an unknown flag.
+/// Returns the section whose instance a command names, by the flag `value` that it clears. Returns `None` for any other value.
 /// `allowed_value` calls it.
 fn cleared_section(value: Option<&Value>) -> Option<Section> {
     let Some(Value::String(flag)) = value else {
