@@ -354,8 +354,8 @@ fn explain_row(
     said.finish().ok()
 }
 
-/// Explains why the period of stream `index`, from 1, isn't a multiple of each cycle time on its route. `explain_plans` of net_check calls
-/// it.
+/// Explains why the period of stream `index`, from 1, isn't a multiple of each cycle time on its route. `None` without a talker or memory.
+/// `explain_plans` of net_check calls it.
 pub fn explain_period(
     alloc: Global,
     asked: NetworkText<'_>,
