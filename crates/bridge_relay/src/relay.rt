@@ -263,8 +263,8 @@ impl<'a, G: Agenda + Drop, A: Allocator + Copy> Relay<'a, G, A> {
         Destination::Forwarded { set, call }
     }
 
-    /// Copies `octets` for every port of `set` except the last, which gets the frame's own octets. Reserves capacity in the filter's
-    /// recorder; `hint` is its likely index. If memory runs out, the relay is unchanged.
+    /// Copies `octets` for every port of `set` except the last, which gets the frame's own. Reserves capacity in the filter's recorder
+    /// (index `hint`), and counts the arrival. Without memory, the relay is unchanged.
     #[inline(always)]
     fn prepare_copies(
         &mut self,
