@@ -54,8 +54,8 @@ pub(crate) fn put_stream_times(
     is_late
 }
 
-/// Appends a stream's times at each hop, if its talker is periodic and its delays are known. Returns whether the stream passes, and misses
-/// a deadline that it can meet. `put_stream_times` calls it.
+/// Appends a stream's times at each hop, for a periodic talker, at most 64 hops and known delays. Returns whether the stream passes, and
+/// misses a deadline that it can meet. `put_stream_times` calls it.
 fn put_times_of_stream(
     alloc: Global,
     said: &mut TextBuilder<Global>,
