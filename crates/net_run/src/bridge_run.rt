@@ -404,7 +404,8 @@ impl<'a, A: Allocator + Copy> BridgeRun<'a, A> {
         self.input_capture(place).has_same_octets(alloc, input)
     }
 
-    /// Runs the bridge over its inputs, unless it has a result for them. Returns whether it ran. `run_bridges` calls it in each round.
+    /// Runs the bridge over its inputs, and stores its result and sent captures, unless it has a result for these inputs. Returns whether
+    /// it ran. `run_bridges` calls it in each round.
     pub(crate) fn run(&mut self, alloc: A) -> Result<bool, RunFault>
         ensures same { OnOk result ((constant_part self.new ≡ constant_part self.old)
             × (self.new.texts ≡ self.old.texts)) }

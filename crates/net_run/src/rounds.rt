@@ -212,8 +212,8 @@ fn bridge_fault(bridge: usize, fault: RunFault) -> RoundsFault
     }
 }
 
-/// Runs each bridge that has no result for its inputs, in round `turn`. Returns for each bridge whether it ran. Stops at the first bridge
-/// with a fault. `run_round` calls it.
+/// Runs each bridge of `stations` that has no result for its inputs, in round `turn`. Returns for each bridge whether it ran. Stops at the
+/// first bridge with a fault. `run_round` calls it.
 fn run_bridges<A: Allocator + Copy, W: RoundObserver>(
     alloc: A,
     stations: &mut [BridgeRun<'_, A>],
