@@ -126,7 +126,7 @@ fn write_hop<A: Allocator + Copy, V: Write, W: Write>(
     put_table(frames, lines.as_str(), Table::Frames)
 }
 
-/// Writes the rows of a stream's hops to both tables, hop by hop. `write_stream` calls it.
+/// Writes the rows of a stream's hops to both tables (`streams` and `frames`), hop by hop. `write_stream` calls it.
 fn write_hops<A: Allocator + Copy, V: Write, W: Write>(
     alloc: A,
     links: &[Link],
