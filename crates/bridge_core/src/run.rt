@@ -1,4 +1,5 @@
-//! Handles frames and commands of a run one by one, in order of time. `simulation` prepares the run.
+//! Handles frames and commands of a run one by one, in order of time. `simulation` prepares the run. Functions update relay, next frames
+//! (`heads`), readers (`lanes`), writers (`lines`), `sources`, `sinks` and spare buffers.
 ghost use Rattle.std.specs.Prelude.{◌≡◌, ◌≢◌, ℕ, ◌+◌, ◌<◌, ◌≤◌, nat_eq, List, [], Some, None, Option, length, slice_get, Err, true, false, IfSome, IsTrue, OnOk, if◌then◌else◌};
 ghost use Rattle.bridge_config.specs.Model as config;
 ghost use Rattle.bridge_config.specs.Commands.{has_instance, AreCommands};
