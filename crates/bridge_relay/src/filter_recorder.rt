@@ -193,8 +193,8 @@ impl<A: Allocator + Copy> FilterRecorder<A> {
         self.drops.push_reserved(dropped);
     }
 
-    /// Appends a copy that left, `delay` ns after its frame's arrival. Uses reserved capacity, so it can't fail. `filter_recorders` calls
-    /// it.
+    /// Appends a copy that left, `delay` ns after its frame's arrival, and updates the longest delay. Uses reserved capacity, so it can't
+    /// fail. `filter_recorders` calls it.
     #[inline(always)]
     pub fn record_departure(&mut self, departure: StoredDeparture, delay: u64)
         requires { 0 < self.old.owed }
