@@ -101,7 +101,8 @@ fn check_file<F: ReadFiles>(
         (λ text. PrintsAccepted Global text (string_bytes checked.line))) }
     ensures notes { IfOk result (λ checked. AreNotes flags.is_strict flags.is_explained (string_bytes checked.notes)
         checked.is_warned) }
-    ensures err { IfErr result (λ f. HasTextAt (F.octets_at files.old) path.now (λ text. EndsCheck Global path.now text f)) }
+    ensures err { IfErr result (λ f. HasTextAt (F.octets_at files.old) path.now
+        (λ text. EndsCheck Global path.now text f)) }
 {
     let text = match read_file_text(files, path) {
         Ok(text) => text,

@@ -44,7 +44,7 @@ pub use picture::draw_plan;
 pub use picturing::{picture_apart, write_picture_file};
 pub use plan::{is_network, read_file_text};
 pub use printing::{put_stdout, report_words, tell, words_failure};
-pub use progress::{LONG_INPUT, clear_line, show_line};
+pub use progress::{LONG_INPUT, clear_line};
 pub use report::Report;
 pub use run::{line_or_nothing, run_bridge};
 pub use run_files::Sent;

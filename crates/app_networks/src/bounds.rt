@@ -36,7 +36,8 @@ pub(crate) fn bound_plan<F: ReadFiles>(
 ) -> Result<Output, Failure>
     ensures ok { IfOk result (λ output. HasTextAt (F.octets_at files.old) plan.now
         (λ text. IsBoundsOutputOf text flags.is_strict flags.is_explained output)) }
-    ensures fails { IfErr result (λ f. HasTextAt (F.octets_at files.old) plan.now (λ text. EndsCheck Global plan.now text f)) }
+    ensures fails { IfErr result (λ f. HasTextAt (F.octets_at files.old) plan.now
+        (λ text. EndsCheck Global plan.now text f)) }
 {
     let text = match read_file_text(files, plan) {
         Ok(text) => text,
