@@ -8,8 +8,8 @@ returns-in-None-clause-err g c = λ file. inr tt
 pub returns-in-Err-clause-err : goal.returns-in-Err-clause-err
 returns-in-Err-clause-err g c = λ file. inl (unread_planned Global _ c.args.plan.now c.in-Err.fault c.in-Err.ensures.fails)
 
-pub returns-in-Err-read-clause-err : goal.returns-in-Err-read-clause-err
-returns-in-Err-read-clause-err g c = λ file. inl (c.as_slice.result.now, (λ octets told. c.as_slice.ensures.value ∙ c.in-Ok.ensures.text octets told), c.in-Err-read.ensures.err c.as_slice.result.now refl)
+pub returns-in-Err-read_plan-clause-err : goal.returns-in-Err-read_plan-clause-err
+returns-in-Err-read_plan-clause-err g c = λ file. inl (c.as_slice.result.now, (λ octets told. c.as_slice.ensures.value ∙ c.in-Ok.ensures.text octets told), c.in-Err-read_plan.ensures.err c.as_slice.result.now refl)
 
 pub returns-in-Some-clause-ok : goal.returns-in-Some-clause-ok
-returns-in-Some-clause-ok g c = (c.in-Ok-read.read, (c.as_slice.result.now, (λ octets told. c.as_slice.ensures.value ∙ c.in-Ok.ensures.text octets told), c.in-Ok-read.ensures.ok c.as_slice.result.now refl))
+returns-in-Some-clause-ok g c = (c.in-Ok-read_plan.read, (c.as_slice.result.now, (λ octets told. c.as_slice.ensures.value ∙ c.in-Ok.ensures.text octets told), c.in-Ok-read_plan.ensures.ok c.as_slice.result.now refl))
