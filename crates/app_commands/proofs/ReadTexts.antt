@@ -1,5 +1,5 @@
 -- Texts of files that a command reads.
-use Rattle.std.proofs.Common.{◌≡◌, ℕ, List, [], Option, None, Some, Ok, inl, inr, ap, take, sym, subst, ◌∙◌}
+use Rattle.std.proofs.Common.{◌≡◌, ℕ, List, [], Option, None, Some, Ok, String, Global, inl, inr, ap, option_map, refl, string_bytes, take, sym, subst, ◌∙◌}
 use Rattle.std.proofs.lemmas.Option.{same_Some}
 use Rattle.bridge_limits.proofs.Options.{some_is_none}
 use Rattle.bridge_config.specs.declared.command.Command.{Command}
@@ -51,9 +51,41 @@ unread_planned A octets_at path f h = let t = some_text octets_at path in (t.0, 
 pub unread_commanded : {A : Type 0} (p : Plan A) (octets_at : List ℕ → Option (List ℕ)) (path : List ℕ) (f : Failure) → IsFileFault Reading path f → EndsCommandsAt octets_at (Some path) p f
 unread_commanded p octets_at path f h = let t = some_text octets_at path in (Some t.0, t.1, file_commanded p path t.0 f h)
 
+-- Commands without a path, and their fault.
+pub none_listed : {A : Type 0} (octets_at : List ℕ → Option (List ℕ)) (path : Option (String Global)) (p : Plan A) (commands : List Command) → ((named : String Global) → path ≡ Some named → ⊥) → commands_for p None ≡ Ok commands
+    → AreCommandsAt octets_at (option_map string_bytes path) p commands
+none_listed octets_at None p commands none h = (None, tt, h)
+none_listed octets_at (Some named) p commands none h = absurd (none named refl)
+
+pub none_ended : {A : Type 0} (octets_at : List ℕ → Option (List ℕ)) (path : Option (String Global)) (p : Plan A) (f : Failure) → ((named : String Global) → path ≡ Some named → ⊥) → EndsCommanded p None None f
+    → EndsCommandsAt octets_at (option_map string_bytes path) p f
+none_ended octets_at None p f none h = (None, tt, h)
+none_ended octets_at (Some named) p f none h = absurd (none named refl)
+
+-- Commands that can't be read.
+pub some_unread : {A : Type 0} (octets_at : List ℕ → Option (List ℕ)) (path : Option (String Global)) (named : String Global) (shown : List ℕ) (p : Plan A) (f : Failure) → path ≡ Some named → shown ≡ string_bytes named
+    → IsFileFault Reading shown f → EndsCommandsAt octets_at (option_map string_bytes path) p f
+some_unread octets_at path named shown p f is same h =
+    subst (λ (z : Option (String Global)). EndsCommandsAt octets_at (option_map string_bytes z) p f) (sym is)
+    (unread_commanded p octets_at (string_bytes named) f (subst (λ s. IsFileFault Reading s f) same h))
+
 -- Memory for the path of the commands ran out.
-pub uncopied : {A : Type 0} (p : Plan A) (octets_at : List ℕ → Option (List ℕ)) (path : List ℕ) → EndsCommandsAt octets_at (Some path) p (fault.NoMemory)
-uncopied p octets_at path = let t = some_text octets_at path in (Some t.0, t.1, some_is_none path)
+pub some_uncopied : {A : Type 0} (octets_at : List ℕ → Option (List ℕ)) (path : Option (String Global)) (named : String Global) (p : Plan A) → path ≡ Some named → EndsCommandsAt octets_at (option_map string_bytes path) p (fault.NoMemory)
+some_uncopied octets_at path named p is =
+    let t = some_text octets_at (string_bytes named) in
+    subst (λ (z : Option (String Global)). EndsCommandsAt octets_at (option_map string_bytes z) p (fault.NoMemory)) (sym is) (Some t.0, t.1, some_is_none (string_bytes named))
+
+-- Commands of a file, and their fault.
+pub some_listed : {A : Type 0} (octets_at : List ℕ → Option (List ℕ)) (path : Option (String Global)) (named : String Global) (shown text : List ℕ) (p : Plan A) (commands : List Command) → path ≡ Some named → shown ≡ string_bytes named
+    → IsTextAt octets_at shown text → commands_for p (Some text) ≡ Ok commands → AreCommandsAt octets_at (option_map string_bytes path) p commands
+some_listed octets_at path named shown text p commands is same there h =
+    subst (λ (z : Option (String Global)). AreCommandsAt octets_at (option_map string_bytes z) p commands) (sym is) (Some text, subst (λ s. IsTextAt octets_at s text) same there, h)
+
+pub some_ended : {A : Type 0} (octets_at : List ℕ → Option (List ℕ)) (path : Option (String Global)) (named : String Global) (shown copied text : List ℕ) (p : Plan A) (f : Failure) → path ≡ Some named → shown ≡ string_bytes named
+    → copied ≡ string_bytes named → IsTextAt octets_at shown text → EndsCommanded p (Some copied) (Some text) f → EndsCommandsAt octets_at (option_map string_bytes path) p f
+some_ended octets_at path named shown copied text p f is same copy there h =
+    subst (λ (z : Option (String Global)). EndsCommandsAt octets_at (option_map string_bytes z) p f) (sym is)
+    (Some text, subst (λ s. IsTextAt octets_at s text) same there, subst (λ s. EndsCommanded p (Some s) (Some text) f) copy h)
 
 -- A text of files whose octets remained is a text of the earlier files.
 text_same : (before after : List ℕ → Option (List ℕ)) (path text : Option (List ℕ)) → ((p : List ℕ) → after p ≡ before p) → IsTextIfAt after path text → IsTextIfAt before path text

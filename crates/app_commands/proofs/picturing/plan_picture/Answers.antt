@@ -6,7 +6,7 @@ pub returns-in-None-clause-err : goal.returns-in-None-clause-err
 returns-in-None-clause-err g c = λ file. inr tt
 
 pub returns-in-Err-clause-err : goal.returns-in-Err-clause-err
-returns-in-Err-clause-err g c = λ file. inl (unread_planned Global _ c.args.plan.now c.in-Err.fault c.in-Err.ensures.fails)
+returns-in-Err-clause-err g c = λ file. inl (unread_planned Global (g.F.ReadFiles.octets_at c.args.files.now) c.args.plan.now c.in-Err.fault c.in-Err.ensures.fails)
 
 pub returns-in-Err-read_plan-clause-err : goal.returns-in-Err-read_plan-clause-err
 returns-in-Err-read_plan-clause-err g c = λ file. inl (c.as_slice.result.now, (λ octets told. c.as_slice.ensures.value ∙ c.in-Ok.ensures.text octets told), c.in-Err-read_plan.ensures.err c.as_slice.result.now refl)
