@@ -7,6 +7,8 @@ script prints the processor seconds of each task. Only `rt ci` gives the verdict
 
     again.py check CRATE [FLAG ..]   checks one crate over the libraries that passed, and keeps its work for the next time
                                      (flags of `rattle check`, as --only NAME, --progress, --test)
+    again.py build [CRATE ..]        proves and builds these crates (all, if none is named) and all below over kept work: an unchanged
+                                     proof isn't repeated, and each crate takes all processors that no other crate needs
 """
 import hashlib, importlib.machinery, importlib.util, json, os, resource, shutil, subprocess, sys, threading, time
 from concurrent.futures import FIRST_COMPLETED, ThreadPoolExecutor, wait
@@ -102,6 +104,24 @@ def check(name, *flags):
     os.makedirs(f"{crate.folder}/{kept}", exist_ok=True)
     words = crate.words(["--jobs", "1", *flags], tests=tests, keeps=False)
     sys.exit(subprocess.run([*lib.guarded(), lib.RATTLE, "check", *words, "--incremental", kept], cwd=crate.folder).returncode)
+
+
+def make(name, jobs):
+    """One crate's library or program, over kept work."""
+    crate = named(name)
+    crate.out = sys.stdout
+    os.makedirs(f"{crate.folder}/out/rlib", exist_ok=True)
+    os.makedirs(f"{crate.folder}/out/incremental", exist_ok=True)
+    words = crate.words(["--jobs", jobs], tests=False, keeps=False) + ["--incremental", "out/incremental"]
+    if crate.is_program:
+        made = f"out/{name}"
+        words += ["--toolchain", f"{lib.KIT}/toolchain", "--backend", "llvm", "-o", f"{made}.o"]
+    else:
+        words += ["--statements", "-o", crate.rlib]
+    status = subprocess.run([*lib.guarded(), lib.RATTLE, "build", *words], cwd=crate.folder).returncode
+    if not status and crate.is_program:
+        status = crate.link(f"{made}.o", made)
+    sys.exit(status)
 
 
 class Sums:
@@ -201,7 +221,59 @@ def again(lanes, kinds, wanted):
     sys.exit(1 if failed else 0)
 
 
+def build(wanted):
+    """Builds crates over kept work, lowest first."""
+    all, sums = crates(), Sums()
+    kept = json.loads(lib.text_of(KEPT) or "{}")
+    left = [it for it in all if not wanted or it.name in wanted or any(it in above.below() for above in all if above.name in wanted)]
+    lanes, running, failed, lock = rt.processors(), {}, set(), threading.Lock()
+
+    def run(crate, jobs):
+        made = f"{crate.folder}/out/{crate.name}" if crate.is_program else crate.rlib
+        key, sum = f"{crate.name} build", sums.of(crate)
+        if kept.get(key) == sum and os.path.exists(made):
+            return True
+        begun, log = time.time(), f"{crate.folder}/out/build.log"
+        os.makedirs(os.path.dirname(log), exist_ok=True)
+        with open(log, "w") as out:
+            words = [sys.executable, "-u", os.path.realpath(__file__), "make", crate.name, str(jobs)]
+            ran = subprocess.run(words, stdout=out, stderr=subprocess.STDOUT, stdin=subprocess.DEVNULL, cwd=ROOT)
+        if not ran.returncode:
+            with lock:
+                kept[key] = sum
+                with open(f"{KEPT}.new", "w") as it:
+                    json.dump(kept, it)
+                os.replace(f"{KEPT}.new", KEPT)
+        print(f"{crate.name} {'FAILED: ' + log if ran.returncode else 'built'}: {time.time() - begun:.0f} s, {jobs} jobs", flush=True)
+        return not ran.returncode
+
+    with ThreadPoolExecutor(lanes) as pool:
+        while left or running:
+            pending = {*left, *(it for it, _ in running.values())}
+            ready = [it for it in left if not any(below in pending or below.name in failed for below in it.below())]
+            for crate in [it for it in left if any(below.name in failed for below in it.below())]:
+                left.remove(crate)
+                failed.add(crate.name)
+            used = sum(jobs for _, jobs in running.values())
+            for number, crate in enumerate(ready):
+                jobs = max(1, (lanes - used) // (len(ready) - number))
+                if used < lanes and (not running or rt.free() > MOST):
+                    left.remove(crate)
+                    running[pool.submit(run, crate, jobs)] = (crate, jobs)
+                    used += jobs
+            for done in wait(running, return_when=FIRST_COMPLETED).done if running else []:
+                crate, _ = running.pop(done)
+                if not done.result():
+                    failed.add(crate.name)
+    print(f"{len(failed)} failed{': ' if failed else ''}{', '.join(sorted(failed))}")
+    sys.exit(1 if failed else 0)
+
+
 def main(words):
+    if words[:1] == ["make"]:
+        make(*words[1:])
+    if words[:1] == ["build"]:
+        build({*words[1:]})
     if words[:1] == ["do"]:
         do(*words[1:])
     if words[:1] == ["check"]:

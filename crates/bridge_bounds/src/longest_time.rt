@@ -286,8 +286,8 @@ fn list_longest_time<A: Allocator + Copy>(
     longest_time_after_edges(list, class, occ, room, 0, list.cycle() + 1)
 }
 
-/// Returns a longest time in ns in which `room` waiting frames leave a port under its gate control lists. With a schedule change, this is
-/// the longest time under the old list plus the longest time under the new list.
+/// Returns a time in ns in which `room` waiting frames always leave under a port's lists. With a schedule change, it sums the longest times
+/// under the old and the new list.
 fn egress_longest_time<A: Allocator + Copy>(
     lists: &Egress<A>,
     class: u8,
@@ -314,8 +314,8 @@ fn egress_longest_time<A: Allocator + Copy>(
     }
 }
 
-/// Returns a longest time in ns in which `room` waiting frames leave, each with transmission time `occ`. Without a schedule change, this
-/// time is attained.
+/// Returns a time in ns in which `room` waiting frames always leave, each with transmission time `occ`. Without a schedule change, this is
+/// the longest time that they need.
 pub(crate) fn port_longest_time<A: Allocator + Copy>(
     lists: &Option<Egress<A>>,
     class: u8,

@@ -6,8 +6,8 @@ ghost use Rattle.bridge_check.specs.FaultCodes.{fault_filter, fault_code};
 use std::alloc::{AllocError, AllocFailed};
 use thiserror::Error;
 
-/// Why a plan doesn't isolate a protected or grouped filter, in the order of the tests. `filter` and `other` are filter numbers, `port` is 1 to 16,
-/// `class` 0 to 7.
+/// Why a plan doesn't isolate a protected or grouped filter, in the order of the tests. `filter` and `other` are filter numbers, `port` is
+/// 1 to 16, `class` 0 to 7.
 #[derive(Clone, Copy, Debug, PartialEq, Eq, Error)]
 pub enum CheckFault {
     /// The filter names no stream handle, so it matches frames of any stream.

@@ -27,7 +27,7 @@ fn has_vlan_and_address(entry: &StaticEntry, vid: u64, address: &[u8; 6]) -> boo
     entry.vid as u64 == vid && entry.address == *address
 }
 
-/// Whether one of the entries has this VLAN and this address. `has_static` calls it for the entries after its last turn.
+/// Whether one of the entries has this VLAN and this address. `has_static` calls it for the last entries, at most three.
 fn has_static_among(statics: &[StaticEntry], vid: u64, address: &[u8; 6]) -> bool
     ensures { result ≡ rules.has_static statics.now vid address.now }
 {
@@ -50,8 +50,8 @@ fn has_static_in_four(statics: &[StaticEntry], place: usize, vid: u64, address: 
     one | two | three | four
 }
 
-/// Whether one of the entries has this VLAN and this address. The plan's reader compares each entry with all before it, so a turn of the
-/// loop compares four.
+/// Whether one of the entries has this VLAN and this address. The plan's reader compares each entry with all before it, so the loop
+/// compares four at a time.
 fn has_static(statics: &[StaticEntry], vid: u64, address: &[u8; 6]) -> bool
     ensures { result ≡ rules.has_static statics.now vid address.now }
 {

@@ -1,4 +1,5 @@
-//! A bridge that receives frames and commands one by one.
+//! A bridge that receives frames and commands one by one, for programs that decide the events themselves. Whole runs use `simulate`
+//! instead.
 ghost use Rattle.std.specs.Prelude.{◌≡◌, ℕ, true, ◌<◌, ◌≤◌, ◌+◌, ◌*◌, ◌^◌, List, [], ◌∷◌, Some, None, Option, length, max, nat_eq, IfOk, IfErr, OnOk, IsTrue};
 ghost use Rattle.std.specs.Map.{lookup};
 ghost use Rattle.bridge_limits.specs.Members.{IsMember};
@@ -31,10 +32,8 @@ use bridge_semantics::{Outcome, PortCount, View};
 use std::alloc::Allocator;
 use std::marker::Model;
 
-/// Bridge of an accepted plan, which it borrows. It receives frames and commands, and sends frames.
-///
-/// The bridge stands for a list of events and departures: an unfinished run, in which each frame is policed once and offered to each egress
-/// port.
+/// Bridge of an accepted plan, which it borrows. It receives frames and commands, and sends frames. It stands for an unfinished run: a list
+/// of events, and the frames that have left.
 #[derive(Drop)]
 pub struct Bridge<'a, G: Agenda + Drop, A: Allocator + Copy> {
     /// Ports, filters and records.
@@ -92,8 +91,8 @@ impl<'a, G: Agenda + Drop, A: Allocator + Copy> Bridge<'a, G, A> {
         })
     }
 
-    /// Handles a frame that arrives on port `port`: after the last start, not before the last event, and not after the next start. If
-    /// memory runs out, returns the frame and leaves the bridge unchanged.
+    /// Handles a frame that arrives on port `port`: after the last start, not before the last event, not after the next start. Without
+    /// memory, returns it and leaves the bridge unchanged.
     pub fn arrive(&mut self, port: u8, packet: Packet<A>) -> Result<(), (Packet<A>, NoMemory)>
         requires known { (out : PortPlan A) × (find_port (bridge_plan self.old).ports port ≡ Some out) }
         requires time { (bridge_earliest self.old ≤ packet.time) × (packet.time < END_OF_TIME) }
@@ -137,10 +136,8 @@ impl<'a, G: Agenda + Drop, A: Allocator + Copy> Bridge<'a, G, A> {
         self.command = command.at;
     }
 
-    /// Returns the port and time in ns of the next start; `None` if no copy is queued. At equal times, the lowest port is next. Allocates
-    /// no memory.
-    ///
-    /// Before this start, no port has missed one, and the port's link is free for a head that fits (`next`).
+    /// Returns the port and time in ns of the next start, at equal times of the lowest port; `None` if no copy is queued. No port has
+    /// missed an earlier start (`next`). Allocates no memory.
     pub fn due(&self) -> Option<(u8, u64)>
         ensures next { (p : config.Plan A) (es : List Event) (left : ℕ → List CapturedFrame)
             → BridgeStandsFor p self.now es left
@@ -187,7 +184,7 @@ impl<'a, G: Agenda + Drop, A: Allocator + Copy> Bridge<'a, G, A> {
         self.relay.arrived()
     }
 
-    /// Returns the number of starts of port `port` so far: the number of frames that it sent.
+    /// Returns the number of starts of port `port` so far: the number of frames that it has sent.
     pub fn started(&self, port: u8) -> u64
         requires { (out : PortPlan A) × (find_port (bridge_plan self.now).ports port ≡ Some out) }
         ensures { (p : config.Plan A) (es : List Event) (left : ℕ → List CapturedFrame)
@@ -197,7 +194,8 @@ impl<'a, G: Agenda + Drop, A: Allocator + Copy> Bridge<'a, G, A> {
         self.relay.started(port)
     }
 
-    /// Returns the earliest time in ns at which the next frame may arrive.
+    /// Returns the earliest time in ns at which the next frame may arrive. It is the time of the last event, but at least 1 ns after the
+    /// last start.
     pub fn earliest(&self) -> u64
         ensures { result ≡ bridge_earliest self.now }
     {
@@ -228,10 +226,8 @@ impl<'a, G: Agenda + Drop, A: Allocator + Copy> Bridge<'a, G, A> {
         self.relay.assert_reached();
     }
 
-    /// Ends a run in which no start is due, and returns the records of filters and the counts of ports, by rising number. Allocates no
-    /// memory.
-    ///
-    /// A protected filter's record depends on its own events only.
+    /// Ends a run in which no start is due. Returns the counts of ports and the records of filters. A protected filter's record depends on
+    /// its own events only. Allocates no memory.
     pub fn finish(self) -> Outcome<A>
         requires idle { (q : ℕ) → next_start G.held self q ≡ None }
         ensures ends { (p : config.Plan A) (es : List Event) (left : ℕ → List CapturedFrame)

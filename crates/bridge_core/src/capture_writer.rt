@@ -1,4 +1,4 @@
-//! Output captures, one for each port.
+//! Output captures of a run, one for each port: their headers, and the frames that leave.
 ghost use Rattle.std.specs.Prelude.{◌≡◌, ◌≢◌, ℕ, ◌<◌, ◌≤◌, ◌*◌, ◌^◌, List, [], Some, None, Option, length, slice_get, Err, IfOk, IfErr, IfSome, OnOk, OnErr, vec_capacity};
 ghost use Rattle.bridge_limits.specs.Members.{IsOrdered};
 ghost use Rattle.bridge_capture.specs.Grammar.{CapturedFrame};
@@ -15,7 +15,7 @@ use bridge_limits::LONGEST_FRAME;
 use bridge_relay::{Relay, Sent};
 use std::alloc::Allocator;
 
-/// Output capture of a port.
+/// Output capture of a port, without its sink: sinks stand in a list of their own.
 #[derive(Drop)]
 pub struct CaptureWriter {
     /// Port whose departures the capture gets.
@@ -24,8 +24,8 @@ pub struct CaptureWriter {
     pub writer: Writer,
 }
 
-/// Makes a writer for each port, and writes the capture's header to the sink with the same index. A failed write is `RunFault::Write` of
-/// this port. `lines` is empty, with capacity for all ports.
+/// Writes each capture's header to the sink with the port's index, and returns a writer for each port. `lines` has the capacity. A failed
+/// write is `RunFault::Write`. `run_prepared` calls it.
 pub fn begin_writers<W: ByteSink, A: Allocator + Copy>(
     ports: &[u8],
     lines: Vec<CaptureWriter, A>,
@@ -53,7 +53,7 @@ pub fn begin_writers<W: ByteSink, A: Allocator + Copy>(
 }
 
 /// Returns the index of the writer of port `port`; `None` if it has none. Tries index `port` - 1 first, because ports are often numbered 1,
-/// 2, 3 and so on.
+/// 2, 3 and so on. `write_frame` calls it.
 #[inline(always)]
 fn writer_index(lines: &[CaptureWriter], port: u8) -> Option<usize>
     ensures within { IfSome result (λ place. place < length lines.now) }
@@ -72,8 +72,8 @@ fn writer_index(lines: &[CaptureWriter], port: u8) -> Option<usize>
     None
 }
 
-/// Writes a departed frame to the capture of its port. A failed write is the fault `RunFault::Write` of this port. Without a writer, does
-/// nothing.
+/// Writes a frame that left to the capture of its port. A failed write is `RunFault::Write` of this port. Does nothing if the port lacks a
+/// writer.
 #[inline(always)]
 pub fn write_frame<W: ByteSink, A: Allocator + Copy>(
     lines: &mut [CaptureWriter],
@@ -106,8 +106,8 @@ pub fn write_frame<W: ByteSink, A: Allocator + Copy>(
     }
 }
 
-/// Makes all starts before time `until` in ns and writes their frames; makes all starts if `until` is `None`. The frames' buffers return to
-/// the pool.
+/// Makes all starts before time `until` in ns, or all starts if it is `None`, and writes their frames. The frames' buffers return to the
+/// pool `spares`. `run`, `process_frame` and `process_command` call it.
 #[inline(always)]
 pub fn send_due_frames<W: ByteSink, G: Agenda + Drop, A: Allocator + Copy>(
     until: Option<u64>,

@@ -1,4 +1,5 @@
-//! Handles frames and commands one by one, in their order.
+//! Handles frames and commands of a run one by one, in order of time. `simulation` prepares the run. Functions update relay, next frames
+//! (`heads`), readers (`lanes`), writers (`lines`), `sources`, `sinks` and spare buffers.
 ghost use Rattle.std.specs.Prelude.{◌≡◌, ◌≢◌, ℕ, ◌+◌, ◌<◌, ◌≤◌, nat_eq, List, [], Some, None, Option, length, slice_get, Err, true, false, IfSome, IsTrue, OnOk, if◌then◌else◌};
 ghost use Rattle.bridge_config.specs.Model as config;
 ghost use Rattle.bridge_config.specs.Commands.{has_instance, AreCommands};
@@ -19,7 +20,8 @@ use bridge_events::Agenda;
 use bridge_relay::Relay;
 use std::alloc::Allocator;
 
-/// Sets the agenda's entry `place`, counted from 1, to the time of the reader's next frame. Clears the entry if there is no next frame.
+/// Sets the agenda's entry `place`, from 1, to the time of the next frame of reader `lane`. Clears the entry if the capture has no more
+/// frames. `make_heads` and `update_head` call it.
 #[inline(always)]
 fn set_reader_head<H: Agenda, A: Allocator + Copy>(
     heads: &mut H,
@@ -36,8 +38,8 @@ fn set_reader_head<H: Agenda, A: Allocator + Copy>(
     }
 }
 
-/// Updates the agenda's entry of the reader with index `place`, whose next frame has changed. All other entries must be right.
-/// `process_frame` calls it after each read.
+/// Updates the agenda's entry of the reader with index `place`, whose next frame has changed. Other entries must be right. `process_frame`
+/// calls it after each read.
 #[inline(always)]
 fn update_head<H: Agenda, A: Allocator + Copy>(
     heads: &mut H,
@@ -52,7 +54,8 @@ fn update_head<H: Agenda, A: Allocator + Copy>(
     set_reader_head(heads, place as u8 + 1, &lanes[place]);
 }
 
-/// Makes the agenda of the readers' next frames: the time of each, by the reader's index plus 1.
+/// Returns the agenda of the readers' next frames: the time of each, at the reader's index plus 1. `next_reader` looks up the earliest.
+/// `run_prepared` calls it.
 pub fn make_heads<H: Agenda, A: Allocator + Copy>(lanes: &[CaptureReader<A>]) -> H
     requires { length lanes.now ≤ 16 }
     ensures { AreHeads (H.held result) lanes.now }
@@ -64,7 +67,8 @@ pub fn make_heads<H: Agenda, A: Allocator + Copy>(lanes: &[CaptureReader<A>]) ->
     heads
 }
 
-/// Removes the next frame from the reader with index `place`, and returns the frame with its port. The reader must have a frame.
+/// Removes the next frame from the reader with index `place`, which must have one. Returns the frame with its port. `process_frame` calls
+/// it.
 fn take_frame<A: Allocator + Copy>(lanes: &mut [CaptureReader<A>], place: usize) -> (u8, Packet<A>)
     requires place { place < length lanes.old }
     requires first { IsEarliestReader lanes.old place }
@@ -77,8 +81,8 @@ fn take_frame<A: Allocator + Copy>(lanes: &mut [CaptureReader<A>], place: usize)
     }
 }
 
-/// Reads the record after the frame that `take_frame` removed from the reader with index `place`. The record's octets use the buffer
-/// `spare`.
+/// Reads the next record of the capture with index `place`, after `take_frame` has removed a frame. The record's octets use the buffer
+/// `spare`. `process_frame` calls it.
 fn read_next_ahead<R: ByteSource, A: Allocator + Copy>(
     spare: Vec<u8, A>,
     place: usize,
@@ -98,8 +102,8 @@ fn read_next_ahead<R: ByteSource, A: Allocator + Copy>(
     lanes[place].read_ahead(spare, &mut sources[place])
 }
 
-/// Handles the earliest frame, which the reader at index `place` has read ahead. Makes and writes all earlier starts, gives the frame to
-/// the relay, and reads the capture's next record.
+/// Handles the earliest frame, from the reader with index `place`. Makes and writes all earlier starts, gives the frame to the relay, and
+/// reads the capture's next record. `process_earlier_frames` calls it.
 fn process_frame<R: ByteSource, W: ByteSink, G: Agenda + Drop, A: Allocator + Copy>(
     place: usize,
     relay: &mut Relay<'_, G, A>,
@@ -158,7 +162,7 @@ fn process_frame<R: ByteSource, W: ByteSink, G: Agenda + Drop, A: Allocator + Co
     }
 }
 
-/// Whether `time` is before `until`. Always true if `until` is `None`. `next_reader` calls it for the earliest frame.
+/// Returns whether `time` is before `until`, both in ns. True if `until` is `None`. `next_reader` calls it for the earliest frame.
 #[inline(always)]
 fn is_earlier(time: u64, until: Option<u64>) -> bool
     ensures before { result ≡ true → IfSome until (λ t. time < t) }
@@ -171,7 +175,7 @@ fn is_earlier(time: u64, until: Option<u64>) -> bool
 }
 
 /// Returns the index of the reader with the earliest frame, if this frame is before `until`; otherwise `None`. Reads only the agenda, not
-/// the frames.
+/// the frames. `process_earlier_frames` calls it.
 #[inline(always)]
 fn next_reader<H: Agenda, A: Allocator + Copy>(
     heads: &H,
@@ -190,8 +194,8 @@ fn next_reader<H: Agenda, A: Allocator + Copy>(
     }
 }
 
-/// Handles all frames before time `until` in ns, or all frames if `until` is `None`. Stops at the first fault. `process_command` and `run`
-/// call it.
+/// Handles all frames before time `until` in ns, or all frames if it is `None`. Stops at the first fault. `process_command` and `run` call
+/// it.
 fn process_earlier_frames<R: ByteSource, W: ByteSink, G: Agenda + Drop, A: Allocator + Copy>(
     until: Option<u64>,
     relay: &mut Relay<'_, G, A>,
@@ -235,8 +239,8 @@ fn process_earlier_frames<R: ByteSource, W: ByteSink, G: Agenda + Drop, A: Alloc
     Ok(())
 }
 
-/// Handles all frames before the command's time, writes due frames to `sinks`, and clears the command's flag. `run` calls it for each
-/// command. Frames at the command's time follow.
+/// Handles all frames before the command's time, writes due frames to `sinks`, and clears the command's flag. Frames at the command's time
+/// follow. `run` calls it.
 fn process_command<R: ByteSource, W: ByteSink, G: Agenda + Drop, A: Allocator + Copy>(
     command: Command,
     relay: &mut Relay<'_, G, A>,
@@ -285,7 +289,7 @@ fn process_command<R: ByteSource, W: ByteSink, G: Agenda + Drop, A: Allocator + 
     Ok(())
 }
 
-/// Handles all frames and commands in their order, and makes and writes all starts. Stops at the first fault.
+/// Handles all frames and commands in their order, and makes and writes all starts. Stops at the first fault. `run_prepared` calls it.
 pub fn run<R: ByteSource, W: ByteSink, G: Agenda + Drop, A: Allocator + Copy>(
     commands: &[Command],
     relay: &mut Relay<'_, G, A>,

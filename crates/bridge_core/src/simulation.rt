@@ -1,4 +1,4 @@
-//! Runs captures through a bridge, from their octets to the output captures.
+//! Whole runs of one bridge: `simulate` reads captures, and writes the captures of the frames that left.
 ghost use Rattle.std.specs.Prelude.{◌≡◌, ◌≢◌, ℕ, ◌<◌, List, Option, [], length, Err, IfOk, IfErr};
 ghost use Rattle.bridge_config.specs.Commands.{AreCommands};
 ghost use Rattle.bridge_capture.specs.Devices.{HasFailed, AreUnfailing};
@@ -20,10 +20,10 @@ use bridge_relay::Relay;
 use bridge_semantics::{Outcome, PortCount, View};
 use std::alloc::Allocator;
 
-/// Lists that a run needs. They are made before the run, so that its end allocates no memory.
+/// Lists that a run needs. `make_run_lists` makes them before the run, so that the end of the run allocates no memory.
 #[derive(Drop)]
 struct RunLists<A: Allocator + Copy> {
-    /// Port numbers, rising.
+    /// Numbers of the ports, in rising order.
     ports: Vec<u8, A>,
     /// Filters by rising number.
     order: Vec<(u32, FilterPlan), A>,
@@ -63,7 +63,7 @@ fn make_run_lists<A: Allocator + Copy>(alloc: A, plan: &Plan<A>) -> Result<RunLi
     })
 }
 
-/// Makes an empty pool of buffers, in which a run reuses the memory of frames that have left.
+/// Returns an empty pool of buffers, in which a run reuses the memory of frames that have left. `simulate_with_agenda` calls it.
 fn make_buffer_pool<A: Allocator + Copy>(alloc: A) -> Result<BufferPool<A>, NoMemory> {
     match BufferPool::new(alloc) {
         Ok(spares) => Ok(spares),
@@ -207,7 +207,8 @@ pub fn simulate_with_agenda<R: ByteSource, W: ByteSink, G: Agenda + Drop, A: All
     run_prepared(commands, relay, lists, lanes, spares, sources, sinks)
 }
 
-/// Runs captures and commands through the bridge of an accepted plan. Uses an ordered tree as the agenda of `simulate_with_agenda`.
+/// Runs captures and commands through the bridge of an accepted plan: `simulate_with_agenda` with an ordered tree as agenda. `run` and
+/// `net` call it.
 pub fn simulate<R: ByteSource, W: ByteSink, A: Allocator + Copy>(
     alloc: A,
     accepted: &Accepted<A>,

@@ -1,3 +1,4 @@
+//! Old and new list of a schedule change, as one timeline. Its cycle time is the greater of both.
 ghost use Rattle.std.specs.Prelude.{◌≡◌, ◌<◌, IfOk};
 ghost use Rattle.bridge_limits.specs.declared.TheConstants.{END_OF_TIME};
 ghost use Rattle.bridge_cycle.specs.ChangingList as joined;

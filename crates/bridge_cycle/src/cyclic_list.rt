@@ -1,3 +1,4 @@
+//! Cyclic lists: gate control lists and lists of stream gates.
 ghost use Rattle.std.specs.Prelude.{◌≡◌, ◌<◌, ◌≤◌, ◌-◌, ◌%◌, Some, None, length, true, ◌↔◌, IfOk, IfErr, IfSome, unwrap_or};
 ghost use Rattle.bridge_cycle.specs.declared.cyclic_list.ListFault.TheVariants as fault;
 ghost use Rattle.bridge_cycle.specs.Cyclic as cyclic;

@@ -1,3 +1,4 @@
+//! Search for the earliest time at which a transmission fits.
 ghost use Rattle.std.specs.Prelude.{◌≡◌, ℕ, ◌+◌, ◌*◌, ◌<◌, ◌≤◌};
 ghost use Rattle.bridge_cycle.specs.Fits.{Fits, IsFirstFit};
 ghost use Rattle.bridge_cycle.specs.Fits as moments;

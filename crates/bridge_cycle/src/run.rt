@@ -1,3 +1,4 @@
+//! Longest time for which a class is open without a break, by a gate control list.
 ghost use Rattle.std.specs.Prelude.{◌*◌, ◌<◌, ◌≡◌, ◌↔◌, true};
 ghost use Rattle.bridge_cycle.specs.Cyclic.{turn_by_time};
 ghost use Rattle.bridge_cycle.specs.Opens.{turn_opens};

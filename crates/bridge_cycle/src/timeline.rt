@@ -1,3 +1,4 @@
+//! Timelines: the interval at each time, for a list with or without a schedule change.
 ghost use Rattle.std.specs.Prelude.{◌≡◌, ℕ, ◌+◌, ◌<◌, ◌≤◌, pos, ◌≤ℤ◌, ℤ, Option, Some};
 ghost use Rattle.bridge_cycle.specs.declared.timeline.Turn.{Turn};
 

@@ -15,7 +15,7 @@ use indexmap::IndexMap;
 use std::alloc::{AllocError, Allocator};
 use std::hash::{BuildHasherDefault, FoldHasher};
 
-/// First entry of a list that has some key.
+/// First entry of a list with a given key. A look-up of this key finds it.
 #[derive(Clone, Copy)]
 pub(crate) struct FirstEntry {
     /// Index of the entry in the list.
@@ -24,13 +24,13 @@ pub(crate) struct FirstEntry {
     pub handle: u32,
 }
 
-/// First entries of one kind, by the key of port, VLAN identifier and address.
+/// For each key of port, VLAN identifier and address, the first entry of one kind with this key.
 type FirstEntries<A> = IndexMap<u128, FirstEntry, BuildHasherDefault<FoldHasher>, A>;
 
 /// For each octet, whether an entry's address ends in this octet.
 type OctetMarks = [bool; 256];
 
-/// First entries for frames with a VLAN tag, or for other frames, by compared address.
+/// One part of a `StreamIndex`: first entries for frames with a VLAN tag, or for other frames, by destination and by source address.
 #[derive(Drop)]
 struct AddressIndex<A: Allocator + Copy> {
     /// First entries that compare destination addresses.
@@ -45,7 +45,7 @@ struct AddressIndex<A: Allocator + Copy> {
     index_hints: Vec<u16, A>,
 }
 
-/// First entries of a table.
+/// Index of a stream identity table: the first entry for each key. `Ident` finds the stream handle of a frame by it.
 #[derive(Drop)]
 pub(crate) struct StreamIndex<A: Allocator + Copy> {
     /// Entries for frames with a tag whose VLAN identifier isn't 0.
@@ -76,7 +76,7 @@ impl StreamEntry {
 /// 2^64: a key has the port above 64 bits for VLAN identifier and address.
 const TWO_POW_64: u128 = 1 << 64;
 
-/// Key of the entries of a port, a VLAN identifier and an address. Look-ups compute the keys of a frame's addresses by it.
+/// Returns the key of entries with a port, a VLAN identifier and an address. Look-ups compute the keys of a frame's addresses by it.
 #[tactic(auto, unfolding(crate::specs::StreamIndex::entry_key))]
 fn entry_key(port: u8, vid: u16, address: [u8; 6]) -> u128
     ensures number { result ≡ entry_key port vid address }
@@ -273,7 +273,7 @@ fn make_address_index<A: Allocator + Copy>(
     }
 }
 
-/// Returns the first entry at index `place` if it has this key, otherwise `None`. `handle_by_keys` tests a hint by it.
+/// Returns the entry at index `place` of `firsts` if it has this key, otherwise `None`. `handle_by_keys` tests a hint by it.
 #[inline(always)]
 fn entry_by_index<A: Allocator + Copy>(
     firsts: &FirstEntries<A>,

@@ -83,7 +83,7 @@ pub fn can_fit_soon()
         → (u : ℕ) × (from ≤ u) × (u ≤ from + 2 * LONGEST_CYCLE) × Fits (opens list c) n u }
 {}
 
-/// The fates of copies in a queue that has the link alone follow from the offers to this queue.
+/// If a queue has the link alone, the offers to this queue determine the fate of each copy.
 pub fn solo_copies_follow<X: Drop>()
     ensures { (r : PortRules X) (xs ys : List (Copy X)) → HaveSameOffers xs ys → IsSolo r xs → IsSolo r ys → xs ≡ ys }
 {}

@@ -174,8 +174,8 @@ impl<T: Drop, A: Allocator + Copy> Port<T, A> {
         }
     }
 
-    /// Returns time in ns and class of the next start without further offers; `None` if all queues are empty. `next_start` and `start` call
-    /// it.
+    /// Returns time in ns and class of the next start if nothing more is offered; `None` if all queues are empty. `next_start` and `start`
+    /// call it.
     fn next_head(&self) -> Option<(u64, usize)>
         ensures next { MatchOption result (IsIdle self.now) (λ b. StartsNext self.now b.0 b.1) }
         ensures kept { IsStateSound self.now }
@@ -183,7 +183,8 @@ impl<T: Drop, A: Allocator + Copy> Port<T, A> {
         self.best
     }
 
-    /// Returns the time in ns of the next start without further offers; `None` if all queues are empty.
+    /// Returns the time in ns of the next start if nothing more is offered; `None` if all queues are empty. The relay stores this time in
+    /// its agenda.
     pub fn next_start(&self) -> Option<u64>
         ensures due { IsNextStartTime self.now result }
         ensures lawful { (xs : List (Copy (Item T)))

@@ -1,4 +1,4 @@
-//! Copies of a frame's octets.
+//! Copies of a frame's octets, in buffers from the pool of spare buffers.
 ghost use Rattle.std.specs.Prelude.{◌≡◌, [], length, IfOk, All};
 ghost use Rattle.bridge_semantics.specs.Offers.{leaving_octets};
 
@@ -8,7 +8,8 @@ use bridge_frame::mark_drop_eligible;
 use std::alloc::{AllocError, Allocator};
 use std::mem;
 
-/// Copies `octets` into a spare buffer of the pool, or into a new one if the pool is empty. `fill_copies` calls it for each copy.
+/// Returns a copy of `octets`, in a spare buffer of the pool, or in a new buffer if the pool is empty. `fill_copies` calls it for each
+/// copy.
 fn copy_octets<A: Allocator + Copy>(
     octets: &[u8],
     spares: &mut BufferPool<A>,
@@ -20,7 +21,7 @@ fn copy_octets<A: Allocator + Copy>(
     Ok(copy)
 }
 
-/// Adds `count` copies of `octets` to an empty list, in spare buffers as far as the pool has any. `make_copies` calls it.
+/// Returns the empty list `list` with `count` copies of `octets`, in spare buffers as far as the pool has any. `make_copies` calls it.
 fn fill_copies<A: Allocator + Copy>(
     list: Vec<Vec<u8, A>, A>,
     octets: &[u8],
@@ -44,8 +45,8 @@ fn fill_copies<A: Allocator + Copy>(
     Ok(copies)
 }
 
-/// Makes `count` copies of `octets`, in spare buffers as far as the pool has any. If `count` isn't 0, the result uses the memory of `list`,
-/// which is moved out.
+/// Returns `count` copies of `octets`, in spare buffers as far as the pool has any. Unless `count` is 0, the result uses the memory of
+/// `list`, which is moved out. `prepare_copies` calls it.
 #[inline(always)]
 pub fn make_copies<A: Allocator + Copy>(
     alloc: A,
@@ -65,7 +66,8 @@ pub fn make_copies<A: Allocator + Copy>(
     fill_copies(list, octets, count, spares)
 }
 
-/// Puts the copies of a frame that its filter refused back into the pool. Returns their list, now empty, for the next frame.
+/// Puts the copies of a refused frame back into the pool `spares`. Returns their list, now empty, for the next frame. `keep_copies` calls
+/// it.
 pub fn return_copies<A: Allocator + Copy>(
     copies: Vec<Vec<u8, A>, A>,
     spares: &mut BufferPool<A>,
@@ -79,7 +81,8 @@ pub fn return_copies<A: Allocator + Copy>(
     list
 }
 
-/// Returns the frame's octets. If `eligible` is true and the frame has a tag, the tag is marked drop eligible.
+/// Returns the frame's octets. If `eligible` is true and the frame has a tag, the tag is marked drop eligible. `offer_copy` calls it before
+/// the port gets the copy.
 #[inline(always)]
 pub fn mark_if_eligible<A: Allocator + Copy>(octets: Vec<u8, A>, eligible: bool) -> Vec<u8, A>
     ensures marked { result.items ≡ leaving_octets eligible octets.items }

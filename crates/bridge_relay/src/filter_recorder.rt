@@ -1,4 +1,4 @@
-//! The record of one filter during a run.
+//! The record of one filter during a run: verdicts, origins, departures and dropped copies.
 ghost use Rattle.std.specs.Prelude.{◌≡◌, true, false, ◌<◌, ◌≤◌, ◌+◌, ◌-◌, ◌^◌, ◌++◌, ◌∷◌, [], Option, None, OnErr, OnOk, length, vec_capacity, vec_len};
 ghost use Rattle.bridge_filter.specs.Verdicts.{HasValidPriority};
 ghost use Rattle.bridge_relay.specs.Recorders.{RecorderState, longer_delay};
@@ -17,7 +17,7 @@ const MAX_FRAMES: usize = 4_294_967_295;
 /// A list with fewer items grows by half. A longer list doubles.
 const SHORT_LIST: usize = 1024;
 
-/// Reserves capacity for `more` further items. Short lists grow by half, because a run with many filters has many short lists.
+/// Reserves capacity for `more` further items of `list`. Short lists grow by half, because a run with many filters has many short lists.
 #[inline(always)]
 fn reserve_items<T, A: Allocator>(list: &mut Vec<T, A>, more: usize) -> Result<(), NoMemory>
     ensures items { list.new.items ≡ list.old.items }
@@ -51,14 +51,14 @@ fn grow_list<T, A: Allocator>(list: &mut Vec<T, A>, more: usize) -> Result<(), N
     }
 }
 
-/// Record of a filter, moved out of its recorder when a run ends.
+/// Record of a filter, moved out of its recorder when a run ends. `make_view` puts its lists into the result.
 #[derive(Drop)]
 pub struct FilterRecord<A: Allocator + Copy> {
     /// Verdict of each frame, in the order of arrival.
     pub verdicts: Vec<StoredVerdict, A>,
     /// Ingress port and arrival time of each frame.
     pub origins: Vec<StoredOrigin, A>,
-    /// Copies that left.
+    /// Copies of the filter's frames that left.
     pub departures: Vec<StoredDeparture, A>,
     /// Copies that ports dropped.
     pub drops: Vec<StoredDrop, A>,
@@ -66,10 +66,11 @@ pub struct FilterRecord<A: Allocator + Copy> {
     pub delay: Option<u64>,
 }
 
-/// Growing record of a filter. Capacity is reserved for all `owed` copies, queued or about to be offered: each leaves or is dropped.
+/// Growing record of a filter. It has reserved capacity for all `owed` copies, which are queued or about to be offered. Each will leave or
+/// be dropped.
 #[derive(Drop)]
 pub struct FilterRecorder<A: Allocator + Copy> {
-    /// Copies that have neither left nor been dropped.
+    /// Number of copies that are queued or about to be offered.
     owed: usize,
     /// Whether capacity for a verdict is reserved.
     is_open: bool,
@@ -79,9 +80,9 @@ pub struct FilterRecorder<A: Allocator + Copy> {
     verdicts: Vec<StoredVerdict, A>,
     /// Ingress port and arrival time of each frame.
     origins: Vec<StoredOrigin, A>,
-    /// Copies that left.
+    /// Copies of the filter's frames that left so far.
     departures: Vec<StoredDeparture, A>,
-    /// Dropped copies.
+    /// Copies that ports dropped so far.
     drops: Vec<StoredDrop, A>,
 }
 
@@ -104,7 +105,7 @@ impl<A: Allocator + Copy> Model for FilterRecorder<A> {
 }
 
 impl<A: Allocator + Copy> FilterRecorder<A> {
-    /// Returns a recorder before the first frame. Allocates no memory.
+    /// Returns a recorder as it is before the first frame. Allocates no memory.
     pub fn new(alloc: A) -> FilterRecorder<A>
         ensures { result ≡ record {
           verdicts = [];
@@ -127,7 +128,8 @@ impl<A: Allocator + Copy> FilterRecorder<A> {
         }
     }
 
-    /// Reserves capacity for one verdict and for `copies` further copies.
+    /// Reserves capacity for one verdict and for `copies` further copies, so that recording them can't fail. Fails if memory runs out, or
+    /// the filter has 4,294,967,295 frames. `filter_recorders` calls it.
     #[inline(always)]
     pub fn reserve_room(&mut self, copies: usize) -> Result<(), NoMemory>
         requires { self.old.owed + copies < 2 ^ 32 }
@@ -155,7 +157,7 @@ impl<A: Allocator + Copy> FilterRecorder<A> {
         Ok(())
     }
 
-    /// Appends a verdict and its frame's origin. Returns the frame's number among the filter's frames, from 1.
+    /// Appends a verdict and its frame's origin. Returns the frame's number among the filter's frames, from 1. `filter_recorders` calls it.
     #[inline(always)]
     pub fn record_verdict(&mut self, verdict: Verdict, origin: Origin) -> u32
         requires open { self.old.is_open ≡ true }
@@ -173,7 +175,8 @@ impl<A: Allocator + Copy> FilterRecorder<A> {
         self.verdicts.len() as u32
     }
 
-    /// Releases the reservation of `copies` copies of a frame that its filter refused: no port will be offered them.
+    /// Releases the reservation of `copies` copies of a frame that the filter refused: no port will be offered them. `filter_recorders`
+    /// calls it.
     pub fn release_room(&mut self, copies: usize)
         requires { copies ≤ self.old.owed }
         ensures { self.new ≡ record self.old { owed = self.old.owed - copies } }
@@ -181,7 +184,7 @@ impl<A: Allocator + Copy> FilterRecorder<A> {
         self.owed -= copies;
     }
 
-    /// Appends a dropped copy. Uses the capacity that `reserve_room` reserved, so it can't fail.
+    /// Appends a dropped copy. Uses the capacity that `reserve_room` reserved, so it can't fail. `record_answer` calls it.
     pub fn record_drop(&mut self, dropped: StoredDrop)
         requires { 0 < self.old.owed }
         ensures { self.new ≡ record self.old { drops = self.old.drops ++ dropped ∷ []; owed = self.old.owed - 1 } }
@@ -190,7 +193,8 @@ impl<A: Allocator + Copy> FilterRecorder<A> {
         self.drops.push_reserved(dropped);
     }
 
-    /// Appends a copy that left, `delay` ns after its frame's arrival.
+    /// Appends a copy that left, `delay` ns after its frame's arrival, and updates the longest delay. Uses reserved capacity, so it can't
+    /// fail. `filter_recorders` calls it.
     #[inline(always)]
     pub fn record_departure(&mut self, departure: StoredDeparture, delay: u64)
         requires { 0 < self.old.owed }
@@ -208,7 +212,7 @@ impl<A: Allocator + Copy> FilterRecorder<A> {
         };
     }
 
-    /// Moves the record out, and leaves an empty recorder. Allocates no memory.
+    /// Returns the record, and leaves an empty recorder. Allocates no memory. `take_filter_record` calls it when a run ends.
     pub fn take_record(&mut self, alloc: A) -> FilterRecord<A>
         ensures told { HasRecorded self.old result }
         ensures fresh { self.new ≡ empty_recorder }

@@ -1,4 +1,4 @@
-//! The recorders of all filters, by filter number.
+//! The recorders of all filters of a bridge, and quick look-ups of a recorder by its filter's number.
 ghost use Rattle.std.specs.Prelude.{◌≡◌, ◌<◌, true, ◌+◌, nat_eq, Some, OnOk, OnErr, IfOk, IfSome, IsSome, length, slice_get};
 ghost use Rattle.std.specs.Map.{keys_of, lookup};
 ghost use Rattle.bridge_filter.specs.Verdicts.{HasValidPriority};
@@ -18,7 +18,7 @@ use std::hash::{BuildHasherDefault, FoldHasher};
 /// Recorders of all filters of a relay, by filter number.
 pub type FilterRecorders<A> = IndexMap<u32, FilterRecorder<A>, BuildHasherDefault<FoldHasher>, A>;
 
-/// Makes an empty recorder for each filter of a plan. Fails only if memory runs out.
+/// Returns an empty recorder for each filter of a plan. Fails only if memory runs out. `Relay::new` calls it.
 pub fn make_recorders<A: Allocator + Copy>(
     alloc: A,
     filters: &[(u32, FilterPlan)],
@@ -48,7 +48,8 @@ fn number_step<A: Allocator + Copy>(tables: &FilterRecorders<A>, first: u32) -> 
     }
 }
 
-/// Returns `apart` divided by `step`. The steps 1, 10 and 100 are common, and division by a constant is faster than by a variable.
+/// Returns `apart` divided by `step`, rounded down. The steps 1, 10 and 100 are common, and division by a constant is faster than by a
+/// variable. `index_by_guess` calls it.
 #[inline(always)]
 fn whole_steps(apart: u32, step: u32) -> u32
     requires { 0 < step }
@@ -62,6 +63,7 @@ fn whole_steps(apart: u32, step: u32) -> u32
 }
 
 /// Returns `place` if the recorder at this index has number `number`, otherwise `None`. Look-ups test hints and guesses by it.
+/// `index_by_guess` and `recorder_index_by_hint` call it.
 #[inline(always)]
 fn index_if_number<A: Allocator + Copy>(
     tables: &FilterRecorders<A>,
@@ -76,8 +78,8 @@ fn index_if_number<A: Allocator + Copy>(
     }
 }
 
-/// Guesses a recorder's index without a hash; `None` if the guess is wrong. Numbers that rise in equal steps have consecutive indices, and
-/// the catch-all filter is often the last. `recorder_index` calls it.
+/// Returns the index of the recorder with number `number` without a hash, or `None` if the guess is wrong. Numbers often rise in equal
+/// steps; the catch-all filter is often last. `recorder_index` calls it.
 #[inline(always)]
 fn index_by_guess<A: Allocator + Copy>(tables: &FilterRecorders<A>, number: u32) -> Option<usize>
     ensures { IfSome result (λ place. slice_get (keys_of tables.now.entries) place ≡ Some number) }
@@ -116,7 +118,8 @@ fn recorder_index<A: Allocator + Copy>(tables: &FilterRecorders<A>, number: u32)
     }
 }
 
-/// Returns the index of the recorder with number `number`, which must exist. Tries the index `hint` first.
+/// Returns the index of the recorder with number `number`, which must exist. Tries the index `hint` first. All functions below find
+/// recorders by it.
 #[inline(always)]
 fn recorder_index_by_hint<A: Allocator + Copy>(
     tables: &FilterRecorders<A>,
@@ -132,8 +135,8 @@ fn recorder_index_by_hint<A: Allocator + Copy>(
     }
 }
 
-/// Records that a copy of a filter's frame left, `delay` ns after the frame's arrival. Tries the index `hint` first. Does nothing for an
-/// unfiltered frame.
+/// Records that a copy of a frame of filter `flow` left, `delay` ns after the frame's arrival. Does nothing for an unfiltered frame
+/// (`None`). Tries index `hint` first. `advance` calls it.
 #[inline(always)]
 pub fn record_departure<A: Allocator + Copy>(
     tables: &mut FilterRecorders<A>,
@@ -152,8 +155,8 @@ pub fn record_departure<A: Allocator + Copy>(
     }
 }
 
-/// If `answer` is a refusal, records a dropped copy of frame `own` of filter `flow`. Tries the index `hint` first. Does nothing for an
-/// unfiltered frame (`None`).
+/// If `answer` is a refusal by port `port`, records a dropped copy of frame `own` of filter `flow`. Tries index `hint` first. Does nothing
+/// for an unfiltered frame. `offer_to_port` calls it.
 #[inline(always)]
 pub fn record_answer<A: Allocator + Copy>(
     tables: &mut FilterRecorders<A>,
@@ -175,8 +178,8 @@ pub fn record_answer<A: Allocator + Copy>(
     }
 }
 
-/// Reserves capacity for a verdict of a filter and for `copies` copies of its frame. Tries the index `hint` first. Does nothing for an
-/// unfiltered frame.
+/// Reserves capacity for a verdict of filter `flow` and for `copies` copies of its frame. Does nothing for an unfiltered frame (`None`).
+/// Tries index `hint` first. `prepare_copies` calls it.
 #[inline(always)]
 pub fn reserve_room<A: Allocator + Copy>(
     tables: &mut FilterRecorders<A>,
@@ -199,7 +202,7 @@ pub fn reserve_room<A: Allocator + Copy>(
 }
 
 /// Records a verdict of filter `number` and its frame's origin, and returns the frame's number among the filter's frames. Tries the index
-/// `hint` first.
+/// `hint` first. `police_frame` calls it.
 #[inline(always)]
 pub fn record_verdict<A: Allocator + Copy>(
     tables: &mut FilterRecorders<A>,
@@ -219,7 +222,8 @@ pub fn record_verdict<A: Allocator + Copy>(
     table.record_verdict(verdict, origin)
 }
 
-/// Releases the reservation of `copies` copies of a frame that filter `number` refused. Tries the index `hint` first.
+/// Releases the reservation of `copies` copies of a frame that filter `number` refused. Tries the index `hint` first. `release_room` of the
+/// relay calls it.
 #[inline(always)]
 pub fn release_room<A: Allocator + Copy>(
     tables: &mut FilterRecorders<A>,
@@ -235,7 +239,7 @@ pub fn release_room<A: Allocator + Copy>(
     table.release_room(copies);
 }
 
-/// Moves a filter's record out, and leaves an empty recorder. Allocates no memory.
+/// Returns the record of filter `number`, and leaves an empty recorder. Allocates no memory. `make_view` calls it at the end of a run.
 pub fn take_filter_record<A: Allocator + Copy>(
     tables: &mut FilterRecorders<A>,
     alloc: A,

@@ -1,4 +1,4 @@
-//! Ends a run, and returns its result.
+//! Ends a run: `Relay::finish` returns its result.
 ghost use Rattle.std.specs.Prelude.{◌≡◌, ℕ, true, ◌<◌, ◌≤◌, List, [], Option, Some, None, length, nat_eq, vec_capacity};
 ghost use Rattle.std.specs.Map.{lookup};
 ghost use Rattle.bridge_limits.specs.Members.{IsMember, IsOrdered};
@@ -27,8 +27,8 @@ use bridge_filter::{FilterPlan, Police};
 use bridge_semantics::{Outcome, PortCount, View};
 use std::alloc::Allocator;
 
-/// Returns the record of a filter: lists from its recorder; counters, flags and buckets from `police`. Leaves the recorder empty.
-/// `make_views` calls it for each filter.
+/// Returns the record of filter `number`, with its flag `protected`. Lists are from its recorder, and counters, flags and buckets from
+/// `police`. Leaves the recorder empty. `make_views` calls it.
 fn make_view<A: Allocator + Copy>(
     alloc: A,
     police: &Police<A>,
@@ -62,8 +62,8 @@ fn make_view<A: Allocator + Copy>(
     }
 }
 
-/// Returns the records of the filters in `order`. Stores them in `views`, which has the capacity, so that the end of a run allocates no
-/// memory.
+/// Returns the records of the filters in `order`, in the empty list `views`. It has the capacity, so the end of a run allocates no memory.
+/// `finish` calls it.
 fn make_views<A: Allocator + Copy>(
     alloc: A,
     police: &Police<A>,
@@ -89,7 +89,7 @@ fn make_views<A: Allocator + Copy>(
 }
 
 impl<'a, G: Agenda + Drop, A: Allocator + Copy> Relay<'a, G, A> {
-    /// Does nothing; its contract states the run so far: all starts before the next due start were made, and the agenda has each port's
+    /// Does nothing; its contract states the run so far. All starts before the next due start were made, and the agenda has each port's
     /// next start.
     pub fn assert_reached(&self)
         ensures reaches { (p : config.Plan A) (es : List Event) (left : ℕ → List CapturedFrame) (h : ℕ)
@@ -110,10 +110,8 @@ impl<'a, G: Agenda + Drop, A: Allocator + Copy> Relay<'a, G, A> {
         self.ports.assert_agenda();
     }
 
-    /// Ends a run without due starts. Returns its result: records of the filters in `order` and counts of the ports, in the empty lists
-    /// `filters` and `ports`.
-    ///
-    /// A protected filter's record depends on its own events only.
+    /// Ends a run without due starts. Returns records of the filters in `order` and counts of the ports, in the empty lists `filters` and
+    /// `ports`. A protected filter's record depends on its own events only.
     pub fn finish(
         self,
         order: &[(u32, FilterPlan)],

@@ -1,4 +1,4 @@
-//! Makes a relay from an accepted plan.
+//! Makes a relay from an accepted plan, before a run.
 ghost use Rattle.std.specs.Prelude.{◌≡◌, ℕ, [], None, IfOk};
 ghost use Rattle.bridge_filter.specs.Plans.{KeepsNumbers};
 ghost use Rattle.bridge_filter.specs.StandsFor as standing;
@@ -17,7 +17,7 @@ use bridge_gate::GatePlan;
 use bridge_ident::{Ident, StreamEntry};
 use std::alloc::Allocator;
 
-/// Copies stream gates with their numbers: the relay owns its gates, and only borrows the plan.
+/// Returns copies of stream gates with their numbers: the relay owns its gates, and only borrows the plan. `make_police` calls it.
 fn copy_gates<A: Allocator + Copy>(
     alloc: A,
     gates: &[(u32, GatePlan<A>)],
@@ -36,7 +36,7 @@ fn copy_gates<A: Allocator + Copy>(
     Ok(copies)
 }
 
-/// Makes the table that finds a frame's stream handle, from the plan's stream entries. `Relay::new` calls it.
+/// Returns the table that finds a frame's stream handle, from the plan's stream entries. `Relay::new` calls it.
 fn make_ident<A: Allocator + Copy>(alloc: A, streams: &[StreamEntry]) -> Result<Ident<A>, NoMemory>
     ensures { IfOk result (λ table. table ≡ streams.now) }
 {
@@ -49,7 +49,7 @@ fn make_ident<A: Allocator + Copy>(alloc: A, streams: &[StreamEntry]) -> Result<
     }
 }
 
-/// Makes the filters, stream gates and meters of a plan, before any event. `Relay::new` calls it.
+/// Returns the filters, stream gates and meters of a plan, before any event. `Relay::new` calls it.
 fn make_police<A: Allocator + Copy>(alloc: A, plan: &Plan<A>) -> Result<Police<A>, NoMemory>
     ensures stands { IfOk result (λ p. standing.StandsFor (events.plan_police plan.now) p []) }
     ensures gates { IfOk result (λ p. KeepsNumbers plan.now.gates p.gates) }
@@ -71,7 +71,7 @@ fn make_police<A: Allocator + Copy>(alloc: A, plan: &Plan<A>) -> Result<Police<A
 }
 
 impl<'a, G: Agenda + Drop, A: Allocator + Copy> Relay<'a, G, A> {
-    /// Makes the relay of an accepted plan, before any event.
+    /// Returns the relay of an accepted plan, before any event. Each run calls it once.
     pub fn new(alloc: A, accepted: &'a Accepted<A>) -> Result<Relay<'a, G, A>, NoMemory>
         ensures stands { IfOk result (λ b. RelayStandsFor accepted.now b [] (λ _. [])) }
         ensures start { IfOk result (λ b. (b.plan ≡ accepted.now) × (b.arrived ≡ 0) × (b.earliest ≡ 0)) }

@@ -1,4 +1,4 @@
-//! One port of a bridge.
+//! One port of a bridge during a run: its queues, and the counts of its frames and copies.
 ghost use Rattle.std.specs.Prelude.{◌≡◌, Bool, true, IfOk, ◌<◌, ◌≤◌, ◌+◌, ◌-◌, ◌&&◌, List, ◌∷◌, Some, is_none, slice_index, if◌then◌else◌};
 ghost use Rattle.bridge_frame.specs.Link.{transmission_time};
 ghost use Rattle.bridge_port.specs.declared.item.Item.{Item};
@@ -15,7 +15,7 @@ use bridge_port::{Item, Port, Refusal};
 use bridge_semantics::{PortCount, QueuedFrame};
 use std::alloc::Allocator;
 
-/// Port of a bridge during a run.
+/// Port of a bridge during a run: its queues, and the counts of its frames and copies.
 #[derive(Drop)]
 pub struct PortState<A: Allocator + Copy> {
     /// Speed of the link.
@@ -32,7 +32,7 @@ pub struct PortState<A: Allocator + Copy> {
     pub count: PortCount,
 }
 
-/// Copy that started.
+/// Copy whose transmission has started. `PortState::start` returns it.
 #[derive(Drop)]
 pub struct StartedFrame<A: Allocator + Copy> {
     /// Class of its queue.
@@ -43,7 +43,7 @@ pub struct StartedFrame<A: Allocator + Copy> {
     pub item: Item<QueuedFrame<A>>,
 }
 
-/// How a port counts an arriving frame.
+/// How a port counts an arriving frame: what the bridge does with it.
 #[derive(Clone, Copy)]
 pub enum Ingress {
     /// The header can't be read.
@@ -60,7 +60,7 @@ impl<A: Allocator + Copy> PortState<A> {
     ghost use Rattle.bridge_relay.specs.PortStates.{offered_port, started_port, offer_result, count_ingress};
     ghost use Rattle.bridge_relay.specs.Ports.{IsMadeByPlan, IsIdlePort};
 
-    /// Makes a port of a plan, before any event. Its queue capacities are 1 to 4,096 frames.
+    /// Returns a port of a plan, before any event. Its queue capacities must be 1 to 4,096 frames. `make_port_state` calls it.
     pub fn new(alloc: A, plan: &PortPlan<A>) -> Result<PortState<A>, NoMemory>
         requires { are_valid_rooms plan.now.rooms ≡ true }
         ensures made { IfOk result (λ s. IsMadeByPlan plan.now s) }
@@ -93,7 +93,7 @@ impl<A: Allocator + Copy> PortState<A> {
         })
     }
 
-    /// Counts a frame that arrived at this port, by what the bridge does with it.
+    /// Counts a frame that arrived at this port, by what the bridge does with it (`came`). `Ports::count_arrival` calls it.
     #[inline(always)]
     pub fn count_frame(&mut self, came: Ingress)
         requires few { self.old.count.frames < MAX_ARRIVALS }
@@ -110,7 +110,8 @@ impl<A: Allocator + Copy> PortState<A> {
         }
     }
 
-    /// Offers `item` with priority `priority`, 0 to 7, at time `t` in ns. If the port drops the copy, `back` receives the octets.
+    /// Offers the copy `item` with priority `priority`, 0 to 7, to the port at time `t` in ns. If the port drops the copy, `back` receives
+    /// its octets. `Ports::offer` calls it.
     #[inline(always)]
     pub fn offer(
         &mut self,
@@ -148,7 +149,7 @@ impl<A: Allocator + Copy> PortState<A> {
         }
     }
 
-    /// Makes the port's next start, which is at time `start` in ns, and returns the copy that started.
+    /// Makes the port's next start, which is at time `start` in ns, and returns the copy that started. `Ports::start` calls it.
     #[inline(always)]
     pub fn start(&mut self, start: u64) -> StartedFrame<A>
         requires due { IsNextStartTime self.old.port (Some start) }
@@ -170,7 +171,7 @@ impl<A: Allocator + Copy> PortState<A> {
     }
 }
 
-/// Moves the octets of a dropped copy to `back`; the relay then returns them to the pool.
+/// Moves the octets of a dropped copy to `back`. The relay then returns them to the pool of spare buffers. `offer` calls it.
 #[inline(always)]
 fn return_octets<A: Allocator + Copy>(item: Item<QueuedFrame<A>>, back: &mut Option<Vec<u8, A>>) {
     let Item { load, .. } = item;

@@ -1,4 +1,4 @@
-//! The ports of a bridge, and their next starts.
+//! The ports of a bridge, and an agenda of their next starts.
 ghost use Rattle.std.specs.Prelude.{◌≡◌, ℕ, false, ◌<◌, ◌≤◌, ◌+◌, ◌-◌, [], Some, None, Option, length, nat_eq, if◌then◌else◌, slice_set, slice_index, IfOk, vec_capacity};
 ghost use Rattle.bridge_events.specs.Least.{IsLeast};
 ghost use Rattle.bridge_config.specs.Rules.{find_port};
@@ -21,7 +21,7 @@ use std::marker::Model;
 /// Ports of a bridge, and the time of each port's next start.
 #[derive(Drop)]
 pub struct Ports<G: Agenda + Drop, A: Allocator + Copy> {
-    /// Ports by number: port n is at index n - 1 of 16; `None` if the plan lacks this port.
+    /// Ports by number: port n is at index n - 1 of 16, or `None` if the plan lacks it.
     slots: Vec<Option<PortState<A>>, A>,
     /// Set of the ports that exist: bit n - 1 stands for port n.
     present: u16,
@@ -72,7 +72,8 @@ fn update_next_start<G: Agenda>(agenda: &mut G, port: u8, before: Option<u64>, d
     set_next_start(agenda, port, due);
 }
 
-/// Returns the set of the ports that exist: bit n - 1 stands for port n. `Ports` stores it, so that `count_outputs` reads no port.
+/// Returns the set of the ports that exist: bit n - 1 stands for port n. `Ports` stores it, so that `count_outputs` needn't look at the
+/// ports. `new` calls it.
 fn present_ports<A: Allocator + Copy>(slots: &[Option<PortState<A>>]) -> u16
     requires { length slots.now ≡ 16 }
     ensures { IsPresentSet slots.now result }
@@ -85,7 +86,7 @@ fn present_ports<A: Allocator + Copy>(slots: &[Option<PortState<A>>]) -> u16
     present
 }
 
-/// Makes the port with number `number`; `None` if the plan lacks it. `Ports::new` calls it for each number from 1 to 16.
+/// Returns the port with number `number`, before any event; `None` if the plan lacks it. `Ports::new` calls it for numbers 1 to 16.
 fn make_port_state<A: Allocator + Copy>(
     alloc: A,
     plan: &Plan<A>,
@@ -103,7 +104,7 @@ fn make_port_state<A: Allocator + Copy>(
 }
 
 impl<G: Agenda + Drop, A: Allocator + Copy> Ports<G, A> {
-    /// Makes the ports of a plan, before any event.
+    /// Returns the ports of a plan, before any event. `Relay::new` calls it.
     pub fn new(alloc: A, plan: &Plan<A>) -> Result<Ports<G, A>, NoMemory>
         ensures first { IfOk result (λ p. (q : ℕ) → 1 ≤ q
             → IsInitialPort (find_port plan.now.ports q) (port_state p q)) }
@@ -135,8 +136,8 @@ impl<G: Agenda + Drop, A: Allocator + Copy> Ports<G, A> {
         self.agenda.least()
     }
 
-    /// Offers `item` to port `number` with priority `priority`, 0 to 7, at time `t` in ns. If the port drops the copy, `back` receives the
-    /// octets.
+    /// Offers the copy `item` with priority `priority`, 0 to 7, to port `number` at time `t` in ns. If the port drops the copy, `back`
+    /// receives its octets. `offer_to_port` calls it.
     #[inline(always)]
     pub fn offer(
         &mut self,
@@ -169,7 +170,8 @@ impl<G: Agenda + Drop, A: Allocator + Copy> Ports<G, A> {
         }
     }
 
-    /// Makes the next start of all ports. Returns its port, its time in ns and the copy. A copy must be queued.
+    /// Starts the transmission that is next among all ports. Returns its port, its time in ns and the copy. A copy must be queued.
+    /// `Relay::advance` calls it.
     #[inline(always)]
     pub fn start(&mut self) -> (u8, u64, StartedFrame<A>)
         requires { (q k : ℕ) × (G.held self.old.agenda q ≡ Some k) }
@@ -195,7 +197,7 @@ impl<G: Agenda + Drop, A: Allocator + Copy> Ports<G, A> {
         }
     }
 
-    /// Returns the number of starts of port `number` so far: the number of frames that it sent.
+    /// Returns the number of starts of port `number` so far: the number of frames that it sent. `Relay::started` calls it.
     pub fn started(&self, number: u8) -> u64
         requires from { 1 ≤ number }
         requires there { (s : PortState A) × (port_state self.now number ≡ Some s) }
@@ -207,7 +209,7 @@ impl<G: Agenda + Drop, A: Allocator + Copy> Ports<G, A> {
         }
     }
 
-    /// Returns the VLAN and the priority of untagged frames at port `number`; `None` if the port is missing.
+    /// Returns the VLAN and the priority that untagged frames get at port `number`; `None` if the port is missing.
     pub fn ingress_defaults(&self, number: u8) -> Option<(u16, u8)>
         requires from { 1 ≤ number }
         requires to { number ≤ 16 }
@@ -219,7 +221,7 @@ impl<G: Agenda + Drop, A: Allocator + Copy> Ports<G, A> {
         }
     }
 
-    /// Whether the bridge has port `number`. A set of egress ports may name ports that the bridge lacks.
+    /// Returns whether the bridge has port `number`. A set of egress ports may name ports that the bridge lacks. `offer_next_copy` asks it.
     pub fn has(&self, number: u8) -> bool
         requires from { 1 ≤ number }
         requires to { number ≤ 16 }
@@ -231,7 +233,8 @@ impl<G: Agenda + Drop, A: Allocator + Copy> Ports<G, A> {
         }
     }
 
-    /// Returns the number of ports in `set` that exist, and the highest of them; 0 and 0 if there are none.
+    /// Returns the number of ports in `set` that exist, and the highest of them; 0 and 0 without such a port. A frame gets one copy for
+    /// each.
     #[inline(always)]
     pub fn count_outputs(&self, set: PortSet) -> (usize, u8)
         ensures count { result.0 ≡ count_outputs self.now.slots set 16 }
@@ -245,7 +248,8 @@ impl<G: Agenda + Drop, A: Allocator + Copy> Ports<G, A> {
         )
     }
 
-    /// Counts a frame that arrived at port `number`, which must exist, by what the bridge does with it.
+    /// Counts a frame that arrived at port `number`, which must exist, by what the bridge does with it (`came`). `count_unforwarded` and
+    /// `police_frame` call it.
     #[inline(always)]
     pub fn count_arrival(&mut self, number: u8, came: Ingress)
         requires from { 1 ≤ number }
@@ -268,7 +272,8 @@ impl<G: Agenda + Drop, A: Allocator + Copy> Ports<G, A> {
         let _slots = &self.slots;
     }
 
-    /// Returns the counts of each port, by rising number. Allocates no memory.
+    /// Returns the counts of each port, by rising number, in the empty list `counts`, which has the capacity. Allocates no memory.
+    /// `Relay::finish` calls it.
     pub fn counts(&self, counts: Vec<(u8, PortCount), A>) -> Vec<(u8, PortCount), A>
         requires none { counts.items ≡ [] }
         requires room { 16 ≤ vec_capacity counts }

@@ -1,4 +1,4 @@
-//! The relay: ports, filters and records of one bridge.
+//! The relay: ports, filters and records of one bridge, and the steps by which it handles a frame.
 ghost use Rattle.std.specs.Option.{option_map};
 ghost use Rattle.bridge_filter.specs.Verdicts.{frame_filter};
 ghost use Rattle.bridge_config.specs.declared.ports.PortPlan.{PortPlan};
@@ -46,11 +46,11 @@ use std::alloc::Allocator;
 use std::marker::Model;
 use std::mem;
 
-/// Largest index of a recorder that a queued frame stores.
+/// Largest index of a recorder that a queued frame can store.
 const MAX_RECORDERS: usize = 4_294_967_295;
 
 /// Returns the stream handle of a frame with the header `head` in VLAN `vid`, which arrived on port `port`; `None` if no stream entry
-/// matches.
+/// matches. `find_destination` calls it.
 #[inline(always)]
 fn stream_handle<A: Allocator + Copy>(
     ident: &Ident<A>,
@@ -112,12 +112,12 @@ impl<'a, G: Agenda + Drop, A: Allocator + Copy> Model for Relay<'a, G, A> {
     }) };
 }
 
-/// Frame that has started, with its start and end.
+/// Frame whose transmission has started, with its start and end. `advance` returns it.
 #[derive(Drop)]
 pub struct Sent<A: Allocator + Copy> {
-    /// Egress port.
+    /// Egress port by which the frame leaves.
     pub port: u8,
-    /// Class of its queue.
+    /// Class of the queue in which the frame waited, 0 to 7.
     pub class: u8,
     /// Start of transmission in ns.
     pub start: u64,
@@ -125,26 +125,27 @@ pub struct Sent<A: Allocator + Copy> {
     pub done: u64,
     /// Length on the link in octets.
     pub len: u32,
-    /// Octets as sent.
+    /// Octets of the frame, as they are sent.
     pub octets: Vec<u8, A>,
 }
 
 impl<'a, G: Agenda + Drop, A: Allocator + Copy> Relay<'a, G, A> {
-    /// Returns the port and time in ns of the next start; `None` if no copy is queued.
+    /// Returns the port and time in ns of the next start, at equal times of the lowest port. Returns `None` if no copy is queued.
+    /// `send_due_frames` calls it.
     pub fn due(&self) -> Option<(u8, u64)>
         ensures { IsLeast (G.held self.now.ports.agenda) result }
     {
         self.ports.due()
     }
 
-    /// Returns the number of frames that have arrived.
+    /// Returns the number of frames that have arrived so far. `Bridge::arrived` returns it.
     pub fn arrived(&self) -> u64
         ensures { result ≡ self.now.arrived }
     {
         self.arrived
     }
 
-    /// Returns the number of starts of port `port` so far: the number of frames that it sent.
+    /// Returns the number of starts of port `port` so far: the number of frames that it has sent. `Bridge::started` returns it.
     pub fn started(&self, port: u8) -> u64
         requires known { (out : PortPlan A) × (find_port self.now.plan.ports port ≡ Some out) }
         ensures { (p : config.Plan A) (es : List Event) (left : ℕ → List CapturedFrame)
@@ -155,14 +156,15 @@ impl<'a, G: Agenda + Drop, A: Allocator + Copy> Relay<'a, G, A> {
         self.ports.started(port)
     }
 
-    /// Returns the earliest time in ns at which the next event may happen.
+    /// Returns the earliest time in ns at which the next event may happen. `Bridge::earliest` returns it.
     pub fn earliest(&self) -> u64
         ensures { result ≡ self.now.earliest }
     {
         self.earliest
     }
 
-    /// Makes the next start, records the departure, and returns the frame. Allocates no memory.
+    /// Starts the transmission that is next among all ports, records the departure, and returns the frame. A copy must be queued. Allocates
+    /// no memory. `send_due_frames` calls it.
     #[inline(always)]
     pub fn advance(&mut self) -> Sent<A>
         requires { (q k : ℕ) × (G.held self.old.ports.agenda q ≡ Some k) }
@@ -213,7 +215,8 @@ impl<'a, G: Agenda + Drop, A: Allocator + Copy> Relay<'a, G, A> {
         }
     }
 
-    /// Clears a flag of a filter, stream gate or meter at time `t` in ns, by a command. Allocates no memory.
+    /// Clears the flag `clear` of the filter, stream gate or meter with number `number`, at time `t` in ns. Allocates no memory.
+    /// `process_command` and `Bridge::command` call it.
     pub fn clear(&mut self, t: u64, clear: Clear, number: u32)
         requires time { self.old.earliest ≤ t }
         requires instance { IsTrue (has_instance self.old.plan clear number) }
@@ -227,8 +230,8 @@ impl<'a, G: Agenda + Drop, A: Allocator + Copy> Relay<'a, G, A> {
         self.earliest = t;
     }
 
-    /// Returns the egress ports of a frame that arrived on port `port`, and the values by which filters judge it; or why it isn't
-    /// forwarded.
+    /// Returns egress ports and filter input of the frame `octets`, which arrived on port `port` at time `at` with length `len`. Otherwise
+    /// returns why it isn't forwarded. `arrive` calls it.
     #[inline(always)]
     fn find_destination(&self, at: u64, port: u8, octets: &[u8], len: u32) -> Destination
         requires from { 1 ≤ port }
@@ -260,8 +263,8 @@ impl<'a, G: Agenda + Drop, A: Allocator + Copy> Relay<'a, G, A> {
         Destination::Forwarded { set, call }
     }
 
-    /// Copies `octets` for every port of `set` except the last, which gets the frame's own octets. Reserves capacity in the filter's
-    /// recorder; `hint` is its likely index. If memory runs out, the relay is unchanged.
+    /// Copies `octets` for every port of `set` except the last, which gets the frame's own. Reserves capacity in the filter's recorder
+    /// (index `hint`), and counts the arrival. Without memory, the relay is unchanged.
     #[inline(always)]
     fn prepare_copies(
         &mut self,
@@ -301,8 +304,8 @@ impl<'a, G: Agenda + Drop, A: Allocator + Copy> Relay<'a, G, A> {
         Ok(copies)
     }
 
-    /// Offers a copy of a frame to port `number`. If the port drops the copy, the filter's recorder records the drop, and the copy's buffer
-    /// returns to the pool.
+    /// Offers the copy `load`, of `len` octets with priority `priority`, to port `number`. If the port drops it, the recorder records the
+    /// drop, and its buffer returns to the pool. `offer_copy` calls it.
     #[inline(always)]
     fn offer_to_port(
         &mut self,
@@ -342,8 +345,8 @@ impl<'a, G: Agenda + Drop, A: Allocator + Copy> Relay<'a, G, A> {
         self.earliest = t;
     }
 
-    /// Offers a copy of a frame to port `number` of `set`, after the lower ports of `set`. If `eligible` is true, first marks the copy's
-    /// tag drop eligible.
+    /// Offers a copy of `len` octets with priority `priority` to port `number` of `set`, after the lower ports of `set`. If `eligible` is
+    /// true, first marks its tag drop eligible. `offer_listed_copy` and `offer_only_copy` call it.
     #[inline(always)]
     fn offer_copy(
         &mut self,
@@ -388,7 +391,8 @@ impl<'a, G: Agenda + Drop, A: Allocator + Copy> Relay<'a, G, A> {
         );
     }
 
-    /// Offers a copy as `offer_copy` does. `offer_next_copy` and `offer_several_copies` call it, for a frame with several egress ports.
+    /// Offers a copy as `offer_copy` does, with equal arguments. `offer_next_copy` and `offer_several_copies` call it, for a frame with
+    /// several egress ports.
     #[inline(always)]
     fn offer_listed_copy(
         &mut self,
@@ -413,8 +417,8 @@ impl<'a, G: Agenda + Drop, A: Allocator + Copy> Relay<'a, G, A> {
         self.offer_copy(set, number, priority, len, eligible, load, spares);
     }
 
-    /// Offers the next of `copies` to port `number` if `set` and the bridge have this port; otherwise does nothing. `offer_several_copies`
-    /// calls it for each port before the last.
+    /// Offers the last of `copies` to port `number` if both `set` and the bridge have this port; otherwise does nothing.
+    /// `offer_several_copies` calls it for each port before the last.
     #[inline(always)]
     fn offer_next_copy(
         &mut self,
@@ -487,8 +491,8 @@ impl<'a, G: Agenda + Drop, A: Allocator + Copy> Relay<'a, G, A> {
         }
     }
 
-    /// Offers a frame to the only port of `set` that the bridge has; does nothing if it has none of them. If `eligible` is true, first
-    /// marks the frame's tag drop eligible.
+    /// Offers the frame `load` with priority `priority` to the port of `set` that the bridge has, if any. If `eligible` is true, first
+    /// marks the frame's tag drop eligible. `offer_copies` calls it.
     #[inline(always)]
     fn offer_only_copy(
         &mut self,
@@ -511,10 +515,8 @@ impl<'a, G: Agenda + Drop, A: Allocator + Copy> Relay<'a, G, A> {
         }
     }
 
-    /// Offers copies of a frame to the ports of `set`, by rising number. If `eligible` is true, their tags are marked drop eligible.
-    ///
-    /// Most frames have one egress port, and an empty list of copies. This list has no memory: it is forgotten instead of dropped, which is
-    /// faster.
+    /// Offers copies of a frame with priority `priority` to the ports of `set`, by rising number, with tags drop eligible if `eligible`. An
+    /// empty list has no memory: it is forgotten, which is faster.
     #[inline(always)]
     fn offer_copies(
         &mut self,
@@ -542,8 +544,8 @@ impl<'a, G: Agenda + Drop, A: Allocator + Copy> Relay<'a, G, A> {
         }
     }
 
-    /// Counts a malformed frame, or a frame without egress ports, at the ingress port `port`. The relay's next event may then happen at the
-    /// arrival time `t` or later.
+    /// Counts a malformed frame, or a frame without egress ports, at ingress port `port`. The next event may then happen at the arrival
+    /// time `t` in ns or later. `arrive` calls it.
     fn count_unforwarded(&mut self, port: u8, t: u64, came: Ingress)
         requires known { (s : PortState A) × (port_state self.old.ports port ≡ Some s) }
         requires from { 1 ≤ port }
@@ -604,7 +606,8 @@ impl<'a, G: Agenda + Drop, A: Allocator + Copy> Relay<'a, G, A> {
         }
     }
 
-    /// Releases the capacity that was reserved for a frame which its filter refused. Tries the recorder's index `hint` first.
+    /// Releases the capacity that was reserved for a frame that filter `filter` refused: one copy for each port of `set`. Tries the
+    /// recorder's index `hint` first. `relay_frame` calls it.
     #[inline(always)]
     fn release_room(&mut self, filter: u32, hint: usize, set: PortSet)
         requires { (own : ℕ) × AwaitsCopies self.old (count_outputs self.old.ports.slots set 16) own 1 filter }
@@ -615,7 +618,8 @@ impl<'a, G: Agenda + Drop, A: Allocator + Copy> Relay<'a, G, A> {
         release_room(&mut self.tables, filter, hint, count);
     }
 
-    /// Returns the copies of a refused frame to the pool, and keeps their list for the next frame with several egress ports.
+    /// Returns the copies of a refused frame to the pool, and keeps their list for the next frame with several egress ports. `relay_frame`
+    /// calls it.
     #[inline(always)]
     fn keep_copies(&mut self, copies: Vec<Vec<u8, A>, A>, spares: &mut BufferPool<A>)
         ensures same { self.new ≡ self.old }
@@ -628,7 +632,7 @@ impl<'a, G: Agenda + Drop, A: Allocator + Copy> Relay<'a, G, A> {
     }
 
     /// Judges a frame with the egress ports `set`, and offers it to them if it passes. `prepare_copies` has made `copies` and reserved
-    /// capacity. Octets that no queue accepts return to the pool.
+    /// capacity. Octets that no queue accepts return to the pool. `arrive` calls it.
     #[inline(always)]
     fn relay_frame(
         &mut self,
@@ -690,8 +694,8 @@ impl<'a, G: Agenda + Drop, A: Allocator + Copy> Relay<'a, G, A> {
         }
     }
 
-    /// Handles a frame that arrived on port `port`. If memory runs out, returns the frame and leaves the relay unchanged. Octets that no
-    /// queue accepts return to the pool.
+    /// Handles a frame that arrived on port `port`. Octets that no queue accepts return to the pool. If memory runs out, returns the frame
+    /// and leaves the relay unchanged.
     #[inline(always)]
     pub fn arrive(
         &mut self,
@@ -737,9 +741,8 @@ impl<'a, G: Agenda + Drop, A: Allocator + Copy> Relay<'a, G, A> {
         Ok(())
     }
 
-    /// Handles a frame that arrived on port `port`, as `arrive` does. If memory runs out, drops the frame and leaves the relay unchanged.
-    ///
-    /// Isn't inlined, and returns no frame, so that a run copies few values for each frame.
+    /// Handles a frame as `arrive` does. If memory runs out, drops the frame and leaves the relay unchanged. Isn't inlined and returns no
+    /// frame, so that `process_frame` copies few values for each frame.
     #[inline(never)]
     pub fn handle_arrival(
         &mut self,
@@ -768,7 +771,7 @@ impl<'a, G: Agenda + Drop, A: Allocator + Copy> Relay<'a, G, A> {
     }
 }
 
-/// Returns the number of the filter that was found; `None` for an unfiltered frame. `arrive` reserves capacity for this filter.
+/// Returns the number of the filter on the route `found`; `None` for an unfiltered frame. `arrive` reserves capacity for this filter.
 #[inline(always)]
 fn route_number(found: Option<Route>) -> Option<u32>
     ensures { result ≡ option_map (λ r. r.number) found }
@@ -779,7 +782,8 @@ fn route_number(found: Option<Route>) -> Option<u32>
     }
 }
 
-/// Returns the index of the filter that was found, or 0. The search for the filter's recorder begins at this index.
+/// Returns the index of the filter on the route `found`, or 0 for an unfiltered frame. The search for the filter's recorder begins at this
+/// index.
 #[inline(always)]
 fn route_index(found: Option<Route>) -> usize {
     match found {
@@ -788,7 +792,7 @@ fn route_index(found: Option<Route>) -> usize {
     }
 }
 
-/// Returns the octets of a copy to the pool, if a port dropped it. `offer_to_port` calls it after each offer.
+/// Returns the octets `back` of a copy to the pool, if a port dropped the copy. `offer_to_port` calls it after each offer.
 #[inline(always)]
 fn return_octets<A: Allocator + Copy>(back: Option<Vec<u8, A>>, spares: &mut BufferPool<A>) {
     if let Some(octets) = back {
@@ -796,8 +800,8 @@ fn return_octets<A: Allocator + Copy>(back: Option<Vec<u8, A>>, spares: &mut Buf
     }
 }
 
-/// Returns the first port that `offer_several_copies` tries. Without copies, only port `last` remains, because it gets the frame's own
-/// octets.
+/// Returns the first port that `offer_several_copies` tries: 1 if there are copies. Without copies, only port `last` remains, which gets
+/// the frame's own octets.
 fn first_port_with_copy(copies: usize, last: u8) -> u8
     ensures from { 1 ≤ result }
     ensures to { result ≤ max 1 last }
@@ -806,8 +810,8 @@ fn first_port_with_copy(copies: usize, last: u8) -> u8
     if copies == 0 { last.max(1) } else { 1 }
 }
 
-/// Returns VLAN, priority and drop eligible indication of a received frame: from its tag, or from the port's defaults `vid` and `priority`.
-/// A priority-tagged frame gets the default VLAN.
+/// Returns VLAN, priority and drop eligible indication of a received frame: from its tag, or from the port's `vid` and `priority`. A
+/// priority-tagged frame gets `vid`. `find_destination` calls it.
 #[inline(always)]
 fn classify(tag: Option<Tag>, vid: u16, priority: u8) -> (u16, u8, bool)
     ensures { result ≡ classify tag vid priority }

@@ -1,10 +1,11 @@
-//! Arrival times of frames, and the least, greatest and total delay of a list.
+//! Arrival times of frames, and the least, greatest and total delay of a list. Tables of runs and of networks use them.
 ghost use Rattle.std.specs.Prelude.{◌≡◌, sum};
 ghost use Rattle.bridge_report.specs.Figures as spec;
 
 use bridge_semantics::StoredOrigin;
 
-/// Returns the arrival time in ns of frame number `own`, counted from 1; 0 if no frame has this number.
+/// Returns the arrival time in ns of the frame with number `own`, from 1, among a filter's frames; 0 if no frame has this number. Tables
+/// compute delays from it.
 pub fn arrival_time(origins: &[StoredOrigin], own: u64) -> u64
     ensures { result ≡ spec.at_of origins.now own }
 {
@@ -17,7 +18,7 @@ pub fn arrival_time(origins: &[StoredOrigin], own: u64) -> u64
     }
 }
 
-/// Returns the least of `delays` in ns; the greatest number of 64 bits if the list is empty.
+/// Returns the least of `delays` in ns; 2^64 - 1 if the list is empty. `delay_statistics` and `put_figures` call it.
 pub fn least_delay(delays: &[u64]) -> u64
     ensures { result ≡ spec.least_of delays.now }
 {
@@ -28,7 +29,7 @@ pub fn least_delay(delays: &[u64]) -> u64
     least
 }
 
-/// Returns the greatest of `delays` in ns; 0 if the list is empty.
+/// Returns the greatest of `delays` in ns; 0 if the list is empty. Tables, and lines about late streams, show it.
 pub fn greatest_delay(delays: &[u64]) -> u64
     ensures { result ≡ spec.greatest_of delays.now }
 {
@@ -39,7 +40,7 @@ pub fn greatest_delay(delays: &[u64]) -> u64
     greatest
 }
 
-/// Returns the sum of `delays` in ns.
+/// Returns the sum of `delays` in ns. `delay_statistics` and `put_figures` divide it to get the mean.
 pub fn total_delay(delays: &[u64]) -> u128
     ensures { result ≡ sum delays.now }
 {

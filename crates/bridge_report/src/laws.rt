@@ -1,4 +1,4 @@
-//! A law of reports: the contract of a function without a body.
+//! A law of reports, for reviewers: the contract of an empty function that no code calls.
 ghost use Rattle.std.specs.Prelude.{◌≡◌, ℕ};
 ghost use Rattle.bridge_semantics.specs.declared.outcome.View.{View};
 ghost use Rattle.bridge_semantics.specs.Runs.{AreSameViews};

@@ -1,15 +1,15 @@
-//! Blocks of lines that are built from their end to their start.
+//! Blocks of lines that are built from their end to their start. Lists of a report are written by blocks, which saves time.
 ghost use Rattle.std.specs.Prelude.{◌≡◌, ◌≤◌, ◌+◌, ◌++◌, [], decimal, length};
 ghost use Rattle.std.specs.Str.{IsUtf8};
 
 use itoa::write_digits;
 use std::marker::Model;
 
-/// Most octets of a block.
+/// Largest number of octets of a block: 15 lines of at most 128 octets.
 const BLOCK_WIDTH: usize = 1920;
 
-/// Block of lines, at most 1,920 octets, which grows from its end: each call writes its text in front. Numbers need no digit count, lines
-/// no allocation. A sink gets many lines at once.
+/// Block of lines, at most 1,920 octets, which grows from its end: each call writes its text in front. So numbers need no digit count, and
+/// lines need no allocation.
 #[derive(Drop)]
 pub struct LineBlock {
     /// Buffer; the block's text is its end.
@@ -30,7 +30,7 @@ impl Model for LineBlock {
 }
 
 impl LineBlock {
-    /// Returns an empty block.
+    /// Returns an empty block. `put_frames` and `put_copies` begin a list with it.
     pub fn new() -> LineBlock
         ensures { result ≡ [] }
     {
@@ -40,14 +40,14 @@ impl LineBlock {
         }
     }
 
-    /// Makes the block empty. Blocks of one list use one buffer.
+    /// Makes the block empty. `put_frames` and `put_copies` reuse one block for a whole list.
     pub fn clear(&mut self)
         ensures { self.new ≡ [] }
     {
         self.start = BLOCK_WIDTH;
     }
 
-    /// Writes `piece` in front of the block.
+    /// Writes `piece` in front of the block's text. The block must have space for it. The functions of `listed_lines` call it.
     #[inline(always)]
     pub fn prepend(&mut self, piece: &str)
         requires { length piece.now + length self.old ≤ 1920 }
@@ -59,7 +59,7 @@ impl LineBlock {
         self.start = start;
     }
 
-    /// Writes the digits of `number` in front of the block.
+    /// Writes the decimal digits of `number` in front of the block's text. `prepend_number` calls it.
     #[inline(always)]
     fn prepend_digits(&mut self, number: u64)
         requires { 20 + length self.old ≤ 1920 }
@@ -69,7 +69,7 @@ impl LineBlock {
         self.start = write_digits(number, &mut self.octets, self.start);
     }
 
-    /// Writes `piece` and the digits of `number` in front of the block.
+    /// Writes `piece` and the decimal digits of `number` in front of the block's text. The functions of `listed_lines` call it.
     #[inline(always)]
     pub fn prepend_number(&mut self, piece: &str, number: u64)
         requires { length piece.now + 20 + length self.old ≤ 1920 }
@@ -80,7 +80,7 @@ impl LineBlock {
         self.prepend(piece);
     }
 
-    /// Returns the block's octets, for sinks that accept octets.
+    /// Returns the block's octets, for sinks that accept octets (`ReportWriter`).
     #[inline(always)]
     pub fn octets(&self) -> &[u8]
         ensures octets { result.now ≡ self.now }
@@ -89,7 +89,7 @@ impl LineBlock {
         &self.octets[self.start..]
     }
 
-    /// Returns the block's text, for sinks that accept text.
+    /// Returns the block's text, for sinks that accept text (`TextBuilder`).
     pub fn text(&self) -> &str
         ensures { result.now ≡ self.now }
     {

@@ -1,4 +1,4 @@
-//! Writes the lines of a section to any report sink.
+//! Writes the lines of a section, except its lists, to any report sink. `put_section` calls the public functions.
 ghost use Rattle.std.specs.Prelude.{◌≡◌, ◌≤◌, ◌++◌, Some, codes, length};
 ghost use Rattle.bridge_report.specs.Words.{verdict_word};
 ghost use Rattle.bridge_report.specs.Growth.{HasGrown};
@@ -11,7 +11,7 @@ use bridge_filter::{Counters, Flags};
 use bridge_meter::Buckets;
 use bridge_semantics::{StoredDeparture, StoredDrop};
 
-/// Writes the header line: the filter's number, and whether it is protected.
+/// Writes the header line: the filter's number, and whether it is protected. `put_state` calls it.
 pub fn put_header<T: ReportSink>(text: &mut T, filter: u32, protected: bool)
     ensures { HasGrown T.contents text.old (header_line filter protected) text.new }
 {
@@ -21,7 +21,7 @@ pub fn put_header<T: ReportSink>(text: &mut T, filter: u32, protected: bool)
     text.put("\n");
 }
 
-/// Writes the line with the number of frames that the filter matched.
+/// Writes the line with `matching`, the number of frames that the filter matched. `put_counters` calls it.
 fn put_matching<T: ReportSink>(text: &mut T, matching: u64)
     ensures { HasGrown T.contents text.old (matching_line matching) text.new }
 {
@@ -29,7 +29,7 @@ fn put_matching<T: ReportSink>(text: &mut T, matching: u64)
     text.put("\n");
 }
 
-/// Writes the line of a test, `sdu` or `gate`: the numbers of frames that passed it and that it refused.
+/// Writes the line of a test, `sdu` or `gate`: the numbers of frames that passed it and that it refused. `put_counters` calls it.
 fn put_test<T: ReportSink>(text: &mut T, test: &str, passed: u64, refused: u64)
     ensures { HasGrown T.contents text.old (test_line test.now passed refused) text.new }
 {
@@ -39,7 +39,7 @@ fn put_test<T: ReportSink>(text: &mut T, test: &str, passed: u64, refused: u64)
     text.put("\n");
 }
 
-/// Writes the line with the number of frames that the meter refused.
+/// Writes the line with `red`, the number of frames that the meter refused. `put_counters` calls it.
 fn put_red<T: ReportSink>(text: &mut T, red: u64)
     ensures { HasGrown T.contents text.old (red_line red) text.new }
 {
@@ -47,7 +47,7 @@ fn put_red<T: ReportSink>(text: &mut T, red: u64)
     text.put("\n");
 }
 
-/// Writes the lines of a filter's counters: matching frames, the tests of size and stream gate, and red frames.
+/// Writes the lines of a filter's counters: matching frames, the tests of size and stream gate, and red frames. `put_state` calls it.
 pub fn put_counters<T: ReportSink>(text: &mut T, counters: &Counters)
     ensures { HasGrown T.contents text.old (counter_lines counters.now) text.new }
 {
@@ -57,7 +57,7 @@ pub fn put_counters<T: ReportSink>(text: &mut T, counters: &Counters)
     put_red(text, counters.red);
 }
 
-/// Writes a space, a flag's name and its value, for the line of flags.
+/// Writes a space, a flag's name and its value, for the line of flags. `put_all_flags` calls it.
 fn put_flag<T: ReportSink>(text: &mut T, name: &str, flag: bool)
     ensures { HasGrown T.contents text.old (named_flag name.now flag) text.new }
 {
@@ -67,7 +67,7 @@ fn put_flag<T: ReportSink>(text: &mut T, name: &str, flag: bool)
     text.put(flag_word(flag));
 }
 
-/// Writes the names and values of the flags `blocked`, `rx`, `octets` and `red`.
+/// Writes the names and values of the flags `blocked`, `rx`, `octets` and `red`. `put_flags` calls it.
 fn put_all_flags<T: ReportSink>(text: &mut T, flags: &Flags)
     ensures { HasGrown T.contents text.old (all_flags flags.now) text.new }
 {
@@ -77,7 +77,7 @@ fn put_all_flags<T: ReportSink>(text: &mut T, flags: &Flags)
     put_flag(text, "red", flags.red);
 }
 
-/// Writes the line of the flags of a filter, its stream gate and its meter.
+/// Writes the line of the flags of a filter, its stream gate and its meter. `put_state` calls it.
 pub fn put_flags<T: ReportSink>(text: &mut T, flags: &Flags)
     ensures { HasGrown T.contents text.old (flags_line flags.now) text.new }
 {
@@ -86,7 +86,7 @@ pub fn put_flags<T: ReportSink>(text: &mut T, flags: &Flags)
     text.put("\n");
 }
 
-/// Writes the line of a meter's buckets: both levels in bucket units, and their time in ns.
+/// Writes the line of a meter's buckets: both levels in bucket units, and their time in ns. `put_optional_buckets` calls it.
 fn put_buckets<T: ReportSink>(text: &mut T, buckets: &Buckets)
     ensures { HasGrown T.contents text.old (bucket_line (Some buckets.now)) text.new }
 {
@@ -96,7 +96,7 @@ fn put_buckets<T: ReportSink>(text: &mut T, buckets: &Buckets)
     text.put("\n");
 }
 
-/// Writes the line of the buckets of a filter's meter; `bucket none` if it has no meter.
+/// Writes the line of the buckets of a filter's meter; `bucket none` if it has no meter. `put_state` calls it.
 pub fn put_optional_buckets<T: ReportSink>(text: &mut T, buckets: Option<Buckets>)
     ensures { HasGrown T.contents text.old (bucket_line buckets) text.new }
 {
@@ -106,7 +106,7 @@ pub fn put_optional_buckets<T: ReportSink>(text: &mut T, buckets: Option<Buckets
     }
 }
 
-/// Writes the line with the numbers of queued and dropped copies of a filter's frames.
+/// Writes the line with the numbers of queued and dropped copies of a filter's frames. `put_copies` calls it.
 pub fn put_queued<T: ReportSink>(text: &mut T, departures: &[StoredDeparture], drops: &[StoredDrop])
     ensures { HasGrown T.contents text.old (queued_line departures.now drops.now) text.new }
 {
@@ -116,7 +116,7 @@ pub fn put_queued<T: ReportSink>(text: &mut T, departures: &[StoredDeparture], d
     text.put("\n");
 }
 
-/// Writes the line of the longest delay in ns, if a frame of the filter left.
+/// Writes the line of the longest delay, `delay` ns. `put_delay` calls it if a copy of the filter's frames left.
 fn put_known_delay<T: ReportSink>(text: &mut T, delay: u64)
     ensures { HasGrown T.contents text.old (delay_line (Some delay)) text.new }
 {
@@ -124,7 +124,7 @@ fn put_known_delay<T: ReportSink>(text: &mut T, delay: u64)
     text.put("\n");
 }
 
-/// Writes the line of the longest delay; `delay none` without departures.
+/// Writes the line of the longest delay in ns; `delay none` if no copy of the filter's frames left. `put_copies` calls it.
 pub fn put_delay<T: ReportSink>(text: &mut T, delay: Option<u64>)
     ensures { HasGrown T.contents text.old (delay_line delay) text.new }
 {

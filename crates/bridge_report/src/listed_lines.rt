@@ -1,4 +1,4 @@
-//! Writes the lines of a section's lists into blocks.
+//! Writes the lines of a section's lists in front of blocks. `lists` fills the blocks.
 ghost use Rattle.std.specs.Prelude.{◌≡◌, ◌≤◌, ◌+◌, ◌++◌, ℕ, List, codes, length};
 ghost use Rattle.bridge_report.specs.Words.{refusal_word, verdict_word};
 ghost use Rattle.bridge_report.specs.Section.{departure_line, drop_line, frame_line};
@@ -8,12 +8,12 @@ use bridge_filter::Verdict;
 use bridge_port::Refusal;
 use bridge_semantics::{Departure, Dropped, StoredDeparture, StoredDrop};
 
-/// Copy that has a line in a list of a section: a departure or a drop.
+/// Copy that has a line in a list of a section. Departures (`StoredDeparture`) and dropped copies (`StoredDrop`) implement it.
 pub trait ListedCopy {
     /// Line of the copy.
     ghost line: { Self → List ℕ };
 
-    /// Writes the copy's line in front of `block`.
+    /// Writes the copy's line, at most 128 octets, in front of `block`. `fill_copies` calls it for each copy.
     fn prepend_line(&self, block: &mut LineBlock)
         requires { 128 + length block.old ≤ 1920 }
         ensures text { block.new ≡ line self.now ++ block.old }
@@ -38,7 +38,7 @@ impl ListedCopy for StoredDeparture {
     }
 }
 
-/// Writes the end of a frame's line in front of `block`: a space, the word for its verdict and a line feed.
+/// Writes the end of a frame's line in front of `block`: a space, the word for its verdict and a line feed. `prepend_frame` calls it.
 #[inline(always)]
 fn prepend_verdict(block: &mut LineBlock, verdict: Verdict)
     requires { 17 + length block.old ≤ 1920 }
@@ -62,7 +62,7 @@ fn prepend_verdict(block: &mut LineBlock, verdict: Verdict)
     }
 }
 
-/// Writes the line of a frame in front of `block`: its number and its verdict.
+/// Writes the line of a frame in front of `block`: its number and its verdict. `fill_frames` calls it for each frame.
 #[inline(always)]
 pub fn prepend_frame(block: &mut LineBlock, number: usize, verdict: Verdict)
     requires { 128 + length block.old ≤ 1920 }
@@ -73,7 +73,7 @@ pub fn prepend_frame(block: &mut LineBlock, number: usize, verdict: Verdict)
     block.prepend_number("frame ", number as u64);
 }
 
-/// Writes the end of a dropped copy's line in front of `block`: a space, the word for the reason and a line feed.
+/// Writes the end of a dropped copy's line in front of `block`: a space, the word for the reason and a line feed. `prepend_drop` calls it.
 #[inline(always)]
 fn prepend_refusal(block: &mut LineBlock, refusal: Refusal)
     requires { 7 + length block.old ≤ 1920 }
@@ -86,7 +86,7 @@ fn prepend_refusal(block: &mut LineBlock, refusal: Refusal)
     }
 }
 
-/// Writes the line of a dropped copy in front of `block`: its frame's number, the port and the reason.
+/// Writes the line of a dropped copy in front of `block`: its frame's number, the port and the reason. `prepend_line` calls it.
 #[inline(always)]
 fn prepend_drop(block: &mut LineBlock, dropped: &Dropped)
     requires { 128 + length block.old ≤ 1920 }
@@ -99,7 +99,8 @@ fn prepend_drop(block: &mut LineBlock, dropped: &Dropped)
     block.prepend_number("drop ", own);
 }
 
-/// Writes the line of a copy that left in front of `block`: its frame's number, the port, and start and end of its transmission in ns.
+/// Writes the line of a copy that left in front of `block`: frame number, port, and start and end of its transmission in ns. `prepend_line`
+/// calls it.
 #[inline(always)]
 fn prepend_departure(block: &mut LineBlock, departure: &Departure)
     requires { 128 + length block.old ≤ 1920 }

@@ -1,4 +1,4 @@
-//! Writes the lists of a section, in blocks of lines.
+//! Writes the lists of a section (frames, dropped copies, departures), in blocks of lines.
 ghost use Rattle.std.specs.Prelude.{◌≡◌, ◌<◌, ◌≤◌, ◌+◌, ◌^◌, flat_map, length};
 ghost use Rattle.bridge_report.specs.Growth.{HasGrown};
 ghost use Rattle.bridge_report.specs.Section.{drop_line, frame_lines, departure_line};
@@ -8,10 +8,11 @@ use crate::listed_lines::{ListedCopy, prepend_frame};
 use crate::report_sink::ReportSink;
 use bridge_semantics::{StoredDeparture, StoredDrop, StoredVerdict};
 
-/// Lines of a full block. A line has at most 128 octets.
+/// Number of lines of a full block. A line has at most 128 octets.
 const BLOCK_LINES: usize = 15;
 
-/// Writes the lines of frames, numbered from `number`, into `block`. Writes the last frame first, because a block grows from its end.
+/// Writes the lines of frames, numbered from `number`, into the empty `block`. Writes the last frame first, because a block grows from its
+/// end. `put_frames` calls it.
 #[inline(always)]
 fn fill_frames(block: &mut LineBlock, number: usize, verdicts: &[StoredVerdict])
     requires empty { length block.old ≡ 0 }
@@ -26,7 +27,7 @@ fn fill_frames(block: &mut LineBlock, number: usize, verdicts: &[StoredVerdict])
     }
 }
 
-/// Writes the lines of a filter's frames, numbered from 1, with their verdicts, by blocks of at most 15 lines.
+/// Writes the lines of a filter's frames with their verdicts, numbered from 1, by blocks of at most 15 lines. `put_lists` calls it.
 pub fn put_frames<T: ReportSink>(text: &mut T, verdicts: &[StoredVerdict])
     ensures { HasGrown T.contents text.old (frame_lines 1 verdicts.now) text.new }
 {
@@ -41,7 +42,8 @@ pub fn put_frames<T: ReportSink>(text: &mut T, verdicts: &[StoredVerdict])
     }
 }
 
-/// Writes the lines of copies into `block`. Writes the last copy first, because a block grows from its end.
+/// Writes the lines of copies into the empty `block`. Writes the last copy first, because a block grows from its end. `put_copies` calls
+/// it.
 #[inline(always)]
 fn fill_copies<C: ListedCopy>(block: &mut LineBlock, copies: &[C])
     requires empty { length block.old ≡ 0 }
@@ -55,7 +57,7 @@ fn fill_copies<C: ListedCopy>(block: &mut LineBlock, copies: &[C])
     }
 }
 
-/// Writes one line for each copy in `copies`, in list order, by blocks of at most 15 lines.
+/// Writes one line for each copy in `copies`, in list order, by blocks of at most 15 lines. `put_departures` and `put_drops` call it.
 fn put_copies<T: ReportSink, C: ListedCopy>(text: &mut T, copies: &[C])
     ensures { HasGrown T.contents text.old (flat_map C.line copies.now) text.new }
 {
@@ -70,14 +72,14 @@ fn put_copies<T: ReportSink, C: ListedCopy>(text: &mut T, copies: &[C])
     }
 }
 
-/// Writes one line for each dropped copy of the filter's frames.
+/// Writes one line for each dropped copy of the filter's frames. `put_lists` calls it.
 pub fn put_drops<T: ReportSink>(text: &mut T, drops: &[StoredDrop])
     ensures { HasGrown T.contents text.old (flat_map drop_line drops.now) text.new }
 {
     put_copies(text, drops);
 }
 
-/// Writes one line for each copy of the filter's frames that left.
+/// Writes one line for each copy of the filter's frames that left. `put_lists` calls it.
 pub fn put_departures<T: ReportSink>(text: &mut T, departures: &[StoredDeparture])
     ensures { HasGrown T.contents text.old (flat_map departure_line departures.now) text.new }
 {

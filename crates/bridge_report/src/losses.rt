@@ -1,4 +1,5 @@
-//! Counts lost frames by reason: frames that a filter refused and copies that ports dropped. Writes the lines about them.
+//! Counts lost frames by reason: frames that a filter refused and copies that ports dropped. Writes the lines about them for `run
+//! --strict`.
 ghost use Rattle.std.specs.Prelude.{◌≡◌, IfOk, string_bytes};
 ghost use Rattle.bridge_report.specs.Losses as spec;
 ghost use Rattle.bridge_report.specs.Section.{count_full, count_never_fits};
@@ -56,7 +57,7 @@ pub struct Losses {
     pub never: u64,
 }
 
-/// Whether a filter refused a frame with verdict `verdict` for reason `reason`.
+/// Returns whether a filter refused a frame, by its verdict `verdict`, for reason `reason`. `count_refused` calls it.
 fn has_reason(reason: Reason, verdict: &StoredVerdict) -> bool
     ensures { result ≡ spec.is_for reason verdict.now }
 {
@@ -72,14 +73,14 @@ fn has_reason(reason: Reason, verdict: &StoredVerdict) -> bool
     }
 }
 
-/// Counts the frames that the filter refused for reason `reason`, by their verdicts.
+/// Returns the number of frames that the filter refused for reason `reason`, by their verdicts.
 pub fn count_refused(reason: Reason, verdicts: &[StoredVerdict]) -> u64
     ensures { result ≡ spec.refused_for reason verdicts.now }
 {
     verdicts.iter().filter(|v| has_reason(reason, *v)).count() as u64
 }
 
-/// Counts the copies that a port dropped because their queue was full.
+/// Returns the number of copies that ports dropped because their queue was full.
 pub fn count_full(drops: &[StoredDrop]) -> usize
     ensures { result ≡ count_full drops.now }
 {
@@ -89,7 +90,7 @@ pub fn count_full(drops: &[StoredDrop]) -> usize
         .count()
 }
 
-/// Counts the copies that a port dropped because they fit no window of their class.
+/// Returns the number of copies that ports dropped because they fit no window of their class.
 pub fn count_never_fitting(drops: &[StoredDrop]) -> usize
     ensures { result ≡ count_never_fits drops.now }
 {
@@ -99,7 +100,7 @@ pub fn count_never_fitting(drops: &[StoredDrop]) -> usize
         .count()
 }
 
-/// Counts the refused frames and the dropped copies of a filter, by reason.
+/// Returns the numbers of refused frames and dropped copies of a filter, by reason. `put_lost` calls it.
 fn count_losses(verdicts: &[StoredVerdict], drops: &[StoredDrop]) -> Losses
     ensures { result ≡ spec.losses_of verdicts.now drops.now }
 {
@@ -117,7 +118,7 @@ fn count_losses(verdicts: &[StoredVerdict], drops: &[StoredDrop]) -> Losses
     }
 }
 
-/// Returns the number of refused frames and dropped copies, for all reasons together.
+/// Returns the number of refused frames and dropped copies, for all reasons together. `put_if` and `put_line` call it.
 fn total(losses: &Losses) -> u128
     ensures { result ≡ spec.total losses.now }
 {
@@ -128,8 +129,8 @@ fn total(losses: &Losses) -> u128
     refused + shut + metered + dropped
 }
 
-/// Writes a comma, the reason `word` and its number `count`. The text `place` before the reason says where frames were lost; it is empty
-/// for one bridge.
+/// Writes a comma, `place`, the reason `word` and its number `count`. `place` says where frames were lost; it is empty for one bridge.
+/// `put_reason` calls it.
 fn put_counted<A: Allocator>(text: &mut TextBuilder<A>, place: &str, word: &str, count: u128)
     ensures { HasGrown text.old (spec.counted_words place.now word.now count) text.new }
 {
@@ -149,8 +150,8 @@ pub fn put_reason<A: Allocator>(text: &mut TextBuilder<A>, place: &str, word: &s
     }
 }
 
-/// Writes the reasons of all losses and their numbers, in the order of the columns of `run --delays`. The text `place` before each reason
-/// says where frames were lost.
+/// Writes the reasons of all losses with their numbers; leaves out reasons without loss. The text `place` before each reason says where
+/// frames were lost.
 pub fn put_losses<A: Allocator>(text: &mut TextBuilder<A>, place: &str, losses: &Losses)
     ensures { HasGrown text.old (spec.loss_words place.now losses.now) text.new }
 {
@@ -171,7 +172,7 @@ pub fn put_losses<A: Allocator>(text: &mut TextBuilder<A>, place: &str, losses: 
     put_reason(text, place, "never", losses.never as u128);
 }
 
-/// Writes the line of a filter that lost frames or copies. `run --strict` prints it.
+/// Writes the line of filter `filter`, which lost frames or copies, of `frames` frames in all. `run --strict` prints it. `put_if` calls it.
 fn put_line<A: Allocator>(text: &mut TextBuilder<A>, filter: u32, frames: u64, losses: &Losses)
     ensures { HasGrown text.old (spec.lost_line filter frames losses.now) text.new }
 {
@@ -186,7 +187,8 @@ fn put_line<A: Allocator>(text: &mut TextBuilder<A>, filter: u32, frames: u64, l
     text.put("\n");
 }
 
-/// Writes the line of a filter, if the filter is protected and lost a frame or a copy; otherwise writes nothing.
+/// Writes the line of a filter, with `frames` frames in all, if the filter is protected and lost a frame or a copy. Otherwise writes
+/// nothing. `put_lost` calls it.
 fn put_if<A: Allocator>(
     text: &mut TextBuilder<A>,
     protected: bool,
@@ -201,7 +203,7 @@ fn put_if<A: Allocator>(
     }
 }
 
-/// Counts the losses in a filter's record, and writes the filter's line if it is protected and has losses.
+/// Counts the losses in a filter's record, and writes the filter's line if it is protected and has losses. `lost_lines` calls it.
 fn put_lost<A: Allocator>(text: &mut TextBuilder<A>, filter: u32, view: &View<A>)
     ensures { HasGrown text.old (spec.lost_lines_of filter view.now) text.new }
 {

@@ -1,4 +1,4 @@
-//! Writes sections to any report sink.
+//! Writes report sections to any report sink: a text in memory or a buffered writer.
 ghost use Rattle.bridge_report.specs.Growth.{HasGrown};
 ghost use Rattle.bridge_report.specs.Section.{copy_lines, list_lines, report_text, section_text, state_lines};
 
@@ -10,7 +10,7 @@ use crate::report_sink::ReportSink;
 use bridge_semantics::View;
 use std::alloc::Allocator;
 
-/// Writes the header, and the final counters, flags and buckets of a filter, its stream gate and its meter.
+/// Writes the header, and the final counters, flags and buckets of a filter, its stream gate and its meter. `put_section` calls it.
 fn put_state<A: Allocator, T: ReportSink>(text: &mut T, filter: u32, view: &View<A>)
     ensures { HasGrown T.contents text.old (state_lines filter view.now) text.new }
 {
@@ -20,7 +20,7 @@ fn put_state<A: Allocator, T: ReportSink>(text: &mut T, filter: u32, view: &View
     put_optional_buckets(text, view.buckets);
 }
 
-/// Writes the counts of the copies of a filter's frames, and their longest delay.
+/// Writes the counts of the copies of a filter's frames, and their longest delay. `put_section` calls it.
 fn put_copies<A: Allocator, T: ReportSink>(text: &mut T, view: &View<A>)
     ensures { HasGrown T.contents text.old (copy_lines view.now) text.new }
 {
@@ -28,7 +28,7 @@ fn put_copies<A: Allocator, T: ReportSink>(text: &mut T, view: &View<A>)
     put_delay(text, view.delay);
 }
 
-/// Writes the last part of a section: the lists of frames, drops and departures.
+/// Writes the last part of a section: the lists of frames, drops and departures. `put_section` calls it.
 fn put_lists<A: Allocator, T: ReportSink>(text: &mut T, view: &View<A>)
     ensures { HasGrown T.contents text.old (list_lines view.now) text.new }
 {
@@ -37,7 +37,7 @@ fn put_lists<A: Allocator, T: ReportSink>(text: &mut T, view: &View<A>)
     put_departures(text, &view.departures);
 }
 
-/// Writes the report section of a filter, from its number to the line `end`.
+/// Writes the report section of filter `filter` with the record `view`, from its header to the line `end`.
 pub fn put_section<A: Allocator, T: ReportSink>(text: &mut T, filter: u32, view: &View<A>)
     ensures { HasGrown T.contents text.old (section_text filter view.now) text.new }
 {
@@ -47,7 +47,7 @@ pub fn put_section<A: Allocator, T: ReportSink>(text: &mut T, filter: u32, view:
     text.put("end\n");
 }
 
-/// Writes the sections of `filters`, in list order: the whole report of a run.
+/// Writes the sections of `filters`, in list order: the whole report of a run. `report` and `write_report` call it.
 pub fn put_sections<A: Allocator, T: ReportSink>(text: &mut T, filters: &[(u32, View<A>)])
     ensures { HasGrown T.contents text.old (report_text filters.now) text.new }
 {

@@ -7,25 +7,26 @@ use bridge_text::TextBuilder;
 use itoa::{Buffer, Integer};
 use std::alloc::Allocator;
 
-/// Output of a report: a text in memory or a buffered writer. After a failure it ignores all calls.
+/// Output of a report. `TextBuilder` (a text in memory) and `ReportWriter` (a buffered writer) implement it. After a failure it ignores all
+/// calls.
 pub trait ReportSink {
     /// Octets of the text: `None` after a failure, `Some (None)` if they are unknown.
     ghost contents: { Self → Option (Option (List ℕ)) };
 
-    /// Appends `piece`.
+    /// Appends `piece` to the report.
     fn put(&mut self, piece: &str)
         ensures { HasGrown contents self.old piece.now self.new };
 
-    /// Appends `piece` and the digits of `number`.
+    /// Appends `piece` and the decimal digits of `number` to the report.
     fn put_number(&mut self, piece: &str, number: u64)
         ensures { HasGrown contents self.old (piece.now ++ decimal number) self.new };
 
-    /// Appends the lines of `block`.
+    /// Appends the lines of `block` to the report.
     fn put_block(&mut self, block: &LineBlock)
         ensures { HasGrown contents self.old block.now self.new };
 }
 
-/// Appends `piece` and the digits of `number`, which may have more than 64 bits.
+/// Appends `piece` and the decimal digits of `number`, which may have more than 64 bits. Buckets have such numbers.
 #[tactic(auto, using(crate::proofs::Puts::puts))]
 pub fn put_wide_number<T: ReportSink, I: Integer>(text: &mut T, piece: &str, number: I)
     ensures { HasGrown T.contents text.old (piece.now ++ I.text number) text.new }

@@ -1,4 +1,4 @@
-//! A buffer in front of a writer.
+//! A report sink that writes through a buffer: `ReportWriter`. `write_report` uses it.
 ghost use Rattle.std.specs.Prelude.{◌≡◌, ◌++◌, ◌≤◌, [], OnOk, IfOk, None, decimal, length};
 ghost use Rattle.std.specs.Io.KnownBytes.{Appends, Keeps, append_known};
 ghost use Rattle.bridge_report.specs.Growth.{unless_failed};
@@ -10,7 +10,7 @@ use itoa::write_digits;
 use std::alloc::Allocator;
 use std::io::Write;
 
-/// Octets of the longest number.
+/// Number of digits of the longest number with 64 bits.
 const MAX_DIGITS: usize = 20;
 
 /// Writer with a buffer in front of it, so that each line of a report needs no call of the writer.
@@ -23,7 +23,8 @@ pub struct BufferedWriter<W: Write + Drop, A: Allocator> {
 }
 
 impl<W: Write + Drop, A: Allocator> BufferedWriter<W, A> {
-    /// Writes the buffered octets to the writer, and empties the buffer.
+    /// Writes the buffered octets to the writer, and empties the buffer. The fault is `Broken` if the writer fails. `finish` and
+    /// `make_room` call it.
     #[cold]
     #[inline(never)]
     fn flush_octets(&mut self) -> Result<(), ReportFault>
@@ -67,7 +68,7 @@ impl<W: Write + Drop, A: Allocator> BufferedWriter<W, A> {
     }
 }
 
-/// Appends `more` to `octets`; the fault is `NoMemory` if memory runs out.
+/// Appends `more` to `octets`. The fault is `NoMemory` if memory runs out.
 #[inline(always)]
 fn push_octets<A: Allocator>(octets: &mut Vec<u8, A>, more: &[u8]) -> Result<(), ReportFault>
     ensures { OnOk result (octets.new.items ≡ octets.old.items ++ more.now) }
@@ -78,7 +79,7 @@ fn push_octets<A: Allocator>(octets: &mut Vec<u8, A>, more: &[u8]) -> Result<(),
     }
 }
 
-/// Returns the number of decimal digits of `number`, at most 20.
+/// Returns the number of decimal digits of `number`, at most 20. `push_number` calls it.
 #[inline(always)]
 #[tactic(auto, using(crate::proofs::Digits::counts))]
 fn count_digits(number: u64) -> usize
@@ -91,7 +92,8 @@ fn count_digits(number: u64) -> usize
     number.ilog10() as usize + 1
 }
 
-/// Appends the digits of `number`. First extends `octets` by 20, a constant number, then cuts the unused end.
+/// Appends the digits of `number` to `octets`. First extends `octets` by 20, a constant number, then cuts the unused end. `put_number`
+/// calls it.
 #[inline(always)]
 fn push_number<A: Allocator>(octets: &mut Vec<u8, A>, number: u64) -> Result<(), ReportFault>
     ensures { OnOk result (octets.new.items ≡ octets.old.items ++ decimal number) }
@@ -104,7 +106,7 @@ fn push_number<A: Allocator>(octets: &mut Vec<u8, A>, number: u64) -> Result<(),
 }
 
 impl<W: Write + Drop, A: Allocator> BufferedWriter<W, A> {
-    /// Appends `piece` to the buffer. A buffer without capacity for it is written first.
+    /// Appends `piece` to the buffer. If the buffer lacks capacity for it, its octets are written first.
     #[inline(always)]
     fn put(&mut self, piece: &str) -> Result<(), ReportFault>
         ensures { OnOk result (Appends (append_known (W.contents self.old.writer) self.old.octets.items)
@@ -114,7 +116,7 @@ impl<W: Write + Drop, A: Allocator> BufferedWriter<W, A> {
         push_octets(&mut self.octets, piece.as_bytes())
     }
 
-    /// Appends `piece` and the digits of `number` to the buffer. A buffer without capacity for them is written first.
+    /// Appends `piece` and the digits of `number` to the buffer. If the buffer lacks capacity for them, its octets are written first.
     #[inline(always)]
     fn put_number(&mut self, piece: &str, number: u64) -> Result<(), ReportFault>
         ensures { OnOk result (Appends (append_known (W.contents self.old.writer) self.old.octets.items)
@@ -125,7 +127,7 @@ impl<W: Write + Drop, A: Allocator> BufferedWriter<W, A> {
         push_number(&mut self.octets, number)
     }
 
-    /// Appends the lines of `block` to the buffer. A buffer without capacity for them is written first.
+    /// Appends the lines of `block` to the buffer. If the buffer lacks capacity for them, its octets are written first.
     #[inline(always)]
     fn put_block(&mut self, block: &LineBlock) -> Result<(), ReportFault>
         ensures { OnOk result (Appends (append_known (W.contents self.old.writer) self.old.octets.items)
@@ -147,7 +149,7 @@ pub struct ReportWriter<W: Write + Drop, A: Allocator> {
 }
 
 impl<W: Write + Drop, A: Allocator> ReportWriter<W, A> {
-    /// Writes the buffered octets, and returns the flushed writer or the first fault.
+    /// Writes the buffered octets, and returns the flushed writer or the first fault. `write_report` calls it at the end.
     pub fn finish(self) -> Result<W, ReportFault>
         ensures whole { IfOk result (λ _. self.fault ≡ None) }
         ensures text { IfOk result (λ writer. Keeps (append_known (W.contents self.held.writer) self.held.octets.items)

@@ -17,7 +17,8 @@ use std::io::Write;
 /// Buffer size in octets: a writer receives at most this number at once.
 const BUFFER_OCTETS: usize = 262_144;
 
-/// Returns the record of the filter with number `filter`; `None` if the result has no such filter.
+/// Returns the record of the filter with number `filter` in a run's result, or `None` if the result has no such filter. Tables of networks
+/// need it.
 pub fn find_view<A: Allocator>(outcome: &Outcome<A>, filter: u32) -> Option<&View<A>>
     ensures { option_map (λ view. view.now) result ≡ lookup (nat_eq filter) outcome.now.filters.items }
 {
@@ -29,14 +30,14 @@ pub fn find_view<A: Allocator>(outcome: &Outcome<A>, filter: u32) -> Option<&Vie
     None
 }
 
-/// Whether the result has a record of the filter with number `filter`. If so, `section` may be called.
+/// Returns whether a run's result has a record of the filter with number `filter`. If so, `section` may be called.
 pub fn has_section<A: Allocator>(outcome: &Outcome<A>, filter: u32) -> bool
     ensures { result ≡ is_some (lookup (nat_eq filter) outcome.now.filters.items) }
 {
     find_view(outcome, filter).is_some()
 }
 
-/// Returns the report section of a filter with a record. Each line ends with a line feed.
+/// Returns the report section of filter `filter`, which must have a record in the result. Each line ends with a line feed.
 pub fn section<A: Allocator + Copy>(
     alloc: A,
     outcome: &Outcome<A>,
@@ -63,7 +64,8 @@ pub fn report<A: Allocator + Copy>(alloc: A, outcome: &Outcome<A>) -> Result<Str
     text.finish()
 }
 
-/// Appends the sections of all filters to `writer`, and returns it flushed. The only allocation is the buffer of 262,144 octets.
+/// Writes the sections of all filters to `writer`, and returns it flushed. `run` and `net` call it. The only allocation is the buffer of
+/// 262,144 octets.
 pub fn write_report<W: Write + Drop, A: Allocator + Copy>(
     alloc: A,
     outcome: &Outcome<A>,

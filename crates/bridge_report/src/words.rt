@@ -1,4 +1,4 @@
-//! Words of a report.
+//! Words of reports and tables: protection, flags, verdicts and reasons of drops.
 ghost use Rattle.std.specs.Prelude.{◌≡◌, ◌≤◌, length};
 ghost use Rattle.bridge_report.specs.Words.{flag_word, kind_word, refusal_word, verdict_word};
 
@@ -12,14 +12,14 @@ pub fn kind_word(protected: bool) -> &'static str
     if protected { "protected" } else { "plain" }
 }
 
-/// Returns the word for a flag: `yes` or `no`.
+/// Returns the word for a flag: `yes` or `no`. `put_flag` calls it.
 pub fn flag_word(flag: bool) -> &'static str
     ensures { result.now ≡ flag_word flag }
 {
     if flag { "yes" } else { "no" }
 }
 
-/// Returns the word for a verdict, at most 15 octets.
+/// Returns the word for a verdict, at most 15 octets. Tables and pictures call it.
 pub fn verdict_word(verdict: Verdict) -> &'static str
     ensures word { result.now ≡ verdict_word verdict }
     ensures short { length result.now ≤ 15 }
@@ -41,7 +41,7 @@ pub fn verdict_word(verdict: Verdict) -> &'static str
     }
 }
 
-/// Returns the word for the reason of a drop.
+/// Returns the word for the reason why a port dropped a copy: `full` or `never`. Tables and pictures call it.
 pub fn refusal_word(refusal: Refusal) -> &'static str
     ensures { result.now ≡ refusal_word refusal }
 {

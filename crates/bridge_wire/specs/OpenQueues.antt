@@ -20,7 +20,7 @@ use Rattle.bridge_wire.specs.Departures.{IsUnderWay}
 abbrev pub queue_state : {A : Type 0} → OpenQueue A → EgressState (Vec ℕ A)
 queue_state q = one_queue_state q.speed (length q.places.items - 1) (take q.queued (ring_items q.head q.places.items)) q.free q.earliest q.offered q.started
 
--- Place of the frame ahead.
+-- Place in the ring of the frame ahead: this frame was read from the capture, and isn't offered to the queue yet.
 abbrev pub place_ahead : {A : Type 0} → OpenQueue A → Option (Item (Vec ℕ A))
 place_ahead q = slice_get q.places.items q.tail
 

@@ -1,4 +1,4 @@
-//! Sends one capture through one queue.
+//! Sends one capture through one queue. The frame ahead is the capture's next frame: it was read, and isn't offered to the queue yet.
 ghost use Rattle.std.specs.Prelude.{◌≡◌, ◌≢◌, ◌≤◌, ◌<◌, ◌+◌, ℕ, List, [], ◌∷◌, ◌++◌, None, Some, Err, Option, Vec, length, true, IfOk, IfErr, OnOk, OnErr};
 ghost use Rattle.bridge_capture.specs.Grammar.{CapturedFrame};
 ghost use Rattle.bridge_capture.specs.StandsFor.{HasReadFrames, IsReading, records_left, StandsFor};
@@ -20,8 +20,8 @@ use bridge_limits::{END_OF_TIME, MAX_CAPTURED_OCTETS};
 use bridge_port::{Item, LARGEST_ROOM};
 use std::alloc::Allocator;
 
-/// Makes and writes all starts before `time` ns, when the frame ahead arrived, then offers this frame to the queue. A frame without a
-/// header is only counted.
+/// Starts and writes all frames that are due before `time` ns, when the frame ahead arrived. Then offers the frame ahead to the queue;
+/// without a header, it is only counted.
 #[inline(always)]
 fn offer_frame<W: ByteSink, A: Allocator + Copy>(
     speed: Speed,
@@ -69,8 +69,8 @@ fn offer_frame<W: ByteSink, A: Allocator + Copy>(
     Ok(())
 }
 
-/// Offers the frame ahead, which arrived at `time` ns, and reads the next record. Returns the next frame's arrival time in ns; `None` at
-/// the capture's end. Stops at the first fault.
+/// Writes the frames that start before `time` ns, when the frame ahead arrived, and offers this frame. Then reads the next record, and
+/// returns its arrival time in ns; `None` at the capture's end.
 #[inline(always)]
 fn process_frame<R: ByteSource, W: ByteSink, A: Allocator + Copy>(
     speed: Speed,

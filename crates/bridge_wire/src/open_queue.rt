@@ -135,7 +135,7 @@ impl<A: Allocator + Copy> OpenQueue<A> {
         &self.places[self.head]
     }
 
-    /// Returns the time in ns of the next start without further offers; `None` if no frame is queued.
+    /// Returns the time in ns of the next start if nothing more is offered; `None` if no frame is queued.
     #[inline(always)]
     pub fn next_start(&self) -> Option<u64>
         ensures due { IsNextStartTime (queue_state self.now) result }
