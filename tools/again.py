@@ -117,7 +117,7 @@ def make(name, jobs):
         made = f"out/{name}"
         words += ["--toolchain", f"{lib.KIT}/toolchain", "--backend", "llvm", "-o", f"{made}.o"]
     else:
-        words += ["--statements", "-o", crate.rlib]
+        words += ["-o", crate.rlib]
     status = subprocess.run([*lib.guarded(), lib.RATTLE, "build", *words], cwd=crate.folder).returncode
     if not status and crate.is_program:
         status = crate.link(f"{made}.o", made)
