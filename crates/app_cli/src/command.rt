@@ -423,6 +423,7 @@ pub fn command_description(place: usize) -> Option<&'static Description> {
 }
 
 /// Returns the command `wire`: arguments, usage, help texts. The contract states that it is the definition `wire_command`.
+/// `command_description` and `commands_of` call it.
 fn wire_description() -> &'static Description
     ensures { described result.now ≡ wire_command }
 {
@@ -430,6 +431,7 @@ fn wire_description() -> &'static Description
 }
 
 /// Returns the command `check`: arguments, usage, help texts. The contract states that it is the definition `check_command`.
+/// `command_description` and `commands_of` call it.
 fn check_description() -> &'static Description
     ensures { described result.now ≡ check_command }
 {
@@ -437,6 +439,7 @@ fn check_description() -> &'static Description
 }
 
 /// Returns the command `run`: arguments, usage, help texts. The contract states that it is the definition `run_command`.
+/// `command_description` and `commands_of` call it.
 fn run_description() -> &'static Description
     ensures { described result.now ≡ run_command }
 {
@@ -444,6 +447,7 @@ fn run_description() -> &'static Description
 }
 
 /// Returns the command `picture`: arguments, usage, help texts. The contract states that it is the definition `picture_command`.
+/// `command_description` and `commands_of` call it.
 fn picture_description() -> &'static Description
     ensures { described result.now ≡ picture_command }
 {
@@ -451,6 +455,7 @@ fn picture_description() -> &'static Description
 }
 
 /// Returns the command `bounds`: arguments, usage, help texts. The contract states that it is the definition `bounds_command`.
+/// `command_description` and `commands_of` call it.
 fn bounds_description() -> &'static Description
     ensures { described result.now ≡ bounds_command }
 {
@@ -458,6 +463,7 @@ fn bounds_description() -> &'static Description
 }
 
 /// Returns the command `net`: arguments, usage, help texts. The contract states that it is the definition `net_command`.
+/// `command_description` and `commands_of` call it.
 fn net_description() -> &'static Description
     ensures { described result.now ≡ net_command }
 {
@@ -494,7 +500,7 @@ fn commands_of<'a>(alloc: Global) -> Result<Command<'a>, AllocError>
     with_commands(alloc, program, &in_help)
 }
 
-/// Returns the `clap` program with the commands of `descriptions` added, in order.
+/// Returns the `clap` program with the commands of `descriptions` added, in order. `commands_of` calls it.
 fn with_commands<'a>(
     alloc: Global,
     program: Command<'a>,
@@ -510,7 +516,7 @@ fn with_commands<'a>(
     Ok(grown)
 }
 
-/// Returns the `clap` program with the command of `description` added.
+/// Returns the `clap` program with the command of `description` added. `with_commands` calls it.
 fn with_command<'a>(
     alloc: Global,
     program: Command<'a>,
@@ -527,7 +533,7 @@ fn with_command<'a>(
     }
 }
 
-/// Builds the `clap` program without commands. Its arguments don't begin with its name.
+/// Builds the `clap` program without commands. Its arguments don't begin with its name. `commands_of` calls it.
 fn build_bare_program<'a>(alloc: Global) -> Result<Command<'a>, AllocError>
     ensures { IfOk result (λ c. app_of c ≡ program) }
 {
@@ -539,7 +545,7 @@ fn build_bare_program<'a>(alloc: Global) -> Result<Command<'a>, AllocError>
         .bin_name(PROGRAM.name)
 }
 
-/// Builds the `clap` command of a description: name, help texts and arguments.
+/// Builds the `clap` command of a description: name, help texts and arguments. `with_command` and `build_bare_program` call it.
 fn build_command<'a>(alloc: Global, description: &Description) -> Result<Command<'a>, AllocError>
     ensures command { IfOk result (λ c. app_of c ≡ described description.now) }
     ensures local { IfOk result (λ c. (fields_of c).has_globals ≡ false) }
@@ -550,7 +556,7 @@ fn build_command<'a>(alloc: Global, description: &Description) -> Result<Command
     with_words(alloc, command, description.words)
 }
 
-/// Returns the `clap` command with these arguments added, in order.
+/// Returns the `clap` command with these arguments added, in order. `build_command` calls it.
 fn with_words<'a>(
     alloc: Global,
     command: Command<'a>,
@@ -567,7 +573,7 @@ fn with_words<'a>(
     Ok(grown)
 }
 
-/// Builds the `clap` argument for an argument of the table of commands, by its form.
+/// Builds the `clap` argument for an argument of the table of commands, by its form. `with_words` calls it.
 fn clap_arg<'a>(alloc: Global, word: Argument) -> Arg<'a>
     ensures rule { rule_of result ≡ rule_in word.form word.id.now }
     ensures local { result.global ≡ false }

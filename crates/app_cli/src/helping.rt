@@ -15,7 +15,7 @@ use std::alloc::Global;
 /// Returns the requested text: help of the program (`--help`, `-h`, `help`), help of a command, or version (`--version`, `-V`). Returns
 /// `None` if the arguments request none.
 ///
-/// Arguments that request a text request no command.
+/// Arguments that request a text request no command. `push_help` and `perform` of `app_networks` call it.
 #[tactic(auto, using(crate::proofs::Asked::no_job))]
 pub fn requested_help(alloc: Global, words: &[String]) -> Result<Option<String>, ArgumentsFault>
     ensures asked { IfOk result (λ text. IfSome text (λ _. IsHelp (fault_of commands (map string_bytes words.now)))) }
@@ -35,7 +35,8 @@ pub fn requested_help(alloc: Global, words: &[String]) -> Result<Option<String>,
     }
 }
 
-/// Whether one of the arguments may request help or the version. If none does, `clap` needn't parse the arguments for it.
+/// Whether one of the arguments may request help or the version. If none does, `clap` needn't parse the arguments for it. `requested_help`
+/// calls it.
 fn has_help_word(words: &[String]) -> bool
     ensures { result ≡ list_any is_help_word (map string_bytes words.now) }
 {
@@ -47,14 +48,15 @@ fn has_help_word(words: &[String]) -> bool
     false
 }
 
-/// Whether this argument may request help or the version.
+/// Whether this argument may request help or the version. `has_help_word` calls it.
 fn is_help_word(word: &str) -> bool
     ensures { result ≡ is_help_word word.now }
 {
     word == "help" || word == "--help" || word == "-h" || word == "--version" || word == "-V"
 }
 
-/// Returns the text of an error of `clap`, if it is help or the version. Returns `None` for arguments that `clap` refuses.
+/// Returns the text of an error of `clap`, if it is help or the version. Returns `None` for arguments that `clap` refuses. `requested_help`
+/// calls it.
 fn error_help_text(alloc: Global, error: &Error) -> Result<Option<String>, ArgumentsFault>
     ensures asked { IfOk result (λ text. IfSome text (λ _. is_help_kind (kind_of error.now) ≡ true)) }
     ensures missed { result ≡ Ok None → is_help_kind (kind_of error.now) ≡ false }

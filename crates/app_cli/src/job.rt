@@ -93,7 +93,8 @@ pub fn parse_job(alloc: Global, words: &[String]) -> Result<Command, ArgumentsFa
     }
 }
 
-/// Returns the command that `matches` names, with its values from `clap`. At least one argument is required.
+/// Returns the command that `matches` names, with its values from `clap`. At least one argument is required. `parse_job` and
+/// `request_by_matches` call it.
 pub(crate) fn job_by_matches(
     alloc: Global,
     words: &[String],
@@ -112,7 +113,7 @@ pub(crate) fn job_by_matches(
     }
 }
 
-/// Returns the requested command, by its name and its values.
+/// Returns the requested command, by its name and its values. `job_by_matches` calls it.
 fn job_by_command(
     alloc: Global,
     words: &[String],
@@ -217,7 +218,7 @@ fn run_job(alloc: Global, values: &ArgMatches) -> Result<Command, ArgumentsFault
     })
 }
 
-/// Returns the command `picture` with the values that `clap` found.
+/// Returns the command `picture` with the values that `clap` found. `job_by_command` calls it.
 fn picture_job(alloc: Global, values: &ArgMatches) -> Result<Command, ArgumentsFault>
     ensures ok { IfOk result (IsPictureJob (rows_of (found_of values.now))) }
     ensures room { IfOk result HasRoom }
@@ -269,7 +270,7 @@ fn network_job(alloc: Global, values: &ArgMatches) -> Result<Command, ArgumentsF
 }
 
 /// Returns the command `net check` with these values, which lack an output folder. Fails with `Words` if the first argument isn't `check`,
-/// or for a picture.
+/// or for a picture. `network_job` calls it.
 fn network_check_job(alloc: Global, values: &ArgMatches) -> Result<Command, ArgumentsFault>
     requires { first_of (codes "output") (rows_of (found_of values.now)) ≡ None }
     ensures ok { IfOk result (IsNetworkJob (rows_of (found_of values.now))) }
@@ -292,7 +293,7 @@ fn network_check_job(alloc: Global, values: &ArgMatches) -> Result<Command, Argu
     }
 }
 
-/// Returns the command `net` with these values: a network run into the folder `to_folder`.
+/// Returns the command `net` with these values: a network run into the folder `to_folder`. `network_job` calls it.
 fn network_run_job(
     alloc: Global,
     values: &ArgMatches,

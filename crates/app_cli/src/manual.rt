@@ -16,7 +16,7 @@ pub fn help_text(alloc: Global) -> Result<String, ArgumentsFault>
     Ok(manual)
 }
 
-/// Appends the help of each command to `manual`, each after an empty line.
+/// Appends the help of each command to `manual`, each after an empty line. `help_text` calls it.
 fn push_command_help(alloc: Global, manual: &mut String) -> Result<(), ArgumentsFault>
     ensures { IfErr result (λ fault. fault ≡ ArgumentsFault.NoMemory) }
 {
@@ -50,7 +50,7 @@ fn push_line(manual: &mut String, words: &[String]) -> Result<(), AllocError> {
     manual.push_str("\n")
 }
 
-/// Returns owned copies of these arguments: `requested_help` takes arguments as the program gets them.
+/// Returns owned copies of these arguments: `requested_help` takes arguments as the program gets them. `push_help` calls it.
 fn copy_words(alloc: Global, line: &[&str]) -> Result<Vec<String>, AllocError>
     ensures { IfOk result (λ words. map string_bytes words.items ≡ map (λ word. word.now) line.now) }
 {

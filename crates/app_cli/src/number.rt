@@ -23,7 +23,7 @@ fn parse_number(word: &str) -> Option<u32>
     }
 }
 
-/// Reads a queue capacity from decimal digits: 1 to 4,096 frames. Returns `None` for other arguments.
+/// Reads a queue capacity from decimal digits: 1 to 4,096 frames. Returns `None` for other arguments. `wire_job` calls it.
 pub fn parse_room(word: &str) -> Option<u16>
     ensures { SomeIff result (IsRoom word.now) (digits_value 10 word.now) }
 {
@@ -47,7 +47,7 @@ pub fn parse_speed(word: &str) -> Option<Speed>
     }
 }
 
-/// Reads a time in ns from decimal digits: below 4 * 10^18. Returns `None` for other arguments.
+/// Reads a time in ns from decimal digits: below 4 * 10^18. Returns `None` for other arguments. `optional_time` calls it.
 pub fn parse_time(word: &str) -> Option<u64>
     ensures { SomeIff result (IsMoment word.now) (digits_value 10 word.now) }
 {
@@ -60,7 +60,7 @@ pub fn parse_time(word: &str) -> Option<u64>
     }
 }
 
-/// Whether an argument is a list of numbers below 2^32, separated by commas.
+/// Whether an argument is a list of numbers below 2^32, separated by commas. `has_valid_list` calls it.
 pub(crate) fn is_number_list(word: &str) -> bool {
     for part in word.split(',') {
         if parse_number(part).is_none() {
@@ -70,7 +70,8 @@ pub(crate) fn is_number_list(word: &str) -> bool {
     true
 }
 
-/// Returns the numbers of a list separated by commas. Skips parts that aren't numbers below 2^32.
+/// Returns the numbers of a list separated by commas. Skips parts that aren't numbers below 2^32. `parse_numbers` of `app_commands` calls
+/// it.
 pub fn parse_number_list(alloc: Global, list: &str) -> Result<Vec<u32>, AllocError> {
     let mut numbers = Vec::new(alloc);
     for part in list.split(',') {

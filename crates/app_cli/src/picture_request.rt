@@ -50,6 +50,7 @@ pub fn parse_picture_request(
 }
 
 /// Returns the requested picture, by the values that `clap` found. Returns `None` for commands without picture options.
+/// `parse_picture_request` and `request_by_matches` call it.
 pub(crate) fn picture_by_matches(
     alloc: Global,
     words: &[String],
@@ -73,7 +74,7 @@ pub(crate) fn picture_by_matches(
     Ok(None)
 }
 
-/// Whether the values name no part of a run or plan: no time, port or filter.
+/// Whether the values name no part of a run or plan: no time, port or filter. `run_picture` and `plan_picture` call it.
 fn has_no_selection(values: &ArgMatches) -> bool
     ensures { IsTrue result ↔ HasNoPart (rows_of (found_of values.now)) }
 {
@@ -88,6 +89,7 @@ fn has_no_selection(values: &ArgMatches) -> bool
 }
 
 /// Returns the requested picture of a run, or `None` without `--picture`. Fails with `Words` if a part but no picture is requested.
+/// `picture_by_matches` calls it.
 fn run_picture(alloc: Global, values: &ArgMatches) -> Result<Option<PictureRequest>, ArgumentsFault>
     ensures ok { IfOk result (AsksForSketch (rows_of (found_of values.now))) }
     ensures words { result ≡ Err ArgumentsFault.Words → ¬ HasNoPart (rows_of (found_of values.now)) }
@@ -124,7 +126,8 @@ fn plan_picture(
     }
 }
 
-/// Returns the picture with the options that `clap` found. `path` is the value of argument `name`, the picture's file.
+/// Returns the picture with the options that `clap` found. `path` is the value of argument `name`, the picture's file. `run_picture` and
+/// `plan_picture` call it.
 fn read_picture_options(
     alloc: Global,
     values: &ArgMatches,
@@ -167,7 +170,7 @@ fn read_picture_options(
     })
 }
 
-/// Whether option `name` is absent or a list of numbers.
+/// Whether option `name` is absent or a list of numbers. `read_picture_options` calls it.
 fn has_valid_list(values: &ArgMatches, name: &str) -> bool
     ensures { result ≡ false → first_of name.now (rows_of (found_of values.now)) ≢ None }
 {
@@ -177,7 +180,8 @@ fn has_valid_list(values: &ArgMatches, name: &str) -> bool
     }
 }
 
-/// Returns the time of option `name`: `Some(None)` if the option is absent, `None` if its value is no time.
+/// Returns the time of option `name`: `Some(None)` if the option is absent, `None` if its value is no time. `read_picture_options` calls
+/// it.
 fn optional_time(values: &ArgMatches, name: &str) -> Option<Option<u64>>
     ensures bound { (bound : _) → result ≡ Some bound
         → IsBound (first_of name.now (rows_of (found_of values.now))) bound }
@@ -192,7 +196,7 @@ fn optional_time(values: &ArgMatches, name: &str) -> Option<Option<u64>>
     }
 }
 
-/// Whether `from` is before `to`. Returns true if one of them is absent.
+/// Whether `from` is before `to`. Returns true if one of them is absent. `read_picture_options` calls it.
 fn are_in_order(from: Option<u64>, to: Option<u64>) -> bool
     ensures order { IsTrue result → AreInOrder from to }
     ensures given { result ≡ false → from ≢ None }

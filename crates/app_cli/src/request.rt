@@ -34,7 +34,7 @@ pub struct Request {
 }
 
 /// Parses the arguments after the program's name once: the requested command, picture, tables and flags. Fails with `Words` if one of them
-/// is invalid.
+/// is invalid. `perform_request` of `app_networks` calls it.
 #[tactic(auto, using(crate::proofs::Parsed::none_named))]
 pub fn parse_request(alloc: Global, words: &[String]) -> Result<Request, ArgumentsFault>
     ensures job { IfOk result (λ r. AsksFor (map string_bytes words.now) r.job) }
@@ -71,7 +71,7 @@ pub fn parse_request(alloc: Global, words: &[String]) -> Result<Request, Argumen
     }
 }
 
-/// Returns the request with everything that `clap` found. At least one argument is required.
+/// Returns the request with everything that `clap` found. At least one argument is required. `parse_request` calls it.
 fn request_by_matches(
     alloc: Global,
     words: &[String],
@@ -123,7 +123,8 @@ fn request_by_matches(
     }
 }
 
-/// Whether `--explain` is among the arguments before the first `--`. After `--`, `clap` accepts no options.
+/// Whether `--explain` is among the arguments before the first `--`. After `--`, `clap` accepts no options. `request_by_matches` and
+/// `report_words` of `app_commands` call it.
 pub fn wants_explanation(words: &[String]) -> bool
     ensures { result ≡ explains (map string_bytes words.now) }
 {
@@ -131,13 +132,15 @@ pub fn wants_explanation(words: &[String]) -> bool
 }
 
 /// Whether `--strict` is among the arguments before the first `--`. It makes warnings about accepted plans and networks errors.
+/// `request_by_matches` calls it.
 pub fn wants_strictness(words: &[String]) -> bool
     ensures { result ≡ is_strict (map string_bytes words.now) }
 {
     has_flag(words, "--strict")
 }
 
-/// Whether `flag` is among the arguments before the first `--`. It also finds flags in arguments that `clap` refuses.
+/// Whether `flag` is among the arguments before the first `--`. It also finds flags in arguments that `clap` refuses. `wants_explanation`
+/// and `wants_strictness` call it.
 fn has_flag(words: &[String], flag: &str) -> bool
     ensures { result ≡ has_flag flag.now (map string_bytes words.now) }
 {
@@ -152,7 +155,8 @@ fn has_flag(words: &[String], flag: &str) -> bool
     false
 }
 
-/// Returns the arguments after the program's name. Refuses an argument that isn't UTF-8 with `Words`, because no command has it.
+/// Returns the arguments after the program's name. Refuses an argument that isn't UTF-8 with `Words`, because no command has it. `main` of
+/// `tsnbridge` calls it.
 pub fn read_arguments(rt: &(impl AllocGlobal + Env)) -> Result<Vec<String>, ArgumentsFault> {
     let words = match env::args(rt) {
         Ok(words) => words,

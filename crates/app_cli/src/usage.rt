@@ -27,7 +27,7 @@ fn count_operands(words: &[Argument]) -> usize {
     count
 }
 
-/// Returns the usage of a command, from the table of commands.
+/// Returns the usage of a command, from the table of commands. `find_usage` calls it.
 fn usage_of_command(command: &'static Description) -> Usage {
     Usage {
         name: command.name,
@@ -37,7 +37,8 @@ fn usage_of_command(command: &'static Description) -> Usage {
     }
 }
 
-/// Returns the usage of the command with this name, or `None` if there is no such command.
+/// Returns the usage of the command with this name, or `None` if there is no such command. `put_usage` and `put_command_refusal` of
+/// `show_explain` call it.
 pub fn find_usage(name: &str) -> Option<Usage> {
     for place in 0..COMMANDS {
         if let Some(command) = command_description(place) {
@@ -49,7 +50,7 @@ pub fn find_usage(name: &str) -> Option<Usage> {
     None
 }
 
-/// Returns the names of the commands, sorted, for the search of the nearest name.
+/// Returns the names of the commands, sorted, for the search of the nearest name. `put_usages` of `show_explain` calls it.
 pub fn command_names(alloc: Global) -> Result<Vec<&'static str>, AllocError> {
     let mut names = Vec::new(alloc);
     for place in 0..COMMANDS {
@@ -61,17 +62,18 @@ pub fn command_names(alloc: Global) -> Result<Vec<&'static str>, AllocError> {
     Ok(names)
 }
 
-/// Whether an argument is an option, with or without value.
+/// Whether an argument is an option, with or without value. `is_option_named` and `push_options` call it.
 fn is_option(word: &Argument) -> bool {
     matches!(word.form, Form::Choice | Form::Flag)
 }
 
-/// Whether an argument is the option with this name.
+/// Whether an argument is the option with this name. `find_option` calls it.
 fn is_option_named(word: &Argument, name: &str) -> bool {
     is_option(word) & (word.id == name)
 }
 
 /// Returns whether option `name` of a command with arguments `words` has a value. Returns `None` if the command lacks the option.
+/// `has_value` calls it.
 fn find_option(words: &[Argument], name: &str) -> Option<bool> {
     for word in words {
         if is_option_named(word, name) {
@@ -81,7 +83,8 @@ fn find_option(words: &[Argument], name: &str) -> Option<bool> {
     None
 }
 
-/// Returns whether option `name`, without its `--`, has a value. Returns `None` if no command has the option.
+/// Returns whether option `name`, without its `--`, has a value. Returns `None` if no command has the option. `has_option_value` and
+/// `count_operands` of `show_explain` call it.
 pub fn has_value(name: &str) -> Option<bool> {
     for place in 0..COMMANDS {
         if let Some(command) = command_description(place) {
@@ -94,7 +97,8 @@ pub fn has_value(name: &str) -> Option<bool> {
     None
 }
 
-/// Appends to `names` the name of each option in `words` that isn't in `names` yet: several commands can have one option.
+/// Appends to `names` the name of each option in `words` that isn't in `names` yet: several commands can have one option. `option_names`
+/// calls it.
 fn push_options(
     names: &mut Vec<&'static str>,
     words: &'static [Argument],
@@ -107,7 +111,8 @@ fn push_options(
     Ok(())
 }
 
-/// Returns the names of all commands' options, without `--`, sorted, for the search of the nearest name.
+/// Returns the names of all commands' options, without `--`, sorted, for the search of the nearest name. `put_unknown_option` of
+/// `show_explain` calls it.
 pub fn option_names(alloc: Global) -> Result<Vec<&'static str>, AllocError> {
     let mut names = Vec::new(alloc);
     for place in 0..COMMANDS {

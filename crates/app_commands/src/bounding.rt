@@ -9,6 +9,7 @@ use show_lint::{Warning, put_warning};
 use std::alloc::Global;
 
 /// Returns the warning of an accepted plan without a protected or grouped filter, which has no delay bound. Returns `None` for other plans.
+/// `plan_warnings` of `app_networks` calls it.
 pub fn unprotected_warning(
     alloc: Global,
     accepted: &Accepted<Global>,

@@ -18,7 +18,8 @@ pub struct StoppedRun<W> {
 
 /// Sends a reader's capture through one queue of `room` frames (1 to 4,096) into a writer, and returns the flushed writer.
 ///
-/// Reads and writes blocks of 131,072 octets. Flushes the writer even after a fault; a failed flush replaces that fault.
+/// Reads and writes blocks of 131,072 octets. Flushes the writer even after a fault; a failed flush replaces that fault. `wire_job` calls
+/// it.
 pub fn wire_capture<R: Read + Drop, W: Write + Drop, A: Allocator + Copy>(
     alloc: A,
     speed: Speed,

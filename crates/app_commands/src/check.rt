@@ -31,7 +31,7 @@ pub struct CheckedPlan {
 
 /// Checks the plan at path `plan`, or on standard input for `-`. The status is 1 if warnings are errors and the plan has one.
 ///
-/// Reads the plan once, so it may be a pipe. Keeps its text in `texts`.
+/// Reads the plan once, so it may be a pipe. Keeps its text in `texts`. `run_request` of `app_networks` calls it.
 pub fn check_plan<H: Input + AllocGlobal + Files>(
     files: &mut CommandFiles<'_, H>,
     plan: &str,
@@ -63,7 +63,8 @@ pub fn check_plan<H: Input + AllocGlobal + Files>(
     }
 }
 
-/// Checks the plan in `text`, and returns its line and notes. A refused plan is a fault; a fault of reading names `path`.
+/// Checks the plan in `text`, and returns its line and notes. A refused plan is a fault; a fault of reading names `path`. `check_plan`
+/// calls it.
 fn check_text(alloc: Global, path: &str, text: &[u8], flags: Flags) -> Result<CheckedPlan, Failure>
     ensures ok { IfOk result (λ checked. PrintsAccepted Global text.now (string_bytes checked.line)) }
     ensures notes { IfOk result (λ checked. AreNotes flags.is_strict flags.is_explained (string_bytes checked.notes)
@@ -82,7 +83,8 @@ fn check_text(alloc: Global, path: &str, text: &[u8], flags: Flags) -> Result<Ch
     }
 }
 
-/// Returns the line and the notes of an accepted plan. `text` is the plan's text, in which positions for warnings are found.
+/// Returns the line and the notes of an accepted plan. `text` is the plan's text, in which positions for warnings are found. `check_text`
+/// calls it.
 fn check_of_accepted(
     alloc: Global,
     accepted: &Accepted<Global>,
@@ -104,6 +106,8 @@ fn check_of_accepted(
 }
 
 /// Returns the exit status of a command that has done its work: 0 if `is_well` is true, 1 if a warning or a loss is an error.
+///
+/// `check_plan`, and `bounds_output` and `output_of_check` of `app_networks` call it.
 pub fn status_if(is_well: bool) -> u8
     ensures { result ≡ status_if is_well }
 {

@@ -22,7 +22,7 @@ use std::rt::Files;
 const FRONT: u64 = 64;
 
 /// Explains why arguments, hexadecimal text, or standard input and output failed. Returns `None` for other faults without a file, or if
-/// memory runs out.
+/// memory runs out. `report_words` and `explain_failure` of `app_networks` call it.
 pub fn explain_words_fault(alloc: Global, words: &[String], fault: &Failure) -> Option<String> {
     match fault {
         Failure::Words => explain_arguments(alloc, words).ok(),
@@ -44,7 +44,7 @@ pub fn explain_file_fault(alloc: Global, fault: &Failure) -> Option<String> {
 }
 
 /// Explains why the file at `path` failed. Escapes control characters in the path, so that it has one line. Returns `None` if memory runs
-/// out.
+/// out. `explain_file_fault` and `explain_unread` of `app_networks` call it.
 pub fn explain_file_cause(alloc: Global, path: &str, cause: Cause) -> Option<String> {
     let shown = escape_text(alloc, path).ok()?;
     explain_file(alloc, shown.as_str(), cause).ok()
@@ -66,7 +66,7 @@ pub fn explain_plan_fault(
 }
 
 /// Explains why a plan doesn't isolate a protected filter. Reads the plan's text again, because the fault has no plan. Returns `None` if
-/// memory runs out.
+/// memory runs out. `explain_plan_fault` calls it.
 fn explain_check_fault(
     alloc: Global,
     path: &str,
@@ -82,7 +82,7 @@ fn explain_check_fault(
 }
 
 /// Explains why the command `run` failed, by the texts that it has read. Returns `None` if memory runs out or a capture can't be read
-/// again.
+/// again. `explain_failure` of `app_networks` calls it.
 pub fn explain_run_fault(
     rt: &(impl AllocGlobal + Files),
     job: &RunRequest<'_>,
@@ -118,7 +118,7 @@ fn explain_stopped_run(
     explain_captures(rt, read.as_str(), written.as_str(), fault)
 }
 
-/// Explains why the command `wire` failed, by the paths of its captures.
+/// Explains why the command `wire` failed, by the paths of its captures. `explain_failure` of `app_networks` calls it.
 pub fn explain_wire_fault(
     rt: &(impl AllocGlobal + Files),
     read: &str,
@@ -133,6 +133,7 @@ pub fn explain_wire_fault(
 }
 
 /// Explains why a run stopped, by the path of an input or an output capture. The fault decides which of the two the explanation names.
+/// `explain_stopped_run` and `explain_wire_fault` call it.
 fn explain_captures(
     rt: &(impl AllocGlobal + Files),
     read: &str,
@@ -147,14 +148,14 @@ fn explain_captures(
 }
 
 /// Explains why the capture at `path` is refused, by reading it again. Returns `None` if this reading finds no fault, or if the path leads
-/// to no regular file.
+/// to no regular file. `explain_refused_capture` of `app_networks` calls it.
 pub fn explain_capture_file(rt: &(impl AllocGlobal + Files), path: &str) -> Option<String> {
     let fault = capture_fault(rt, path)?;
     explain_capture(rt, path, &RunFault::Capture { port: 1, fault })
 }
 
 /// Returns the fault of the capture at `path`, found by reading it whole. Returns `None` if it has none, isn't a regular file, or can't be
-/// read.
+/// read. `explain_capture_file` calls it.
 fn capture_fault<H: AllocGlobal + Files>(rt: &H, path: &str) -> Option<CaptureFault> {
     if !fs::metadata(rt, path).ok()?.is_file() {
         return None;
@@ -198,7 +199,7 @@ fn explain_capture(
 }
 
 /// Returns warnings about an accepted plan, its capture folder, and changes and commands after the last frame. `idle` is the line of a
-/// schedule change without effect. `None` if memory runs out.
+/// schedule change without effect. `None` if memory runs out. `run_warnings` calls it.
 pub(crate) fn warnings_of_run<H: AllocGlobal + Files>(
     rt: &H,
     accepted: &Accepted<Global>,

@@ -25,7 +25,7 @@ const STANDARD_INPUT: &str = "/dev/stdin";
 /// Sends one capture through one queue of `room` frames (1 to 4,096). `-` stands for standard input or output.
 ///
 /// Refuses an output that is the input file. The output keeps its contents until the first read succeeds. If `is_watched`, a long run shows
-/// its progress.
+/// its progress. `send_capture` calls it.
 pub fn wire_files<H: Input + AllocGlobal + Clock + Print + Eprint + Files>(
     rt: &H,
     speed: Speed,
@@ -65,7 +65,7 @@ pub fn wire_files<H: Input + AllocGlobal + Clock + Print + Eprint + Files>(
 }
 
 /// Sends a reader's capture to the file at `output` or to standard output. Refuses an output that is `file`, the reader's own file. `file`
-/// is `None` if the system can't identify it.
+/// is `None` if the system can't identify it. `wire_files` calls it.
 fn wire_to_output<R: Read + Drop, H: AllocGlobal + Print + Files>(
     rt: &H,
     speed: Speed,
@@ -103,7 +103,7 @@ fn wire_to_output<R: Read + Drop, H: AllocGlobal + Print + Files>(
 }
 
 /// Sends a reader's capture through one queue of `room` frames into `writer`. `output` is the path in faults; `-` sends the counts to
-/// standard error. Contracts name the returned writer's contents.
+/// standard error. Contracts name the returned writer's contents. `wire_to_output` calls it.
 pub fn wire_streams<R: Read + Drop, W: Write + Drop>(
     alloc: Global,
     speed: Speed,
@@ -126,7 +126,7 @@ pub fn wire_streams<R: Read + Drop, W: Write + Drop>(
     }
 }
 
-/// Returns the line of counts as a message. It goes to standard error if the capture goes to standard output.
+/// Returns the line of counts as a message. It goes to standard error if the capture goes to standard output. `wire_streams` calls it.
 fn summary_output(line: String, output: &str) -> Said
     ensures line { line_of result ≡ string_bytes line }
     ensures place { IsTrue (is_noted result) ↔ IsStandard output.now }
@@ -139,6 +139,7 @@ fn summary_output(line: String, output: &str) -> Said
 }
 
 /// Returns the program's fault after a run. A failed write to standard output becomes a fault of the file `-`, because it has no port.
+/// `wire_streams` calls it.
 fn output_fault(alloc: Global, fault: Failure, output: &str) -> Failure
     ensures over { (input : List ℕ) → EndsWire input fault → EndsOver output.now input result }
     ensures only { IsOfRun fault → EndsInto output.now result }

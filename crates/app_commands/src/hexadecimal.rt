@@ -20,7 +20,7 @@ use std::alloc::Allocator;
 const ROOM: u16 = 4;
 
 /// Sends a capture in hexadecimal text through one queue of 4 frames at 1,000 Mb/s. Returns the output capture as lower-case hexadecimal
-/// text, one line for the header and each record.
+/// text, one line for the header and each record. `text_job` calls it.
 pub fn wire_text<A: Allocator + Copy>(alloc: A, text: &[u8]) -> Result<String<A>, TextFault>
     ensures ok { IfOk result (λ lines. (octets : List ℕ) × (spelled_octets text.now ≡ Ok octets)
         × IsTextRun octets (string_bytes lines)) }

@@ -92,7 +92,7 @@ fn write_outputs<H: AllocGlobal + Files>(
     write_run_picture(files, accepted, outcome, job, flags)
 }
 
-/// Writes the requested picture of a run, if any, and returns the run's lines.
+/// Writes the requested picture of a run, if any, and returns the run's lines. `write_outputs` calls it.
 fn write_run_picture<H: AllocGlobal + Files>(
     files: &mut CommandFiles<'_, H>,
     accepted: &Accepted<Global>,

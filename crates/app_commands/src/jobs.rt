@@ -17,7 +17,7 @@ use std::io::{Read, Write};
 /// cut.
 const MOST_INPUT: u64 = 4_194_305;
 
-/// Reads hexadecimal text from a reader, sends its capture through one queue, and returns the output capture as text.
+/// Reads hexadecimal text from a reader, sends its capture through one queue, and returns the output capture as text. `send_text` calls it.
 pub fn text_job<R: Read + Drop>(alloc: Global, reader: R) -> Result<String, Failure>
     ensures ok { (input : List ℕ) → R.remaining reader ≡ Some input
         → IfOk result (λ lines. PrintsText input (string_bytes lines)) }

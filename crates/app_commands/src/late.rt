@@ -30,6 +30,7 @@ fn count_frames(outcome: &Outcome<Global>) -> u64 {
 }
 
 /// Returns the times of the last arrival and departure; `None` if a frame's time is unknown, because unfiltered frames have no record.
+/// `write_run_picture` calls it.
 pub(crate) fn last_frame(outcome: &Outcome<Global>) -> Option<Last> {
     let mut last = Last { came: 0, left: 0 };
     let mut frames = 0u64;

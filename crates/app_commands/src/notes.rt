@@ -10,6 +10,8 @@ use std::alloc::Global;
 
 /// Returns the text for standard error about an accepted plan, and whether the plan has a warning. The text is the explanation if
 /// requested, otherwise the warnings if warnings are errors.
+///
+/// `check_of_accepted` and `send_strictly` call it.
 pub(crate) fn plan_notes(
     alloc: Global,
     accepted: &Accepted<Global>,
@@ -31,6 +33,7 @@ pub(crate) fn plan_notes(
 }
 
 /// Returns the line of a schedule change without effect, or `None`. Searches only if warnings are errors or an explanation is requested.
+/// `check_of_accepted` and `run_job` call it.
 pub(crate) fn idle_line(text: &[u8], accepted: &Accepted<Global>, flags: Flags) -> Option<usize> {
     if flags.is_strict || flags.is_explained {
         idle_change(text, accepted.plan())

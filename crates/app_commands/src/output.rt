@@ -19,7 +19,7 @@ pub struct Output {
 
 /// Returns the output of a failure: its fault line and the explanation for standard error, and its exit status.
 ///
-/// If memory for the explanation runs out, the output has none.
+/// If memory for the explanation runs out, the output has none. `report_words` and `report_failure` of `app_networks` call it.
 pub fn report_fault(
     alloc: Global,
     fault: &Failure,
@@ -38,6 +38,7 @@ pub fn report_fault(
 }
 
 /// Returns a line with its line feed, followed by the explanation if there is one. If memory for the explanation runs out, it is left out.
+/// `report_fault` calls it.
 fn with_explanation(line: String, explanation: Option<String>) -> Result<String, NoMemory>
     ensures { IfOk result (λ text. HasLine (string_bytes line) explanation (string_bytes text)) }
 {

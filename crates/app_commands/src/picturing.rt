@@ -46,7 +46,7 @@ pub(crate) fn plan_picture<H: AllocGlobal + Files>(
 }
 
 /// Returns the picture of a checked plan, or of a requested part. Draws refused plans too. Returns `None` if memory runs out, also in the
-/// check.
+/// check. `plan_picture` calls it.
 fn draw_checked(
     alloc: Global,
     checked: &Result<Accepted<Global>, Refused<Global>>,
@@ -75,7 +75,7 @@ const WHOLE: Selection<'static> = Selection {
     filters: &[],
 };
 
-/// Returns the picture of a requested part of a plan: a time, and ports.
+/// Returns the picture of a requested part of a plan: a time, and ports. `draw_checked` calls it.
 fn draw_selected_plan(
     alloc: Global,
     checked: &Result<Accepted<Global>, Refused<Global>>,
@@ -91,7 +91,7 @@ fn draw_selected_plan(
     draw_plan(alloc, checked, &part)
 }
 
-/// Returns the picture of a requested part of a run: a time, ports and filters.
+/// Returns the picture of a requested part of a run: a time, ports and filters. `put_run_picture` calls it.
 fn draw_selected_run(
     alloc: Global,
     accepted: &Accepted<Global>,
@@ -110,6 +110,7 @@ fn draw_selected_run(
 }
 
 /// Returns the numbers of an optional list of ports or filters. An absent list gives the empty list, which stands for all.
+/// `draw_selected_plan` and `draw_selected_run` call it.
 fn parse_numbers(alloc: Global, list: &Option<String>) -> Result<Vec<u32>, NoMemory> {
     match list {
         Some(list) => Ok(parse_number_list(alloc, list.as_str())?),

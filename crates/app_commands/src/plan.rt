@@ -9,7 +9,7 @@ use std::alloc::Global;
 use std::fs;
 use std::rt::Files;
 
-/// Reads the text of the plan at path `plan`, or from standard input for `-`.
+/// Reads the text of the plan at path `plan`, or from standard input for `-`. `check_plan` calls it.
 pub fn read_plan_text<H: Input + AllocGlobal + Files>(
     files: &mut CommandFiles<'_, H>,
     plan: &str,
@@ -28,7 +28,7 @@ pub fn read_plan_text<H: Input + AllocGlobal + Files>(
     }
 }
 
-/// Returns the program's fault for standard input that can't be read.
+/// Returns the program's fault for standard input that can't be read. `text_job` and `read_plan_text` call it.
 pub(crate) fn input_fault(alloc: Global, fault: ReadFault) -> Failure
     ensures { IsFileFault (codes "-") result }
 {
@@ -40,6 +40,8 @@ pub(crate) fn input_fault(alloc: Global, fault: ReadFault) -> Failure
 
 /// Whether the file at `path` is a network: a line begins with `[[bridge]]`. The command `picture` draws plans and networks. Returns false
 /// for a pipe, which can't be read twice.
+///
+/// `explain_picture_fault` and `draw` of `app_networks` call it.
 pub fn is_network<H: AllocGlobal + Files>(rt: &H, path: &str) -> bool {
     if !is_file(rt, path) {
         return false;

@@ -16,7 +16,7 @@ use std::io::Write;
 use std::process::ExitCode;
 
 /// Prints the text for standard output, and returns `output`. If printing fails, returns an output that reports this failure on standard
-/// error.
+/// error. `run` of `tsnbridge` calls it.
 pub fn put_stdout(
     rt: &(impl AllocGlobal + Print),
     words: &[String],
@@ -30,7 +30,8 @@ pub fn put_stdout(
     }
 }
 
-/// Writes the text for standard output to a writer. If the writer fails, returns the output of that failure and `None`.
+/// Writes the text for standard output to a writer. If the writer fails, returns the output of that failure and `None`. `put_stdout` calls
+/// it.
 fn write_stdout_text<W: Write + Drop>(
     alloc: Global,
     writer: W,
@@ -49,7 +50,7 @@ fn write_stdout_text<W: Write + Drop>(
     }
 }
 
-/// Writes a text to a writer, and returns the flushed writer.
+/// Writes a text to a writer, and returns the flushed writer. `write_stdout_text` calls it.
 fn write_text<W: Write + Drop>(writer: W, text: &str) -> io::Result<W>
     ensures { IfOk result (λ done. Appends (W.contents writer) (W.contents done) text.now) }
 {
@@ -60,6 +61,7 @@ fn write_text<W: Write + Drop>(writer: W, text: &str) -> io::Result<W>
 }
 
 /// Returns the output for refused arguments, or for a standard output that failed. The arguments say whether an explanation is requested.
+/// `write_stdout_text`, and `perform` and `perform_request` of `app_networks` call it.
 pub fn report_words(alloc: Global, words: &[String], fault: &Failure) -> Result<Output, NoMemory>
     ensures { IfOk result (Reports (explains (map string_bytes words.now)) fault.now) }
 {
@@ -88,7 +90,8 @@ pub fn tell(rt: &impl Eprint, output: Result<Output, NoMemory>) -> ExitCode
     }
 }
 
-/// Returns the program's fault for refused arguments, or for memory that ran out while they were read.
+/// Returns the program's fault for refused arguments, or for memory that ran out while they were read. `perform` and `perform_request` of
+/// `app_networks`, and `main` of `tsnbridge` call it.
 pub fn words_failure(fault: ArgumentsFault) -> Failure
     ensures { result ≡ of_words_fault fault }
 {

@@ -94,7 +94,7 @@ impl<'a, H: Clock + Eprint> Progress<'a, H> {
         let _ = eprint!(self.rt; "\r{frames} frames, {share} % of the input, {left} s left\x1b[K");
     }
 
-    /// Returns the seconds until the end, if the rest of the input takes as long for each octet as the octets before.
+    /// Returns the seconds until the end, if the rest of the input takes as long for each octet as the octets before. `show` calls it.
     fn seconds_left(&self, start: Instant, read: u64) -> u64 {
         let Ok(now) = Instant::now(self.rt) else {
             return 0;
@@ -138,7 +138,8 @@ impl RecordCounter {
         }
     }
 
-    /// Returns the captured length in octets that the four octets `word` of a record's header encode.
+    /// Returns the captured length in octets that the four octets `word` of a record's header encode. `pass_part` and `pass_header_octet`
+    /// call it.
     fn captured_length(&self, word: [u8; 4]) -> u64 {
         if self.is_big == Some(true) {
             u32::from_be_bytes(word) as u64
@@ -148,7 +149,7 @@ impl RecordCounter {
     }
 
     /// Skips a part of `octets`: the rest of a record, a whole header, or one octet of a cut header. Returns the octets after it, and
-    /// whether a header ended there.
+    /// whether a header ended there. `count` calls it.
     fn pass_part<'b>(&mut self, octets: &'b [u8]) -> (&'b [u8], bool)
         requires { 0 < length octets.now }
         ensures { length result.0.now < length octets.entry.now }
@@ -165,7 +166,7 @@ impl RecordCounter {
         (&octets[1..], self.pass_header_octet(octets[0]))
     }
 
-    /// Reads one octet of a header that a block's end cut. Returns whether the header ends there.
+    /// Reads one octet of a header that a block's end cut. Returns whether the header ends there. `pass_part` calls it.
     fn pass_header_octet(&mut self, octet: u8) -> bool {
         if self.seen >= 8 && self.seen < 12 {
             self.word[self.seen - 8] = octet;
@@ -235,7 +236,7 @@ impl<R: Read, H: Clock + Eprint> Read for WatchedReader<'_, R, H> {
 }
 
 /// Wraps each capture's reader in a `WatchedReader`, in list order. Then one progress line counts the octets of all inputs of the command
-/// `run`.
+/// `run`. `run_watched` calls it.
 pub(crate) fn watched_readers<'a, R: Read + Drop, H: Clock + Eprint>(
     alloc: Global,
     readers: Vec<R>,
@@ -250,7 +251,7 @@ pub(crate) fn watched_readers<'a, R: Read + Drop, H: Clock + Eprint>(
     Ok(watched)
 }
 
-/// Returns the number of octets in an open file, or `None` for a pipe or a device.
+/// Returns the number of octets in an open file, or `None` for a pipe or a device. `input_octets` and `all_input_octets` call it.
 fn file_octets(file: &impl OpenFile) -> Option<u64> {
     match file.metadata() {
         Ok(metadata) if metadata.is_file() => Some(metadata.len()),
@@ -258,12 +259,12 @@ fn file_octets(file: &impl OpenFile) -> Option<u64> {
     }
 }
 
-/// Returns the number of octets of one input, or 0 if it is unknown.
+/// Returns the number of octets of one input, or 0 if it is unknown. `wire_files` calls it.
 pub(crate) fn input_octets(file: &impl OpenFile) -> u64 {
     file_octets(file).unwrap_or(0)
 }
 
-/// Returns the number of octets of all inputs, or 0 if one of them is unknown.
+/// Returns the number of octets of all inputs, or 0 if one of them is unknown. `run_watched` calls it.
 pub(crate) fn all_input_octets<F: OpenFile>(files: &[F]) -> u64 {
     let mut all = 0u64;
     for file in files {

@@ -31,7 +31,8 @@ pub fn run_bridge<H: AllocGlobal + Clock + Eprint + Files>(
     }
 }
 
-/// Returns the output of a run: its line on standard output; lines about the plan and about lost frames on standard error.
+/// Returns the output of a run: its line on standard output; lines about the plan and about lost frames on standard error. `run_bridge`
+/// calls it.
 fn run_output(alloc: Global, run: StrictRun) -> Result<Output, NoMemory>
     ensures { IfOk result (IsOutputOf run) }
 {
@@ -55,7 +56,7 @@ fn run_output(alloc: Global, run: StrictRun) -> Result<Output, NoMemory>
     })
 }
 
-/// Returns a line, or the empty text if there is none.
+/// Returns a line, or the empty text if there is none. `run_output` and `output_of_run` of `app_networks` call it.
 pub fn line_or_nothing(alloc: Global, line: Option<String>) -> String
     ensures { string_bytes result ≡ line_if line }
 {

@@ -92,7 +92,7 @@ pub fn run_captures<R: Read + Drop, W: Write + Drop, A: Allocator + Copy>(
     }
 }
 
-/// Returns the port whose writer failed: writers before index `count` were flushed. Returns `None` if none failed.
+/// Returns the port whose writer failed: writers before index `count` were flushed. Returns `None` if none failed. `run_captures` calls it.
 fn failed_port(ports: &[u8], count: usize) -> Option<u8>
     ensures { result ≡ slice_get ports.now count }
 {

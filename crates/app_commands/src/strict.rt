@@ -86,7 +86,7 @@ pub(crate) fn run_job<H: AllocGlobal + Clock + Eprint + Files>(
 }
 
 /// Runs captures under an accepted plan. If warnings are errors, a plan with a warning doesn't run. `idle` is the line of a schedule change
-/// without effect.
+/// without effect. `run_job` calls it.
 fn run_accepted_captures<H: AllocGlobal + Clock + Eprint + Files>(
     files: &mut CommandFiles<'_, H>,
     accepted: &Accepted<Global>,
@@ -139,6 +139,7 @@ struct ExplanationData {
 }
 
 /// Returns the warnings of a plan and its run, if an explanation is requested. The text is empty otherwise, and if memory runs out.
+/// `run_accepted_captures` calls it.
 fn run_warnings<H: AllocGlobal + Files>(
     rt: &H,
     accepted: &Accepted<Global>,
@@ -160,6 +161,7 @@ fn run_warnings<H: AllocGlobal + Files>(
 }
 
 /// Runs captures under an accepted plan if the plan has no warning; otherwise returns the warnings. Called if warnings are errors.
+/// `run_accepted_captures` calls it.
 #[tactic(auto, using(crate::proofs::ShownEnded::memory_ends))]
 fn send_strictly<H: AllocGlobal + Clock + Eprint + Files>(
     files: &mut CommandFiles<'_, H>,

@@ -52,6 +52,7 @@ pub(crate) fn write_tables<H: AllocGlobal + Files>(
 }
 
 /// Writes the table of delays to the file at `path`, and returns the file. Does nothing if the table isn't requested (`None`).
+/// `write_tables` calls it.
 fn write_delay_table<H: AllocGlobal + Files>(
     files: &mut CommandFiles<'_, H>,
     accepted: &Accepted<Global>,
@@ -75,6 +76,7 @@ fn write_delay_table<H: AllocGlobal + Files>(
 }
 
 /// Writes the table of frames to the file at `path`, and returns the file. Does nothing if the table isn't requested (`None`).
+/// `write_tables` calls it.
 fn write_frame_table<H: AllocGlobal + Files>(
     files: &mut CommandFiles<'_, H>,
     outcome: &Outcome<Global>,

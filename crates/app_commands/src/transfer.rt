@@ -8,7 +8,7 @@ use std::alloc::Allocator;
 use std::io::{Read, Write};
 
 /// Returns the block size in octets for each of `count` readers or writers. Blocks are whole pages of a file, and together stay in the
-/// processor's caches.
+/// processor's caches. `buffered_sources` and `buffered_sinks` call it.
 fn block_size(count: usize) -> usize
     ensures some { 0 < result }
     ensures most { result ≤ 65536 }
@@ -16,7 +16,7 @@ fn block_size(count: usize) -> usize
     if count <= 8 { 65_536 } else { 32_768 }
 }
 
-/// Returns a buffered source over each reader, in list order. Whole blocks are read at once.
+/// Returns a buffered source over each reader, in list order. Whole blocks are read at once. `run_captures` calls it.
 pub fn buffered_sources<R: Read + Drop, A: Allocator + Copy>(
     alloc: A,
     readers: Vec<R, A>,
@@ -35,7 +35,7 @@ pub fn buffered_sources<R: Read + Drop, A: Allocator + Copy>(
     Ok(sources)
 }
 
-/// Returns a buffered sink over each writer, in list order. Whole blocks are written at once.
+/// Returns a buffered sink over each writer, in list order. Whole blocks are written at once. `run_captures` calls it.
 pub fn buffered_sinks<W: Write + Drop, A: Allocator + Copy>(
     alloc: A,
     writers: Vec<W, A>,
@@ -55,7 +55,7 @@ pub fn buffered_sinks<W: Write + Drop, A: Allocator + Copy>(
 }
 
 /// Flushes the sinks in list order, and returns the writers before the first that fails. Later sinks are dropped, which writes their
-/// buffers too. `flushed` is empty, with capacity for all writers.
+/// buffers too. `flushed` is empty, with capacity for all writers. `run_captures` calls it.
 pub fn finish_sinks<W: Write + Drop, A: Allocator + Copy>(
     sinks: Vec<WriteBehind<W, A>, A>,
     flushed: Vec<W, A>,

@@ -17,6 +17,8 @@ use std::rt::{Clock, Files};
 
 /// Sends a capture through a queue of `room` frames (1 to 4,096), and returns the output of `wire`. The counts go to standard error if
 /// standard output gets the capture. `is_watched` shows progress.
+///
+/// `run_request` of `app_networks` calls it.
 pub fn send_capture<H: Input + AllocGlobal + Clock + Print + Eprint + Files>(
     rt: &H,
     speed: Speed,
@@ -35,7 +37,7 @@ pub fn send_capture<H: Input + AllocGlobal + Clock + Print + Eprint + Files>(
     }
 }
 
-/// Returns the output of `wire` by its message: on standard output, or on standard error.
+/// Returns the output of `wire` by its message: on standard output, or on standard error. `send_capture` calls it.
 fn wire_output(alloc: Global, said: Said) -> Output
     ensures { (output : List ℕ) → SaysCounts output said → IsWireOutput output result }
 {
@@ -50,7 +52,7 @@ fn wire_output(alloc: Global, said: Said) -> Output
 }
 
 /// Returns the line of counts, with its line feed: frames that arrived, malformed frames, copies that left, and copies dropped by the full
-/// queue.
+/// queue. `wire_job` calls it.
 pub fn wire_line<A: Allocator + Copy>(alloc: A, count: &WireCount) -> Result<String<A>, NoMemory>
     ensures { IfOk result (λ line. string_bytes line ≡ counts_line count.now) }
 {

@@ -30,6 +30,7 @@ pub fn accepted_plan<A: Allocator + Copy>(
 }
 
 /// Accepts a plan that isolates each of its protected filters and groups. Otherwise fails with `Check` and the plan's first fault.
+/// `accepted_plan`, `read_commands_and_check` and `read_accepted_plan` call it.
 pub fn check_isolation<A: Allocator + Copy>(alloc: A, plan: Plan<A>) -> Result<Accepted<A>, Failure>
     ensures ok { IfOk result (λ accepted. (accepted ≡ plan) × (first_fault plan ≡ None)) }
     ensures err { IfErr result (RefusesCheck plan) }
@@ -40,21 +41,22 @@ pub fn check_isolation<A: Allocator + Copy>(alloc: A, plan: Plan<A>) -> Result<A
     }
 }
 
-/// Returns the number of protected filters, for the line of an accepted plan.
+/// Returns the number of protected filters, for the line of an accepted plan. `check_line` calls it.
 fn count_protected(filters: &[(u32, FilterPlan)]) -> usize
     ensures { result ≡ count_protected filters.now }
 {
     filters.iter().filter(|f| f.1.protected).count()
 }
 
-/// Returns the number of filters that have a group, for the line of an accepted plan.
+/// Returns the number of filters that have a group, for the line of an accepted plan. `check_line` calls it.
 fn count_grouped(filters: &[(u32, FilterPlan)]) -> usize
     ensures { result ≡ count_grouped filters.now }
 {
     filters.iter().filter(|f| f.1.group.is_some()).count()
 }
 
-/// Returns the line of an accepted plan with these numbers of filters. Without grouped filters, the line doesn't count them.
+/// Returns the line of an accepted plan with these numbers of filters. Without grouped filters, the line doesn't count them. `check_line`
+/// calls it.
 fn counts_line<A: Allocator + Copy>(
     alloc: A,
     protected: usize,
@@ -72,7 +74,7 @@ fn counts_line<A: Allocator + Copy>(
 }
 
 /// Returns the line for an accepted plan, with its line feed: numbers of protected filters, of grouped filters if there are any, and of all
-/// filters.
+/// filters. `check_job` and `check_of_accepted` of `app_commands` call it.
 pub fn check_line<A: Allocator + Copy>(
     alloc: A,
     accepted: &Accepted<A>,

@@ -16,7 +16,7 @@ use std::io::Read;
 
 /// Accepts a plan and reads its commands from a reader; without a reader there are none. The path in `file` names the commands in a fault.
 ///
-/// Reads the commands before the check: fails with `Commands` or `Check`.
+/// Reads the commands before the check: fails with `Commands` or `Check`. `read_commands` of `app_commands` calls it.
 pub fn read_commands_and_check<R: Read + Drop, A: Allocator + Copy>(
     alloc: A,
     heap: Global,
@@ -45,7 +45,8 @@ pub fn read_commands_and_check<R: Read + Drop, A: Allocator + Copy>(
     }
 }
 
-/// Reads the commands of a plan from an optional reader. Without a reader, the list of commands is empty.
+/// Reads the commands of a plan from an optional reader. Without a reader, the list of commands is empty. `read_commands_and_check` calls
+/// it.
 fn read_optional_commands<R: Read + Drop, A: Allocator + Copy>(
     alloc: A,
     heap: Global,

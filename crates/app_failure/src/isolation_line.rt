@@ -7,6 +7,7 @@ use bridge_text::TextBuilder;
 use std::alloc::Allocator;
 
 /// Writes the fault line of a plan that doesn't isolate a protected filter: the failed test, the filter, and the queue if there is one.
+/// `put_fault` calls it.
 pub fn put_check_fault<A: Allocator>(text: &mut TextBuilder<A>, fault: &CheckFault)
     ensures { HasGrown text.old (check_fault_line fault.now) text.new }
 {
@@ -41,7 +42,7 @@ pub fn put_check_fault<A: Allocator>(text: &mut TextBuilder<A>, fault: &CheckFau
     }
 }
 
-/// Writes the fault line `plan refused: NAME filter NUMBER`, for tests that concern no queue.
+/// Writes the fault line `plan refused: NAME filter NUMBER`, for tests that concern no queue. `put_check_fault` calls it.
 fn put_filter_fault<A: Allocator>(text: &mut TextBuilder<A>, name: &str, filter: u32)
     ensures { HasGrown text.old (filter_refused name.now filter) text.new }
 {
@@ -51,7 +52,7 @@ fn put_filter_fault<A: Allocator>(text: &mut TextBuilder<A>, name: &str, filter:
     text.put_number(u64::from(filter));
 }
 
-/// Writes the fault line `plan refused: NAME filter NUMBER ..` with port and class of a reachable queue.
+/// Writes the fault line `plan refused: NAME filter NUMBER ..` with port and class of a reachable queue. `put_check_fault` calls it.
 fn put_queue_fault<A: Allocator>(
     text: &mut TextBuilder<A>,
     name: &str,

@@ -80,14 +80,16 @@ pub fn check_job<R: Read + Drop, A: Allocator + Copy>(
     }
 }
 
-/// Returns the fault of standard input or output: the file `-` failed.
+/// Returns the fault of standard input or output: the file `-` failed. `print`, and `input_fault` and `write_stdout_text` of `app_commands`
+/// call it.
 pub fn standard_stream_fault(alloc: Global) -> Failure
     ensures { IsStandardStreamFault result }
 {
     failed_file(alloc, "-", Cause::Standard)
 }
 
-/// Returns the fault of the file at `path`, by the fault of its reader.
+/// Returns the fault of the file at `path`, by the fault of its reader. `read_commands` and `read_plan`, and `read_rows` of `net_latency`
+/// call it.
 pub fn read_failure(alloc: Global, path: &str, fault: ReadFault) -> Failure
     ensures { IsFileFault path.now result }
 {
@@ -97,7 +99,8 @@ pub fn read_failure(alloc: Global, path: &str, fault: ReadFault) -> Failure
     }
 }
 
-/// Returns the program's fault of the file at `path`. If memory for the path runs out, returns `NoMemory` instead.
+/// Returns the program's fault of the file at `path`. If memory for the path runs out, returns `NoMemory` instead. `standard_stream_fault`
+/// and `read_failure` call it.
 fn failed_file(alloc: Global, path: &str, cause: Cause) -> Failure
     ensures { IsFileFault path.now result }
 {

@@ -52,7 +52,7 @@ fn put_fault<A: Allocator + Copy>(alloc: A, text: &mut TextBuilder<A>, fault: &F
     }
 }
 
-/// Writes the fault line of a refused hexadecimal text, or of its stopped run.
+/// Writes the fault line of a refused hexadecimal text, or of its stopped run. `put_fault` calls it.
 fn put_text_fault<A: Allocator>(text: &mut TextBuilder<A>, fault: &TextFault)
     ensures { HasGrown text.old (text_fault_line fault.now) text.new }
 {
@@ -63,7 +63,7 @@ fn put_text_fault<A: Allocator>(text: &mut TextBuilder<A>, fault: &TextFault)
     }
 }
 
-/// Writes the fault line of a stopped run: a port's capture or output, or `no memory`.
+/// Writes the fault line of a stopped run: a port's capture or output, or `no memory`. `put_fault` and `put_text_fault` call it.
 fn put_run_fault<A: Allocator>(text: &mut TextBuilder<A>, fault: &RunFault)
     ensures { HasGrown text.old (run_fault_line fault.now) text.new }
 {
@@ -74,7 +74,7 @@ fn put_run_fault<A: Allocator>(text: &mut TextBuilder<A>, fault: &RunFault)
     }
 }
 
-/// Writes the fault line of a port's capture that is refused, or can't be read or written.
+/// Writes the fault line of a port's capture that is refused, or can't be read or written. `put_run_fault` calls it.
 fn put_capture_fault<A: Allocator>(text: &mut TextBuilder<A>, port: u8, fault: &CaptureFault)
     ensures { HasGrown text.old (capture_fault_line port fault.now) text.new }
 {
@@ -95,7 +95,7 @@ fn put_capture_fault<A: Allocator>(text: &mut TextBuilder<A>, port: u8, fault: &
     }
 }
 
-/// Writes the fault line `capture PORT refused: NAME` of a fault without record number.
+/// Writes the fault line `capture PORT refused: NAME` of a fault without record number. `put_capture_fault` calls it.
 fn put_refused_capture<A: Allocator>(text: &mut TextBuilder<A>, port: u8, name: &str)
     ensures { HasGrown text.old (refused_capture port name.now) text.new }
 {
@@ -105,7 +105,7 @@ fn put_refused_capture<A: Allocator>(text: &mut TextBuilder<A>, port: u8, name: 
     text.put(name);
 }
 
-/// Writes the fault line `capture PORT refused: NAME NUMBER` of a capture's record `number`, from 1.
+/// Writes the fault line `capture PORT refused: NAME NUMBER` of a capture's record `number`, from 1. `put_capture_fault` calls it.
 fn put_refused_record<A: Allocator>(text: &mut TextBuilder<A>, port: u8, name: &str, number: u32)
     ensures { HasGrown text.old (refused_record port name.now number) text.new }
 {
@@ -117,7 +117,7 @@ fn put_refused_record<A: Allocator>(text: &mut TextBuilder<A>, port: u8, name: &
     text.put_number(u64::from(number));
 }
 
-/// Writes the fault line `capture PORT not read`.
+/// Writes the fault line `capture PORT not read`. `put_capture_fault` calls it.
 fn put_unread<A: Allocator>(text: &mut TextBuilder<A>, port: u8)
     ensures { HasGrown text.old (not_read port) text.new }
 {
@@ -126,7 +126,7 @@ fn put_unread<A: Allocator>(text: &mut TextBuilder<A>, port: u8)
     text.put(" not read");
 }
 
-/// Writes the fault line `capture PORT not written`.
+/// Writes the fault line `capture PORT not written`. `put_run_fault` and `put_capture_fault` call it.
 fn put_unwritten<A: Allocator>(text: &mut TextBuilder<A>, port: u8)
     ensures { HasGrown text.old (not_written port) text.new }
 {
@@ -135,7 +135,7 @@ fn put_unwritten<A: Allocator>(text: &mut TextBuilder<A>, port: u8)
     text.put(" not written");
 }
 
-/// Writes the fault line `file PATH`. Escapes control characters in the path, so that it stays one line.
+/// Writes the fault line `file PATH`. Escapes control characters in the path, so that it stays one line. `put_fault` calls it.
 fn put_file<A: Allocator>(text: &mut TextBuilder<A>, path: &str)
     ensures { HasGrown text.old (file_fault_line path.now) text.new }
 {

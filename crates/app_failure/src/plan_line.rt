@@ -7,7 +7,7 @@ use bridge_schema::{KeyLocation, PlanFault, Section};
 use bridge_text::TextBuilder;
 use std::alloc::Allocator;
 
-/// Writes the fault line of a refused plan: the fault's name and the part at fault.
+/// Writes the fault line of a refused plan: the fault's name and the part at fault. `put_fault` and `plan_fault_line` call it.
 pub fn put_plan_fault<A: Allocator>(text: &mut TextBuilder<A>, fault: &PlanFault)
     ensures { HasGrown text.old (plan_fault_line fault.now) text.new }
 {
@@ -30,7 +30,7 @@ pub fn put_plan_fault<A: Allocator>(text: &mut TextBuilder<A>, fault: &PlanFault
     }
 }
 
-/// Writes the fault line of a refused list of an instance, `BadList`, with the list's fault.
+/// Writes the fault line of a refused list of an instance, `BadList`, with the list's fault. `put_plan_fault` calls it.
 fn put_list_fault<A: Allocator>(
     text: &mut TextBuilder<A>,
     section: Section,
@@ -57,7 +57,7 @@ fn put_refused_plan<A: Allocator>(text: &mut TextBuilder<A>, name: &str)
     text.put(name);
 }
 
-/// Writes the fault line of a section: `plan refused: NAME SECTION`.
+/// Writes the fault line of a section: `plan refused: NAME SECTION`. `put_plan_fault` calls it.
 fn put_refused_section<A: Allocator>(text: &mut TextBuilder<A>, name: &str, place: &str)
     ensures { HasGrown text.old (plan_refused_section name.now place.now) text.new }
 {
@@ -66,7 +66,7 @@ fn put_refused_section<A: Allocator>(text: &mut TextBuilder<A>, name: &str, plac
     text.put(place);
 }
 
-/// Writes the fault line of an instance: `plan refused: NAME SECTION NUMBER`.
+/// Writes the fault line of an instance: `plan refused: NAME SECTION NUMBER`. `put_plan_fault` calls it.
 fn put_instance<A: Allocator>(text: &mut TextBuilder<A>, name: &str, section: Section, index: u32)
     ensures { HasGrown text.old (plan_refused_section name.now (instance_text section index)) text.new }
 {
@@ -97,7 +97,8 @@ fn put_list<A: Allocator>(text: &mut TextBuilder<A>, section: Section, index: u3
     text.put(name);
 }
 
-/// Writes the section and the instance's position from 1. Position 0 stands for the section itself.
+/// Writes the section and the instance's position from 1. Position 0 stands for the section itself. `put_instance`, `put_key` and
+/// `put_list` call it.
 fn put_section_instance<A: Allocator>(text: &mut TextBuilder<A>, section: Section, index: u32)
     ensures { HasGrown text.old (instance_text section index) text.new }
 {

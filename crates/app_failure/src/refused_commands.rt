@@ -11,6 +11,7 @@ use bridge_text::TextBuilder;
 use std::alloc::Allocator;
 
 /// Returns the fault line that a refused plan would have with this fault: the fault line of commands differs only in its start.
+/// `put_commands_fault` calls it.
 fn plan_fault_line<A: Allocator + Copy>(alloc: A, fault: &PlanFault) -> Result<String<A>, NoMemory>
     ensures { IfOk result (λ line. string_bytes line ≡ plan_fault_line fault.now) }
 {
@@ -19,7 +20,7 @@ fn plan_fault_line<A: Allocator + Copy>(alloc: A, fault: &PlanFault) -> Result<S
     text.finish()
 }
 
-/// Writes the fault line of refused commands: `commands refused: `, followed by the words of a plan's fault line.
+/// Writes the fault line of refused commands: `commands refused: `, followed by the words of a plan's fault line. `put_fault` calls it.
 pub fn put_commands_fault<A: Allocator + Copy>(
     alloc: A,
     text: &mut TextBuilder<A>,

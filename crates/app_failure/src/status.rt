@@ -20,7 +20,7 @@ const FAILED: u8 = 3;
 /// Status after refused arguments.
 const WORDS: u8 = 4;
 
-/// Returns the exit status after a fault, 1 to 4, by the kind of the fault.
+/// Returns the exit status after a fault, 1 to 4, by the kind of the fault. `fault_line` calls it.
 pub fn fault_status(fault: &Failure) -> u8
     ensures { result ≡ fault_status fault.now }
 {
@@ -37,7 +37,7 @@ pub fn fault_status(fault: &Failure) -> u8
     }
 }
 
-/// Returns the exit status after a refused hexadecimal text or its stopped run.
+/// Returns the exit status after a refused hexadecimal text or its stopped run. `fault_status` calls it.
 fn text_fault_status(fault: &TextFault) -> u8
     ensures { result ≡ text_fault_status fault.now }
 {
@@ -47,7 +47,8 @@ fn text_fault_status(fault: &TextFault) -> u8
     }
 }
 
-/// Returns the exit status after a stopped run: 2 for a refused capture, 3 for devices and memory.
+/// Returns the exit status after a stopped run: 2 for a refused capture, 3 for devices and memory. `fault_status` and `text_fault_status`
+/// call it.
 fn run_fault_status(fault: &RunFault) -> u8
     ensures { result ≡ run_fault_status fault.now }
 {
@@ -57,7 +58,8 @@ fn run_fault_status(fault: &RunFault) -> u8
     }
 }
 
-/// Returns the exit status after a capture fault: 2 if the capture is refused, 3 if a device failed or memory ran out.
+/// Returns the exit status after a capture fault: 2 if the capture is refused, 3 if a device failed or memory ran out. `run_fault_status`
+/// calls it.
 fn capture_fault_status(fault: &CaptureFault) -> u8
     ensures { result ≡ capture_fault_status fault.now }
 {
@@ -67,7 +69,7 @@ fn capture_fault_status(fault: &CaptureFault) -> u8
     }
 }
 
-/// Returns the exit status after a refused plan or refused commands: 1, or 3 if memory ran out.
+/// Returns the exit status after a refused plan or refused commands: 1, or 3 if memory ran out. `fault_status` calls it.
 fn plan_fault_status(fault: &PlanFault) -> u8
     ensures { result ≡ plan_fault_status fault.now }
 {
@@ -78,7 +80,7 @@ fn plan_fault_status(fault: &PlanFault) -> u8
     }
 }
 
-/// Returns the exit status after a plan that doesn't isolate a protected filter: 1, or 3 if memory ran out.
+/// Returns the exit status after a plan that doesn't isolate a protected filter: 1, or 3 if memory ran out. `fault_status` calls it.
 fn check_fault_status(fault: &CheckFault) -> u8
     ensures { result ≡ check_fault_status fault.now }
 {
@@ -88,7 +90,7 @@ fn check_fault_status(fault: &CheckFault) -> u8
     }
 }
 
-/// Returns the exit status after a refused list of a plan: 1, or 3 if memory ran out.
+/// Returns the exit status after a refused list of a plan: 1, or 3 if memory ran out. `plan_fault_status` calls it.
 fn list_fault_status(fault: &ListFault) -> u8
     ensures { result ≡ list_fault_status fault.now }
 {

@@ -39,6 +39,7 @@ pub enum Cause {
 }
 
 /// Whether the folder of a path exists. If it doesn't, the missing folder is the cause. Returns true for a path without folder.
+/// `read_cause` and `write_cause` call it.
 fn has_folder(rt: &impl Files, path: &str) -> bool {
     match parent_folder(path) {
         None | Some("") => true,
@@ -75,6 +76,7 @@ pub fn read_cause(rt: &impl Files, path: &str, error: &Error) -> Cause {
 }
 
 /// Returns why a file can't be opened or created for writing, by the error and the folder. Returns `Unknown` if neither shows the cause.
+/// `create_output` and `make_folder` of `app_networks` call it.
 pub fn write_cause(rt: &impl Files, path: &str, error: &Error) -> Cause {
     match error.kind() {
         ErrorKind::NotFound => {
@@ -93,7 +95,7 @@ pub fn write_cause(rt: &impl Files, path: &str, error: &Error) -> Cause {
 }
 
 /// Returns why a capture can't be opened. If it doesn't exist, a pcapng or gzip file next to it may explain why; otherwise the cause is
-/// `missing`.
+/// `missing`. `open_capture` calls it.
 pub fn capture_cause(
     rt: &(impl AllocGlobal + Files),
     path: &str,
@@ -114,7 +116,7 @@ pub fn capture_cause(
     }
 }
 
-/// Whether a file exists whose path is `path` followed by `ending`. Returns false if memory runs out.
+/// Whether a file exists whose path is `path` followed by `ending`. Returns false if memory runs out. `capture_cause` calls it.
 fn has_file_with_suffix(rt: &(impl AllocGlobal + Files), path: &str, ending: &str) -> bool {
     match format!(in rt.alloc(); "{path}{ending}") {
         Ok(other) => is_file(rt, other.as_str()),
@@ -122,7 +124,8 @@ fn has_file_with_suffix(rt: &(impl AllocGlobal + Files), path: &str, ending: &st
     }
 }
 
-/// Whether the path leads to a regular file.
+/// Whether the path leads to a regular file. `has_file_with_suffix`, and `warn_if_capture_unread` and `is_network` of `app_commands` call
+/// it.
 pub fn is_file(rt: &impl Files, path: &str) -> bool {
     match fs::metadata(rt, path) {
         Ok(data) => data.is_file(),

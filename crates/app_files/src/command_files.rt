@@ -221,7 +221,8 @@ pub fn open_input<H: AllocGlobal + Files>(rt: &H, path: &str) -> Result<H::File,
     }
 }
 
-/// Reads at most `most` octets of an open file. A fault names `path`, with the cause of the failed read.
+/// Reads at most `most` octets of an open file. A fault names `path`, with the cause of the failed read. `read` and `read_text_file`, and
+/// `bound_traffic` of `app_networks` call it.
 pub fn read_open<R: Read + Drop>(
     rt: &(impl AllocGlobal + Files),
     path: &str,
@@ -291,7 +292,8 @@ pub fn open_capture<H: AllocGlobal + Files>(
     }
 }
 
-/// Opens the file at `path` for writing, or creates it. Its contents remain until the first write. A fault has path and cause.
+/// Opens the file at `path` for writing, or creates it. Its contents remain until the first write. A fault has path and cause. `create` and
+/// `wire_to_output` of `app_commands` call it.
 pub fn create_output<H: AllocGlobal + Files>(
     rt: &H,
     path: &str,
@@ -304,13 +306,14 @@ pub fn create_output<H: AllocGlobal + Files>(
     }
 }
 
-/// Whether two paths lead to one folder: one inode of one device. Returns false if one path can't be examined.
+/// Whether two paths lead to one folder: one inode of one device. Returns false if one path can't be examined. `send_named` of
+/// `app_commands` calls it.
 pub fn is_same_folder(rt: &impl Files, one: &str, other: &str) -> bool {
     is_same_file(path_file_id(rt, one), path_file_id(rt, other))
 }
 
 /// Returns the identity of the regular file at a path. Returns `None` for a missing file, a pipe or a device: writing to them loses
-/// nothing.
+/// nothing. `note_regular`, `note_new` and `spare` call it.
 fn regular_file_id(rt: &impl Files, path: &str) -> Option<FileId> {
     match fs::metadata(rt, path) {
         Ok(metadata) if metadata.is_file() => path_file_id(rt, path),

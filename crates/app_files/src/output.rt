@@ -26,7 +26,8 @@ pub struct Output<F: Write + OpenFile + Drop> {
 }
 
 impl<F: Write + OpenFile + Drop> Output<F> {
-    /// Returns the identity of the file, or `None` if the system doesn't provide it.
+    /// Returns the identity of the file, or `None` if the system doesn't provide it. `create` and `create_new`, and `wire_to_output` of
+    /// `app_commands` call it.
     pub fn id(&self) -> Option<FileId> {
         open_file_id(&self.file)
     }
@@ -96,7 +97,7 @@ pub fn path_file_id(rt: &impl Files, path: &str) -> Option<FileId> {
     }
 }
 
-/// Returns the identity of the file that `metadata` describes.
+/// Returns the identity of the file that `metadata` describes. `open_file_id` and `path_file_id` call it.
 fn metadata_file_id(metadata: &Metadata) -> FileId {
     FileId {
         device: metadata.dev(),
@@ -104,7 +105,8 @@ fn metadata_file_id(metadata: &Metadata) -> FileId {
     }
 }
 
-/// Whether both files are known and identical. An unknown file (`None`) equals no file.
+/// Whether both files are known and identical. An unknown file (`None`) equals no file. `is_same_folder` and `wire_to_output` of
+/// `app_commands` call it.
 pub fn is_same_file(one: Option<FileId>, other: Option<FileId>) -> bool
     ensures { IsTrue result ↔ IsSameFile one other }
 {

@@ -43,7 +43,8 @@ pub fn test_folders(alloc: Global, input: &str, output: &str) -> Result<(), File
     Ok(())
 }
 
-/// Returns the folder of a file: the path before its last `/`. Returns `None` for a path without `/`.
+/// Returns the folder of a file: the path before its last `/`. Returns `None` for a path without `/`. `has_folder` and `sibling_path` of
+/// `net_check` call it.
 pub fn parent_folder(path: &str) -> Option<&str>
     ensures { option_map (λ folder. folder.now) result ≡ folder_of path.now }
 {

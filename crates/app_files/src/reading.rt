@@ -19,7 +19,8 @@ pub enum ReadFault {
     NoMemory,
 }
 
-/// Reads at most `most` octets of a reader. Repeats an interrupted read.
+/// Reads at most `most` octets of a reader. Repeats an interrupted read. `read_text`, and `explain_capture` and `text_job` of
+/// `app_commands` call it.
 pub fn read_at_most<R: Read + Drop, A: Allocator>(
     alloc: A,
     reader: R,
@@ -43,7 +44,7 @@ pub fn read_text<R: Read + Drop, A: Allocator>(alloc: A, reader: R) -> Result<Ve
     read_at_most(alloc, reader, MOST_TEXT)
 }
 
-/// Returns the fault for a reader's error: `NoMemory` if memory ran out, otherwise `Broken`.
+/// Returns the fault for a reader's error: `NoMemory` if memory ran out, otherwise `Broken`. `read_at_most` calls it.
 fn read_fault(error: &Error) -> ReadFault
     ensures { result ≡ read_fault (error_kind error.now) }
 {

@@ -25,7 +25,7 @@ struct BoundsWarnings {
 }
 
 /// Returns the output of `bounds` for a plan without traffic. The status is 1 if warnings are errors and the plan has one. Stores the
-/// plan's text in `texts` for an explanation.
+/// plan's text in `texts` for an explanation. `bound` calls it.
 pub(crate) fn bound_plan<H: AllocGlobal + Files>(
     files: &CommandFiles<'_, H>,
     plan: &str,
@@ -44,7 +44,7 @@ pub(crate) fn bound_plan<H: AllocGlobal + Files>(
     bounded
 }
 
-/// Returns the output of `bounds` for the plan in `text`. A fault names the path `plan`.
+/// Returns the output of `bounds` for the plan in `text`. A fault names the path `plan`. `bound_plan` calls it.
 fn bound_text(alloc: Global, plan: &str, text: &[u8], flags: Flags) -> Result<Output, Failure>
     ensures ok { IfOk result (IsBoundsOutput flags.is_strict flags.is_explained) }
     ensures fails { IfErr result (EndsChecked Global plan.now) }
@@ -78,7 +78,7 @@ fn warnings_if(alloc: Global, text: &[u8], flags: Flags) -> Result<BoundsWarning
 }
 
 /// Returns the warnings of a text that was accepted as a plan before. It checks the text again, so a fault can only mean that memory ran
-/// out.
+/// out. `warnings_if` calls it.
 fn text_warnings(alloc: Global, text: &[u8]) -> Result<BoundsWarnings, NoMemory>
     ensures { IfOk result (λ w. WarnsOfText text.now w.unprotected (string_bytes w.shared)) }
 {
@@ -92,7 +92,8 @@ fn text_warnings(alloc: Global, text: &[u8]) -> Result<BoundsWarnings, NoMemory>
     }
 }
 
-/// Returns the warnings of an accepted plan: that no filter is protected or grouped, and warnings about its shared queues.
+/// Returns the warnings of an accepted plan: that no filter is protected or grouped, and warnings about its shared queues. `text_warnings`
+/// calls it.
 fn plan_warnings(alloc: Global, accepted: &Accepted<Global>) -> Result<BoundsWarnings, NoMemory>
     ensures { IfOk result (λ w. WarnsOfPlan accepted.now w.unprotected (string_bytes w.shared)) }
 {
@@ -104,7 +105,7 @@ fn plan_warnings(alloc: Global, accepted: &Accepted<Global>) -> Result<BoundsWar
     })
 }
 
-/// Whether `warnings` has at least one warning.
+/// Whether `warnings` has at least one warning. `bounds_output` calls it.
 fn is_warned(warnings: &BoundsWarnings) -> bool
     ensures { result ≡ is_warned warnings.now.unprotected (string_bytes warnings.now.shared) }
 {
@@ -124,6 +125,8 @@ fn push_warnings(text: &mut String, warnings: &BoundsWarnings) -> Result<(), All
 
 /// Returns the output of `bounds`: `lines` on standard output, `notes` about the traffic and warnings on standard error. The status is 1 if
 /// `is_kept` is false, or a warning is an error.
+///
+/// `bound_text` and `bound_rows` call it.
 fn bounds_output(
     lines: String,
     is_kept: bool,
@@ -148,7 +151,7 @@ fn bounds_output(
 }
 
 /// Returns the output of `bounds --traffic`: delay bounds, and delays of the traffic's frames. The status is 1 if a frame may be refused or
-/// late, or a warning is an error.
+/// late, or a warning is an error. `bound` calls it.
 pub(crate) fn bound_traffic<H: AllocGlobal + Files>(
     files: &CommandFiles<'_, H>,
     plan: &str,
@@ -183,7 +186,7 @@ pub(crate) fn bound_traffic<H: AllocGlobal + Files>(
 }
 
 /// Returns the output of `bounds --traffic` for the plan in `text` and the traffic of reader `rows`. Faults name the paths `plan` and
-/// `file`.
+/// `file`. `bound_traffic` calls it.
 fn bound_rows<R: Read + Drop, H: AllocGlobal + Files>(
     rt: &H,
     plan: &str,
@@ -214,6 +217,8 @@ fn bound_rows<R: Read + Drop, H: AllocGlobal + Files>(
 
 /// Returns why frames of traffic may be refused. The text is empty without `--explain`, if no frame may be refused or late (`is_kept`), if
 /// memory runs out or a file is a pipe.
+///
+/// `bound_rows` calls it.
 fn traffic_reasons(
     rt: &(impl AllocGlobal + Files),
     plan: &str,

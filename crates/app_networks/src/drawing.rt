@@ -11,7 +11,7 @@ use net_latency::{all_queue_bounds, stream_bounds};
 use net_report::draw_network;
 use std::alloc::Global;
 
-/// Returns the picture of a network, with the delay bounds of its streams.
+/// Returns the picture of a network, with the delay bounds of its streams. `network_picture` calls it.
 fn draw_with_bounds(
     alloc: Global,
     file: &NetworkFile<Global>,
@@ -25,7 +25,7 @@ fn draw_with_bounds(
 }
 
 /// Returns the picture of an accepted network as SVG text of at most 2,000,000 octets: bridges, links, and streams with their delay bounds.
-/// Its faults are the faults of `network_job`.
+/// Its faults are the faults of `network_job`. `draw_network` calls it.
 pub fn network_picture<F: ReadFiles>(
     alloc: Global,
     files: &mut F,

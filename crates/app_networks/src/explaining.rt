@@ -19,6 +19,7 @@ const OF_PLAN: &str = "network refused: Plan ";
 const OF_COMMANDS: &str = "network refused: Commands ";
 
 /// Explains why traffic is refused: for its text, or by the plan. Returns `None` if a file can't be read again or memory runs out.
+/// `explain_traffic_fault` calls it.
 pub(crate) fn explain_refused_traffic(
     rt: &(impl AllocGlobal + Files),
     plan: &str,
@@ -33,7 +34,7 @@ pub(crate) fn explain_refused_traffic(
 }
 
 /// Returns the rest of a fault line's first line after `front`: a bridge's name. Returns `None` if the text doesn't begin with `front`, or
-/// has only one line.
+/// has only one line. `explain_refused_network` calls it.
 fn name_after_prefix<'a>(text: &'a str, front: &str) -> Option<&'a str> {
     let (name, _) = text.strip_prefix(front)?.split_once('\n')?;
     Some(name)
@@ -41,6 +42,8 @@ fn name_after_prefix<'a>(text: &'a str, front: &str) -> Option<&'a str> {
 
 /// Explains why the network at `path` is refused, by its fault line `line`: a plan, commands in folder `input`, its text, or a test.
 /// Returns `None` if a file can't be read again.
+///
+/// `explain_network_fault` calls it.
 pub(crate) fn explain_refused_network(
     rt: &(impl AllocGlobal + Files),
     path: &str,
@@ -62,7 +65,7 @@ pub(crate) fn explain_refused_network(
 }
 
 /// Returns the path of the plan of bridge `name` in the network file at `path`. Returns `None` if the file can't be read or has no such
-/// bridge.
+/// bridge. `explain_bridge_plan` and `explain_bridge_commands` call it.
 fn plan_path(rt: &(impl AllocGlobal + Files), path: &str, name: &str) -> Option<String> {
     let alloc = rt.alloc();
     let mut files = CommandFiles::new(rt);
@@ -78,7 +81,7 @@ fn plan_path(rt: &(impl AllocGlobal + Files), path: &str, name: &str) -> Option<
 }
 
 /// Explains why the plan of bridge `name` is refused, by its text or its tests. Returns `None` if the plan can't be read again or is
-/// accepted now.
+/// accepted now. `explain_refused_network` calls it.
 fn explain_bridge_plan(rt: &(impl AllocGlobal + Files), path: &str, name: &str) -> Option<String> {
     let alloc = rt.alloc();
     let place = plan_path(rt, path, name)?;
@@ -93,7 +96,7 @@ fn explain_bridge_plan(rt: &(impl AllocGlobal + Files), path: &str, name: &str) 
 }
 
 /// Explains why the commands of bridge `name` in folder `input` are refused; reads the commands and the bridge's plan again. Returns `None`
-/// if this fails or they are accepted now.
+/// if this fails or they are accepted now. `explain_refused_network` calls it.
 fn explain_bridge_commands(
     rt: &(impl AllocGlobal + Files),
     path: &str,
@@ -137,7 +140,7 @@ pub(crate) fn explain_stopped_run(
 }
 
 /// Explains why a bridge's capture is refused. The line begins with `BRIDGE.PORT refused: ..`, which gives the capture's path in folder
-/// `input`.
+/// `input`. `explain_stopped_run` calls it.
 fn explain_refused_capture(
     rt: &(impl AllocGlobal + Files),
     input: &str,

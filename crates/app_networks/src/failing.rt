@@ -16,7 +16,7 @@ use std::fs;
 use std::rt::Files;
 
 /// Explains why the command of `request` failed with `fault`, with the help of the `texts` that the command read. Returns `None` without an
-/// explanation or if memory runs out.
+/// explanation or if memory runs out. `report_failure` calls it.
 pub(crate) fn explain_failure<H: AllocGlobal + Files>(
     rt: &H,
     words: &[String],
@@ -52,7 +52,7 @@ pub(crate) fn explain_failure<H: AllocGlobal + Files>(
     }
 }
 
-/// Explains why the command `picture` failed, for a plan or a network.
+/// Explains why the command `picture` failed, for a plan or a network. `explain_failure` calls it.
 fn explain_picture_fault<H: AllocGlobal + Files>(
     rt: &H,
     path: &str,
@@ -66,7 +66,8 @@ fn explain_picture_fault<H: AllocGlobal + Files>(
     }
 }
 
-/// Explains why `bounds --traffic` failed. Returns `None` for traffic that can't be read again, for example from a pipe.
+/// Explains why `bounds --traffic` failed. Returns `None` for traffic that can't be read again, for example from a pipe. `explain_failure`
+/// calls it.
 fn explain_traffic_fault<H: AllocGlobal + Files>(
     rt: &H,
     plan: &str,
@@ -82,7 +83,7 @@ fn explain_traffic_fault<H: AllocGlobal + Files>(
     }
 }
 
-/// Explains why a file couldn't be read. If the cause is unknown, it examines the file to find one.
+/// Explains why a file couldn't be read. If the cause is unknown, it examines the file to find one. `explain_traffic_fault` calls it.
 fn explain_unread<H: AllocGlobal + Files>(rt: &H, error: &FileError) -> Option<String> {
     let FileError { path, cause } = error;
     let cause = match cause {
@@ -92,7 +93,7 @@ fn explain_unread<H: AllocGlobal + Files>(rt: &H, error: &FileError) -> Option<S
     explain_file_cause(rt.alloc(), path.as_str(), cause)
 }
 
-/// Finds why the file at `path` can't be read, by examining it.
+/// Finds why the file at `path` can't be read, by examining it. `explain_unread` calls it.
 fn unreadable_cause(rt: &impl Files, path: &str) -> Cause {
     match fs::metadata(rt, path) {
         Ok(data) => {
@@ -107,6 +108,7 @@ fn unreadable_cause(rt: &impl Files, path: &str) -> Cause {
 }
 
 /// Explains why a command for a network failed. Returns `None` for a network that can't be read again, for example from a pipe.
+/// `explain_failure` and `explain_picture_fault` call it.
 fn explain_network_fault<H: AllocGlobal + Files>(
     rt: &H,
     path: &str,
@@ -122,7 +124,7 @@ fn explain_network_fault<H: AllocGlobal + Files>(
 }
 
 /// Explains why a file of the network at `path` couldn't be read or written. For a plan, it begins with the position of the plan's path in
-/// the network file.
+/// the network file. `explain_network_fault` calls it.
 fn explain_network_file<H: AllocGlobal + Files>(
     rt: &H,
     path: &str,

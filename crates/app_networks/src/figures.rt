@@ -24,7 +24,7 @@ pub(crate) struct StreamFigures {
     pub(crate) worst: Option<u128>,
 }
 
-/// Returns the worst delay in ns, or `None` if the delays are unknown.
+/// Returns the worst delay in ns, or `None` if the delays are unknown. `figures_of_stream` calls it.
 fn worst_if_known(course: Option<StreamLatency>) -> Option<u128>
     ensures { result ≡ spec.worst_if_known course }
 {
@@ -34,7 +34,8 @@ fn worst_if_known(course: Option<StreamLatency>) -> Option<u128>
     }
 }
 
-/// Returns the figures of a stream with the delays `course`. `bounds` has the delay bounds of each bridge's queues.
+/// Returns the figures of a stream with the delays `course`. `bounds` has the delay bounds of each bridge's queues. `stream_figures` calls
+/// it.
 fn figures_of_stream(
     bounds: &[Vec<QueueBound>],
     links: &[LinkRow],
@@ -51,7 +52,7 @@ fn figures_of_stream(
     }
 }
 
-/// Returns the figures of each stream, in file order. `bounds` has the delay bounds of each bridge's queues.
+/// Returns the figures of each stream, in file order. `bounds` has the delay bounds of each bridge's queues. `write_results` calls it.
 pub(crate) fn stream_figures(
     alloc: Global,
     network: &Network<Global>,

@@ -22,7 +22,8 @@ use std::alloc::Global;
 /// Largest number of octets read from a capture: 1,000,001 records of the greatest length, one more than a capture may have.
 const MOST_CAPTURE: u64 = 65_552_065_576;
 
-/// Reads at most `most` octets of the file at `path`. Converts a file fault to the program's fault.
+/// Reads at most `most` octets of the file at `path`. Converts a file fault to the program's fault. `read_capture` and `read_commands` call
+/// it.
 fn read_file<F: ReadFiles>(files: &mut F, path: &str, most: u64) -> Result<Vec<u8>, Failure>
     ensures { IfErr result (IsFileFault path.now) }
 {
@@ -32,7 +33,7 @@ fn read_file<F: ReadFiles>(files: &mut F, path: &str, most: u64) -> Result<Vec<u
     }
 }
 
-/// Reads the capture of port `port` from a bridge's folder. A missing file is a fault.
+/// Reads the capture of port `port` from a bridge's folder. A missing file is a fault. `read_captures` calls it.
 fn read_capture<F: ReadFiles>(
     alloc: Global,
     files: &mut F,
@@ -48,6 +49,7 @@ fn read_capture<F: ReadFiles>(
 }
 
 /// Returns a capture for each port of a bridge, by rising number: read from the folder for an open port, otherwise empty.
+/// `read_bridge_input` calls it.
 fn read_captures<F: ReadFiles>(
     alloc: Global,
     files: &mut F,
@@ -114,6 +116,7 @@ fn read_commands<F: ReadFiles>(
 }
 
 /// Reads the input of a bridge from outside: captures of its open ports, and its commands. `place` has its name and folder.
+/// `read_inputs_of_plans` calls it.
 fn read_bridge_input<F: ReadFiles>(
     alloc: Global,
     files: &mut F,
@@ -175,7 +178,7 @@ fn read_inputs_of_plans<F: ReadFiles>(
     Ok(all)
 }
 
-/// Reads the captures and commands of each bridge of a network, from its folder in `input`.
+/// Reads the captures and commands of each bridge of a network, from its folder in `input`. `open_run` calls it.
 pub(crate) fn read_bridge_inputs<F: ReadFiles>(
     alloc: Global,
     files: &mut F,

@@ -50,7 +50,7 @@ fn most_rounds(alloc: Global, network: &Network<Global>) -> Result<u32, NoMemory
     })
 }
 
-/// Returns the start of a run's line: the numbers of bridges, links and streams.
+/// Returns the start of a run's line: the numbers of bridges, links and streams. `run_line` calls it.
 #[tactic(auto, unfolding(crate::specs::Folders::network_words))]
 fn network_words(alloc: Global, file: &NetworkFile<Global>) -> Result<String, NoMemory>
     ensures { IfOk result (λ words. string_bytes words ≡ network_words file.now) }
@@ -64,7 +64,7 @@ fn network_words(alloc: Global, file: &NetworkFile<Global>) -> Result<String, No
 }
 
 /// Returns the line of a network run: numbers of bridges, links and streams, frames that arrived at first hops, and frames delivered and
-/// lost.
+/// lost. `write_results` calls it.
 #[tactic(auto, unfolding(crate::specs::Folders::rounds_line))]
 fn run_line(
     alloc: Global,
@@ -112,7 +112,7 @@ fn lost_if(
     }
 }
 
-/// Writes the captures, reports and tables of a network run, and returns its lines.
+/// Writes the captures, reports and tables of a network run, and returns its lines. `write_results_and_picture` calls it.
 fn write_results<F: Write + OpenFile + Drop>(
     alloc: Global,
     file: &NetworkFile<Global>,
@@ -171,7 +171,7 @@ fn write_results<F: Write + OpenFile + Drop>(
 }
 
 /// Writes the captures, reports, tables and requested picture of a network run to their files, which are already open. Returns the run's
-/// lines.
+/// lines. `run_network_folders` calls it.
 fn write_results_and_picture<H: AllocGlobal + Files>(
     rt: &H,
     file: &NetworkFile<Global>,
@@ -268,6 +268,7 @@ fn open_run<H: AllocGlobal + Files>(
 }
 
 /// Runs a network with the inputs of one folder, and writes the outputs to another. Returns the lines to print and the number of rounds.
+/// `run_accepted` calls it.
 fn run_network_folders<H: AllocGlobal + Eprint + Files>(
     files: &mut CommandFiles<'_, H>,
     file: &NetworkFile<Global>,
@@ -416,7 +417,7 @@ fn run_accepted<H: AllocGlobal + Eprint + Files>(
     }
 }
 
-/// Returns the result of `net` after a complete run with these lines and this number of rounds.
+/// Returns the result of `net` after a complete run with these lines and this number of rounds. `run_accepted` calls it.
 fn ran(lines: RunLines, rounds: u32) -> NetworkRunResult
     ensures line { result.line ≡ Some lines.line }
     ensures told { result.told ≡ lines.lost }
@@ -451,7 +452,7 @@ pub struct NetworkRunRequest<'a> {
 /// Runs an accepted network between two folders, and writes captures, reports, tables and the requested picture. Outputs keep their
 /// contents until the run is complete.
 ///
-/// If warnings are errors and the network has one, nothing runs.
+/// If warnings are errors and the network has one, nothing runs. `run_network` calls it.
 pub fn run_rounds<H: AllocGlobal + Eprint + Files>(
     files: &mut CommandFiles<'_, H>,
     job: &NetworkRunRequest<'_>,

@@ -15,7 +15,7 @@ use net_report::{
 use net_run::BridgeResult;
 use std::alloc::Global;
 
-/// Returns the name of a hop as in the network's file, followed by a space, for the line of a stream with losses.
+/// Returns the name of a hop as in the network's file, followed by a space, for the line of a stream with losses. `hop_loss` calls it.
 fn hop_prefix(
     alloc: Global,
     bridges: &[BridgeRow<Global>],
@@ -29,7 +29,7 @@ fn hop_prefix(
 }
 
 /// Returns the losses of a stream's hop: its name and its counts. `runs` has the records of all hops of the stream, `run` the record of
-/// this hop.
+/// this hop. `stream_losses` calls it.
 fn hop_loss(
     alloc: Global,
     bridges: &[BridgeRow<Global>],
@@ -45,7 +45,7 @@ fn hop_loss(
     Ok(HopLosses { place, counts })
 }
 
-/// Returns the losses of each hop of a stream, in the order of `hops`. `runs` has the records of these hops.
+/// Returns the losses of each hop of a stream, in the order of `hops`. `runs` has the records of these hops. `put_stream` calls it.
 fn stream_losses(
     alloc: Global,
     bridges: &[BridgeRow<Global>],

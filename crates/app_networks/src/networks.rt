@@ -39,7 +39,7 @@ pub(crate) fn check_network<H: AllocGlobal + Files>(
 }
 
 /// Returns the explanation of the streams if it is requested (`is_asked`). The text is empty otherwise, or if memory runs out or a file is
-/// a pipe.
+/// a pipe. `check_network` calls it.
 fn stream_explanations(rt: &(impl AllocGlobal + Files), path: &str, is_asked: bool) -> String
     ensures { is_asked ≡ false → string_bytes result ≡ [] }
 {
@@ -55,7 +55,7 @@ fn stream_explanations(rt: &(impl AllocGlobal + Files), path: &str, is_asked: bo
 }
 
 /// Returns the output of `net check` for an accepted network: its lines and warnings on standard output, the explanation of its streams on
-/// standard error.
+/// standard error. `check_network` calls it.
 fn output_of_check(said: NetworkOutput, reasons: String, flags: Flags) -> Result<Output, NoMemory>
     ensures { IfOk result (IsOutputOfCheck said flags.is_strict reasons) }
 {
@@ -91,6 +91,8 @@ pub(crate) fn run_network<H: AllocGlobal + Eprint + Files>(
 
 /// Returns the output of `net`. Standard output gets the run's line. Standard error gets warnings, or lines about lost and late streams,
 /// and with `--explain` the number of rounds of a complete run.
+///
+/// `run_network` calls it.
 fn output_of_run(alloc: Global, said: NetworkRunResult, flags: Flags) -> Output
     ensures { IsOutputOfRun said flags.is_explained result }
 {
@@ -110,7 +112,8 @@ fn output_of_run(alloc: Global, said: NetworkRunResult, flags: Flags) -> Output
     }
 }
 
-/// Returns the text `told`, followed by the number of rounds if `is_explained`. If memory runs out, the number is left out.
+/// Returns the text `told`, followed by the number of rounds if `is_explained`. If memory runs out, the number is left out. `output_of_run`
+/// calls it.
 fn with_rounds(alloc: Global, told: String, rounds: u32, is_explained: bool) -> String
     ensures { IsWithRounds (string_bytes told) is_explained (string_bytes result) }
 {
@@ -121,7 +124,7 @@ fn with_rounds(alloc: Global, told: String, rounds: u32, is_explained: bool) -> 
     all
 }
 
-/// Returns the line with the number of rounds; the empty text if memory runs out.
+/// Returns the line with the number of rounds; the empty text if memory runs out. `with_rounds` calls it.
 fn rounds_line(alloc: Global, rounds: u32) -> String {
     match format!(in alloc; "Rounds until nothing changed: {rounds}.\n") {
         Ok(text) => text,

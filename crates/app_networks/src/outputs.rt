@@ -40,7 +40,7 @@ pub(crate) struct Outputs<F: Write + OpenFile + Drop> {
 }
 
 /// Returns the identities of the input folder and of the bridges' folders in it, if they exist. `make_folder` refuses them as output
-/// folders.
+/// folders. `open_bridges` calls it.
 fn input_folders<H: AllocGlobal + Files>(
     rt: &H,
     bridges: &[BridgeRow<Global>],
@@ -60,6 +60,7 @@ fn input_folders<H: AllocGlobal + Files>(
 }
 
 /// Creates a missing folder and its parents. Refuses one of the input folders `read`, because outputs would replace inputs there.
+/// `open_bridges` calls it.
 fn make_folder<H: AllocGlobal + Files>(rt: &H, path: &str, read: &[FileId]) -> Result<(), Failure>
     ensures { IfErr result (IsFileFault path.now) }
 {
@@ -90,7 +91,7 @@ pub(crate) fn open_output<H: AllocGlobal + Files>(
     }
 }
 
-/// Opens the table `name` in a folder for writing.
+/// Opens the table `name` in a folder for writing. `open_outputs` calls it.
 fn open_table<H: AllocGlobal + Files>(
     files: &mut CommandFiles<'_, H>,
     folder: &str,
@@ -125,7 +126,7 @@ fn open_captures<H: AllocGlobal + Files>(
     }
 }
 
-/// Opens the captures and the report of a bridge for writing. Refuses two outputs that are one file.
+/// Opens the captures and the report of a bridge for writing. Refuses two outputs that are one file. `open_bridges` calls it.
 fn open_bridge<H: AllocGlobal + Files>(
     files: &mut CommandFiles<'_, H>,
     accepted: &Accepted<Global>,
@@ -150,7 +151,7 @@ fn open_bridge<H: AllocGlobal + Files>(
     }
 }
 
-/// Creates the folder of each bridge in `output`, and opens the bridge's outputs there.
+/// Creates the folder of each bridge in `output`, and opens the bridge's outputs there. `open_outputs` calls it.
 fn open_bridges<H: AllocGlobal + Files>(
     files: &mut CommandFiles<'_, H>,
     plans: &[Accepted<Global>],
@@ -182,7 +183,7 @@ fn open_bridges<H: AllocGlobal + Files>(
 /// Opens all outputs of a network run, in a folder for each bridge, and creates missing folders. Outputs keep their contents until they are
 /// written.
 ///
-/// Faults come by bridge: folder, captures by rising port, report; the tables come last.
+/// Faults come by bridge: folder, captures by rising port, report; the tables come last. `open_run` calls it.
 pub(crate) fn open_outputs<H: AllocGlobal + Files>(
     files: &mut CommandFiles<'_, H>,
     plans: &[Accepted<Global>],

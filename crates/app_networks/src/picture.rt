@@ -18,7 +18,7 @@ use std::fs::OpenFile;
 use std::io::Write;
 use std::rt::Files;
 
-/// Opens the file of the requested picture for writing. Returns `None` if no picture is requested.
+/// Opens the file of the requested picture for writing. Returns `None` if no picture is requested. `open_run` calls it.
 pub(crate) fn open_picture<H: AllocGlobal + Files>(
     files: &mut CommandFiles<'_, H>,
     path: &Option<String>,
@@ -34,7 +34,7 @@ pub(crate) fn open_picture<H: AllocGlobal + Files>(
     }
 }
 
-/// Returns the name of each row of a stream in the picture: the stream's name and the hop's name, hop by hop.
+/// Returns the name of each row of a stream in the picture: the stream's name and the hop's name, hop by hop. `put_all_streams` calls it.
 fn row_names(
     alloc: Global,
     bridges: &[BridgeRow<Global>],
@@ -49,7 +49,7 @@ fn row_names(
     Ok(names)
 }
 
-/// Extends the picture's time span by the times of all streams.
+/// Extends the picture's time span by the times of all streams. `draw_run` calls it.
 fn include_streams(
     alloc: Global,
     picture: &mut RunPicture,
@@ -65,7 +65,8 @@ fn include_streams(
     Ok(())
 }
 
-/// Draws the windows of a queue in the row of the hop with index `place`. Draws nothing if the bridge or port is missing.
+/// Draws the windows of a queue in the row of the hop with index `place`. Draws nothing if the bridge or port is missing. `put_hop_windows`
+/// calls it.
 fn put_queue_windows(
     picture: &mut RunPicture,
     network: &Network<Global>,
@@ -81,7 +82,7 @@ fn put_queue_windows(
 }
 
 /// Draws the windows of a hop's reachable queues in its row, which has index `place` in the stream. `queues` has the bounds of each
-/// bridge's queues.
+/// bridge's queues. `put_stream_windows` calls it.
 fn put_hop_windows(
     picture: &mut RunPicture,
     network: &Network<Global>,
@@ -100,7 +101,7 @@ fn put_hop_windows(
     }
 }
 
-/// Draws the windows of the reachable queues of each hop of a stream in the hop's row.
+/// Draws the windows of the reachable queues of each hop of a stream in the hop's row. `put_all_streams` calls it.
 fn put_stream_windows(
     picture: &mut RunPicture,
     network: &Network<Global>,
@@ -112,7 +113,7 @@ fn put_stream_windows(
     }
 }
 
-/// Draws the rows of all streams.
+/// Draws the rows of all streams. `draw_run` calls it.
 fn put_all_streams(
     alloc: Global,
     picture: &mut RunPicture,
@@ -158,6 +159,7 @@ fn draw_run(
 }
 
 /// Writes the requested picture of a run to `output`, the file at `path`. Does nothing if no picture is requested. A fault names the path.
+/// `write_results_and_picture` calls it.
 pub(crate) fn write_picture<F: Write + OpenFile + Drop>(
     alloc: Global,
     file: &NetworkFile<Global>,

@@ -22,7 +22,7 @@ use std::alloc::Global;
 use std::rt::{Clock, Files};
 
 /// Carries out the arguments `words`, and returns the program's output. The status is 4 for help or the version. If `is_watched`, a long
-/// run shows its progress on standard error.
+/// run shows its progress on standard error. `run` of `tsnbridge` calls it.
 pub fn perform<H: Input + AllocGlobal + Clock + Print + Eprint + Files>(
     rt: &H,
     words: &[String],
@@ -40,7 +40,7 @@ pub fn perform<H: Input + AllocGlobal + Clock + Print + Eprint + Files>(
 /// Exit status after a request for help or the version.
 const HELP_STATUS: u8 = 4;
 
-/// Returns the output for a request for help or the version.
+/// Returns the output for a request for help or the version. `perform` calls it.
 fn help_output(alloc: Global, text: String) -> Output
     ensures { Prints (string_bytes text) [] 4 result }
 {
@@ -51,7 +51,7 @@ fn help_output(alloc: Global, text: String) -> Output
     }
 }
 
-/// Reads the request from the arguments, and returns its output. Refused arguments give their fault and the usage.
+/// Reads the request from the arguments, and returns its output. Refused arguments give their fault and the usage. `perform` calls it.
 fn perform_request<H: Input + AllocGlobal + Clock + Print + Eprint + Files>(
     rt: &H,
     words: &[String],
@@ -84,7 +84,7 @@ fn request_output<H: Input + AllocGlobal + Clock + Print + Eprint + Files>(
     }
 }
 
-/// Returns the output of a failed command: its fault line, and the explanation if requested.
+/// Returns the output of a failed command: its fault line, and the explanation if requested. `request_output` calls it.
 fn report_failure<H: AllocGlobal + Files>(
     rt: &H,
     words: &[String],
@@ -127,7 +127,7 @@ pub(crate) fn requested_run<'a>(
     }
 }
 
-/// Carries out the command of a request by the command's function. Keeps in `texts` what it reads.
+/// Carries out the command of a request by the command's function. Keeps in `texts` what it reads. `request_output` calls it.
 fn run_request<H: Input + AllocGlobal + Clock + Print + Eprint + Files>(
     rt: &H,
     request: &Request,
@@ -174,7 +174,8 @@ fn run_request<H: Input + AllocGlobal + Clock + Print + Eprint + Files>(
     }
 }
 
-/// Returns the output of `bounds`, with traffic or without.
+/// Returns the output of `bounds`, with traffic or without. `run_request`, `is_sufficient` of `bridge_groups`, and `push_padded_figure` of
+/// `net_latency` call it.
 fn bound<H: AllocGlobal + Files>(
     files: &mut CommandFiles<'_, H>,
     plan: &String,
@@ -191,7 +192,7 @@ fn bound<H: AllocGlobal + Files>(
     }
 }
 
-/// Runs a network from one folder into another, and returns the output of `net`.
+/// Runs a network from one folder into another, and returns the output of `net`. `run_request` calls it.
 fn run_network_request<H: AllocGlobal + Eprint + Files>(
     files: &mut CommandFiles<'_, H>,
     network: &String,

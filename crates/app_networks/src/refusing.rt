@@ -43,7 +43,7 @@ pub(crate) fn bridge_name(bridges: &[BridgeRow<Global>], bridge: usize) -> &str
     }
 }
 
-/// Returns the fault line of a bridge's capture that stops its run: `capture BRIDGE.PORT` and the capture's fault.
+/// Returns the fault line of a bridge's capture that stops its run: `capture BRIDGE.PORT` and the capture's fault. `run_failure` calls it.
 fn capture_fault_line(alloc: Global, name: &str, fault: RunFault) -> Result<String, NoMemory>
     ensures { IfOk result (λ line. IsCaptureLine name.now fault (string_bytes line)) }
 {
@@ -55,6 +55,7 @@ fn capture_fault_line(alloc: Global, name: &str, fault: RunFault) -> Result<Stri
 }
 
 /// Returns the fault line of a network run whose inputs still change after the last allowed round: the bridge and the first such port.
+/// `run_failure` calls it.
 fn unsettled_line(alloc: Global, name: &str, port: u8) -> Result<String, NoMemory>
     ensures { IfOk result (λ line. string_bytes line ≡ unsettled_line name.now port) }
 {
@@ -62,6 +63,7 @@ fn unsettled_line(alloc: Global, name: &str, port: u8) -> Result<String, NoMemor
 }
 
 /// Returns the fault of a stopped network run: `Rounds` with its fault line, or `NoMemory`. The line names a bridge and a port.
+/// `run_network_folders` calls it.
 pub(crate) fn run_failure(
     alloc: Global,
     bridges: &[BridgeRow<Global>],
@@ -85,7 +87,7 @@ pub(crate) fn run_failure(
 }
 
 /// Returns the first lines of the explanation of a network run whose inputs still change after 64 rounds; the caller appends the loops.
-/// Returns `None` for other fault lines.
+/// Returns `None` for other fault lines. `explain_stopped_run` calls it.
 pub fn explain_stopped(alloc: Global, line: &str) -> Option<String> {
     let rest = line.strip_prefix("network not settled ")?;
     format!(in alloc;

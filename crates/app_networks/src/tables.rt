@@ -34,7 +34,8 @@ pub(crate) struct Totals {
     pub(crate) delivered: u64,
 }
 
-/// Returns the record of a hop in a run, with the index of its bridge. A run of an accepted network has a record for each hop.
+/// Returns the record of a hop in a run, with the index of its bridge. A run of an accepted network has a record for each hop. `hop_runs`
+/// calls it.
 fn hop_run<'a>(settled: &'a [BridgeResult<Global>], hop: (u16, u32)) -> HopRun<'a, Global>
     requires { HasView settled.now hop }
     ensures { (o : ℕ → Outcome Global) → AreOutcomes settled.now o → IsHopRun o hop result }
@@ -50,7 +51,7 @@ fn hop_run<'a>(settled: &'a [BridgeResult<Global>], hop: (u16, u32)) -> HopRun<'
     }
 }
 
-/// Returns the records of a stream's hops, in file order.
+/// Returns the records of a stream's hops, in file order. `put_stream`, `include_streams` and `put_all_streams` call it.
 pub(crate) fn hop_runs<'a>(
     alloc: Global,
     settled: &'a [BridgeResult<Global>],
@@ -68,7 +69,7 @@ pub(crate) fn hop_runs<'a>(
     Ok(runs)
 }
 
-/// Returns the name of a hop, as in the network's file.
+/// Returns the name of a hop, as in the network's file. `row_names` and `hop_names` call it.
 pub(crate) fn hop_name(
     alloc: Global,
     bridges: &[BridgeRow<Global>],
@@ -81,7 +82,7 @@ pub(crate) fn hop_name(
     Ok(format!(in alloc; "{name}.{filter}")?)
 }
 
-/// Returns the names of these hops as in the network's file, for the tables.
+/// Returns the names of these hops as in the network's file, for the tables. `put_stream` calls it.
 fn hop_names(
     alloc: Global,
     bridges: &[BridgeRow<Global>],
@@ -133,7 +134,7 @@ fn put_stream<V: Write, W: Write>(
     })
 }
 
-/// Writes the rows of all streams to both tables, and returns the numbers of their frames.
+/// Writes the rows of all streams to both tables, and returns the numbers of their frames. `write_tables` calls it.
 fn write_both_tables<V: Write, W: Write>(
     alloc: Global,
     file: &NetworkFile<Global>,
@@ -195,7 +196,7 @@ pub(crate) fn write_tables<V: Write, W: Write>(
     write_both_tables(alloc, file, links, settled, figures, streams, frames)
 }
 
-/// Writes the buffer of a table's file, completes the file and returns it.
+/// Writes the buffer of a table's file, completes the file and returns it. `put_files` calls it.
 fn end_table<F: Write + OpenFile + Drop>(output: Output<F>) -> io::Result<Output<F>>
     ensures { IfOk result (λ done. Keeps (⟦<Output<F> as Write>⟧.contents output)
         (⟦<Output<F> as Write>⟧.contents done)) }
@@ -216,7 +217,7 @@ pub(crate) struct WrittenTables<F: Write + OpenFile + Drop> {
     pub frames: Output<F>,
 }
 
-/// Returns the program's fault for the table `name` in `folder`, which wasn't written.
+/// Returns the program's fault for the table `name` in `folder`, which wasn't written. `folder_fault` calls it.
 fn table_fault(alloc: Global, folder: &str, name: &str) -> Failure
     ensures { IsFileFault (table_path folder.now name.now) result }
 {
@@ -226,7 +227,7 @@ fn table_fault(alloc: Global, folder: &str, name: &str) -> Failure
     }
 }
 
-/// Returns the program's fault for a table that wasn't written, with the table's path in `folder`.
+/// Returns the program's fault for a table that wasn't written, with the table's path in `folder`. `put_tables` calls it.
 fn folder_fault(alloc: Global, folder: &str, fault: TableFault) -> Failure
     ensures { NamesFile (IsTableFile folder.now) result }
 {
@@ -237,7 +238,8 @@ fn folder_fault(alloc: Global, folder: &str, fault: TableFault) -> Failure
     }
 }
 
-/// Writes both tables to their files, and completes the files. Returns the files and the numbers of all streams' frames.
+/// Writes both tables to their files, and completes the files. Returns the files and the numbers of all streams' frames. `put_tables` calls
+/// it.
 fn put_files<F: Write + OpenFile + Drop>(
     alloc: Global,
     file: &NetworkFile<Global>,

@@ -48,7 +48,7 @@ impl<'a, H: Eprint> ProgressPrinter<'a, H> {
     }
 }
 
-/// Returns the number of octets in all captures.
+/// Returns the number of octets in all captures. `is_long_run` calls it.
 fn capture_octets(captures: &[Vec<u8>]) -> u64 {
     let mut octets = 0u64;
     for capture in captures {
@@ -57,7 +57,7 @@ fn capture_octets(captures: &[Vec<u8>]) -> u64 {
     octets
 }
 
-/// Whether a network's run may be long: its input captures have at least `LONG_INPUT` octets.
+/// Whether a network's run may be long: its input captures have at least `LONG_INPUT` octets. `new` calls it.
 fn is_long_run(incoming: &[BridgeInput<Global>]) -> bool {
     let mut octets = 0u64;
     for came in incoming {

@@ -22,7 +22,7 @@ use std::fs::OpenFile;
 use std::io::Write;
 
 /// Writes the capture of a bridge's port to the open file `output`, and returns the file. A fault names the file's path in the bridge's
-/// folder.
+/// folder. `write_captures` calls it.
 fn put_tap<F: Write + OpenFile + Drop>(
     alloc: Global,
     folder: &str,
@@ -43,7 +43,7 @@ fn put_tap<F: Write + OpenFile + Drop>(
     }
 }
 
-/// Writes the captures of a bridge's ports to their files by rising port, and returns the files.
+/// Writes the captures of a bridge's ports to their files by rising port, and returns the files. `write_bridge` calls it.
 fn write_captures<F: Write + OpenFile + Drop>(
     alloc: Global,
     folder: &str,
@@ -102,7 +102,7 @@ fn write_report_file<F: Write + OpenFile + Drop>(
     }
 }
 
-/// Writes the captures and the report of a bridge to its folder, and returns the files.
+/// Writes the captures and the report of a bridge to its folder, and returns the files. `write_bridges` calls it.
 fn write_bridge<F: Write + OpenFile + Drop>(
     alloc: Global,
     plan: &Plan<Global>,
@@ -134,7 +134,7 @@ fn write_bridge<F: Write + OpenFile + Drop>(
     }
 }
 
-/// Writes the captures and the report of each bridge to its folder in `output`, and returns the files.
+/// Writes the captures and the report of each bridge to its folder in `output`, and returns the files. `write_results` calls it.
 pub(crate) fn write_bridges<F: Write + OpenFile + Drop>(
     alloc: Global,
     network: &Network<Global>,

@@ -11,6 +11,7 @@ use bridge_gate::Schedule;
 use std::alloc::Allocator;
 
 /// Whether a stream gate and a port have one list each, and both lists have no common cycle with at most `MAX_INTERVALS` intervals.
+/// `is_coarse` calls it.
 fn lack_common_cycle<A: Allocator + Copy>(schedule: &Schedule<A>, lists: &Option<Egress<A>>) -> bool
     ensures { (result ≡ true) ↔ LackCommonCycle schedule.now lists.now }
 {
@@ -27,6 +28,8 @@ fn lack_common_cycle<A: Allocator + Copy>(schedule: &Schedule<A>, lists: &Option
 
 /// Whether the delay bounds of a filter at a port are coarse: they count all arrival times, because gate and port have no common cycle.
 /// Returns false if filter or port is missing.
+///
+/// `least_queue_bound` of `bridge_groups`, `put_tight_bound` of `net_latency`, and `put_gate_bounds` of `show_lint` call it.
 pub fn is_coarse<A: Allocator + Copy>(accepted: &Accepted<A>, number: u32, port: u8) -> bool
     ensures coarse { (result ≡ true) ↔ IsCoarse accepted.now number port }
     ensures limit { MAX_INTERVALS ≡ 1_024 }

@@ -10,7 +10,7 @@ use bridge_gate::GateEntry;
 use std::alloc::Allocator;
 
 /// Returns how many frames of at least two octets an entry passes in one interval. A closed entry passes 0. Returns `None` for an open
-/// entry without limit.
+/// entry without limit. `max_list_frames` calls it.
 fn max_entry_frames(entry: &GateEntry) -> Option<u32>
     ensures { result ≡ spec.max_entry_frames entry.now }
 {
@@ -21,6 +21,7 @@ fn max_entry_frames(entry: &GateEntry) -> Option<u32>
 }
 
 /// Returns the largest number of frames that any entry passes in one interval; `None` if an open entry has no octet limit.
+/// `frames_below_room` calls it.
 fn max_list_frames(entries: &[(GateEntry, u64)]) -> Option<u32>
     ensures { result ≡ spec.max_list_frames entries.now }
 {
@@ -32,7 +33,7 @@ fn max_list_frames(entries: &[(GateEntry, u64)]) -> Option<u32>
 }
 
 /// Returns the largest number of frames in one interval if it is less than the queue's capacity `room`, otherwise `None`. Only a lesser
-/// number lowers the bound.
+/// number lowers the bound. `tighten_bound` calls it.
 pub(crate) fn frames_below_room(entries: &[(GateEntry, u64)], room: u16) -> Option<u16>
     ensures { result ≡ spec.frames_below_room room (spec.max_list_frames entries.now) }
 {
@@ -43,7 +44,7 @@ pub(crate) fn frames_below_room(entries: &[(GateEntry, u64)], room: u16) -> Opti
     Some(most as u16)
 }
 
-/// Whether the stream gate is closed from time `from` up to, not including, time `until`, both in ns.
+/// Whether the stream gate is closed from time `from` up to, not including, time `until`, both in ns. `is_shut_after_turn` calls it.
 fn is_shut<A: Allocator + Copy>(list: &CyclicList<GateEntry, A>, from: u64, until: u64) -> bool
     requires until { until ≤ END_OF_TIME }
     requires lawful { IsLawful list.now }
@@ -61,7 +62,7 @@ fn is_shut<A: Allocator + Copy>(list: &CyclicList<GateEntry, A>, from: u64, unti
 }
 
 /// Whether the stream gate passes no frame for `apart` ns after the interval `turn`. Returns true for a closed interval, because no frame
-/// passes in it.
+/// passes in it. `are_apart` calls it.
 fn is_shut_after_turn<A: Allocator + Copy>(
     list: &CyclicList<GateEntry, A>,
     turn: &Turn<GateEntry>,
@@ -81,6 +82,8 @@ fn is_shut_after_turn<A: Allocator + Copy>(
 
 /// Whether the stream gate's open intervals are at least `apart` ns apart. If so, the frames of one interval have left before the next
 /// opens. Examines one cycle, and `apart` ns after each open interval.
+///
+/// `lesser_bound` calls it.
 pub(crate) fn are_apart<A: Allocator + Copy>(list: &CyclicList<GateEntry, A>, apart: u64) -> bool
     requires apart { apart ≤ 1_000_000_000_000_000_000 }
     requires lawful { IsLawful list.now }

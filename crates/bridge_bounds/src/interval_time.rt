@@ -12,7 +12,7 @@ use std::alloc::Allocator;
 /// Returns the latest time in ns, from `from` to `to`, from which frames, one after another, miss the last fit of the window at `to` by 1
 /// ns.
 ///
-/// Returns `from` without such a time.
+/// Returns `from` without such a time. `interval_longest_time` calls it.
 fn latest_start<A: Allocator + Copy>(
     list: &CyclicList<u8, A>,
     class: u8,
@@ -42,7 +42,7 @@ fn latest_start<A: Allocator + Copy>(
 
 /// Returns the longest time in ns in which `room` frames leave, if all begin to wait at one time from `from` to `to`.
 ///
-/// It is attained at `from`, 1 ns after a window's last fit, or at the latest start before `to`.
+/// It is attained at `from`, 1 ns after a window's last fit, or at the latest start before `to`. `openings_longest_time` calls it.
 pub(crate) fn interval_longest_time<A: Allocator + Copy>(
     list: &CyclicList<u8, A>,
     class: u8,

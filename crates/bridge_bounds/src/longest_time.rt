@@ -30,6 +30,8 @@ pub(crate) fn list_first_fit<A: Allocator + Copy>(
 
 /// Returns the last time in ns at which a frame still fits in the window that is open at `at`. Returns `None` if this window never ends.
 /// Examines at most one cycle.
+///
+/// `latest_start` and `window_frames` call it.
 pub(crate) fn last_fit<A: Allocator + Copy>(
     list: &CyclicList<u8, A>,
     class: u8,
@@ -58,6 +60,7 @@ pub(crate) fn last_fit<A: Allocator + Copy>(
 }
 
 /// Returns the number of frames, at most `most`, that leave one after another from `start` on in one window. A frame fits at `start`.
+/// `frames_end`, `repeating_round` and `frames_duration` call it.
 fn window_frames<A: Allocator + Copy>(
     list: &CyclicList<u8, A>,
     class: u8,
@@ -90,7 +93,7 @@ fn window_frames<A: Allocator + Copy>(
 }
 
 /// Returns the time in ns at which `count` frames that wait from `from` on have left, one after another. Counts the frames of a window at
-/// once.
+/// once. `end_after_rounds` calls it.
 fn frames_end<A: Allocator + Copy>(
     list: &CyclicList<u8, A>,
     class: u8,
@@ -121,6 +124,8 @@ fn frames_end<A: Allocator + Copy>(
 
 /// Returns the number of frames in a round, at most `room`, and the round's end in ns. After a round, the next frame starts whole cycles
 /// after the first. `end_after_rounds` skips such rounds.
+///
+/// `frames_duration` calls it.
 fn repeating_round<A: Allocator + Copy>(
     list: &CyclicList<u8, A>,
     class: u8,
@@ -157,6 +162,8 @@ fn repeating_round<A: Allocator + Copy>(
 
 /// Returns the time in ns at which `room` frames have left, if the first `done` of them have left at `end`. If the next frame starts whole
 /// cycles after the first, skips whole rounds.
+///
+/// `frames_duration` calls it.
 fn end_after_rounds<A: Allocator + Copy>(
     list: &CyclicList<u8, A>,
     class: u8,
@@ -190,6 +197,7 @@ fn end_after_rounds<A: Allocator + Copy>(
 /// Returns the time in ns that `room` frames take if they wait from `from` on and leave one after another.
 ///
 /// The frames of the first window may start anywhere in it. Later windows are filled from their start, so they repeat after one cycle.
+/// `interval_longest_time` and `longest_time_after_edges` call it.
 pub(crate) fn frames_duration<A: Allocator + Copy>(
     list: &CyclicList<u8, A>,
     class: u8,
@@ -220,6 +228,7 @@ pub(crate) fn frames_duration<A: Allocator + Copy>(
 }
 
 /// Whether a frame fits at time `moment` in ns, and doesn't fit 1 ns later. Frames that arrive just after this time wait longest.
+/// `longest_time_after_edges` calls it.
 fn is_edge<A: Allocator + Copy>(list: &CyclicList<u8, A>, class: u8, occ: u64, moment: u64) -> bool
     requires class { class < 8 }
     requires occ { occ ≤ LONGEST_CYCLE }
@@ -233,7 +242,7 @@ fn is_edge<A: Allocator + Copy>(list: &CyclicList<u8, A>, class: u8, occ: u64, m
 }
 
 /// Returns the longest time in ns in which `room` frames leave. They begin to wait at `from`, or 1 ns after a window's last fit between
-/// `from` and `to`.
+/// `from` and `to`. `interval_longest_time` and `list_longest_time` call it.
 pub(crate) fn longest_time_after_edges<A: Allocator + Copy>(
     list: &CyclicList<u8, A>,
     class: u8,
@@ -268,6 +277,8 @@ pub(crate) fn longest_time_after_edges<A: Allocator + Copy>(
 
 /// Returns the longest time in ns in which `room` waiting frames leave under one list. It is attained 1 ns after a window's last fit, or
 /// always if the class is always open.
+///
+/// `egress_longest_time` calls it.
 fn list_longest_time<A: Allocator + Copy>(
     list: &CyclicList<u8, A>,
     class: u8,
@@ -287,7 +298,7 @@ fn list_longest_time<A: Allocator + Copy>(
 }
 
 /// Returns a time in ns in which `room` waiting frames always leave under a port's lists. With a schedule change, it sums the longest times
-/// under the old and the new list.
+/// under the old and the new list. `port_longest_time` calls it.
 fn egress_longest_time<A: Allocator + Copy>(
     lists: &Egress<A>,
     class: u8,

@@ -27,6 +27,7 @@ fn gives_priority(entry: &GateEntry, priority: Option<u8>, k: u8) -> bool
 }
 
 /// Whether `entry` is open and can put a frame of a filter with optional priority `priority` into class `class` of a port.
+/// `openings_longest_time` calls it.
 fn fills_class<A: Allocator + Copy>(
     entry: &GateEntry,
     port: &PortPlan<A>,
@@ -45,7 +46,7 @@ fn fills_class<A: Allocator + Copy>(
 /// Returns the longest time in ns in which the frames of a full queue leave. They wait from `occ` - 1 ns after a time at which the stream
 /// gate can put a frame into the class.
 ///
-/// Returns `None` if there is no such time.
+/// Returns `None` if there is no such time. `list_bound` calls it.
 fn openings_longest_time<A: Allocator + Copy>(
     gate: &CyclicList<GateEntry, A>,
     list: &CyclicList<u8, A>,
@@ -94,7 +95,7 @@ fn openings_longest_time<A: Allocator + Copy>(
 }
 
 /// Returns the delay bound in ns of a queue under one list of the stream gate and one list of the port. Without a common cycle, all arrival
-/// times count.
+/// times count. `gate_list_bound` calls it.
 fn list_bound<A: Allocator + Copy>(
     gate: &CyclicList<GateEntry, A>,
     list: &CyclicList<u8, A>,
@@ -122,7 +123,7 @@ fn list_bound<A: Allocator + Copy>(
 }
 
 /// Returns the delay bound in ns of a queue under one list of the stream gate. If the port has no list, or its list changes, all arrival
-/// times count.
+/// times count. `gate_bound` calls it.
 fn gate_list_bound<A: Allocator + Copy>(
     gate: &CyclicList<GateEntry, A>,
     port: &PortPlan<A>,
@@ -144,7 +145,7 @@ fn gate_list_bound<A: Allocator + Copy>(
 }
 
 /// Returns the delay bound in ns of a queue by its capacity, for frames that the stream gate's schedule passes. `priority` is the filter's
-/// priority.
+/// priority. `reached_queue_bound` and `tight_reached_queue_bound` call it.
 pub(crate) fn gate_bound<A: Allocator + Copy>(
     schedule: &Schedule<A>,
     port: &PortPlan<A>,

@@ -16,7 +16,8 @@ use bridge_gate::{GateEntry, Schedule};
 use bridge_ident::{StreamEntry, TagKind};
 use std::alloc::Allocator;
 
-/// Whether an entry of this tag kind accepts only VLAN-tagged frames. A tag makes the SDU of a frame 4 octets shorter.
+/// Whether an entry of this tag kind accepts only VLAN-tagged frames. A tag makes the SDU of a frame 4 octets shorter. `are_all_tagged`
+/// calls it.
 fn takes_only_tagged(tag: TagKind) -> bool
     ensures { result ≡ spec.takes_only_tagged tag }
 {
@@ -27,7 +28,8 @@ fn takes_only_tagged(tag: TagKind) -> bool
     }
 }
 
-/// Whether all entries with this stream handle accept only VLAN-tagged frames. Returns true if no entry has the handle.
+/// Whether all entries with this stream handle accept only VLAN-tagged frames. Returns true if no entry has the handle. `longest_sdu` calls
+/// it.
 fn are_all_tagged(handle: u32, streams: &[StreamEntry]) -> bool
     ensures { result ≡ spec.are_all_tagged handle streams.now }
 {
@@ -46,7 +48,7 @@ pub fn longest_sdu<A: Allocator + Copy>(plan: &Plan<A>, handle: Option<u32>, len
     }
 }
 
-/// Whether an SDU of `octets` is above the filter's maximum `most`. Returns false without a maximum.
+/// Whether an SDU of `octets` is above the filter's maximum `most`. Returns false without a maximum. `passes` calls it.
 fn is_above(most: Option<u32>, octets: u32) -> bool
     ensures { result ≡ is_above_max most octets }
 {
@@ -57,6 +59,7 @@ fn is_above(most: Option<u32>, octets: u32) -> bool
 }
 
 /// Whether an interval of this stream gate entry passes a first frame of `sdu` octets: the gate is open and the octet limit suffices.
+/// `can_pass_turns` calls it.
 fn can_pass_entry(entry: &GateEntry, sdu: u32) -> bool
     ensures { result ≡ spec.can_pass_entry entry.now sdu }
 {
@@ -70,6 +73,7 @@ fn can_pass_entry(entry: &GateEntry, sdu: u32) -> bool
 }
 
 /// Whether an interval with an octet limit ends by time `until`, when the next frame may arrive. Returns true without a limit.
+/// `can_pass_list` calls it.
 fn is_limit_reset_in_time(octets: Option<u32>, end: u64, until: u64) -> bool
     ensures { result ≡ spec.is_limit_reset_in_time octets end until }
 {
@@ -80,7 +84,7 @@ fn is_limit_reset_in_time(octets: Option<u32>, end: u64, until: u64) -> bool
 }
 
 /// Whether each interval that contains a time from `from` to `to` passes one frame of `sdu` octets. Looks at no more than one cycle of the
-/// list.
+/// list. `can_pass_list` calls it.
 fn can_pass_turns<A: Allocator + Copy>(
     list: &CyclicList<GateEntry, A>,
     from: u64,
@@ -105,7 +109,7 @@ fn can_pass_turns<A: Allocator + Copy>(
 }
 
 /// Whether a stream gate's list passes each frame of the traffic. The period must be a multiple of the cycle time. No frame may share an
-/// interval's octets with another.
+/// interval's octets with another. `can_pass_schedule` calls it.
 fn can_pass_list<A: Allocator + Copy>(
     list: &CyclicList<GateEntry, A>,
     traffic: &Traffic,
@@ -126,7 +130,7 @@ fn can_pass_list<A: Allocator + Copy>(
 }
 
 /// Whether a stream gate's schedule passes each frame of the traffic. With a schedule change, the old list and the new list must both pass
-/// each frame.
+/// each frame. `passes` calls it.
 fn can_pass_schedule<A: Allocator + Copy>(
     schedule: &Schedule<A>,
     traffic: &Traffic,

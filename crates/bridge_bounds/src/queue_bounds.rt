@@ -43,7 +43,7 @@ pub fn class_bound<A: Allocator + Copy>(port: &PortPlan<A>, class: u8, sdu: u32)
 }
 
 /// Returns the delay bound in ns, by capacity, of a queue that protected filter `number` can reach. The result is never `None`, because
-/// such a filter has a maximum SDU.
+/// such a filter has a maximum SDU. `queue_bound` calls it.
 fn reached_queue_bound<A: Allocator + Copy>(
     plan: &Plan<A>,
     number: u32,
@@ -67,6 +67,8 @@ fn reached_queue_bound<A: Allocator + Copy>(
 
 /// Returns the delay bound in ns of a protected filter's reachable queue; `None` for any other queue or filter. Without a schedule change
 /// the bound is exact within one transmission time. Allocates no memory.
+///
+/// `queue_timing`, `bound_in_reach` of `net_latency`, and `put_classes` of `show_lint` call it.
 pub fn queue_bound<A: Allocator + Copy>(
     accepted: &Accepted<A>,
     number: u32,

@@ -24,7 +24,7 @@ use bridge_limits::LONGEST_FRAME;
 use std::alloc::Allocator;
 
 /// Returns the lesser of `bound` and the bound of `few` frames, in ns. If the frames of one interval may still wait when the next one
-/// opens, returns `bound`.
+/// opens, returns `bound`. `tighten_bound` calls it.
 fn lesser_bound<A: Allocator + Copy>(
     list: &CyclicList<GateEntry, A>,
     port: &PortPlan<A>,
@@ -48,6 +48,7 @@ fn lesser_bound<A: Allocator + Copy>(
 }
 
 /// Returns `bound`, or a lesser bound if the stream gate's only list passes fewer frames per interval than the queue's capacity.
+/// `tight_reached_queue_bound` calls it.
 fn tighten_bound<A: Allocator + Copy>(
     schedule: &Schedule<A>,
     port: &PortPlan<A>,
@@ -74,7 +75,7 @@ fn tighten_bound<A: Allocator + Copy>(
 }
 
 /// Returns the tight bound in ns of a queue that a protected filter reaches. The result is never `None`, because the filter has a maximum
-/// SDU.
+/// SDU. `tight_queue_bound` calls it.
 fn tight_reached_queue_bound<A: Allocator + Copy>(
     plan: &Plan<A>,
     number: u32,
@@ -99,6 +100,8 @@ fn tight_reached_queue_bound<A: Allocator + Copy>(
 
 /// Returns the bound of `queue_bound`, or a lesser bound if octet limits of the stream gate allow it. Frames must have at least their
 /// captured octets. Allocates no memory.
+///
+/// `least_queue_bound` of `bridge_groups` and `put_tight_bound` of `net_latency` call it.
 pub fn tight_queue_bound<A: Allocator + Copy>(
     accepted: &Accepted<A>,
     number: u32,

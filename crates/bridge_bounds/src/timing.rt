@@ -55,7 +55,7 @@ fn timing_without_phases(bound: u64, short: u64) -> Timing
 }
 
 /// Returns the delays of frames with transmission times from `short` to `long` ns in a class of a port. The queue's delay bound limits the
-/// worst delay.
+/// worst delay. `port_timing` calls it.
 fn timing_by_lists<A: Allocator + Copy>(
     lists: &Option<Egress<A>>,
     class: u8,
@@ -117,6 +117,8 @@ fn port_timing<A: Allocator + Copy>(
 
 /// Returns the delays of traffic in a queue that filter `number` can reach. `bound` is the queue's delay bound in ns. Returns `None` if the
 /// filter is missing or has no maximum SDU.
+///
+/// `queue_timing` calls it.
 fn filter_timing<A: Allocator + Copy>(
     plan: &Plan<A>,
     number: u32,
@@ -139,6 +141,8 @@ fn filter_timing<A: Allocator + Copy>(
 
 /// Returns the delays of a protected filter's frames in one queue if they keep `traffic`. Ignores frames above the filter's maximum SDU.
 /// Returns `None` if the queue isn't reachable. Allocates no memory.
+///
+/// `shifted_times` of `net_check`, and `queue_exit` and `push_queue_timing` of `net_latency` call it.
 pub fn queue_timing<A: Allocator + Copy>(
     accepted: &Accepted<A>,
     number: u32,

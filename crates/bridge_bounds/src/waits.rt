@@ -42,6 +42,8 @@ fn first_fit_time<A: Allocator + Copy>(
 
 /// Returns the longest wait in ns of a frame that arrives from `from` to `to`. A wait is longest at `from`, or 1 ns after a window's last
 /// fit. Examines at most one cycle.
+///
+/// `list_waits` calls it.
 fn longest_wait<A: Allocator + Copy>(
     list: &CyclicList<u8, A>,
     class: u8,
@@ -98,7 +100,7 @@ fn list_waits<A: Allocator + Copy>(
 }
 
 /// Returns the fits and waits at a port for transmission times from `short` to `long` ns. Returns `None` if the lists don't repeat with the
-/// period.
+/// period. `timing_by_lists` calls it.
 pub(crate) fn port_waits<A: Allocator + Copy>(
     lists: &Option<Egress<A>>,
     class: u8,

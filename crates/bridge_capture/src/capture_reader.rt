@@ -108,7 +108,7 @@ pub fn run_fault(port: u8, fault: CaptureFault) -> RunFault
 }
 
 /// Reads the header and the first record of each capture; `ports[i]` is the port of `sources[i]`. Returns the readers in this order, or the
-/// first fault.
+/// first fault. `simulate_with_agenda` of `bridge_core` calls it.
 pub fn begin_readers<R: ByteSource, A: Allocator + Copy>(
     alloc: A,
     ports: &[u8],

@@ -11,7 +11,7 @@ pub const MAX_OCTETS: usize = 1_048_576;
 /// Largest number of bytes of text.
 pub const MAX_TEXT_BYTES: usize = 4_194_304;
 
-/// Whether a character may separate pairs of digits: a space, tab, carriage return or line feed.
+/// Whether a character may separate pairs of digits: a space, tab, carriage return or line feed. `parse_octets` calls it.
 fn is_blank(c: u8) -> bool
     ensures { result ≡ is_blank c }
 {

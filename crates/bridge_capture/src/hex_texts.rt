@@ -28,7 +28,7 @@ fn record_len(octets: &[u8]) -> usize
     }
 }
 
-/// Returns the lower-case hexadecimal digit of a number below 16.
+/// Returns the lower-case hexadecimal digit of a number below 16. `push_line` calls it.
 fn hex_digit(n: u8) -> char
     requires { n < 16 }
     ensures { result ≡ digit_char n }
@@ -49,6 +49,8 @@ fn push_line<A: Allocator>(text: &mut String<A>, octets: &[u8]) -> Result<(), Al
 
 /// Returns a written capture in lower-case hexadecimal: one line for the header, one line for each record. Octets that aren't a written
 /// capture give a text without meaning. Allocates memory once.
+///
+/// `wire_text` of `app_commands` calls it.
 pub fn hex_lines<A: Allocator>(alloc: A, capture: &[u8]) -> Result<String<A>, NoMemory>
     ensures { IfOk result (λ text. (frames : List CapturedFrame) → All (λ frame. length frame.octets < 2 ^ 32) frames →
         capture.now ≡ written_text frames → string_bytes text ≡ hex_text frames) }

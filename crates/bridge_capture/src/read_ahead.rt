@@ -33,7 +33,8 @@ impl<R: Read + Drop, A: Allocator> ReadAhead<R, A> {
         ReadAhead::with_width(alloc, reader, MAX_READ)
     }
 
-    /// Makes a source that reads `width` octets at once, at least 1. A smaller width is faster if many sources alternate.
+    /// Makes a source that reads `width` octets at once, at least 1. A smaller width is faster if many sources alternate. `new` and
+    /// `buffered_sources` of `app_commands` call it.
     pub fn with_width(alloc: A, reader: R, width: usize) -> Result<ReadAhead<R, A>, NoMemory>
         requires { 0 < width }
         ensures remaining { IfOk result (λ source. ⟦<ReadAhead<R, A> as ByteSource>⟧.remaining source

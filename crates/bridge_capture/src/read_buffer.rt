@@ -37,7 +37,7 @@ impl<A: Allocator> ReadBuffer<A> {
         }
     }
 
-    /// Returns the capacity in octets: the number that one refill reads at most.
+    /// Returns the capacity in octets: the number that one refill reads at most. `read_with_refill` calls it.
     pub fn width(&self) -> usize
         ensures positive { 0 < result }
     {
@@ -52,7 +52,7 @@ impl<A: Allocator> ReadBuffer<A> {
         self.end - self.start
     }
 
-    /// Fills `buf` with the next octets, which must be in the buffer.
+    /// Fills `buf` with the next octets, which must be in the buffer. `read_with_refill` and `read` call it.
     #[inline(always)]
     pub fn copy_front(&mut self, buf: &mut [u8])
         requires { length buf.old ≤ self.old.end - self.old.start }
@@ -85,7 +85,7 @@ impl<A: Allocator> ReadBuffer<A> {
         self.start += count;
     }
 
-    /// Fills the empty buffer with one read of the source.
+    /// Fills the empty buffer with one read of the source. `read_with_refill` calls it.
     pub fn refill<R: ByteSource>(&mut self, source: &mut R) -> Result<(), Broken>
         requires { self.old.start ≡ self.old.end }
         ensures kept { Keeps (R.remaining source.old)

@@ -30,7 +30,8 @@ struct RecordHeader {
     original: u32,
 }
 
-/// Reads time and lengths from the sixteen octets of a record's header, in the capture's format.
+/// Reads time and lengths from the sixteen octets of a record's header, in the capture's format. `parse_buffered_header` and
+/// `read_unbuffered_record` call it.
 #[inline(always)]
 fn parse_record_header(form: CaptureFormat, octets: &[u8]) -> RecordHeader
     requires { length octets.now ≡ 16 }
@@ -45,7 +46,7 @@ fn parse_record_header(form: CaptureFormat, octets: &[u8]) -> RecordHeader
 }
 
 /// Reads time and lengths from big-endian words. Not inlined: most captures are little-endian, and a test of the order for each word
-/// costs more than reading it.
+/// costs more than reading it. `parse_record_header` calls it.
 #[cold]
 #[inline(never)]
 fn parse_big_words(unit: FractionUnit, octets: &[u8]) -> RecordHeader
@@ -57,7 +58,7 @@ fn parse_big_words(unit: FractionUnit, octets: &[u8]) -> RecordHeader
     parse_words(ByteOrder::Big, unit, octets)
 }
 
-/// Reads time and lengths from the four words of a record's header.
+/// Reads time and lengths from the four words of a record's header. `parse_record_header` and `parse_big_words` call it.
 #[inline(always)]
 fn parse_words(order: ByteOrder, unit: FractionUnit, octets: &[u8]) -> RecordHeader
     requires { length octets.now ≡ 16 }
@@ -131,7 +132,7 @@ fn read_octets<R: ByteSource, A: Allocator>(
 }
 
 /// Returns the header of record `number` if the whole record is in memory and its header has no fault. For `None`, `read_unbuffered_record`
-/// reads the record.
+/// reads the record. `read_next_record` calls it.
 #[inline(always)]
 fn parse_buffered_header(
     form: CaptureFormat,
@@ -162,7 +163,7 @@ fn parse_buffered_header(
 }
 
 /// Reads record `number`; `None` if no octets remain. The previous record had the time `earliest`. The record's octets replace the vector's
-/// contents.
+/// contents. `read_packet` calls it.
 #[inline(always)]
 pub fn read_next_record<R: ByteSource, A: Allocator>(
     form: CaptureFormat,

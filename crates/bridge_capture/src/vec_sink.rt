@@ -102,7 +102,7 @@ impl<A: Allocator> VecSink<A> {
         &self.octets
     }
 
-    /// Whether memory ran out, the only reason why an unlimited sink fails.
+    /// Whether memory ran out, the only reason why an unlimited sink fails. `wire_text` of `app_commands` calls it.
     pub fn is_out_of_memory(&self) -> bool
         ensures { result ≡ self.now.ran_out }
     {

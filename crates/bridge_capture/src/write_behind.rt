@@ -34,7 +34,8 @@ impl<W: Write + Drop, A: Allocator> WriteBehind<W, A> {
         WriteBehind::with_block(alloc, writer, MAX_BLOCK)
     }
 
-    /// Makes a sink with blocks of `block` octets, 1 to 131,072. Smaller blocks are faster if many sinks alternate.
+    /// Makes a sink with blocks of `block` octets, 1 to 131,072. Smaller blocks are faster if many sinks alternate. `new` and
+    /// `buffered_sinks` of `app_commands` call it.
     pub fn with_block(alloc: A, writer: W, block: usize) -> Result<WriteBehind<W, A>, NoMemory>
         requires some { 0 < block }
         requires most { block ≤ 131_072 }

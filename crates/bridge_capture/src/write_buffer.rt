@@ -48,7 +48,7 @@ impl<A: Allocator> WriteBuffer<A> {
         }
     }
 
-    /// Returns the number of octets of a block, which the sink writes at once.
+    /// Returns the number of octets of a block, which the sink writes at once. `write_with_flush` calls it.
     pub fn block_len(&self) -> usize
         ensures block { result ≡ self.now.block }
         ensures rest { self.now.count - result ≤ MAX_RECORD_OCTETS }
@@ -66,7 +66,7 @@ impl<A: Allocator> WriteBuffer<A> {
         self.count
     }
 
-    /// Returns the number of octets that the buffer can still accept.
+    /// Returns the number of octets that the buffer can still accept. `write_with_flush` calls it.
     pub fn room(&self) -> usize
         ensures room { result ≡ vec_len self.now.octets - self.now.count }
         ensures some { self.now.count ≤ MAX_RECORD_OCTETS → 0 < result }

@@ -13,6 +13,7 @@ use bridge_limits::NoMemory;
 use std::alloc::{AllocError, Allocator};
 
 /// Appends the fault of each failed test in `tests` to `faults`; `None` is a passed test. Fails only if memory runs out.
+/// `push_filter_faults` calls it.
 fn push_failing<A: Allocator>(
     faults: &mut Vec<CheckFault, A>,
     tests: &[Option<CheckFault>],
@@ -30,7 +31,7 @@ fn push_failing<A: Allocator>(
 }
 
 /// Appends the faults of filter `number` to `faults`, if the filter is protected or grouped. `reaches` has every filter's reach; `catches`
-/// is true if the plan has a catch-all filter.
+/// is true if the plan has a catch-all filter. `all_faults` calls it.
 fn push_filter_faults<A: Allocator + Copy>(
     faults: &mut Vec<CheckFault, A>,
     plan: &Plan<A>,

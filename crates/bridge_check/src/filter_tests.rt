@@ -51,7 +51,7 @@ fn is_gate_shared(filters: &[(u32, FilterPlan)], number: u32, filter: &FilterPla
         .any(|g| g.0 != number && g.1.gate == filter.gate)
 }
 
-/// Whether both meter numbers are present and equal. Two filters without a meter share none.
+/// Whether both meter numbers are present and equal. Two filters without a meter share none. `is_meter_shared` calls it.
 fn is_same_meter(a: Option<u32>, b: Option<u32>) -> bool
     ensures { result ≡ spec.is_same_meter a b }
 {
@@ -69,13 +69,14 @@ fn is_meter_shared(filters: &[(u32, FilterPlan)], number: u32, filter: &FilterPl
 }
 
 /// Whether every filter number is at most `number`. A catch-all filter must have the greatest number, to match only what is left.
+/// `has_catch_all` calls it.
 fn is_greatest_number(filters: &[(u32, FilterPlan)], number: u32) -> bool
     ensures { result ≡ spec.is_greatest_number filters.now number }
 {
     filters.iter().all(|g| g.0 <= number)
 }
 
-/// Whether the filter with the greatest number is a catch-all filter.
+/// Whether the filter with the greatest number is a catch-all filter. `all_faults` and `least_fault` call it.
 pub(crate) fn has_catch_all(filters: &[(u32, FilterPlan)]) -> bool
     ensures { result ≡ spec.has_catch_all filters.now }
 {
@@ -84,14 +85,14 @@ pub(crate) fn has_catch_all(filters: &[(u32, FilterPlan)]) -> bool
     })
 }
 
-/// Whether `check` tests a filter.
+/// Whether `check` tests a filter. `push_filter_faults` and `numbered_fault` call it.
 pub(crate) fn is_tested(filter: &FilterPlan) -> bool
     ensures { result ≡ spec.is_tested filter.now }
 {
     filter.protected || filter.group.is_some()
 }
 
-/// Returns the group whose filters may share queues with a filter; `None` for a protected filter.
+/// Returns the group whose filters may share queues with a filter; `None` for a protected filter. `other_filter_in_queue` calls it.
 fn queue_group(filter: &FilterPlan) -> Option<u32>
     ensures { result ≡ spec.queue_group filter.now }
 {
@@ -100,7 +101,7 @@ fn queue_group(filter: &FilterPlan) -> Option<u32>
 
 impl<'a, A: Allocator + Copy> FilterCase<'a, A> {
     /// Returns the lowest number of a filter that can reach class `class` at `port`, which has number `q`, but may not share this queue;
-    /// `None` if no such filter can.
+    /// `None` if no such filter can. `queue_test_fault` calls it.
     fn other_filter_in_queue(&self, port: &PortPlan<A>, q: u8, class: u8) -> Option<u32>
         requires port { find_port self.now.plan.now.ports q ≡ Some port.now }
         requires from { 1 ≤ q }
@@ -113,7 +114,7 @@ impl<'a, A: Allocator + Copy> FilterCase<'a, A> {
         least_outsider(self.reaches, group, self.number, q, &port.classes, class)
     }
 
-    /// Returns the fault if class `class` at `port`, which has number `q`, fails `test`; otherwise `None`.
+    /// Returns the fault if class `class` at `port`, which has number `q`, fails `test`; otherwise `None`. `reached_queue_fault` calls it.
     fn queue_test_fault(
         &self,
         test: QueueTest,
@@ -163,7 +164,7 @@ impl<'a, A: Allocator + Copy> FilterCase<'a, A> {
 }
 
 impl<'a, A: Allocator + Copy> FilterCase<'a, A> {
-    /// Whether the filter can reach class `class` at `port`, which has number `q`.
+    /// Whether the filter can reach class `class` at `port`, which has number `q`. `reached_queue_fault` calls it.
     fn reaches_queue(&self, port: &PortPlan<A>, q: u8, class: u8) -> bool
         requires port { find_port self.now.plan.now.ports q ≡ Some port.now }
         requires from { 1 ≤ q }
@@ -175,6 +176,7 @@ impl<'a, A: Allocator + Copy> FilterCase<'a, A> {
     }
 
     /// Returns the fault if class `class` at `port`, which has number `q`, is reachable and fails `test`; otherwise `None`.
+    /// `first_or_queue_fault` calls it.
     fn reached_queue_fault(
         &self,
         test: QueueTest,
@@ -222,6 +224,7 @@ impl<'a, A: Allocator + Copy> FilterCase<'a, A> {
     }
 
     /// Returns the first fault of `test` among the classes of `port`, which has number `q`; `None` if all pass.
+    /// `first_fault_on_numbered_port` calls it.
     #[tactic(auto, using(crate::proofs::Told::first_none, crate::proofs::Told::first_more))]
     fn first_fault_on_port(&self, test: QueueTest, port: &PortPlan<A>, q: u8) -> Option<CheckFault>
         requires port { find_port self.now.plan.now.ports q ≡ Some port.now }
@@ -240,6 +243,7 @@ impl<'a, A: Allocator + Copy> FilterCase<'a, A> {
     }
 
     /// Returns the first fault of `test` among the classes of port `q`; `None` if all pass or the plan lacks the port.
+    /// `first_or_port_fault` calls it.
     fn first_fault_on_numbered_port(&self, test: QueueTest, q: u8) -> Option<CheckFault>
         requires from { 1 ≤ q }
         requires to { q ≤ 16 }
@@ -273,7 +277,8 @@ impl<'a, A: Allocator + Copy> FilterCase<'a, A> {
         self.first_fault_on_numbered_port(test, q)
     }
 
-    /// Returns the first fault of `test` among the filter's reachable queues, by rising port and class; `None` if all pass.
+    /// Returns the first fault of `test` among the filter's reachable queues, by rising port and class; `None` if all pass. `run_tests`
+    /// calls it.
     #[tactic(auto, using(crate::proofs::Told::first_none, crate::proofs::Told::first_more))]
     fn first_fault_in_reach(&self, test: QueueTest) -> Option<CheckFault>
         requires { reached.IsCase self.now }
@@ -295,7 +300,7 @@ fn fault_unless(passes: bool, fault: CheckFault) -> Option<CheckFault>
     if passes { None } else { Some(fault) }
 }
 
-/// Returns the first fault in the results of the tests; `None` if the filter passed them all.
+/// Returns the first fault in the results of the tests; `None` if the filter passed them all. `numbered_fault` calls it.
 pub(crate) fn first_test_fault(tests: &[Option<CheckFault>]) -> Option<CheckFault>
     ensures { result ≡ spec.first_test_fault tests.now }
 {
@@ -308,7 +313,7 @@ pub(crate) fn first_test_fault(tests: &[Option<CheckFault>]) -> Option<CheckFaul
 }
 
 impl<'a, A: Allocator + Copy> FilterCase<'a, A> {
-    /// Returns the results of the eight tests, in order; `None` for a passed test.
+    /// Returns the results of the eight tests, in order; `None` for a passed test. `test_filter` calls it.
     fn run_tests(&self) -> [Option<CheckFault>; 8]
         requires { reached.IsCase self.now }
         ensures { result ≡ reached.case_tests self.now.plan.now (spec.queue_group self.now.filter) self.now.number
@@ -339,6 +344,8 @@ impl<'a, A: Allocator + Copy> FilterCase<'a, A> {
 
 /// Returns the results of the eight tests of filter `number`, in order; `None` for a passed test. `reaches` has every filter's reach;
 /// `catches` is true if the plan has a catch-all filter.
+///
+/// `push_filter_faults` and `numbered_fault` call it.
 pub(crate) fn test_filter<A: Allocator + Copy>(
     plan: &Plan<A>,
     reaches: &[FilterReach],

@@ -13,7 +13,7 @@ use bridge_gate::{GateEntry, GatePlan, Schedule};
 use bridge_ident::{Kind, StreamEntry};
 use std::alloc::Allocator;
 
-/// Whether entries of kind `kind` compare the destination address, which decides the egress ports of a frame.
+/// Whether entries of kind `kind` compare the destination address, which decides the egress ports of a frame. `are_null_kinds` calls it.
 fn is_null_kind(kind: Kind) -> bool
     ensures { result ≡ spec.is_null_kind kind }
 {
@@ -33,7 +33,7 @@ fn are_null_kinds(handle: u32, streams: &[StreamEntry]) -> bool
         .all(|e| e.handle != handle || is_null_kind(e.kind))
 }
 
-/// Sets the flag of each port in `set`. `ports` has one flag for each port, from port 1.
+/// Sets the flag of each port in `set`. `ports` has one flag for each port, from port 1. `destination_ports` calls it.
 fn mark_ports(ports: &mut [bool; 16], set: PortSet)
     ensures { ports.new ≡ reached.test_results 16 (λ i. slice_index_or ports.old i false || has_port set (i + 1)) }
 {
@@ -42,7 +42,8 @@ fn mark_ports(ports: &mut [bool; 16], set: PortSet)
     }
 }
 
-/// Returns a flag for each port, from port 1: whether frames that the entries of `handle` identify can leave by it.
+/// Returns a flag for each port, from port 1: whether frames that the entries of `handle` identify can leave by it. `reached_ports` calls
+/// it.
 fn destination_ports<A: Allocator + Copy>(plan: &Plan<A>, handle: u32) -> [bool; 16]
     ensures { result ≡ reached.test_results 16 (λ i. spec.leads_through_port plan.now.database handle (i
         + 1) plan.now.streams) }
@@ -72,7 +73,7 @@ fn gives_priority(entry: &GateEntry, priority: Option<u8>, k: u8) -> bool
     }
 }
 
-/// Whether some entry in `entries` is open and can give a frame priority `k`.
+/// Whether some entry in `entries` is open and can give a frame priority `k`. `lets` calls it.
 fn entries_give_priority(entries: &[(GateEntry, u64)], priority: Option<u8>, k: u8) -> bool
     ensures { result ≡ spec.lets (map (λ e. e.0) entries.now) priority k }
 {
@@ -85,6 +86,7 @@ fn entries_give_priority(entries: &[(GateEntry, u64)], priority: Option<u8>, k: 
 }
 
 /// Whether some entry of `schedule` is open and can give a frame priority `k`. If a schedule change joins two lists, either list counts.
+/// `given_priorities` calls it.
 #[tactic(auto, using(crate::proofs::Both::lets_both))]
 fn lets<A: Allocator + Copy>(schedule: &Schedule<A>, priority: Option<u8>, k: u8) -> bool
     ensures { result ≡ spec.lets (spec.schedule_entries schedule.now) priority k }
@@ -107,7 +109,7 @@ fn lets<A: Allocator + Copy>(schedule: &Schedule<A>, priority: Option<u8>, k: u8
     }
 }
 
-/// Returns a flag for each priority, from 0: whether some open entry of `schedule` can give it.
+/// Returns a flag for each priority, from 0: whether some open entry of `schedule` can give it. `reached_priorities` calls it.
 fn given_priorities<A: Allocator + Copy>(schedule: &Schedule<A>, priority: Option<u8>) -> [bool; 8]
     ensures { result ≡ reached.test_results 8 (spec.lets (spec.schedule_entries schedule.now) priority) }
 {
@@ -143,7 +145,7 @@ pub struct Reach {
 }
 
 /// Returns a flag for each port, from port 1: whether frames with `handle` can leave by it. Every port counts if the destination addresses
-/// are unknown.
+/// are unknown. `filter_reach` calls it.
 fn reached_ports<A: Allocator + Copy>(plan: &Plan<A>, handle: Option<u32>) -> [bool; 16]
     ensures { result ≡ reached.test_results 16 (λ i. spec.reaches_port plan.now handle (i + 1)) }
 {
@@ -153,7 +155,7 @@ fn reached_ports<A: Allocator + Copy>(plan: &Plan<A>, handle: Option<u32>) -> [b
     }
 }
 
-/// Returns a flag for each priority, from 0: whether the frames of `filter` can have it.
+/// Returns a flag for each priority, from 0: whether the frames of `filter` can have it. `filter_reach` calls it.
 fn reached_priorities<A: Allocator + Copy>(plan: &Plan<A>, filter: &FilterPlan) -> [bool; 8]
     ensures { result ≡ reached.test_results 8 (spec.reaches_priority plan.now filter.now) }
 {
@@ -193,6 +195,8 @@ pub fn can_wait<A: Allocator + Copy>(
 
 /// Whether the frames of `filter` can enter the queue of class `class` at `port`, by its known `reach`. Callers that test many queues
 /// compute the reach once.
+///
+/// `is_sharer` of `bridge_groups`, `is_reached` of `net_latency`, and `found_or_can_wait` of `net_model` call it.
 #[tactic(auto, using(crate::proofs::Told::in_reach))]
 pub fn can_wait_in_reach<A: Allocator + Copy>(
     plan: &Plan<A>,
@@ -220,7 +224,7 @@ impl Reach {
         self.ports[port as usize - 1] && self.has_class(classes, class)
     }
 
-    /// Whether some priority that the frames can have has class `class`.
+    /// Whether some priority that the frames can have has class `class`. `has_queue` calls it.
     fn has_class(&self, classes: &[u8; 8], class: u8) -> bool
         ensures { result ≡ reached.has_class self.now.priorities classes.now class }
     {

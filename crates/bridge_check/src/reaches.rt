@@ -20,6 +20,7 @@ pub(crate) struct FilterReach {
 }
 
 /// Returns every filter's number, group and reach, in plan order. Computed once, because test 6 compares each filter with all others.
+/// `all_faults` and `first_fault` call it.
 pub(crate) fn all_reaches<A: Allocator + Copy>(
     alloc: A,
     plan: &Plan<A>,
@@ -63,6 +64,7 @@ fn is_in_group(group: u32, own: Option<u32>) -> bool
 }
 
 /// Whether filter `other` may not share a queue with filter `number`, which shares queues with `group`, or with nobody (`None`).
+/// `least_outsider` calls it.
 fn is_outsider(group: Option<u32>, number: u32, other: &FilterReach) -> bool
     ensures { result ≡ is_outsider group number other.now }
 {
@@ -73,7 +75,7 @@ fn is_outsider(group: Option<u32>, number: u32, other: &FilterReach) -> bool
 }
 
 /// Returns the lowest number of an outsider that can reach class `class` at port `port`; `None` if none can. Filter `number` shares queues
-/// with `group`; `classes` gives the class of each priority.
+/// with `group`; `classes` gives the class of each priority. `other_filter_in_queue` calls it.
 pub(crate) fn least_outsider(
     reaches: &[FilterReach],
     group: Option<u32>,

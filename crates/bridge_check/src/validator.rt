@@ -56,7 +56,7 @@ pub struct Refused<A: Allocator + Copy> {
     pub fault: CheckFault,
 }
 
-/// Returns the fault with the lower filter number, or `a` if the numbers are equal; `None` if both are absent.
+/// Returns the fault with the lower filter number, or `a` if the numbers are equal; `None` if both are absent. `least_fault` calls it.
 fn lesser_fault(
     a: Option<(u32, CheckFault)>,
     b: Option<(u32, CheckFault)>,
@@ -71,6 +71,7 @@ fn lesser_fault(
 }
 
 /// Returns the number and the first fault of `filter`; `None` if the filter is neither protected nor grouped, or passes every test.
+/// `least_fault` calls it.
 fn numbered_fault<A: Allocator + Copy>(
     plan: &Plan<A>,
     reaches: &[FilterReach],
@@ -93,7 +94,7 @@ fn numbered_fault<A: Allocator + Copy>(
 }
 
 /// Returns the first fault of the lowest-numbered faulty filter, protected or grouped, with the filter's number; `None` if no such filter
-/// is faulty.
+/// is faulty. `first_fault` calls it.
 fn least_fault<A: Allocator + Copy>(
     plan: &Plan<A>,
     reaches: &[FilterReach],

@@ -11,7 +11,7 @@ use bridge_frame::occupation;
 use bridge_limits::LONGEST_FRAME;
 use std::alloc::Allocator;
 
-/// Whether gate state `state` opens class `class` and another class.
+/// Whether gate state `state` opens class `class` and another class. `shared_phase` calls it.
 fn is_shared(state: u8, class: u8) -> bool
     requires { class < 8 }
     ensures { result ≡ spec.is_shared state class }
@@ -19,7 +19,7 @@ fn is_shared(state: u8, class: u8) -> bool
     is_open(state, class) && has_other_open_class(state, class)
 }
 
-/// Whether gate state `state` opens a class other than `class`.
+/// Whether gate state `state` opens a class other than `class`. `is_shared` calls it.
 fn has_other_open_class(state: u8, class: u8) -> bool
     ensures { result ≡ some_number_passes 8 (λ d. not (nat_eq d class) && moments.is_open state d) }
 {
@@ -31,6 +31,7 @@ fn has_other_open_class(state: u8, class: u8) -> bool
 }
 
 /// Returns the offset in ns of the first entry that opens class `class` together with another class; `None` if no entry does.
+/// `port_shared_phase` calls it.
 fn shared_phase<A: Allocator + Copy>(list: &CyclicList<u8, A>, class: u8) -> Option<u64>
     requires { class < 8 }
     ensures { result ≡ spec.list_shared_phase list.now class }
@@ -47,6 +48,8 @@ fn shared_phase<A: Allocator + Copy>(list: &CyclicList<u8, A>, class: u8) -> Opt
 
 /// Returns the offset in ns at which the port first opens class `class` with another class, if it does. The old list precedes the new list.
 /// A port without a list gives 0.
+///
+/// `queue_test_fault` calls it.
 pub(crate) fn port_shared_phase<A: Allocator + Copy>(port: &PortPlan<A>, class: u8) -> Option<u64>
     requires { class < 8 }
     ensures { result ≡ spec.port_shared_phase port.now.list class }
@@ -62,7 +65,7 @@ pub(crate) fn port_shared_phase<A: Allocator + Copy>(port: &PortPlan<A>, class: 
 }
 
 /// Whether the longest frame with `sdu` SDU octets fits a window of class `class` in every list of the port. A frame may wait under either
-/// list.
+/// list. `queue_test_fault` calls it.
 pub(crate) fn can_ever_fit<A: Allocator + Copy>(port: &PortPlan<A>, class: u8, sdu: u32) -> bool
     requires class { class < 8 }
     requires sdu { sdu ≤ 65535 }
@@ -79,7 +82,7 @@ pub(crate) fn can_ever_fit<A: Allocator + Copy>(port: &PortPlan<A>, class: u8, s
     }
 }
 
-/// Whether `list` has a window of class `class` of at least `occupied` ns.
+/// Whether `list` has a window of class `class` of at least `occupied` ns. `can_ever_fit` calls it.
 fn can_fit_in_list<A: Allocator + Copy>(list: &CyclicList<u8, A>, class: u8, occupied: u64) -> bool
     requires { class < 8 }
     ensures { result ≡ list_can_fit list.now class occupied }

@@ -13,14 +13,14 @@ use bridge_schema::{
 };
 use toml::{Table, Value};
 
-/// Whether a `[[change]]` table has no key except `at`; otherwise its fault is `UnknownKey`.
+/// Whether a `[[change]]` table has no key except `at`; otherwise its fault is `UnknownKey`. `read_change_time` calls it.
 fn has_change_keys(table: &Table) -> bool
     ensures { result ≡ sections.has_change_keys (table_view table.now) }
 {
     has_allowed_keys(table, &CHANGE_KEYS, false)
 }
 
-/// Reads the time of the schedule change from a table. A table with a key other than `at` is refused.
+/// Reads the time of the schedule change from a table. A table with a key other than `at` is refused. `item_change` calls it.
 #[tactic(auto, unfolding(crate::specs::Sections::read_change_time))]
 fn read_change_time(index: u32, table: &Table) -> Result<u64, PlanFault>
     ensures reads { MatchesReading result (sections.read_change_time index (table_view table.now)) }
@@ -48,7 +48,7 @@ fn first_item(items: &[Value]) -> Option<&Value>
     }
 }
 
-/// Reads the time of the schedule change from an item. `None` if there is no item, or it isn't a table.
+/// Reads the time of the schedule change from an item. `None` if there is no item, or it isn't a table. `read_change` calls it.
 fn item_change(value: Option<&Value>) -> Result<Option<u64>, PlanFault>
     ensures reads { MatchesReading result (doc.item_change (option_map (λ v. view v.now) value.entry)) }
     ensures bounded { IfOk result rules.IsChangeInTime }
@@ -63,7 +63,7 @@ fn item_change(value: Option<&Value>) -> Result<Option<u64>, PlanFault>
     }
 }
 
-/// Reads the time in ns of the plan's schedule change; `None` if the plan has no change. Allocates no memory.
+/// Reads the time in ns of the plan's schedule change; `None` if the plan has no change. Allocates no memory. `read_plan` calls it.
 #[tactic(auto, unfolding(crate::specs::Document::read_change))]
 pub(crate) fn read_change(items: &[Value]) -> Result<Option<u64>, PlanFault>
     ensures reads { MatchesReading result (doc.read_change (items_view items.now)) }

@@ -80,14 +80,15 @@ fn last_time(commands: &[Command]) -> u64
     }
 }
 
-/// Whether a `[[command]]` table has only keys of a command; otherwise its fault is `UnknownKey`.
+/// Whether a `[[command]]` table has only keys of a command; otherwise its fault is `UnknownKey`. `read_command` calls it.
 fn has_command_keys(table: &Table) -> bool
     ensures { result ≡ spec.has_command_keys (table_view table.now) }
 {
     has_allowed_keys(table, &COMMAND_KEYS, false)
 }
 
-/// Reads the command in a table. The command may not be earlier than the last of `commands`, and must name an instance of the plan.
+/// Reads the command in a table. The command may not be earlier than the last of `commands`, and must name an instance of the plan. `read`
+/// calls it.
 fn read_command<B: Allocator + Copy>(
     plan: &Plan<B>,
     commands: &[Command],
@@ -153,7 +154,8 @@ impl<'a, A: Allocator + Copy, B: Allocator + Copy> SectionReader<A> for CommandS
     }
 }
 
-/// Returns the `[[command]]` tables of a document, or the fault of a document with any other section. Allocates no memory.
+/// Returns the `[[command]]` tables of a document, or the fault of a document with any other section. Allocates no memory. `commands_of`
+/// calls it.
 #[tactic(auto, unfolding(crate::specs::Document::command_items))]
 fn command_items<'a>(table: &'a Table) -> Result<&'a [Value], PlanFault>
     ensures reads { MatchesReadingView (λ x. items_view x.now) result (doc.command_items (table_view table.now)) }

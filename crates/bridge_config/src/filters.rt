@@ -19,7 +19,7 @@ use bridge_schema::{
 use std::alloc::Allocator;
 use toml::{Table, Value};
 
-/// Whether a `[[filter]]` table has only keys of a filter; otherwise its fault is `UnknownKey`.
+/// Whether a `[[filter]]` table has only keys of a filter; otherwise its fault is `UnknownKey`. `read_filter_by_lookup` calls it.
 fn has_filter_keys(table: &Table) -> bool
     ensures { result ≡ sections.has_filter_keys (table_view table.now) }
 {
@@ -85,7 +85,7 @@ fn read_filter_by_lookup<G: NumberLookup + Copy, M: NumberLookup + Copy, F: Numb
 }
 
 /// Reads a filter and its number. `gates` and `meters` are all stream gates and meters of the plan. `filters` are the earlier filters; none
-/// may have this number.
+/// may have this number. `read` calls it.
 fn read_filter<A: Allocator + Copy>(
     gates: &[(u32, GatePlan<A>)],
     meters: &[(u32, MeterPlan)],
@@ -135,7 +135,8 @@ impl<'a, A: Allocator + Copy> SectionReader<A> for FilterSection<'a, A> {
     }
 }
 
-/// Reads the plan's filters, or returns the first fault. `gates` and `meters` were read before, because filters name them.
+/// Reads the plan's filters, or returns the first fault. `gates` and `meters` were read before, because filters name them. `read_policing`
+/// calls it.
 pub(crate) fn read_filters<A: Allocator + Copy>(
     alloc: A,
     gates: &[(u32, GatePlan<A>)],

@@ -72,7 +72,8 @@ fn has_only_gate_entry_keys(key: Field, table: &Table) -> bool
     has_allowed_entry_keys(get_value(table, key.key()), &GATE_ENTRY_KEYS)
 }
 
-/// Whether a `[[gate]]` table and the entries of its lists have only allowed keys; otherwise its fault is `UnknownKey`.
+/// Whether a `[[gate]]` table and the entries of its lists have only allowed keys; otherwise its fault is `UnknownKey`. `read_gate` calls
+/// it.
 fn has_gate_keys(change: Option<u64>, table: &Table) -> bool
     ensures { result ≡ sections.has_gate_keys change (table_view table.now) }
 {
@@ -112,7 +113,7 @@ fn read_gate_parts<A: Allocator + Copy>(
 }
 
 /// Returns the schedule of a stream gate: its first list, and the new list from time `change` in ns if both exist. `None` without a first
-/// list.
+/// list. `read_gate_lists` calls it.
 fn gate_schedule<A: Allocator + Copy>(
     old: Option<CyclicList<GateEntry, A>>,
     change: Option<u64>,
@@ -158,7 +159,7 @@ fn read_gate_lists<A: Allocator + Copy>(
 }
 
 /// Reads the lists of a stream gate. Returns `None` without a list, and after an earlier fault. If reading fails, stores the fault and
-/// returns `None`.
+/// returns `None`. `read_gate` calls it.
 fn take_gate_lists<A: Allocator + Copy>(
     first: &mut FirstFault,
     alloc: A,
@@ -201,7 +202,8 @@ fn take_fixed_state(first: &mut FirstFault, row: InstanceTable<'_>) -> bool
     first.value_or(state, false)
 }
 
-/// Returns `lists`. For `None`, returns a fixed state: frames pass if `lets` is true, with the internal priority value `ipv`.
+/// Returns `lists`. For `None`, returns a fixed state: frames pass if `lets` is true, with the internal priority value `ipv`. `read_gate`
+/// calls it.
 fn schedule_or_fixed<A: Allocator + Copy>(
     lets: bool,
     ipv: Option<u8>,
@@ -221,6 +223,7 @@ fn schedule_or_fixed<A: Allocator + Copy>(
 }
 
 /// Reads a stream gate and its number, which none of the gates before it may have. `change` is the time of the schedule change in ns.
+/// `read` calls it.
 fn read_gate<A: Allocator + Copy>(
     alloc: A,
     change: Option<u64>,

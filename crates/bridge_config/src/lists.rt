@@ -27,6 +27,7 @@ pub(crate) struct ListParts<X, A: Allocator + Copy> {
 }
 
 /// Reads the parts of a list from three keys of a table. `entry` reads each entry, of a port's list or of a stream gate's list.
+/// `read_gate_parts` and `read_port_parts` call it.
 #[tactic(auto, unfolding(crate::specs::Sections::read_list_parts))]
 pub(crate) fn read_list_parts<A: Allocator + Copy, E: ListEntry>(
     alloc: A,
@@ -65,6 +66,7 @@ where
 }
 
 /// Makes a gate control list from its parts; `None` without entries. If the parts break a rule of lists, the fault is `BadList`.
+/// `read_gate_lists` and `read_port_lists` call it.
 pub(crate) fn optional_list<S: Copy, A: Allocator + Copy>(
     alloc: A,
     section: Section,

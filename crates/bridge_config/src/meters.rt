@@ -37,14 +37,14 @@ impl TextMeaning for ColourText {
     }
 }
 
-/// Whether a `[[meter]]` table has only keys of a meter; otherwise its fault is `UnknownKey`.
+/// Whether a `[[meter]]` table has only keys of a meter; otherwise its fault is `UnknownKey`. `read_meter` calls it.
 fn has_meter_keys(table: &Table) -> bool
     ensures { result ≡ sections.has_meter_keys (table_view table.now) }
 {
     has_allowed_keys(table, &METER_KEYS, false)
 }
 
-/// Reads a meter and its number, which none of the meters before it may have.
+/// Reads a meter and its number, which none of the meters before it may have. `read` calls it.
 fn read_meter(
     meters: &[(u32, MeterPlan)],
     index: u32,

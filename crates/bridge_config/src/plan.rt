@@ -143,7 +143,8 @@ impl<A: Allocator + Copy> Plan<A> {
         &self.filters
     }
 
-    /// Returns the stream filters with their numbers, by rising number. Results of runs and delay bounds list filters in this order.
+    /// Returns the stream filters with their numbers, by rising number. Results of runs and delay bounds list filters in this order. `new`
+    /// and `make_run_lists` of `bridge_core`, and `queue_bounds` of `net_latency` call it.
     pub fn filters_in_order<B: Allocator + Copy>(
         &self,
         alloc: B,
@@ -177,7 +178,7 @@ impl<A: Allocator + Copy> Plan<A> {
     }
 }
 
-/// Returns the first port with this number; `None` if no port has it.
+/// Returns the first port with this number; `None` if no port has it. `port` calls it.
 fn find_port<A: Allocator + Copy>(ports: &[PortPlan<A>], number: u8) -> Option<&PortPlan<A>>
     ensures { option_map (λ p. p.now) result ≡ rules.find_port ports.now number }
 {
@@ -205,7 +206,8 @@ fn collect_port_numbers<A: Allocator + Copy, B: Allocator + Copy>(
     Ok(numbers)
 }
 
-/// Returns the set of the ports' numbers: bit n - 1 stands for port n. VLANs and static entries may name only these ports.
+/// Returns the set of the ports' numbers: bit n - 1 stands for port n. VLANs and static entries may name only these ports. `read_plan`
+/// calls it.
 fn port_set<A: Allocator + Copy>(ports: &[PortPlan<A>]) -> u16
     requires { rules.ArePorts ports.now }
     ensures { result ≡ rules.port_set ports.now }

@@ -87,6 +87,7 @@ fn has_only_port_entry_keys(key: Field, table: &Table) -> bool
 }
 
 /// Whether a `[[port]]` table and the entries of its lists have only allowed keys; otherwise its fault is `UnknownKey`.
+/// `read_port_by_lookup` calls it.
 fn has_port_keys(change: Option<u64>, table: &Table) -> bool
     ensures { result ≡ sections.has_port_keys change (table_view table.now) }
 {
@@ -147,7 +148,7 @@ fn read_port_parts<A: Allocator + Copy>(
 }
 
 /// Returns the gate control lists of a port: its first list, and the new list from time `change` in ns if both exist. `None` without a
-/// first list.
+/// first list. `read_port_lists` calls it.
 fn port_lists<A: Allocator + Copy>(
     old: Option<CyclicList<u8, A>>,
     change: Option<u64>,
@@ -191,7 +192,7 @@ fn read_port_lists<A: Allocator + Copy>(
 }
 
 /// Reads the gate control lists of a port. Returns `None` without a list, and after an earlier fault. If reading fails, stores the fault
-/// and returns `None`.
+/// and returns `None`. `read_port_by_lookup` calls it.
 fn take_port_lists<A: Allocator + Copy>(
     first: &mut FirstFault,
     alloc: A,
@@ -261,7 +262,7 @@ fn read_port_by_lookup<A: Allocator + Copy, P: NumberLookup + Copy>(
     })
 }
 
-/// Reads a port, whose number none of the ports before it may have. `change` is the time of the schedule change in ns.
+/// Reads a port, whose number none of the ports before it may have. `change` is the time of the schedule change in ns. `read` calls it.
 fn read_port<A: Allocator + Copy>(
     alloc: A,
     change: Option<u64>,

@@ -16,7 +16,8 @@ use bridge_schema::{
 use std::alloc::Allocator;
 use toml::Table;
 
-/// Whether an entry has this VLAN and this address. The last octet is compared first because it differs most often.
+/// Whether an entry has this VLAN and this address. The last octet is compared first because it differs most often. `has_static_among` and
+/// `has_static_in_four` call it.
 #[inline(always)]
 fn has_vlan_and_address(entry: &StaticEntry, vid: u64, address: &[u8; 6]) -> bool
     ensures { result ≡ (nat_eq entry.now.vid vid && bytes_eq entry.now.address address.now) }
@@ -36,7 +37,7 @@ fn has_static_among(statics: &[StaticEntry], vid: u64, address: &[u8; 6]) -> boo
         .any(|s| has_vlan_and_address(s, vid, address))
 }
 
-/// Whether one of the four entries from index `place` on has this VLAN and this address.
+/// Whether one of the four entries from index `place` on has this VLAN and this address. `has_static` calls it.
 #[inline(always)]
 fn has_static_in_four(statics: &[StaticEntry], place: usize, vid: u64, address: &[u8; 6]) -> bool
     requires { place + 4 ≤ length statics.now }
@@ -51,7 +52,7 @@ fn has_static_in_four(statics: &[StaticEntry], place: usize, vid: u64, address: 
 }
 
 /// Whether one of the entries has this VLAN and this address. The plan's reader compares each entry with all before it, so the loop
-/// compares four at a time.
+/// compares four at a time. `read_static` calls it.
 fn has_static(statics: &[StaticEntry], vid: u64, address: &[u8; 6]) -> bool
     ensures { result ≡ rules.has_static statics.now vid address.now }
 {
@@ -65,14 +66,14 @@ fn has_static(statics: &[StaticEntry], vid: u64, address: &[u8; 6]) -> bool
     has_static_among(&statics[place..], vid, address)
 }
 
-/// Whether a `[[static]]` table has only keys of a static entry; otherwise its fault is `UnknownKey`.
+/// Whether a `[[static]]` table has only keys of a static entry; otherwise its fault is `UnknownKey`. `read_static` calls it.
 fn has_static_keys(table: &Table) -> bool
     ensures { result ≡ sections.has_static_keys (table_view table.now) }
 {
     has_allowed_keys(table, &STATIC_KEYS, false)
 }
 
-/// Reads a static entry. No entry before it may have its VLAN and address. `all` is the set of the plan's ports.
+/// Reads a static entry. No entry before it may have its VLAN and address. `all` is the set of the plan's ports. `read` calls it.
 fn read_static(
     all: u16,
     vlans: &[Vlan],

@@ -58,7 +58,8 @@ impl TextMeaning for TagText {
     }
 }
 
-/// Whether a `[[stream]]` table has only keys of a stream identification; otherwise its fault is `UnknownKey`.
+/// Whether a `[[stream]]` table has only keys of a stream identification; otherwise its fault is `UnknownKey`. `read_stream_by_lookup`
+/// calls it.
 fn has_stream_keys(table: &Table) -> bool
     ensures { result ≡ sections.has_stream_keys (table_view table.now) }
 {

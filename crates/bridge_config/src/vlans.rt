@@ -36,7 +36,7 @@ impl<'a> NumberLookup for VlanNumbers<'a> {
     }
 }
 
-/// Whether a `[[vlan]]` table has only keys of a VLAN; otherwise its fault is `UnknownKey`.
+/// Whether a `[[vlan]]` table has only keys of a VLAN; otherwise its fault is `UnknownKey`. `read_vlan` calls it.
 fn has_vlan_keys(table: &Table) -> bool
     ensures { result ≡ sections.has_vlan_keys (table_view table.now) }
 {
@@ -44,7 +44,7 @@ fn has_vlan_keys(table: &Table) -> bool
 }
 
 /// Reads a VLAN. None of `vlans`, the earlier VLANs, may have its identifier. `all` is the set of the plan's ports, which members must
-/// belong to.
+/// belong to. `read` calls it.
 fn read_vlan(all: u16, vlans: &[Vlan], index: u32, table: &Table) -> Result<Vlan, PlanFault>
     ensures reads { MatchesReading result (sections.read_vlan all vlans.now index (table_view table.now)) }
     ensures own { IfOk result (λ v. rules.has_vlan vlans.now v.vid ≡ false) }

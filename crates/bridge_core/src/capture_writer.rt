@@ -73,7 +73,7 @@ fn writer_index(lines: &[CaptureWriter], port: u8) -> Option<usize>
 }
 
 /// Writes a frame that left to the capture of its port. A failed write is `RunFault::Write` of this port. Does nothing if the port lacks a
-/// writer.
+/// writer. `send_due_frames` calls it.
 #[inline(always)]
 pub fn write_frame<W: ByteSink, A: Allocator + Copy>(
     lines: &mut [CaptureWriter],

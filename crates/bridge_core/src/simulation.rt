@@ -147,6 +147,7 @@ fn run_prepared<R: ByteSource, W: ByteSink, G: Agenda + Drop, A: Allocator + Cop
 /// a capture for each port; times are ends of transmission.
 ///
 /// A protected filter's record depends on its own frames and commands only, a grouped filter's record on those of its group only.
+/// `simulate` calls it.
 pub fn simulate_with_agenda<R: ByteSource, W: ByteSink, G: Agenda + Drop, A: Allocator + Copy>(
     alloc: A,
     accepted: &Accepted<A>,

@@ -146,7 +146,8 @@ impl<S: Copy, A: Allocator + Copy> CyclicList<S, A> {
         &self.entries
     }
 
-    /// Returns the base time in ns: a cycle starts at this time.
+    /// Returns the base time in ns: a cycle starts at this time. `put_list` of `net_check`, and `find_long_wait` and
+    /// `find_queue_stage_warnings` of `show_lint` call it.
     pub fn base(&self) -> u64
         ensures base { result ≡ self.now.base }
         ensures lawful { cyclic.IsLawful self.now }
@@ -195,7 +196,8 @@ fn is_within_cycle<S: Copy>(entries: &[(S, u64)], cycle: u64) -> bool
     true
 }
 
-/// Returns the offset in ns, from the start of a cycle, at which each interval ends. A search for an entry compares these ends.
+/// Returns the offset in ns, from the start of a cycle, at which each interval ends. A search for an entry compares these ends. `new` calls
+/// it.
 fn interval_ends<S: Copy, A: Allocator + Copy>(
     alloc: A,
     entries: &[(S, u64)],
@@ -234,7 +236,7 @@ fn is_in_entry(ends: &[u64], phase: u64, place: usize) -> bool
 }
 
 /// Returns the index of the entry in force at offset `phase`, if it is `guess` or next to `guess`; otherwise `None`. With intervals of
-/// similar length the guess succeeds.
+/// similar length the guess succeeds. `find_index` calls it.
 #[inline(always)]
 fn index_near_guess(ends: &[u64], phase: u64, guess: usize) -> Option<usize>
     ensures { IfSome result (λ place. running.IsEntryIndex ends.now phase place) }

@@ -80,7 +80,7 @@ fn meter_verdict<A: Allocator + Copy>(
 }
 
 /// Returns the verdict for the meter's colour. A yellow frame passes as drop eligible, or is refused if `drop_yellow`. `ipv` is the gate's
-/// internal priority value.
+/// internal priority value. `meter_verdict` calls it.
 fn colour_verdict(colour: Colour, drop_yellow: bool, ipv: Option<u8>) -> Verdict
     ensures verdict { (plan : MeterPlan) → plan.drop_yellow ≡ drop_yellow → result ≡ colour_verdict plan ipv colour }
     ensures passed { has_passed_gate result ≡ true }
@@ -101,7 +101,7 @@ fn colour_verdict(colour: Colour, drop_yellow: bool, ipv: Option<u8>) -> Verdict
 }
 
 /// Returns the verdict for the stream gate's answer. If the gate passed the frame, the meter at index `place` decides; without a meter, the
-/// frame passes.
+/// frame passes. `police_frame` calls it.
 fn answer_verdict<A: Allocator + Copy>(
     answer: GateAnswer,
     place: Option<usize>,

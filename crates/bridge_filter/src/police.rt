@@ -154,7 +154,8 @@ impl<A: Allocator + Copy> Police<A> {
         self.pass_routed(call, found)
     }
 
-    /// Returns the route of frames with this handle and priority, for `pass_routed`. `None` if no filter matches.
+    /// Returns the route of frames with this handle and priority, for `pass_routed`. `None` if no filter matches. `pass` and
+    /// `filter_number`, and `arrive` of `bridge_relay` call it.
     #[inline(always)]
     pub fn find_route(&self, handle: Option<u32>, priority: u8) -> Option<Route>
         ensures found { IsFoundRoute self.now handle priority result }
@@ -258,7 +259,7 @@ impl<A: Allocator + Copy> Police<A> {
         self.earliest
     }
 
-    /// Returns the counters of `filter`, which must exist. The results of a run contain them.
+    /// Returns the counters of `filter`, which must exist. The results of a run contain them. `make_view` of `bridge_relay` calls it.
     pub fn counters(&self, filter: u32) -> Counters
         requires { is_listed filter self.now.filters ≡ true }
         ensures shown { state_counters filter self.now ≡ Some result }
@@ -289,7 +290,8 @@ impl<A: Allocator + Copy> Police<A> {
         }
     }
 
-    /// Returns the bucket levels of the meter of `filter`, which must exist; `None` if the filter has no meter.
+    /// Returns the bucket levels of the meter of `filter`, which must exist; `None` if the filter has no meter. `make_view` of
+    /// `bridge_relay` calls it.
     pub fn buckets(&self, filter: u32) -> Option<Buckets>
         requires { is_listed filter self.now.filters ≡ true }
         ensures shown { result ≡ state_buckets filter self.now }

@@ -34,6 +34,7 @@ pub(crate) type PriorityRow = [Option<Route>; 8];
 pub(crate) type HandleRows<A> = ByNumber<PriorityRow, A>;
 
 /// Returns the route with the lower filter number. Of the filters that match a frame, the one with the lowest number judges it.
+/// `lesser_match` and `add_to_slot` call it.
 pub(crate) fn lesser_route(route: Route, other: Option<Route>) -> Option<Route>
     ensures { result ≡ finding.lesser_route route other }
 {
@@ -43,7 +44,8 @@ pub(crate) fn lesser_route(route: Route, other: Option<Route>) -> Option<Route>
     }
 }
 
-/// Whether a filter with the handle `asked`, or with `None` for any, accepts a frame with `handle`.
+/// Whether a filter with the handle `asked`, or with `None` for any, accepts a frame with `handle`. `lesser_match` and `matching_filter` of
+/// `net_model` call it.
 pub fn is_handle_match(asked: Option<u32>, handle: Option<u32>) -> bool
     ensures { result ≡ verdicts.is_handle_match asked handle }
 {
@@ -54,7 +56,8 @@ pub fn is_handle_match(asked: Option<u32>, handle: Option<u32>) -> bool
     }
 }
 
-/// Whether a filter with the priority `asked`, or with `None` for any, accepts a frame with `priority`.
+/// Whether a filter with the priority `asked`, or with `None` for any, accepts a frame with `priority`. `lesser_match` and `add_to_slot`,
+/// and `matching_filter` of `net_model` call it.
 pub fn is_priority_match(asked: Option<u8>, priority: u8) -> bool
     ensures { result ≡ verdicts.is_priority_match asked priority }
 {
@@ -65,7 +68,7 @@ pub fn is_priority_match(asked: Option<u8>, priority: u8) -> bool
 }
 
 /// Returns the row of `handle` if it is at the guessed index, otherwise `None`. The guess saves a hash; it succeeds if handles of
-/// consecutive filters are consecutive.
+/// consecutive filters are consecutive. `find_row` calls it.
 #[inline(always)]
 fn row_by_guess<'a, A: Allocator + Copy>(
     rows: &'a HandleRows<A>,
@@ -96,7 +99,8 @@ fn row_by_hash<'a, A: Allocator + Copy>(
     }
 }
 
-/// Returns the row of `handle`. Without a handle, or if the handle has no row, returns the default row `any`.
+/// Returns the row of `handle`. Without a handle, or if the handle has no row, returns the default row `any`. `look_up_route` and
+/// `add_to_handle_row` call it.
 #[inline(always)]
 pub(crate) fn find_row<'a, A: Allocator + Copy>(
     rows: &'a HandleRows<A>,
@@ -213,7 +217,8 @@ fn search_route<A: Allocator + Copy>(
     least
 }
 
-/// Returns the route for this handle and priority: the matching filter with the least number. `None` if no filter matches.
+/// Returns the route for this handle and priority: the matching filter with the least number. `None` if no filter matches. `find_route`
+/// calls it.
 #[inline(always)]
 pub(crate) fn look_up_route<A: Allocator + Copy>(
     filters: &ByNumber<FilterState, A>,

@@ -17,7 +17,7 @@ use indexmap::IndexMap;
 use std::alloc::{AllocError, Allocator};
 
 /// Returns a row's route for `priority` after one more filter: the lesser of `slot` and `route` if the filter accepts the priority,
-/// otherwise `slot`. `asked` is the filter's priority; `None` accepts all.
+/// otherwise `slot`. `asked` is the filter's priority; `None` accepts all. `add_to_row` calls it.
 fn add_to_slot(slot: Option<Route>, asked: Option<u8>, route: Route, priority: u8) -> Option<Route>
     ensures { result ≡ finding.add_to_slot slot asked route priority }
 {
@@ -29,7 +29,7 @@ fn add_to_slot(slot: Option<Route>, asked: Option<u8>, route: Route, priority: u
 }
 
 /// Enters a filter's route at each priority that the filter accepts, unless a filter with a lower number is there. `asked` is the filter's
-/// priority; `None` accepts all.
+/// priority; `None` accepts all. `add_to_default_row` and `add_to_handle_row` call it.
 fn add_to_row(row: &mut PriorityRow, asked: Option<u8>, route: Route)
     ensures { (k : ℕ) → k < 8 → finding.slot row.new k ≡ finding.add_to_slot (finding.slot row.old k) asked route k }
 {
@@ -92,7 +92,7 @@ fn add_to_handle_row<A: Allocator + Copy>(
 }
 
 /// Makes one row for each handle that a filter names: for each priority, the matching filter with the lowest number. A row starts as a copy
-/// of the default row `any`.
+/// of the default row `any`. `new` calls it.
 pub(crate) fn handle_rows<A: Allocator + Copy>(
     alloc: A,
     filters: &ByNumber<FilterState, A>,

@@ -29,7 +29,7 @@ fn is_reserved(da: &[u8; 6]) -> bool
 }
 
 /// Returns the egress ports of a frame: its VLAN's members that the static entry allows, without the ingress port. Empty if the VLAN is
-/// unknown or lacks the ingress port.
+/// unknown or lacks the ingress port. `forward` calls it.
 #[inline(always)]
 fn output_ports(members: Option<PortSet>, entry: Option<PortSet>, port: u8) -> PortSet
     requires from { 1 ≤ port }

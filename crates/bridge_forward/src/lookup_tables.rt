@@ -29,7 +29,7 @@ fn vlan_table_len(vlans: &[Vlan]) -> usize
     places
 }
 
-/// Sets the members of `vid` unless they are set: the first VLAN with an identifier counts.
+/// Sets the members of `vid` unless they are set: the first VLAN with an identifier counts. `make_member_table` calls it.
 fn insert_members(members: &mut [Option<PortSet>], vid: u16, ports: PortSet)
     requires { vid < length members.old }
     ensures places { length members.new ≡ length members.old }
@@ -42,7 +42,7 @@ fn insert_members(members: &mut [Option<PortSet>], vid: u16, ports: PortSet)
     }
 }
 
-/// Makes the table of members, indexed by VLAN identifier, so that forwarding takes constant time.
+/// Makes the table of members, indexed by VLAN identifier, so that forwarding takes constant time. `new` calls it.
 pub(crate) fn make_member_table<A: Allocator + Copy>(
     alloc: A,
     vlans: &[Vlan],
@@ -145,7 +145,7 @@ pub(crate) fn ports_by_hash<A: Allocator + Copy>(
     entries.get(&key).copied()
 }
 
-/// Makes the table of the ports of static entries, by VLAN identifier and address, so that forwarding takes constant time.
+/// Makes the table of the ports of static entries, by VLAN identifier and address, so that forwarding takes constant time. `new` calls it.
 pub(crate) fn make_static_table<A: Allocator + Copy>(
     alloc: A,
     statics: &[StaticEntry],

@@ -22,7 +22,7 @@ impl Model for PortSet {
     ghost inverse = { λ n. record { bits = n } };
 }
 
-/// Whether the set of these bits contains none of the ports 1 to 16.
+/// Whether the set of these bits contains none of the ports 1 to 16. `is_empty` calls it.
 fn has_no_port(bits: u16) -> bool
     ensures { IsTrue result ↔ IsEmpty bits }
 {

@@ -76,7 +76,8 @@ pub enum Speed {
 }
 
 impl Speed {
-    /// Returns the speed for `mbps` Mb/s: 10, 100, 1000, 2500 or 10000. `None` for any other number.
+    /// Returns the speed for `mbps` Mb/s: 10, 100, 1000, 2500 or 10000. `None` for any other number. `parse_speed` of `app_cli` and `read`
+    /// of `bridge_schema` call it.
     pub fn of(mbps: u32) -> Option<Speed>
         ensures { result ≡ speed_by_mbps mbps }
     {
@@ -90,7 +91,7 @@ impl Speed {
         }
     }
 
-    /// Returns the speed in Mb/s, 10 to 10,000.
+    /// Returns the speed in Mb/s, 10 to 10,000. `port_mbps` of `net_check` and `put_port` of `show_picture` call it.
     pub fn megabits(self) -> u64
         ensures { result * 10 ^ 6 ≡ bits_per_second self }
     {
@@ -117,7 +118,8 @@ fn read_tag(octets: &[u8]) -> Tag
     }
 }
 
-/// Whether octets 12 and 13 are 81 00, the EtherType of a C-VLAN tag. The frame must have at least 14 octets.
+/// Whether octets 12 and 13 are 81 00, the EtherType of a C-VLAN tag. The frame must have at least 14 octets. `parse` and
+/// `mark_drop_eligible` call it.
 fn is_tagged(octets: &[u8]) -> bool
     requires { 14 ≤ length octets.now }
     ensures { result ≡ is_tagged octets.now }
@@ -128,7 +130,8 @@ fn is_tagged(octets: &[u8]) -> bool
 /// Reads the header of a frame from its captured octets. `len` is the frame's length without check sequence (IEEE 802.1Q-2018,
 /// clause 9.6).
 ///
-/// `TooShort` if the captured octets end within the header; otherwise `TooLong` if `len` exceeds 9,216.
+/// `TooShort` if the captured octets end within the header; otherwise `TooLong` if `len` exceeds 9,216. `find_destination` of
+/// `bridge_relay` and `offer_frame` of `bridge_wire` call it.
 pub fn parse(octets: &[u8], len: u32) -> Result<Head, FrameFault>
     requires captured { length octets.now ≤ MAX_CAPTURED_OCTETS }
     requires original { length octets.now ≤ len }
@@ -173,7 +176,7 @@ pub fn parse(octets: &[u8], len: u32) -> Result<Head, FrameFault>
 }
 
 /// Marks a tagged frame as drop eligible, and returns whether the frame has a tag. A frame of fewer than 18 octets counts as
-/// untagged.
+/// untagged. `mark_if_eligible` of `bridge_relay` calls it.
 pub fn mark_drop_eligible(octets: &mut [u8]) -> bool
     ensures tagged { result ≡ has_tag octets.old }
     ensures marked { octets.new ≡ drop_eligible_frame octets.old }

@@ -89,7 +89,7 @@ impl<A: Allocator + Copy> Schedule<A> {
     }
 }
 
-/// Whether an internal priority value is 0 to 7 or absent.
+/// Whether an internal priority value is 0 to 7 or absent. `has_valid_priorities` and `have_valid_priorities` call it.
 fn is_valid_priority(ipv: Option<u8>) -> bool
     ensures { result ≡ is_valid_priority ipv }
 {
@@ -99,7 +99,7 @@ fn is_valid_priority(ipv: Option<u8>) -> bool
     }
 }
 
-/// Whether the internal priority value of each entry is 0 to 7 or absent.
+/// Whether the internal priority value of each entry is 0 to 7 or absent. `has_valid_priorities` calls it.
 fn have_valid_priorities(entries: &[(GateEntry, u64)]) -> bool
     ensures { result ≡ list_all (λ e. is_valid_priority e.0.ipv) entries.now }
 {

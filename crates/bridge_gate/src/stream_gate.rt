@@ -193,7 +193,7 @@ impl<A: Allocator + Copy> StreamGate<A> {
         answer
     }
 
-    /// Returns the number of SDU octets that passed in the interval that starts at `start`; 0 if none passed.
+    /// Returns the number of SDU octets that passed in the interval that starts at `start`; 0 if none passed. `answer_frame` calls it.
     fn turn_octets(&self, start: i64) -> u64
         ensures used { result ≡ counted_octets self.now start }
         ensures few { result < 2 ^ 32 }
@@ -202,7 +202,7 @@ impl<A: Allocator + Copy> StreamGate<A> {
     }
 
     /// Returns the answer to a frame in the interval `turn`. `total` is the number of SDU octets that would pass in this interval,
-    /// including the frame.
+    /// including the frame. `answer_frame` calls it.
     fn decide_answer(&self, turn: &Turn<GateEntry>, total: u64) -> GateAnswer
         ensures reply { (sdu : ℕ)
             → total ≡ counted_octets self.now turn.now.start + sdu

@@ -12,7 +12,7 @@ use bridge_filter::FilterPlan;
 use bridge_gate::{GateEntry, Schedule};
 use std::alloc::Allocator;
 
-/// Whether each entry of a stream gate's list is open and has no octet limit.
+/// Whether each entry of a stream gate's list is open and has no octet limit. `is_open_schedule` calls it.
 fn are_open_entries(entries: &[(GateEntry, u64)]) -> bool
     ensures { result ≡ spec.are_open_entries entries.now }
 {
@@ -21,7 +21,7 @@ fn are_open_entries(entries: &[(GateEntry, u64)]) -> bool
         .all(|entry| entry.0.lets && !entry.0.octets.is_some())
 }
 
-/// Whether a stream gate's schedule has only open entries without octet limits, in each of its lists.
+/// Whether a stream gate's schedule has only open entries without octet limits, in each of its lists. `is_open_gate` calls it.
 fn is_open_schedule<A: Allocator + Copy>(schedule: &Schedule<A>) -> bool
     ensures { result ≡ spec.is_open_schedule schedule.now }
 {
@@ -56,7 +56,7 @@ fn allows_sdu(limit: Option<u32>, most: u32) -> bool
 }
 
 /// Returns the committed burst size in octets and the committed information rate in bit/s of an optional flow meter. Returns `None`
-/// without a meter.
+/// without a meter. `admits_talker` and `put_lacking_tokens` of `net_latency` call it.
 pub fn committed_tokens<A: Allocator + Copy>(
     plan: &Plan<A>,
     meter: Option<u32>,
@@ -85,6 +85,8 @@ fn has_tokens(tokens: Option<(u64, u64)>, burst: u64, rate: u64) -> bool
 
 /// Whether a filter passes each frame of any talker with SDUs of at most `most` octets, `burst` metered octets at once and `rate` bit/s.
 /// The stream gate must be always open without octet limits.
+///
+/// `admits_row` of `net_latency` calls it.
 pub fn admits_talker<A: Allocator + Copy>(
     plan: &Plan<A>,
     filter: &FilterPlan,

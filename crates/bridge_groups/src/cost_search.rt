@@ -21,6 +21,7 @@ use std::alloc::Allocator;
 const MOST_LENGTHS: u64 = 4;
 
 /// Whether each run of fits of `fit` ns starts with a fit of `long` ns. Returns false for some lists if `start` isn't a closed time.
+/// `fit_bound` calls it.
 fn has_long_starts<A: Allocator + Copy>(
     list: &CyclicList<u8, A>,
     class: u8,
@@ -51,6 +52,8 @@ fn has_long_starts<A: Allocator + Copy>(
 
 /// Returns the least length in ns of fits for which frames with SDUs of `sdu` octets cost no more per octet than shortest frames. The bound
 /// is mostly least for such a length.
+///
+/// `list_cost_bound` calls it.
 fn plain_fit(speed: Speed, sdu: u32) -> u64
     ensures least { transmission_time 60 speed ≤ result }
 {
@@ -62,7 +65,7 @@ fn plain_fit(speed: Speed, sdu: u32) -> u64
         .max(least)
 }
 
-/// Returns the greatest of the filters' limits of SDU octets that are at most `most`; 0 for none.
+/// Returns the greatest of the filters' limits of SDU octets that are at most `most`; 0 for none. `list_cost_bound` calls it.
 fn longest_sdu_upto(filters: &[(u32, FilterPlan)], most: u32) -> u32
     ensures { result ≤ most }
 {
@@ -76,7 +79,7 @@ fn longest_sdu_upto(filters: &[(u32, FilterPlan)], most: u32) -> u32
     longest
 }
 
-/// Returns the lesser of two delay bounds in ns, or the known one.
+/// Returns the lesser of two delay bounds in ns, or the known one. `list_cost_bound` calls it.
 fn lesser_known(one: Option<u64>, other: Option<u64>) -> Option<u64>
     ensures { (result ≡ one) ⊎ (result ≡ other) }
 {
@@ -89,6 +92,8 @@ fn lesser_known(one: Option<u64>, other: Option<u64>) -> Option<u64>
 
 /// Returns the delay bound in ns that counts fits of `fit` ns. The class is closed at time `start`. Returns `None` if a run of fits starts
 /// without a fit of `long` ns.
+///
+/// `list_cost_bound` calls it.
 fn fit_bound<A: Allocator + Copy>(
     plan: &Plan<A>,
     sharers: &[(u32, FilterPlan)],
@@ -153,6 +158,7 @@ fn list_cost_bound<A: Allocator + Copy>(
 }
 
 /// Returns the least delay bound in ns that the search finds by costs, for a port with one gate control list; `None` over a schedule change.
+/// `curve_figures` calls it.
 pub(crate) fn lists_cost_bound<A: Allocator + Copy>(
     plan: &Plan<A>,
     sharers: &[(u32, FilterPlan)],

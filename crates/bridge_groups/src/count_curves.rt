@@ -26,7 +26,7 @@ fn has_frames(counts: &[LinearCurve], w: u64, frames: u64) -> bool
 }
 
 /// Returns a length in ns: in each shorter span, the curves `counts` together allow fewer than `frames` frames. It is the greatest such
-/// length, but at most `END_OF_COUNTS`.
+/// length, but at most `END_OF_COUNTS`. `shortest_span` calls it.
 pub(crate) fn first_frames_time(counts: &[LinearCurve], frames: u64) -> u64
     requires counts { All IsCountCurve counts.now }
     ensures earlier { (w : ℕ) → w < result → count_at counts.now w < frames }

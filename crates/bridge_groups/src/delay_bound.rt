@@ -34,6 +34,8 @@ pub(crate) fn find_closed<A: Allocator + Copy>(list: &CyclicList<u8, A>, class: 
 
 /// Returns a bound in ns of the delays in all spans that last at least `shortest` ns, whenever they begin. Returns `None` if the list has
 /// too many runs of fits.
+///
+/// `windows_delay_bound` and `is_sufficient` call it.
 pub(crate) fn all_spans_bound<A: Allocator + Copy>(
     list: &CyclicList<u8, A>,
     class: u8,
@@ -104,6 +106,8 @@ fn windows_delay_bound<A: Allocator + Copy>(
 ///
 /// Returns `None` if more work arrives in the long run than fits into the windows, if no frame of `least` ns can arrive at once, or if more
 /// than `LARGEST_BURST` ns of work can.
+///
+/// `fit_bound`, `change_bound` and `lists_bound` call it.
 pub fn list_delay_bound<A: Allocator + Copy>(
     list: &CyclicList<u8, A>,
     class: u8,

@@ -20,7 +20,7 @@ use std::alloc::Allocator;
 /// Parts of a ns in which costs of octets are given. A greater number gives sharper bounds, but the unit of a curve is at most 2^40.
 const COST_PARTS: u64 = 128;
 
-/// Returns the margin in ns that covers the rounding of two transmission times.
+/// Returns the margin in ns that covers the rounding of two transmission times. `plain_fit` and `octet_cost` call it.
 pub(crate) fn rounding_margin(speed: Speed) -> u64
     ensures value { result ≡ spec.rounding_margin speed }
     ensures few { result ≤ 2 }
@@ -31,7 +31,7 @@ pub(crate) fn rounding_margin(speed: Speed) -> u64
     }
 }
 
-/// Returns the length in octets of the longest frame with an SDU of `sdu` octets.
+/// Returns the length in octets of the longest frame with an SDU of `sdu` octets. `plain_fit` and `octet_cost` call it.
 pub(crate) fn longest_octets(sdu: u32) -> u32
     ensures { result ≡ longest_frame sdu }
 {
@@ -39,7 +39,7 @@ pub(crate) fn longest_octets(sdu: u32) -> u32
 }
 
 /// Returns the greatest cost of a metered octet in 128ths of a ns, in frames with SDUs of at most `sdu` octets. The bound counts fits of
-/// `fit` ns.
+/// `fit` ns. `cost_sums` calls it.
 fn octet_cost(fit: u64, speed: Speed, sdu: u32) -> u64
     ensures exact { result ≡ spec.octet_cost fit speed sdu }
     ensures few { result ≤ 300_000 }
@@ -51,7 +51,7 @@ fn octet_cost(fit: u64, speed: Speed, sdu: u32) -> u64
     long.max(2 * occupation(60, speed))
 }
 
-/// Returns the costs in 128ths of a ns of the filters' bursts, and of their rates for each second.
+/// Returns the costs in 128ths of a ns of the filters' bursts, and of their rates for each second. `sharers_cost_curve` calls it.
 fn cost_sums<A: Allocator + Copy>(
     plan: &Plan<A>,
     sharers: &[(u32, FilterPlan)],
@@ -79,7 +79,7 @@ fn cost_sums<A: Allocator + Copy>(
 }
 
 /// Returns a curve of the costs of all frames that the meters of `sharers` let pass. Returns `None` if more than 1 ns of costs may arrive in
-/// each ns.
+/// each ns. `fit_bound` calls it.
 pub(crate) fn sharers_cost_curve<A: Allocator + Copy>(
     plan: &Plan<A>,
     sharers: &[(u32, FilterPlan)],

@@ -43,7 +43,7 @@ fn are_limited(entries: &[(GateEntry, u64)]) -> bool
 
 /// Returns the delay bound in ns of a queue under gate control lists, by the list of a stream gate. Transmissions take `least` to `occ` ns.
 ///
-/// Returns `None` for a schedule change, or if no bound is found.
+/// Returns `None` for a schedule change, or if no bound is found. `schedule_bound` calls it.
 fn lists_gate_bound<A: Allocator + Copy>(
     lists: &Egress<A>,
     class: u8,
@@ -72,7 +72,7 @@ fn lists_gate_bound<A: Allocator + Copy>(
 
 /// Returns the delay bound in ns of a queue at `port`, by the stream gate's schedule. SDUs have `fewest` to `sdu` octets.
 ///
-/// Returns `None` unless gate and port have one list each and all open entries have octet limits.
+/// Returns `None` unless gate and port have one list each and all open entries have octet limits. `reached_gate_bound` calls it.
 fn schedule_bound<A: Allocator + Copy>(
     schedule: &Schedule<A>,
     port: &PortPlan<A>,
@@ -132,6 +132,8 @@ fn reached_gate_bound<A: Allocator + Copy>(
 ///
 /// Returns `None` for any other queue or filter, for a schedule change, or if an open entry has no octet limit. Returns `None` also if more
 /// frames pass than fit into the windows.
+///
+/// `least_bound` and `padded_bound` call it.
 pub fn gate_work_bound<A: Allocator + Copy>(
     accepted: &Accepted<A>,
     number: u32,

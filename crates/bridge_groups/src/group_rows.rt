@@ -17,7 +17,7 @@ use std::alloc::Allocator;
 const QUEUES: u8 = 128;
 
 /// Whether a filter of the group can reach the queue of class `class` at `port`. `reaches` has the reachable queues of each filter, in the
-/// order of the plan.
+/// order of the plan. `put_row` calls it.
 fn is_group_queue<A: Allocator + Copy>(
     plan: &Plan<A>,
     reaches: &[Reach],
@@ -54,7 +54,7 @@ fn group_from(from: u64, group: Option<u32>) -> Option<u32>
     }
 }
 
-/// Returns the lesser of two optional group numbers. Returns the present one if the other is `None`.
+/// Returns the lesser of two optional group numbers. Returns the present one if the other is `None`. `least_group` calls it.
 fn lesser_group(a: Option<u32>, b: Option<u32>) -> Option<u32>
     ensures { result ≡ lesser_number a b }
 {
@@ -106,7 +106,7 @@ fn put_row<A: Allocator + Copy>(
     Ok(())
 }
 
-/// Appends to `rows` the rows of all queues that a group shares, by rising port and class.
+/// Appends to `rows` the rows of all queues that a group shares, by rising port and class. `put_all_rows` calls it.
 fn put_group_rows<A: Allocator + Copy>(
     alloc: A,
     accepted: &Accepted<A>,
@@ -134,7 +134,7 @@ fn number_after(group: u32) -> u64
     u64::from(group) + 1
 }
 
-/// Appends to `rows` the rows of all groups, by rising group.
+/// Appends to `rows` the rows of all groups, by rising group. `plan_shared_queues` calls it.
 fn put_all_rows<A: Allocator + Copy>(
     alloc: A,
     accepted: &Accepted<A>,

@@ -39,6 +39,8 @@ pub fn least_bound<A: Allocator + Copy>(
 ///
 /// Returns `None` if it isn't below `bound`, if no frame of this length passes, or if the lists of stream gate and port have no common
 /// cycle (`coarse`).
+///
+/// `put_tight_bound` of `net_latency` and `put_gate_bounds` of `show_lint` call it.
 pub fn padded_bound<A: Allocator + Copy>(
     accepted: &Accepted<A>,
     number: u32,

@@ -13,6 +13,7 @@ use std::alloc::Allocator;
 pub(crate) const MOST_FIT_RUNS: u64 = 512;
 
 /// Returns fit number `number`, counted from 0, at time `from` or later. Returns `None` if too many runs of fits come before it.
+/// `leave_time` calls it.
 fn nth_fit<A: Allocator + Copy>(
     list: &CyclicList<u8, A>,
     class: u8,
@@ -44,6 +45,8 @@ fn nth_fit<A: Allocator + Copy>(
 
 /// Returns the time in ns by which work of `work` ns that waits from time `from` has left. Its last frame takes `least` ns. Returns `None`
 /// if the search takes too long.
+///
+/// `longest_delay` and `add_interval` call it.
 pub(crate) fn leave_time<A: Allocator + Copy>(
     list: &CyclicList<u8, A>,
     class: u8,

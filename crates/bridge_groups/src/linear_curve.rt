@@ -32,7 +32,7 @@ impl LinearCurve {
     }
 
     /// Returns the length in ns of the shortest span in which `work` ns of work can arrive, but at most `END_OF_CURVES`. Returns `None` if
-    /// less than `work` ns ever arrive.
+    /// less than `work` ns ever arrive. `shortest_span` and `pass_run` call it.
     pub fn first_time(&self, work: u64) -> Option<u64>
         requires curve { IsLinearCurve self.now }
         requires work { work < END_OF_CURVES }
@@ -52,7 +52,8 @@ impl LinearCurve {
         Some(time.min(END_OF_CURVES as u128) as u64)
     }
 
-    /// Returns the most work in ns that arrives at once, or `None` if it is above `LARGEST_BURST`.
+    /// Returns the most work in ns that arrives at once, or `None` if it is above `LARGEST_BURST`. `list_delay_bound` and `is_sufficient`
+    /// call it.
     pub fn work_at_once(&self) -> Option<u64>
         requires curve { IsLinearCurve self.now }
         ensures work { IfSome result (λ work. work ≡ curve_at self.now 0) }
@@ -67,7 +68,7 @@ impl LinearCurve {
     }
 
     /// Whether at most `fits` ns of work arrive in each `cycle` ns in the long run. Otherwise the queue may grow without limit, so callers
-    /// compute no bound.
+    /// compute no bound. `windows_delay_bound` and `room_fits` call it.
     pub fn is_stable(&self, cycle: u64, fits: u64) -> bool
         requires curve { IsLinearCurve self.now }
         requires cycle { cycle ≤ 2 ^ 40 }

@@ -40,7 +40,8 @@ pub(crate) fn find_meter(meters: &[(u32, MeterPlan)], number: u32) -> MeterPlan
     }
 }
 
-/// Returns the burst in octets and the rate in bit/s that an optional meter of the plan lets pass; 0 without a meter.
+/// Returns the burst in octets and the rate in bit/s that an optional meter of the plan lets pass; 0 without a meter. `cost_sums`, `sums`
+/// and `filter_count_curve` call it.
 pub(crate) fn burst_and_rate<A: Allocator + Copy>(
     plan: &Plan<A>,
     meter: Option<u32>,
@@ -64,7 +65,7 @@ pub(crate) fn burst_and_rate<A: Allocator + Copy>(
     }
 }
 
-/// Returns the sums of the filters' bursts in octets and of their rates in bit/s.
+/// Returns the sums of the filters' bursts in octets and of their rates in bit/s. `sharers_curve` calls it.
 fn sums<A: Allocator + Copy>(plan: &Plan<A>, sharers: &[(u32, FilterPlan)]) -> (u128, u128)
     requires few { length sharers.now ≤ 1024 }
     ensures burst { result.0 ≡ spec.burst_sum (plan_police plan.now).meters sharers.now }
@@ -84,6 +85,8 @@ fn sums<A: Allocator + Copy>(plan: &Plan<A>, sharers: &[(u32, FilterPlan)]) -> (
 
 /// Returns the arrival curve of the work that the meters of `sharers` let pass to a port of this speed. Returns `None` if more than 1 ns of
 /// work may arrive in each ns.
+///
+/// `meter_figures` calls it.
 pub fn sharers_curve<A: Allocator + Copy>(
     plan: &Plan<A>,
     sharers: &[(u32, FilterPlan)],
@@ -104,7 +107,7 @@ pub fn sharers_curve<A: Allocator + Copy>(
     })
 }
 
-/// Returns the curve of the number of frames that an optional meter of the plan lets pass.
+/// Returns the curve of the number of frames that an optional meter of the plan lets pass. `count_curves` calls it.
 fn filter_count_curve<A: Allocator + Copy>(plan: &Plan<A>, meter: Option<u32>) -> LinearCurve
     ensures { IsFilterCountCurve plan.now meter result }
 {
@@ -116,7 +119,8 @@ fn filter_count_curve<A: Allocator + Copy>(plan: &Plan<A>, meter: Option<u32>) -
     }
 }
 
-/// Returns for each filter of `sharers`, in list order, the curve of the number of frames that its meter lets pass.
+/// Returns for each filter of `sharers`, in list order, the curve of the number of frames that its meter lets pass. `meter_figures` calls
+/// it.
 pub fn count_curves<A: Allocator + Copy>(
     alloc: A,
     plan: &Plan<A>,

@@ -36,6 +36,8 @@ pub(crate) struct GateDelays {
 
 /// Returns `delays`, increased by those of interval `opening` if greater. Earlier work has left `carry` ns after its start; `next` ns is
 /// the next opening. Returns `None` if the search takes too long.
+///
+/// `visit_openings` calls it.
 fn add_interval<A: Allocator + Copy>(
     list: &CyclicList<u8, A>,
     class: u8,
@@ -76,6 +78,8 @@ fn add_interval<A: Allocator + Copy>(
 
 /// Returns the greatest delays over all open intervals that start in the `common` ns from `first` on. Earlier work has left `carry` ns
 /// after each opening. Returns `None` if the search takes too long.
+///
+/// `gate_delay_bound` calls it.
 fn visit_openings<A: Allocator + Copy>(
     list: &CyclicList<u8, A>,
     class: u8,
@@ -142,7 +146,7 @@ fn common_cycle(port: u64, gate: u64) -> Option<u64>
 }
 
 /// Returns the transmission time in ns of the frames that pass a stream gate in one cycle, at most `u64::MAX`. Each `share` octets of their
-/// SDUs take at most `least` ns.
+/// SDUs take at most `least` ns. `is_overloaded` calls it.
 fn cycle_work<A: Allocator + Copy>(gate: &CyclicList<GateEntry, A>, least: u64, share: u64) -> u64
     requires share { 1 ≤ share }
 {
@@ -190,6 +194,7 @@ fn is_overloaded<A: Allocator + Copy>(
 /// The frames pass a stream gate while it is open: each `share` octets take at most `least` ns.
 ///
 /// Returns `None` if the class is always open, if more frames pass than fit into the windows, or if the search takes too long.
+/// `lists_gate_bound` calls it.
 pub fn gate_delay_bound<A: Allocator + Copy>(
     list: &CyclicList<u8, A>,
     class: u8,

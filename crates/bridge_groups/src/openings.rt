@@ -28,7 +28,7 @@ impl Opening {
 }
 
 /// Returns the first open interval that starts at time `from` or later. An interval must start at `from`. Returns `None` if the gate stays
-/// closed for a whole cycle.
+/// closed for a whole cycle. `visit_openings` and `gate_delay_bound` call it.
 pub(crate) fn next_opening<A: Allocator + Copy>(
     list: &CyclicList<GateEntry, A>,
     from: u64,
@@ -52,7 +52,7 @@ pub(crate) fn next_opening<A: Allocator + Copy>(
 }
 
 /// Returns the most transmission time in ns of the frames that pass in an interval: each `share` octets of their SDUs take at most `least`
-/// ns. Returns 0 without an octet limit.
+/// ns. Returns 0 without an octet limit. `add_interval` calls it.
 pub(crate) fn turn_work(turn: &Turn<GateEntry>, least: u64, share: u64) -> u64
     requires least { least ≤ 200_000 }
     requires share { 1 ≤ share }

@@ -19,6 +19,8 @@ const LONGEST_START: u64 = 3_000_000_000_000_000_000;
 
 /// Returns the length in ns of the shortest span in which `frames` frames with together `work` ns can arrive. Returns `None` if they never
 /// can. All shorter spans have fewer frames or less work.
+///
+/// `is_sufficient` calls it.
 fn shortest_span(curve: &LinearCurve, counts: &[LinearCurve], work: u64, frames: u64) -> Option<u64>
     requires curve { IsLinearCurve curve.now }
     requires counts { All IsCountCurve counts.now }
@@ -81,7 +83,7 @@ fn is_sufficient<A: Allocator + Copy>(
 }
 
 /// Returns the number of fits in each cycle, for `is_sufficient`; `None` if the class is always open. Returns `Err` if more work arrives in
-/// the long run than fits.
+/// the long run than fits. `sufficient_room` calls it.
 fn room_fits<A: Allocator + Copy>(
     list: &CyclicList<u8, A>,
     class: u8,
@@ -116,7 +118,8 @@ struct Unstable;
 /// Returns a capacity of at most `most` frames that suffices for a queue that has its link to itself while `class` is open: the least one
 /// that a search by halving finds. Returns `None` if the search finds none.
 ///
-/// The frames have transmission times from `least` to `occ` ns and the arrival curve `curve`; `counts` bounds their number.
+/// The frames have transmission times from `least` to `occ` ns and the arrival curve `curve`; `counts` bounds their number. `lists_room`
+/// calls it.
 pub fn sufficient_room<A: Allocator + Copy>(
     list: &CyclicList<u8, A>,
     class: u8,

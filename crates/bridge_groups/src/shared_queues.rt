@@ -70,7 +70,7 @@ fn shifted_curve(curve: &LinearCurve, shift: u64) -> Option<LinearCurve>
 }
 
 /// Returns the delay bound in ns of a queue over a schedule change, by the arrival curve of its frames. Returns `None` if a bound is
-/// unknown or too large.
+/// unknown or too large. `lists_bound` calls it.
 fn change_bound<A: Allocator + Copy>(
     joined: &Joined<u8, A>,
     class: u8,
@@ -100,7 +100,7 @@ fn change_bound<A: Allocator + Copy>(
 }
 
 /// Returns the delay bound in ns of a queue under gate control lists, by the arrival curve of its frames. Returns `None` if work arrives
-/// faster than it leaves.
+/// faster than it leaves. `curve_figures` calls it.
 fn lists_bound<A: Allocator + Copy>(
     lists: &Egress<A>,
     class: u8,
@@ -127,6 +127,8 @@ fn lists_bound<A: Allocator + Copy>(
 
 /// Returns a capacity with which a queue under one gate control list never overflows, by the curves of its frames. Returns `None` if the
 /// search finds none, or if the port has a schedule change.
+///
+/// `curve_figures` calls it.
 fn lists_room<A: Allocator + Copy>(
     lists: &Egress<A>,
     class: u8,
@@ -165,7 +167,7 @@ struct MeterFigures {
     room: Option<u16>,
 }
 
-/// Returns bound and capacity of a queue by the curves of the meters of `sharers`.
+/// Returns bound and capacity of a queue by the curves of the meters of `sharers`. `meter_figures` calls it.
 fn curve_figures<A: Allocator + Copy>(
     plan: &Plan<A>,
     sharers: &[(u32, FilterPlan)],
@@ -205,7 +207,7 @@ fn curve_figures<A: Allocator + Copy>(
 }
 
 /// Returns bound and capacity of a queue by the meters of `sharers`. Both are `None` if a sharer has no meter, or if work may arrive faster
-/// than it leaves.
+/// than it leaves. `shared_queue` calls it.
 fn meter_figures<A: Allocator + Copy>(
     alloc: A,
     plan: &Plan<A>,
@@ -253,7 +255,7 @@ fn least_bound(by_meters: Option<u64>, by_costs: Option<u64>, by_room: u64) -> u
 }
 
 /// Returns the delay bound and the capacities of a queue that a group shares. `reaches` has the reachable queues of each filter of the plan,
-/// by index.
+/// by index. `put_row` calls it.
 pub fn shared_queue<A: Allocator + Copy>(
     alloc: A,
     accepted: &Accepted<A>,

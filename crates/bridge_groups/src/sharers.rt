@@ -10,7 +10,8 @@ use bridge_filter::FilterPlan;
 use bridge_limits::NoMemory;
 use std::alloc::Allocator;
 
-/// Returns the reach of each filter of a plan, in the order of the plan. Callers compute it once for all queues.
+/// Returns the reach of each filter of a plan, in the order of the plan. Callers compute it once for all queues. `plan_shared_queues` calls
+/// it.
 pub fn plan_reaches<A: Allocator + Copy>(
     alloc: A,
     plan: &Plan<A>,
@@ -26,7 +27,7 @@ pub fn plan_reaches<A: Allocator + Copy>(
     Ok(reaches)
 }
 
-/// Whether a filter is in the group and can reach the queue of class `class` at `port`.
+/// Whether a filter is in the group and can reach the queue of class `class` at `port`. `is_group_queue` and `queue_sharers` call it.
 pub(crate) fn is_sharer<A: Allocator + Copy>(
     plan: &Plan<A>,
     group: u32,
@@ -86,7 +87,7 @@ pub fn longest_sdu(filters: &[(u32, FilterPlan)]) -> u32
     longest
 }
 
-/// Whether each of the filters has a flow meter.
+/// Whether each of the filters has a flow meter. `meter_figures` calls it.
 pub fn are_metered(filters: &[(u32, FilterPlan)]) -> bool
     ensures { result ≡ spec.are_metered filters.now }
 {

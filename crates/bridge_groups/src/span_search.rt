@@ -17,7 +17,7 @@ use std::alloc::Allocator;
 /// Largest number of runs of fits that a search visits. Two cycles of a list have at most 258 runs.
 const MOST_RUNS: u64 = 4_096;
 
-/// Returns the number of fits in each cycle.
+/// Returns the number of fits in each cycle. `windows_delay_bound` and `room_fits` call it.
 pub(crate) fn fits_per_cycle<A: Allocator + Copy>(
     list: &CyclicList<u8, A>,
     class: u8,
@@ -72,7 +72,7 @@ pub(crate) struct SpanSearch {
     pub(crate) bound: u64,
 }
 
-/// Returns the search after one more run of fits. The spans whose work ends in this run are covered.
+/// Returns the search after one more run of fits. The spans whose work ends in this run are covered. `search_step` calls it.
 fn pass_run(curve: &LinearCurve, limits: &SpanLimits, search: SpanSearch, run: FitRun) -> SpanSearch
     requires curve { IsLinearCurve curve.now }
     requires times { (search.from ≤ 100_000_000_000_000) × (run.first + run.length ≤ search.from + 3 * LONGEST_CYCLE) }
@@ -152,6 +152,8 @@ fn search_step<A: Allocator + Copy>(
 
 /// Returns a bound in ns of the delays in all spans that begin at `start` and last from `shortest` ns up to a cycle more. Returns `None` if
 /// the list has too many runs of fits.
+///
+/// `all_spans_bound` calls it.
 pub(crate) fn spans_bound<A: Allocator + Copy>(
     list: &CyclicList<u8, A>,
     class: u8,

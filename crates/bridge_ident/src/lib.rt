@@ -73,7 +73,7 @@ impl StreamEntry {
     }
 }
 
-/// Whether a frame's tag names a VLAN: its VLAN identifier isn't 0.
+/// Whether a frame's tag names a VLAN: its VLAN identifier isn't 0. `matches` and `find_handle`, and `accepts_tag` of `net_model` call it.
 pub fn has_vlan_tag(tag: Option<Tag>) -> bool
     ensures { result ≡ has_vlan_tag tag }
 {
@@ -132,7 +132,8 @@ impl<A: Allocator + Copy> Ident<A> {
         }
     }
 
-    /// Makes a table with an index: finding a handle takes constant time. If memory runs out, the entries are dropped.
+    /// Makes a table with an index: finding a handle takes constant time. If memory runs out, the entries are dropped. `make_ident` of
+    /// `bridge_relay` calls it.
     pub fn with_index(alloc: A, entries: Vec<StreamEntry, A>) -> Result<Ident<A>, NoMemory>
         ensures { IfOk result (λ t. t ≡ entries.items) }
     {
@@ -151,7 +152,7 @@ impl<A: Allocator + Copy> Ident<A> {
     }
 
     /// Returns the stream handle of a frame that arrived on `port` in the VLAN `vid`: the handle of the first matching entry.
-    /// `None` if no entry matches.
+    /// `None` if no entry matches. `stream_handle` of `bridge_relay` calls it.
     #[inline(always)]
     pub fn handle_of(&self, port: u8, head: &Head, vid: u16) -> Option<u32>
         ensures { result ≡ first_handle self.now port head.now vid }

@@ -56,7 +56,7 @@ pub(crate) struct StreamIndex<A: Allocator + Copy> {
 
 impl StreamEntry {
     /// Whether the entry compares addresses of this kind, and accepts frames with a VLAN tag (`tagged` is true) or other frames (`tagged`
-    /// is false).
+    /// is false). `index_entry` and `count_entries` call it.
     fn is_of_kind(&self, kind: Kind, tagged: bool) -> bool
         ensures { result ≡ is_of_kind kind tagged self.now }
     {
@@ -114,7 +114,8 @@ fn insert_if_new<A: Allocator + Copy>(
     Ok(())
 }
 
-/// Adds the entry, which has index `place` in the table, if `is_of_kind` is true for it and no earlier entry has its key.
+/// Adds the entry, which has index `place` in the table, if `is_of_kind` is true for it and no earlier entry has its key. `first_entries`
+/// calls it.
 fn index_entry<A: Allocator + Copy>(
     firsts: &mut FirstEntries<A>,
     marks: &mut OctetMarks,
@@ -138,7 +139,7 @@ fn index_entry<A: Allocator + Copy>(
     Ok(())
 }
 
-/// Returns the number of entries for which `is_of_kind` is true: the capacity to reserve for the first entries.
+/// Returns the number of entries for which `is_of_kind` is true: the capacity to reserve for the first entries. `first_entries` calls it.
 fn count_entries(entries: &[StreamEntry], kind: Kind, tagged: bool) -> usize {
     let mut count: usize = 0;
     for entry in entries {
@@ -150,6 +151,7 @@ fn count_entries(entries: &[StreamEntry], kind: Kind, tagged: bool) -> usize {
 }
 
 /// Returns the first entry for each key among the entries for which `is_of_kind` is true, and the marks of their last octets.
+/// `with_sources` and `make_address_index` call it.
 fn first_entries<A: Allocator + Copy>(
     alloc: A,
     entries: &[StreamEntry],
@@ -258,7 +260,7 @@ fn with_sources<A: Allocator + Copy>(
 }
 
 /// Makes the index of the first entries, by destination or source address, for frames with a VLAN tag (`tagged` is true) or for other
-/// frames.
+/// frames. `new` calls it.
 fn make_address_index<A: Allocator + Copy>(
     alloc: A,
     entries: &[StreamEntry],
@@ -290,6 +292,7 @@ fn entry_by_index<A: Allocator + Copy>(
 }
 
 /// Whether surely no entry has `key`, because no entry's address ends in the key's last octet. If false, an entry may have the key.
+/// `handle_by_keys` calls it.
 #[inline(always)]
 fn is_absent<A: Allocator + Copy>(firsts: &FirstEntries<A>, marks: &OctetMarks, key: u128) -> bool
     ensures { result ≡ true → HasMarks firsts.now marks.now → get nat_eq firsts.now key ≡ None }
@@ -299,6 +302,7 @@ fn is_absent<A: Allocator + Copy>(firsts: &FirstEntries<A>, marks: &OctetMarks, 
 }
 
 /// Returns the first entry for `key` by its hash; `None` if no entry has it. Looks only if an address ends in the key's last octet.
+/// `handle_by_hash` calls it.
 #[inline(always)]
 fn entry_by_hash<A: Allocator + Copy>(
     firsts: &FirstEntries<A>,

@@ -127,7 +127,7 @@ impl Meter {
     /// Returns the colour of a frame that arrives at `t` ns with `octets` metered octets, and updates the buckets. `dei` is the drop
     /// eligible indication.
     ///
-    /// While the red flag is set, the buckets stay unchanged.
+    /// While the red flag is set, the buckets stay unchanged. `meter_verdict` of `bridge_filter` calls it.
     pub fn colour(&mut self, t: u64, octets: u32, dei: bool) -> Colour
         requires { self.old.buckets.at ≤ t }
         ensures plan { self.new.plan ≡ self.old.plan }
@@ -140,7 +140,7 @@ impl Meter {
         self.judge_frame(t, octets, dei)
     }
 
-    /// Returns the levels of the buckets, the time of the last judged frame, and the red flag.
+    /// Returns the levels of the buckets, the time of the last judged frame, and the red flag. `meter_buckets` of `bridge_filter` calls it.
     pub fn state(&self) -> Buckets
         ensures state { result ≡ self.now.buckets }
         ensures committed { result.committed ≤ self.now.plan.cbs * octet_units }
@@ -204,7 +204,7 @@ fn refill_buckets(plan: &MeterPlan, buckets: Buckets, t: u64) -> Buckets
 }
 
 /// Returns the colour of a frame of `octets` octets by the refilled buckets, and the buckets after the frame took its units. `dei` is the
-/// drop eligible indication.
+/// drop eligible indication. `judge_frame` calls it.
 fn spend_tokens(plan: &MeterPlan, buckets: Buckets, octets: u32, dei: bool) -> (Colour, Buckets)
     ensures colour { result.0 ≡ colour_by_buckets plan.now buckets octets dei }
     ensures left { result.1 ≡ spend_tokens buckets octets result.0 (plan.now.mark_all_red && is_red result.0) }

@@ -13,7 +13,7 @@ use circular_buffer::HeapCircularBuffer;
 use std::alloc::Allocator;
 
 /// Returns the better of the head `best` and the head of `class` with the earliest start `fit`: the earlier one, or at equal times the one
-/// of the higher class.
+/// of the higher class. `sooner_optional_head` and `add_item_fit` call it.
 #[inline(always)]
 fn sooner_head(best: Option<(u64, usize)>, fit: u64, class: usize) -> Option<(u64, usize)>
     ensures { result ≡ heads.sooner_head best fit class }
@@ -25,6 +25,7 @@ fn sooner_head(best: Option<(u64, usize)>, fit: u64, class: usize) -> Option<(u6
 }
 
 /// Returns the better of the head `best` and the head of `class`, as `sooner_head` does; `best` if the class has no head (`fit` is `None`).
+/// `refresh_fits` calls it.
 fn sooner_optional_head(
     best: Option<(u64, usize)>,
     fit: Option<u64>,
@@ -67,7 +68,7 @@ fn head_fit<T: Drop, A: Allocator + Copy>(
 }
 
 /// Returns the earliest start, `from` or later, of the head of `class`; `None` if the queue is empty. Recomputes the stored start only if
-/// it is before `from`.
+/// it is before `from`. `refresh_fits` calls it.
 #[inline(always)]
 fn refresh_fit<T: Drop, A: Allocator + Copy>(
     fits: &mut [Option<u64>; 8],
@@ -101,7 +102,7 @@ fn refresh_fit<T: Drop, A: Allocator + Copy>(
 }
 
 /// Recomputes each start in `fits` that is earlier than `from`. Returns the earliest start and its class, on a tie the higher class; `None`
-/// if all queues are empty.
+/// if all queues are empty. `refresh_after_start` calls it.
 pub fn refresh_fits<T: Drop, A: Allocator + Copy>(
     fits: &mut [Option<u64>; 8],
     gates: &mut TransmissionGates<A>,
@@ -131,6 +132,8 @@ pub fn refresh_fits<T: Drop, A: Allocator + Copy>(
 
 /// Stores the earliest start, `from` or later, of a new item with transmission time `occ` ns if the queue of `class` is empty. Returns time
 /// and class of the best head; before, it was `best`.
+///
+/// `offer` calls it.
 #[inline(always)]
 pub fn add_item_fit<A: Allocator + Copy>(
     fits: &mut [Option<u64>; 8],
@@ -161,6 +164,8 @@ pub fn add_item_fit<A: Allocator + Copy>(
 
 /// Recomputes the earliest starts after a start in `class`; the link is free from time `from`, and `left` items remain. Returns time and
 /// class of the best head; `None` if no item remains.
+///
+/// `start` calls it.
 #[inline(always)]
 pub fn refresh_after_start<T: Drop, A: Allocator + Copy>(
     fits: &mut [Option<u64>; 8],

@@ -19,7 +19,7 @@ pub fn are_valid_rooms(rooms: &[u16; 8]) -> bool
     rooms.iter().all(|room| 1 <= *room && *room <= LARGEST_ROOM)
 }
 
-/// Makes eight empty rings with these capacities in frames; memory is reserved now, so queueing can't fail.
+/// Makes eight empty rings with these capacities in frames; memory is reserved now, so queueing can't fail. `new` calls it.
 pub fn with_rooms<T: Drop, A: Allocator + Copy>(
     alloc: A,
     rooms: &[u16; 8],
@@ -41,7 +41,7 @@ pub fn with_rooms<T: Drop, A: Allocator + Copy>(
     Ok(rings)
 }
 
-/// Returns the head of the queue of `class`, its oldest item; `None` if the queue is empty.
+/// Returns the head of the queue of `class`, its oldest item; `None` if the queue is empty. `head_fit` calls it.
 #[inline(always)]
 pub fn queue_head<T, A: Allocator + Copy>(
     rings: &Vec<HeapCircularBuffer<Item<T>, A>, A>,
@@ -66,7 +66,7 @@ pub fn is_full<T, A: Allocator + Copy>(
     rings[class].len() >= rings[class].capacity()
 }
 
-/// Adds an item at the end of the queue of `class`, which must not be full.
+/// Adds an item at the end of the queue of `class`, which must not be full. `offer` calls it.
 #[inline(always)]
 pub fn push_item<T: Drop, A: Allocator + Copy>(
     rings: &mut Vec<HeapCircularBuffer<Item<T>, A>, A>,
@@ -87,7 +87,7 @@ pub fn push_item<T: Drop, A: Allocator + Copy>(
     }
 }
 
-/// Removes the head of the queue of `class`, and returns it; `None` if the queue is empty.
+/// Removes the head of the queue of `class`, and returns it; `None` if the queue is empty. `start` calls it.
 #[inline(always)]
 pub fn pop_item<T: Drop, A: Allocator + Copy>(
     rings: &mut Vec<HeapCircularBuffer<Item<T>, A>, A>,

@@ -124,6 +124,8 @@ fn open_spans<A: Allocator + Copy>(
 
 /// Returns the first time, `from` or later, from which a span lasts for `occ` ns or up to `stop`, when the list ends; `None` if none does.
 /// All times count from a cycle's start.
+///
+/// `fit_until_stop` calls it.
 fn fit_in_spans(spans: &[OpenSpan], from: u64, occ: u64, stop: u64) -> Option<u64>
     requires from { from < 9_000_000_000_000_000_000 }
     requires occ { occ ≤ 1_000_000_000 }
@@ -170,7 +172,8 @@ fn have_ended(spans: &[OpenSpan], place: usize, t: u64) -> bool
     u64::from(spans[place - 1].end) <= t
 }
 
-/// Whether the first span that ends after `t`, or the end of the list, is at most `MAX_WALK` spans after index `place`.
+/// Whether the first span that ends after `t`, or the end of the list, is at most `MAX_WALK` spans after index `place`. `find_index` calls
+/// it.
 #[inline(always)]
 fn is_within_walk(spans: &[OpenSpan], place: usize, t: u64) -> bool
     requires { place ≤ length spans.now }
@@ -226,7 +229,7 @@ fn phase_in_cycle(laps: &mut u64, cycle: u64, t: u64) -> u64
     t % cycle
 }
 
-/// Makes the runs and spans of all classes of a list.
+/// Makes the runs and spans of all classes of a list. `make_cache` calls it.
 pub fn class_spans<A: Allocator + Copy>(
     alloc: A,
     list: &CyclicList<u8, A>,
@@ -249,7 +252,7 @@ pub fn class_spans<A: Allocator + Copy>(
 }
 
 /// Returns the earliest time, `from` or later, from which a list opens `class` for `occ` ns or up to `stop`. `None` if the spans
-/// show none.
+/// show none. `fit_in_list` and `fit_in_changing_list` call it.
 fn fit_until_stop<A: Allocator + Copy>(
     list: &CyclicList<u8, A>,
     spans: &ClassSpans<A>,
@@ -286,6 +289,7 @@ fn fit_until_stop<A: Allocator + Copy>(
 }
 
 /// Returns the earliest time, `from` or later, from which a list opens `class` for `occ` ns. `None` if the spans show none.
+/// `fit_in_changing_list` and `fit_by_spans` call it.
 pub fn fit_in_list<A: Allocator + Copy>(
     list: &CyclicList<u8, A>,
     spans: &ClassSpans<A>,
@@ -304,7 +308,7 @@ pub fn fit_in_list<A: Allocator + Copy>(
 }
 
 /// Returns the earliest time, `from` or later, from which two lists with a schedule change open `class` for `occ` ns. `None` if the
-/// spans show none.
+/// spans show none. `fit_by_spans` calls it.
 pub fn fit_in_changing_list<A: Allocator + Copy>(
     lists: &Joined<u8, A>,
     old: &ClassSpans<A>,

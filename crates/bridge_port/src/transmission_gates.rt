@@ -69,7 +69,7 @@ fn shorter_run(one: Run, other: Run) -> Run
     }
 }
 
-/// Returns the shorter run of each class, because a frame must fit under both lists of a schedule change.
+/// Returns the shorter run of each class, because a frame must fit under both lists of a schedule change. `make_cache` calls it.
 fn shorter_runs(one: &[Run; 8], other: &[Run; 8]) -> [Run; 8]
     ensures { (c : ℕ) → c < 8 → (n : ℕ)
         → Allows (slice_index_or result c Never) n
@@ -84,6 +84,8 @@ fn shorter_runs(one: &[Run; 8], other: &[Run; 8]) -> [Run; 8]
 
 /// Makes the cache for a port's gate control lists: each class's longest run of open time, and the open spans of each class. With a
 /// schedule change, a class's run is the shorter one of the two lists.
+///
+/// `new` calls it.
 fn make_cache<A: Allocator + Copy>(
     alloc: A,
     list: &Option<Egress<A>>,
@@ -123,7 +125,8 @@ fn make_cache<A: Allocator + Copy>(
     }
 }
 
-/// Whether the kept interval contains `t`. If not, another interval of the lists may contain it.
+/// Whether the kept interval contains `t`. If not, another interval of the lists may contain it. `find_turn` and `fits_in_kept_turn` call
+/// it.
 #[inline(always)]
 fn has_time<A: Allocator + Copy>(kept: &Turn<u8>, list: &Egress<A>, t: u64) -> bool
     requires range { t < END_OF_SEARCHES }
@@ -149,7 +152,8 @@ fn find_turn<A: Allocator + Copy>(kept: &mut Turn<u8>, list: &Egress<A>, t: u64)
     *kept = list.turn(t);
 }
 
-/// Whether the lists have at most 16 entries each, or are absent. For such lists, a search reads the current interval first.
+/// Whether the lists have at most 16 entries each, or are absent. For such lists, a search reads the current interval first. `new` calls
+/// it.
 fn has_few_entries<A: Allocator + Copy>(list: &Option<Egress<A>>) -> bool {
     match list {
         None => true,
@@ -328,7 +332,7 @@ impl<A: Allocator + Copy> TransmissionGates<A> {
     }
 
     /// Returns the earliest time, `from` or later, from which `class` stays open for `occ` ns. In a class that is always open, that
-    /// is `from`.
+    /// is `from`. `head_fit` and `add_item_fit` call it.
     #[inline(always)]
     pub fn earliest_fit(&mut self, class: usize, occ: u64, from: u64) -> u64
         requires class { class < 8 }

@@ -18,6 +18,7 @@ const MAX_FRAMES: usize = 4_294_967_295;
 const SHORT_LIST: usize = 1024;
 
 /// Reserves capacity for `more` further items of `list`. Short lists grow by half, because a run with many filters has many short lists.
+/// `reserve_room` calls it.
 #[inline(always)]
 fn reserve_items<T, A: Allocator>(list: &mut Vec<T, A>, more: usize) -> Result<(), NoMemory>
     ensures items { list.new.items ≡ list.old.items }

@@ -209,7 +209,8 @@ impl<G: Agenda + Drop, A: Allocator + Copy> Ports<G, A> {
         }
     }
 
-    /// Returns the VLAN and the priority that untagged frames get at port `number`; `None` if the port is missing.
+    /// Returns the VLAN and the priority that untagged frames get at port `number`; `None` if the port is missing. `find_destination` calls
+    /// it.
     pub fn ingress_defaults(&self, number: u8) -> Option<(u16, u8)>
         requires from { 1 ≤ number }
         requires to { number ≤ 16 }

@@ -265,6 +265,8 @@ impl<'a, G: Agenda + Drop, A: Allocator + Copy> Relay<'a, G, A> {
 
     /// Copies `octets` for every port of `set` except the last, which gets the frame's own. Reserves capacity in the filter's recorder
     /// (index `hint`), and counts the arrival. Without memory, the relay is unchanged.
+    ///
+    /// `arrive` calls it.
     #[inline(always)]
     fn prepare_copies(
         &mut self,
@@ -464,6 +466,8 @@ impl<'a, G: Agenda + Drop, A: Allocator + Copy> Relay<'a, G, A> {
 
     /// Offers copies of a frame to the ports of `set`, by rising number. If `eligible` is true, their tags are marked drop eligible. Isn't
     /// inlined: most frames have one egress port, and `offer_only_copy` handles them.
+    ///
+    /// `offer_copies` calls it.
     #[inline(never)]
     fn offer_several_copies(
         &mut self,
@@ -517,6 +521,8 @@ impl<'a, G: Agenda + Drop, A: Allocator + Copy> Relay<'a, G, A> {
 
     /// Offers copies of a frame with priority `priority` to the ports of `set`, by rising number, with tags drop eligible if `eligible`. An
     /// empty list has no memory: it is forgotten, which is faster.
+    ///
+    /// `relay_frame` calls it.
     #[inline(always)]
     fn offer_copies(
         &mut self,
@@ -783,7 +789,7 @@ fn route_number(found: Option<Route>) -> Option<u32>
 }
 
 /// Returns the index of the filter on the route `found`, or 0 for an unfiltered frame. The search for the filter's recorder begins at this
-/// index.
+/// index. `police_frame`, `relay_frame` and `arrive` call it.
 #[inline(always)]
 fn route_index(found: Option<Route>) -> usize {
     match found {

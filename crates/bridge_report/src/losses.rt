@@ -90,7 +90,8 @@ pub fn count_full(drops: &[StoredDrop]) -> usize
         .count()
 }
 
-/// Returns the number of copies that ports dropped because they fit no window of their class.
+/// Returns the number of copies that ports dropped because they fit no window of their class. `put_queued` and `count_losses`, and
+/// `put_unsent_row` of `show_tables` call it.
 pub fn count_never_fitting(drops: &[StoredDrop]) -> usize
     ensures { result ≡ count_never_fits drops.now }
 {
@@ -219,6 +220,8 @@ fn put_lost<A: Allocator>(text: &mut TextBuilder<A>, filter: u32, view: &View<A>
 
 /// Returns one line for each protected filter that lost a frame or a copy, in filter order: the numbers of losses, frames and reasons. The
 /// text is empty without such a filter.
+///
+/// `lost_if` of `app_commands` calls it.
 pub fn lost_lines<A: Allocator + Copy>(
     alloc: A,
     outcome: &Outcome<A>,

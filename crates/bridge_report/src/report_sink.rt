@@ -26,7 +26,7 @@ pub trait ReportSink {
         ensures { HasGrown contents self.old block.now self.new };
 }
 
-/// Appends `piece` and the decimal digits of `number`, which may have more than 64 bits. Buckets have such numbers.
+/// Appends `piece` and the decimal digits of `number`, which may have more than 64 bits. Buckets have such numbers. `put_buckets` calls it.
 #[tactic(auto, using(crate::proofs::Puts::puts))]
 pub fn put_wide_number<T: ReportSink, I: Integer>(text: &mut T, piece: &str, number: I)
     ensures { HasGrown T.contents text.old (piece.now ++ I.text number) text.new }

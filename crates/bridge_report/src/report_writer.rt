@@ -39,7 +39,8 @@ impl<W: Write + Drop, A: Allocator> BufferedWriter<W, A> {
         Ok(())
     }
 
-    /// Writes the buffer to the writer if the buffer has no capacity for `more` further octets.
+    /// Writes the buffer to the writer if the buffer has no capacity for `more` further octets. `put`, `put_number` and `put_block` call
+    /// it.
     #[inline(always)]
     fn make_room(&mut self, more: usize) -> Result<(), ReportFault>
         ensures text { OnOk result (Keeps (append_known (W.contents self.old.writer) self.old.octets.items)

@@ -35,6 +35,8 @@ fn find_lack(table: &Table, key: Field) -> Option<KeyConflict>
 
 /// Returns why a key with this presence rule isn't allowed in the table; `None` if it is allowed. `has_change` says whether the
 /// plan has a schedule change.
+///
+/// `is_allowed_key`, and `first_misplaced_key` and `put_misplaced_table_key` of `show_explain` call it.
 pub fn find_conflict(presence: Presence, has_change: bool, table: &Table) -> Option<KeyConflict>
     ensures none { is_none result ≡ spec.is_allowed_presence has_change (table_view table.now) presence }
 {
@@ -100,6 +102,7 @@ pub fn has_allowed_keys(table: &Table, keys: &[KeyRule], has_change: bool) -> bo
 }
 
 /// Whether each table among the items has only allowed keys. No key of a list's entry depends on a schedule change.
+/// `has_allowed_entry_keys` calls it.
 fn have_allowed_keys(items: &[Value], keys: &[KeyRule]) -> bool
     ensures { result ≡ spec.have_allowed_keys keys.now (items_view items.now) }
 {
@@ -114,6 +117,7 @@ fn have_allowed_keys(items: &[Value], keys: &[KeyRule]) -> bool
 }
 
 /// Whether each table of an array has only allowed keys. Ignores other values and items: their reader refuses them.
+/// `has_only_gate_entry_keys` and `has_only_port_entry_keys` of `bridge_config` call it.
 pub fn has_allowed_entry_keys(value: Option<&Value>, keys: &[KeyRule]) -> bool
     ensures known { result ≡ spec.has_allowed_entry_keys keys.now (option_map (λ v. view v.now) value.entry) }
 {

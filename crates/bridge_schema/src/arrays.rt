@@ -7,7 +7,7 @@ use crate::plan_fault::Flaw;
 use crate::value_kinds::ValueKind;
 use toml::Value;
 
-/// Whether each item is an integer, of any size and sign. If not, an array is `WrongKind`.
+/// Whether each item is an integer, of any size and sign. If not, an array is `WrongKind`. `numbers_flaw` and `read` call it.
 fn are_integers(items: &[Value]) -> bool
     ensures { result ≡ spec.are_integers (items_view items.now) }
 {
@@ -36,7 +36,7 @@ fn are_in_range(items: &[Value], low: u64, high: u64) -> bool
     true
 }
 
-/// Whether each item of an array is a table. Only such an array is a section or a list.
+/// Whether each item of an array is a table. Only such an array is a section or a list. `array_items` and `read_list` call it.
 pub fn are_tables(items: &[Value]) -> bool
     ensures tables { result ≡ spec.are_tables (items_view items.now) }
 {
@@ -49,7 +49,7 @@ pub fn are_tables(items: &[Value]) -> bool
 }
 
 /// Returns why an array is refused; `None` if all items are integers from `low` to `high`. An item of a wrong kind is reported before an
-/// integer out of range.
+/// integer out of range. `read` calls it.
 fn numbers_flaw(items: &[Value], low: u64, high: u64) -> Option<Flaw>
     ensures { result ≡ spec.numbers_flaw low high (items_view items.now) }
 {
@@ -62,7 +62,8 @@ fn numbers_flaw(items: &[Value], low: u64, high: u64) -> Option<Flaw>
     }
 }
 
-/// Returns an item's integer, or 0 for any other item. Callers have tested that the item is an integer in range.
+/// Returns an item's integer, or 0 for any other item. Callers have tested that the item is an integer in range. `value_set`,
+/// `read_classes` and `read_rooms` call it.
 fn value_number(value: &Value) -> u64
     ensures { result ≡ spec.value_number (view value.now) }
 {
@@ -72,7 +73,7 @@ fn value_number(value: &Value) -> u64
     }
 }
 
-/// Returns the set `bits` with bit `k` set to 1.
+/// Returns the set `bits` with bit `k` set to 1. `value_set` and `port_set` of `bridge_config` call it.
 #[tactic(auto, using(crate::proofs::Sets::shifted))]
 pub fn with_bit(bits: u16, k: u64) -> u16
     requires few { k < 16 }
@@ -82,6 +83,7 @@ pub fn with_bit(bits: u16, k: u64) -> u16
 }
 
 /// Returns the numbers in `items` as a set: bit `n - low` stands for number n. The caller has tested that each is from `low` to `high`.
+/// `read` calls it.
 fn value_set(items: &[Value], low: u64, high: u64) -> u16
     requires order { low ≤ high }
     requires few { high < low + 16 }
@@ -163,7 +165,7 @@ impl ValueKind for KnownPorts {
     }
 }
 
-/// Whether an array has eight items: one for each priority or class. `Classes` and `Rooms` refuse other arrays.
+/// Whether an array has eight items: one for each priority or class. `Classes` and `Rooms` refuse other arrays. `read` calls it.
 #[tactic(auto, using(crate::proofs::Sets::count_of_view))]
 fn has_eight(items: &[Value]) -> bool
     ensures numbers { result ≡ nat_eq (length (spec.item_numbers (items_view items.now))) 8 }
@@ -172,7 +174,7 @@ fn has_eight(items: &[Value]) -> bool
     items.len() == 8
 }
 
-/// Returns the class of each priority, from priority 0. The caller has tested that `items` are eight integers from 0 to 7.
+/// Returns the class of each priority, from priority 0. The caller has tested that `items` are eight integers from 0 to 7. `read` calls it.
 fn read_classes(items: &[Value]) -> [u8; 8]
     requires eight { length items.now ≡ 8 }
     requires between { spec.are_in_range 0 7 (items_view items.now) ≡ true }
@@ -187,6 +189,7 @@ fn read_classes(items: &[Value]) -> [u8; 8]
 }
 
 /// Returns the queue capacity of each class in frames, from class 0. The caller has tested that `items` are eight integers from 1 to 4,096.
+/// `read` calls it.
 fn read_rooms(items: &[Value]) -> [u16; 8]
     requires eight { length items.now ≡ 8 }
     requires between { spec.are_in_range 1 4096 (items_view items.now) ≡ true }

@@ -296,7 +296,8 @@ pub const COMMAND_KEYS: [KeyRule; 3] = [
     KeyRule(Field::Number, NUMBER_VALUE, Presence::Required),
 ];
 
-/// Returns the keys of a section's tables with their rules, in the order in which explanations list them.
+/// Returns the keys of a section's tables with their rules, in the order in which explanations list them. `put_misplaced_key`,
+/// `put_misplaced_table_key` and `put_key_fault` of `show_explain` call it.
 pub fn section_keys(section: Section) -> &'static [KeyRule] {
     match section {
         Section::Top => &[],
@@ -313,6 +314,7 @@ pub fn section_keys(section: Section) -> &'static [KeyRule] {
 }
 
 /// Returns the keys of an entry of a section's list: a port's list, or for any other section a stream gate's list.
+/// `put_misplaced_entry_key` and `put_key_fault` of `show_explain` call it.
 pub fn entry_keys(section: Section) -> &'static [KeyRule] {
     match section {
         Section::Port => &PORT_ENTRY_KEYS,

@@ -144,7 +144,7 @@ fn pass(ipv: Option<u8>, eligible: bool) -> Verdict
     Verdict::Pass { ipv, eligible }
 }
 
-/// Returns the kind that stands for a verdict.
+/// Returns the kind that stands for a verdict. `new` calls it.
 #[inline(always)]
 fn verdict_kind(verdict: Verdict) -> VerdictKind
     requires { HasValidPriority verdict }
@@ -178,7 +178,7 @@ fn verdict_kind(verdict: Verdict) -> VerdictKind
     }
 }
 
-/// Returns the kind of a frame that passes with an internal priority value.
+/// Returns the kind of a frame that passes with an internal priority value. `verdict_kind` calls it.
 #[inline(always)]
 fn pass_kind(ipv: u8) -> VerdictKind
     requires { ipv ≤ 7 }
@@ -196,7 +196,7 @@ fn pass_kind(ipv: u8) -> VerdictKind
     }
 }
 
-/// Returns the kind of a frame that passes with an internal priority value, marked drop eligible.
+/// Returns the kind of a frame that passes with an internal priority value, marked drop eligible. `verdict_kind` calls it.
 #[inline(always)]
 fn eligible_kind(ipv: u8) -> VerdictKind
     requires { ipv ≤ 7 }

@@ -115,7 +115,8 @@ impl<'a> Instance<'a> {
     }
 }
 
-/// Writes that the top-level key `name` isn't an array of tables: its position, its value, and how to write the section.
+/// Writes that the top-level key `name` isn't an array of tables: its position, its value, and how to write the section. `put_fault` of
+/// `show_explain` calls it.
 pub fn put_no_list(said: &mut Said, document: Document<'_>, name: &str) {
     put_position(said, top_level_position(document.text, name));
     let value = document.table.get(name);
@@ -124,7 +125,7 @@ pub fn put_no_list(said: &mut Said, document: Document<'_>, name: &str) {
     fill_with_word(said, advice, 0, name);
 }
 
-/// Writes the position of the first table over `limit`, and the number of tables.
+/// Writes the position of the first table over `limit`, and the number of tables. `put_fault` of `show_explain` calls it.
 pub fn put_too_many(said: &mut Said, document: Document<'_>, section: &str, limit: usize) {
     let most = u32::try_from(limit).unwrap_or(u32::MAX);
     let first = Instance {
@@ -142,7 +143,7 @@ pub fn put_too_many(said: &mut Said, document: Document<'_>, section: &str, limi
 }
 
 /// Whether both values are equal integers or equal texts; values of other kinds never match. Unless `is_exact`, texts may differ in the
-/// case of ASCII letters.
+/// case of ASCII letters. `is_twin` calls it.
 fn is_same_value(one: Option<&Value>, other: Option<&Value>, is_exact: bool) -> bool {
     match (one, other) {
         (Some(Value::Integer(one)), Some(Value::Integer(other))) => *one == *other,
@@ -166,6 +167,8 @@ fn is_twin(one: Option<&Table>, other: Option<&Table>, keys: &[&str], is_exact: 
 
 /// Returns the index, from 1, of the first table that equals `table` at each of `keys`; 0 if no table does. Unless `is_exact`, texts may
 /// differ in the case of ASCII letters.
+///
+/// `put_duplicate` of `show_explain` calls it.
 pub fn find_duplicate(
     items: &[Value],
     table: Option<&Table>,

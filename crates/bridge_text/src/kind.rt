@@ -48,7 +48,7 @@ fn has_header(text: &[u8], headers: &[&str]) -> bool {
         .any(|line| is_header(line, headers))
 }
 
-/// Whether a text describes a network: a line begins with `[[bridge]]`.
+/// Whether a text describes a network: a line begins with `[[bridge]]`. `file_kind` and `is_network` of `app_commands` call it.
 pub fn is_network_text(text: &[u8]) -> bool {
     has_header(text, &NETWORK)
 }

@@ -19,6 +19,7 @@ const MOST_NAMES: usize = 16;
 /// `front` and `word` if that is less.
 ///
 /// Swapping two neighbouring characters is one edit. Returns `None` if no name is near, or, with the text discarded, if memory runs out.
+/// `put_nearest`, and `put_unknown_option` and `put_usages` of `show_explain` call it.
 pub fn nearest_name<'a>(
     alloc: Global,
     said: &mut Said,
@@ -84,7 +85,8 @@ pub const BRIDGES: Listing = Listing {
     next: ", \"{a}\"",
 };
 
-/// Writes the name nearest to `word`, or all names if no name is near.
+/// Writes the name nearest to `word`, or all names if no name is near. `put_stray_section`, and `put_nearest_key` and `put_unknown` of
+/// `show_explain` call it.
 pub fn put_nearest(alloc: Global, said: &mut Said, word: &str, names: &[&str], listing: Listing) {
     match nearest_name(alloc, said, "", word, names) {
         Some(name) => fill_with_word(said, listing.nearest, 0, name),

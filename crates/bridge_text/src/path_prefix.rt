@@ -7,7 +7,8 @@ use crate::text_builder::TextBuilder;
 use bridge_limits::NoMemory;
 use std::alloc::{Allocator, Global};
 
-/// Joins `path` and `body` in a new text, or returns `NoMemory`. Explanations begin with the path of their file.
+/// Joins `path` and `body` in a new text, or returns `NoMemory`. Explanations begin with the path of their file. `finish_with_path`, and
+/// `explain_run` and `explain_text` of `show_explain` call it.
 pub fn text_with_path(alloc: Global, path: &str, body: &str) -> Result<String, NoMemory>
     ensures { IfOk result (λ said. StartsWithName path.now (string_bytes said)) }
 {
@@ -26,7 +27,8 @@ pub fn finish_with_path(
     text_with_path(alloc, path, body.as_str())
 }
 
-/// Returns a text that stays on one line: control characters are escaped as by `TextBuilder::put_escaped`.
+/// Returns a text that stays on one line: control characters are escaped as by `TextBuilder::put_escaped`. `explain_file_cause` of
+/// `app_commands` calls it.
 pub fn escape_text<A: Allocator>(alloc: A, text: &str) -> Result<String<A>, NoMemory>
     ensures { IfOk result (λ line. string_bytes line ≡ escaped text.now) }
 {

@@ -31,6 +31,7 @@ pub fn position_at_offset(octets: &[u8], count: usize) -> Position {
 }
 
 /// Returns the position of the first non-blank character of line `number`. Positions of tables and keys are at this character.
+/// `table_position`, `key_position` and `top_level_position` call it.
 fn first_char_position(number: usize, line: &str) -> Position {
     let blanks = line.len().saturating_sub(line.trim_start().len());
     Position {
@@ -49,6 +50,7 @@ fn strip_word<'a>(line: &'a str, word: &str) -> Option<&'a str> {
 }
 
 /// Returns what follows `name` in a table header such as `[[name]]`. `None` if the line isn't a header that begins with `name`.
+/// `is_table_header` and `is_key_line` call it.
 fn strip_header_name<'a>(line: &'a str, name: &str) -> Option<&'a str> {
     strip_word(strip_word(line, "[")?.trim_start_matches('['), name)
 }
@@ -83,7 +85,7 @@ fn is_key_line(line: &str, name: &str, key: &str) -> bool {
 }
 
 /// Returns the position of table `index`, from 1, of the array `name`. `None` unless the text has exactly `count` headers of this
-/// array.
+/// array. `position`, and `filter_position` and `port_key_line` of `show_lint` call it.
 pub fn table_position(text: &str, name: &str, index: u32, count: usize) -> Option<Position> {
     let mut position = None;
     let mut found = 0usize;
@@ -101,6 +103,7 @@ pub fn table_position(text: &str, name: &str, index: u32, count: usize) -> Optio
 }
 
 /// Returns the position of `key` in the table `name` whose header is on line `header`. `None` if no line of this table sets the key.
+/// `position` and `port_key_line` of `show_lint` call it.
 pub fn key_position(text: &str, name: &str, header: usize, key: &str) -> Option<Position> {
     let mut number = header;
     for line in text.lines().skip(header) {
@@ -115,7 +118,8 @@ pub fn key_position(text: &str, name: &str, header: usize, key: &str) -> Option<
     None
 }
 
-/// Returns the first position of a top-level key, or of a table header with this name. `None` if the text has neither.
+/// Returns the first position of a top-level key, or of a table header with this name. `None` if the text has neither. `put_no_list` and
+/// `put_stray_section`, and `idle_change` of `show_lint` call it.
 pub fn top_level_position(text: &str, key: &str) -> Option<Position> {
     let mut number = 0usize;
     let mut is_top = true;

@@ -99,7 +99,7 @@ pub enum Element {
 }
 
 impl Shapes {
-    /// Writes the start of an element with its style and positions, without its end: a title may follow.
+    /// Writes the start of an element with its style and positions, without its end: a title may follow. `draw` and `begin_titled` call it.
     fn add_element(&mut self, style: &str, element: Element) {
         let (form, numbers) = match element {
             Element::Bar(bar) => (BAR_FORM, [bar.x, bar.y, bar.width, bar.height, 0]),
@@ -148,7 +148,7 @@ impl Shapes {
     }
 }
 
-/// Returns the name of an element in SVG, for its end tag.
+/// Returns the name of an element in SVG, for its end tag. `end_titled` calls it.
 fn element_name(element: Element) -> &'static str {
     match element {
         Element::Bar(_) | Element::Box(_) => "rect",

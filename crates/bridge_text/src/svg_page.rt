@@ -62,7 +62,7 @@ impl Page {
         }
     }
 
-    /// Returns the distance from the top to the page's lower end.
+    /// Returns the distance from the top to the page's lower end. `put_ports` of `show_picture` calls it.
     pub fn bottom(&self) -> u64 {
         self.bottom
     }
@@ -133,7 +133,7 @@ impl Page {
         self.draw(style, bar(x, self.bottom_plus(by), width, height));
     }
 
-    /// Begins a legend on a new line, at the left end of the time axis.
+    /// Begins a legend on a new line, at the left end of the time axis. `put_legend` and `put_shown_filters` of `show_picture` call it.
     pub fn begin_legend(&mut self) {
         self.skip_height(190);
         self.legend_right = AXIS_LEFT;
@@ -160,6 +160,8 @@ impl Page {
 
     /// Draws a legend row. `letters` is the number of its letters, from which its width is estimated; `number` replaces `{0}`. Begins a new
     /// line if the page is too narrow.
+    ///
+    /// `put_filter_legend` and `put_legend` of `show_picture` call it.
     pub fn put_legend_row(&mut self, row: LegendRow, letters: usize, number: u64) {
         let (sample, style, words) = row;
         let width = (letters as u64).saturating_mul(62).saturating_add(360);
@@ -195,12 +197,13 @@ impl Page {
         self.add_piece(" {a}", &[], name);
     }
 
-    /// Writes a duration of `to` ns, in the unit that suits it.
+    /// Writes a duration of `to` ns, in the unit that suits it. `put_hypercycle` of `show_picture` calls it.
     pub fn put_duration(&mut self, to: u64) {
         self.put_time(Span { from: 0, to }.time_scale(), to);
     }
 
-    /// Writes a span of time: its start, its end, and the time from which both are counted unless it is 0.
+    /// Writes a span of time: its start, its end, and the time from which both are counted unless it is 0. `put_title` and `draw_run` of
+    /// `show_picture` call it.
     pub fn put_span(&mut self, span: Span) {
         let clock = span.time_scale();
         self.add_words("from ");
@@ -221,6 +224,8 @@ impl Page {
 
     /// Draws the time axis below the page's contents, with grid lines up to the height `top` and their times. A tall picture has times
     /// above too. Draws a schedule change, if present.
+    ///
+    /// `finish_ports` of `show_picture` calls it.
     pub fn put_axis(&mut self, span: Span, top: u64, change: Option<u64>) {
         let step = span.grid_step();
         let first = (span.from / step).saturating_add(u64::from(span.from % step > 0));
@@ -274,14 +279,15 @@ impl Span {
         AXIS_LEFT + self.axis_distance(t, AXIS_WIDTH)
     }
 
-    /// Returns the left end and the width of a span on the page. The width is at least 8, which keeps the span visible.
+    /// Returns the left end and the width of a span on the page. The width is at least 8, which keeps the span visible. `put_window`,
+    /// `put_wait` and `put_frame` of `show_picture` call it.
     pub fn page_extent(self, from: u64, to: u64) -> (u64, u64) {
         let x = self.page_x(from);
         (x, self.page_x(to).saturating_sub(x).max(8))
     }
 }
 
-/// Returns a bar as an element.
+/// Returns a bar as an element. `add_element`, `put_bar` and `put_sample` call it.
 fn bar(x: u64, y: u64, width: u64, height: u64) -> Element {
     Element::Bar(Bar {
         x,

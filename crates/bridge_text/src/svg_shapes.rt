@@ -88,7 +88,8 @@ impl Shapes {
     }
 }
 
-/// Returns the text of a form: numbers replace `{0}` to `{9}`, and escaped words replace `{a}` to `{z}`.
+/// Returns the text of a form: numbers replace `{0}` to `{9}`, and escaped words replace `{a}` to `{z}`. `text_line` and `finish`, and
+/// `draw_network` of `net_report` call it.
 pub fn fill_form(
     alloc: Global,
     form: &str,

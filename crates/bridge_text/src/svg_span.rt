@@ -27,7 +27,8 @@ impl Span {
         self.from < to && from < self.to
     }
 
-    /// Returns the distance of time `t` along an axis of length `line`. Times outside the span are at the ends of the axis.
+    /// Returns the distance of time `t` along an axis of length `line`. Times outside the span are at the ends of the axis. `page_x` and
+    /// `time_x` of `net_report` call it.
     pub fn axis_distance(self, t: u64, line: u64) -> u64
         ensures { result ≤ line }
     {

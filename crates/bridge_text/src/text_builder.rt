@@ -73,14 +73,15 @@ impl<A: Allocator> TextBuilder<A> {
         self.put(digits.format(number));
     }
 
-    /// Adds a comma unless the next item is the first.
+    /// Adds a comma unless the next item is the first. `put_items`, `put_numbers` of `net_latency`, and `put_open_classes` of `show_lint`
+    /// call it.
     pub fn put_comma(&mut self, is_first: bool) {
         if !is_first {
             self.put(", ");
         }
     }
 
-    /// Adds a piece in quotes, escaped as in Rust.
+    /// Adds a piece in quotes, escaped as in Rust. `put_text` calls it.
     pub fn put_quoted(&mut self, piece: &str) {
         let is_refused = match &mut self.held {
             Some(held) => write!(held, "{piece:?}").is_err(),
@@ -112,7 +113,7 @@ impl<A: Allocator> TextBuilder<A> {
         self.put_char(digit_letter(digit) as char);
     }
 
-    /// Adds a code below 256 in hexadecimal, without a leading zero, for the escape of a control character.
+    /// Adds a code below 256 in hexadecimal, without a leading zero, for the escape of a control character. `put_control` calls it.
     fn put_hexadecimal(&mut self, code: u8)
         ensures { HasGrown self.old (hexadecimal code) self.new }
     {
@@ -228,7 +229,7 @@ impl<A: Allocator> TextBuilder<A> {
     }
 }
 
-/// Returns the ASCII code of a lower-case hexadecimal digit for a number below 16.
+/// Returns the ASCII code of a lower-case hexadecimal digit for a number below 16. `put_digit` calls it.
 fn digit_letter(digit: u8) -> u8
     requires { digit < 16 }
     ensures letter { result ≡ digit_char digit }

@@ -63,7 +63,8 @@ fn put_item(said: &mut Said, item: &Value) {
     }
 }
 
-/// Returns at most the first `most` items, because explanations show only the start of a long array.
+/// Returns at most the first `most` items, because explanations show only the start of a long array. `put_items`, and `is_list_refused` and
+/// `put_instance_numbers` of `show_explain` call it.
 pub fn first_items(items: &[Value], most: usize) -> &[Value] {
     if items.len() > most {
         &items[..most]
@@ -86,6 +87,7 @@ fn put_items(said: &mut Said, items: &[Value]) {
 }
 
 /// Writes a value for an explanation. An array shows at most 16 items; a table, a float or a date shows only its kind.
+/// `put_identifying_key` and `put_value_sentence` call it.
 pub fn put_value(said: &mut Said, value: &Value) {
     match value {
         Value::Array(items) => {

@@ -128,6 +128,8 @@ fn process_frame<R: ByteSource, W: ByteSink, A: Allocator + Copy>(
 
 /// Sends all frames of a capture through a queue, writes all departures, and returns the counts. The frame ahead arrived at `first` ns;
 /// `None` if there is none. Stops at the first fault.
+///
+/// `wire` calls it.
 fn send_all<R: ByteSource, W: ByteSink, A: Allocator + Copy>(
     speed: Speed,
     first: Option<u64>,

@@ -86,7 +86,7 @@ impl<A: Allocator + Copy> OpenQueue<A> {
         })
     }
 
-    /// Returns the frame ahead: its length and its octets.
+    /// Returns the frame ahead: its length and its octets. `offer_frame` calls it.
     #[inline(always)]
     pub fn ahead(&self) -> &Item<Vec<u8, A>>
         ensures { place_ahead self.now ≡ Some result.now }
@@ -126,7 +126,7 @@ impl<A: Allocator + Copy> OpenQueue<A> {
         }
     }
 
-    /// Returns the oldest queued frame.
+    /// Returns the oldest queued frame. `send_next` and `end_of_transmission` call it.
     #[inline(always)]
     pub fn oldest(&self) -> &Item<Vec<u8, A>>
         requires { 0 < self.now.queued }
@@ -148,7 +148,7 @@ impl<A: Allocator + Copy> OpenQueue<A> {
         Some(self.free.max(self.earliest))
     }
 
-    /// Returns when the transmission of the oldest frame ends, in ns, if it starts at `start`.
+    /// Returns when the transmission of the oldest frame ends, in ns, if it starts at `start`. `send_next` calls it.
     #[inline(always)]
     pub fn end_of_transmission(&self, start: u64) -> u64
         requires due { start ≡ max self.now.free self.now.earliest }
@@ -207,7 +207,7 @@ impl<A: Allocator + Copy> OpenQueue<A> {
     }
 }
 
-/// Adds `room` places without a frame to the ring.
+/// Adds `room` places without a frame to the ring. `new` calls it.
 fn add_places<A: Allocator + Copy>(
     alloc: A,
     places: &mut Vec<Item<Vec<u8, A>>, A>,
@@ -228,7 +228,7 @@ fn add_places<A: Allocator + Copy>(
     Ok(())
 }
 
-/// Returns the index after `index` in a ring of `count` places. The index after the last one is 0.
+/// Returns the index after `index` in a ring of `count` places. The index after the last one is 0. `start` and `offer` call it.
 #[inline(always)]
 fn next_index(index: usize, count: usize) -> usize
     requires { index < count }

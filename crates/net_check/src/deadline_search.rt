@@ -76,6 +76,8 @@ fn searched_streams(
 
 /// Returns whether the search may change a stream. Its talker is periodic, it has at most 64 hops and known delays, all its frames pass,
 /// and it can meet its deadline. False without memory.
+///
+/// `searched_streams` calls it.
 fn is_searched(
     alloc: Global,
     network: &Network<Global>,
@@ -182,6 +184,8 @@ fn relieve_listed_stream(
 
 /// Changes lists and the talker until stream `index` meets its deadline, or no change helps. Then marks its ports as used in pass `pass`.
 /// Returns whether it needed no change; `None` without memory.
+///
+/// `relieve_listed_stream` calls it.
 fn relieve_stream(
     alloc: Global,
     route: &StreamRoute<'_>,
@@ -242,6 +246,8 @@ fn is_in_time(times: &[HopTimes], deadline: u128) -> bool {
 
 /// Returns the hop at which the latest frame waits longest. Ports that a late stream used in pass `pass` count only for the first hop.
 /// `None` if the frame waits at none.
+///
+/// `relieve_hop` and `put_costliest_hop` call it.
 pub(crate) fn costliest_hop(
     times: &[HopTimes],
     shifts: &[ListShift],

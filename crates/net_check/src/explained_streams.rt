@@ -19,7 +19,7 @@ use std::alloc::Global;
 use std::rt::Files;
 
 /// Explains the streams of an accepted network for `net check --explain` (`check_network` of `app_networks`). Reads the network's files
-/// again. Returns `None` if this fails or memory runs out.
+/// again. Returns `None` if this fails or memory runs out. `stream_explanations` of `app_networks` calls it.
 pub fn explain_streams<H: AllocGlobal + Files>(rt: &H, path: &str) -> Option<String> {
     let alloc = rt.alloc();
     let mut files = CommandFiles::new(rt);

@@ -42,6 +42,8 @@ pub fn explain_network<H: AllocGlobal + Files>(rt: &H, path: &str) -> Option<Str
 
 /// Returns the beginning of a sentence about plan file `plan`, which can't be read: its position in the network file, and its bridge.
 /// `None` if no bridge names it or memory runs out.
+///
+/// `explain_network` calls it.
 fn explain_plan_path(alloc: Global, asked: NetworkText<'_>, plan: &str) -> Option<String> {
     let mut index = 0usize;
     for bridge in asked.file.bridges() {

@@ -188,7 +188,7 @@ fn window_around_time(list: &CyclicList<u8, Global>, class: u8, time: u64) -> Op
 }
 
 /// Returns the start in ns of the window of class `class` around the time one cycle after `time`. The window around `time` begins one cycle
-/// earlier, so its start may be negative.
+/// earlier, so its start may be negative. `window_around_time` calls it.
 fn window_start(list: &CyclicList<u8, Global>, class: u8, time: u64) -> u64
     requires class { class < 8 }
     requires time { time < END_OF_SEARCHES }

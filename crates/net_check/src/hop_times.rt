@@ -110,6 +110,8 @@ pub(crate) fn shift_of_port(shifts: &[ListShift], bridge: u16, port: u8) -> u64 
 
 /// Returns the times of a stream's frames in each queue of each hop, first hop first. `sent` has the phases at the first hop. `None` if
 /// phases are unknown or memory runs out.
+///
+/// `can_meet`, `changed_times` and `put_times_of_stream` call it.
 pub(crate) fn hop_times(
     alloc: Global,
     route: &StreamRoute<'_>,
@@ -159,6 +161,8 @@ fn put_hop_times(
 
 /// Appends the times of the queues in `rows` that belong to the hop's filter to `times`, and arrivals at the next hops to `arrivals`.
 /// `sent` and `is_first` as in `times_in_queue`; `None` as in `hop_times`.
+///
+/// `put_hop_times` calls it.
 fn put_rows(
     route: &StreamRoute<'_>,
     rows: &[QueueBound],
@@ -184,6 +188,8 @@ fn put_rows(
 
 /// Returns the times of the frames of `arrival` in the queue of `row`; `None` if phases are unknown or the queue is missing. `sent` is the
 /// talker's first phase in ns. `is_first`: first hop.
+///
+/// `put_rows` calls it.
 fn times_in_queue(
     route: &StreamRoute<'_>,
     row: &QueueBound,
@@ -244,6 +250,8 @@ fn longest_transmission(plan: &Plan<Global>, row: &QueueBound, traffic: &Traffic
 
 /// Returns the times in a queue whose list begins `earlier` ns earlier, computed with later arrivals instead. `None` if phases are unknown,
 /// or a transmission may end after the next period's earliest arrival.
+///
+/// `times_in_queue` calls it.
 fn shifted_times(
     accepted: &Accepted<Global>,
     row: &QueueBound,

@@ -31,7 +31,7 @@ use std::alloc::{Allocator, Global};
 /// Exit status of a refused plan. By it, `plan_failure` distinguishes a refused plan from memory that ran out.
 const REFUSED: u8 = 1;
 
-/// Returns the links of a network file as links of `net_model`, for `check_network`.
+/// Returns the links of a network file as links of `net_model`, for `check_network`. `explain_plans` and `check_network_file` call it.
 pub(crate) fn network_links<A: Allocator + Copy>(
     alloc: A,
     rows: &[LinkRow],
@@ -56,7 +56,8 @@ pub(crate) fn network_links<A: Allocator + Copy>(
     Ok(links)
 }
 
-/// Returns the streams of a network file as lists of hops of `net_model`, for `check_network`.
+/// Returns the streams of a network file as lists of hops of `net_model`, for `check_network`. `explain_plans` and `check_network_file`
+/// call it.
 pub(crate) fn network_streams<A: Allocator + Copy>(
     alloc: A,
     rows: &[StreamRow<A>],

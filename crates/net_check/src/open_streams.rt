@@ -188,7 +188,8 @@ fn put_left_out<A: Allocator + Copy>(
     put_front(said, "Otherwise repair", bridges, end);
 }
 
-/// Appends the heading of the list of remedies, which names the sending bridge's plan. `word` begins the sentence.
+/// Appends the heading of the list of remedies, which names the sending bridge's plan. `word` begins the sentence. `explain_open_stream`
+/// and `put_left_out` call it.
 fn put_front<A: Allocator + Copy>(
     said: &mut TextBuilder<Global>,
     word: &str,

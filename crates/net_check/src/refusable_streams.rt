@@ -111,6 +111,8 @@ fn put_start(
 
 /// Returns a talker's traffic at hop `place`, from the delays `before` up to the hop before it. `None` if phases are unknown or lie in two
 /// periods, or no link joins the hops.
+///
+/// `put_stream` calls it.
 fn hop_traffic(
     links: &[Link],
     hops: &[StreamHop],

@@ -137,7 +137,7 @@ fn has_linked_entry(links: &[LinkRow], bridge: u16, entries: &[StreamEntry], han
 }
 
 /// Returns whether frames can get handle `handle` over a link: an entry of the plan, of bridge `bridge`, has the handle and a linked port.
-/// False for `None`.
+/// False for `None`. `is_unlisted` calls it.
 fn is_entered_by_link<A: Allocator + Copy>(
     links: &[LinkRow],
     bridge: u16,

@@ -257,6 +257,8 @@ fn push_warnings<A: Allocator + Copy>(
 
 /// Returns the warning lines of an accepted network, for `net check` and `net`. After the lines of `network_warnings`, each stream has
 /// lines about ports where other devices' frames can enter, and hops without queue.
+///
+/// `describe_network` and `warnings_if` of `app_networks` call it.
 pub fn all_warnings<A: Allocator + Copy>(
     alloc: A,
     heap: Global,

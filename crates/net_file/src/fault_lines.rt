@@ -14,7 +14,7 @@ pub fn fault_line<A: Allocator + Copy>(alloc: A, fault: &NetFault) -> Result<Str
 }
 
 /// Returns a file's fault line without line feed, for example `traffic refused: OutOfRange traffic 2 period` or `no memory`. `kind` is
-/// `network` or `traffic`.
+/// `network` or `traffic`. `fault_line` and `traffic_fault_line` call it.
 pub fn refusal_line<A: Allocator + Copy>(
     alloc: A,
     kind: &str,
@@ -65,7 +65,8 @@ fn refusal_text<A: Allocator + Copy>(
     }
 }
 
-/// Returns the line `KIND refused: NAME PLACE`. `place` is the location in words, such as `link 2 delay`.
+/// Returns the line `KIND refused: NAME PLACE`. `place` is the location in words, such as `link 2 delay`. `refusal_line`,
+/// `instance_refusal` and `key_refusal` call it.
 fn refusal_with_detail<A: Allocator + Copy>(
     alloc: A,
     kind: &str,

@@ -139,7 +139,8 @@ pub const RATE_KEYS: [NetField; 2] = [NetField::Burst, NetField::Rate];
 /// Keys that limit a talker's frames. A traffic row with none of them has periodic traffic.
 pub const LIMIT_KEYS: [NetField; 3] = [NetField::Burst, NetField::Rate, NetField::Frames];
 
-/// Returns the keys that the tables of a section may have, in the order in which explanations list them. The top has none.
+/// Returns the keys that the tables of a section may have, in the order in which explanations list them. The top has none. `put_stray_key`
+/// of `show_explain` calls it.
 pub fn section_fields(section: NetSection) -> &'static [NetField] {
     match section {
         NetSection::Top => &[],

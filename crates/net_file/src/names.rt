@@ -80,6 +80,8 @@ fn bridge_index<A: Allocator + Copy>(bridges: &[BridgeRow<A>], name: &str) -> Op
 
 /// Returns the bridge's index and the number, `low` to `high`, that a text such as `left.3` names. Another form is `OutOfRange`, a missing
 /// bridge `Unresolved`. Links and hops are read by it.
+///
+/// `read` and `resolve_filter` call it.
 pub(crate) fn resolve_numbered_name<A: Allocator + Copy>(
     bridges: &[BridgeRow<A>],
     low: u32,

@@ -30,6 +30,8 @@ fn row_items<'a>(table: &'a Table) -> Result<&'a [Value], NetFault>
 
 /// Reads the rows of a traffic file from a TOML text, or returns the first fault. `heap` holds the document, `alloc` the rows. It doesn't
 /// compare the rows with a plan.
+///
+/// `explain_refused_traffic` of `app_networks`, and `explain_traffic` and `parse_rows` of `net_latency` call it.
 pub fn parse_traffic<A: Allocator + Copy>(
     alloc: A,
     heap: Global,

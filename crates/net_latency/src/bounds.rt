@@ -51,7 +51,7 @@ pub(crate) fn is_reached<A: Allocator + Copy>(
 }
 
 /// Returns the delay bound of a queue in ns, or `None` if the filter can't reach the queue. The caller computes `reach` once for all queues
-/// of the filter.
+/// of the filter. `put_bound` calls it.
 #[tactic(auto, using(crate::proofs::Bounded::unprotected, crate::proofs::Bounded::unreached_by))]
 fn bound_in_reach<A: Allocator + Copy>(
     accepted: &Accepted<A>,
@@ -110,7 +110,7 @@ fn put_bound<A: Allocator + Copy>(
 }
 
 /// Appends to `rows` the bounds of all queues that the filter with index `at` in `order` can reach, by rising port and class. Appends
-/// nothing if the filter is unprotected.
+/// nothing if the filter is unprotected. `put_all_bounds` calls it.
 fn put_filter_bounds<A: Allocator + Copy>(
     accepted: &Accepted<A>,
     order: &[(u32, FilterPlan)],
@@ -132,7 +132,7 @@ fn put_filter_bounds<A: Allocator + Copy>(
     Ok(())
 }
 
-/// Appends to `rows` the bounds of all protected filters. `order` has the filters by rising number.
+/// Appends to `rows` the bounds of all protected filters. `order` has the filters by rising number. `queue_bounds` calls it.
 fn put_all_bounds<A: Allocator + Copy>(
     accepted: &Accepted<A>,
     order: &[(u32, FilterPlan)],
@@ -151,7 +151,8 @@ fn put_all_bounds<A: Allocator + Copy>(
     Ok(())
 }
 
-/// Returns the delay bounds of all reachable queues of protected filters, by rising filter, port and class.
+/// Returns the delay bounds of all reachable queues of protected filters, by rising filter, port and class. `tight_queue_bounds`,
+/// `least_queue_bounds` and `queue_timings` call it.
 #[tactic(auto, using(crate::proofs::Placed::all_placed))]
 pub fn queue_bounds<A: Allocator + Copy>(
     alloc: A,

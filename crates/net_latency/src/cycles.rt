@@ -33,7 +33,7 @@ struct TrafficText<'a> {
 }
 
 /// Explains why a row of the traffic file doesn't suit the plan, for `--explain`. Reads both files again. Returns `None` if this fails or
-/// memory runs out.
+/// memory runs out. `explain_refused_traffic` of `app_networks` calls it.
 pub fn explain_traffic<H: AllocGlobal + Files>(
     rt: &H,
     plan: &str,

@@ -19,7 +19,7 @@ use net_model::{
 use std::alloc::Allocator;
 
 /// Returns whether port `on` of bridge `bridge` is open and has a stream entry with this handle. Then devices outside the network can send
-/// frames that get the handle.
+/// frames that get the handle. `is_talker_port` and `is_other_entry_port` call it.
 fn enters<A: Allocator + Copy>(
     links: &[Link],
     bridge: u16,
@@ -55,7 +55,7 @@ fn is_talker_port<A: Allocator + Copy>(
 }
 
 /// Returns whether frames of other devices can get the handle at port `on` of bridge `bridge`: an open port with an entry. If `is_first` is
-/// true, the talker's port doesn't count.
+/// true, the talker's port doesn't count. `can_others_enter` calls it.
 fn is_other_entry_port<A: Allocator + Copy>(
     links: &[Link],
     is_first: bool,
@@ -216,7 +216,7 @@ pub fn checked_stream_latency<A: Allocator + Copy>(
 }
 
 /// Returns the delays `course` after both tests: `passes` is cleared if `handed` is false. `None` if they are unknown, or other devices'
-/// frames can get a handle (`once` is false).
+/// frames can get a handle (`once` is false). `checked_stream_latency` calls it.
 fn tested_course(once: bool, handed: bool, course: Option<StreamLatency>) -> Option<StreamLatency>
     ensures { result ≡ spec.tested_course once handed course }
 {

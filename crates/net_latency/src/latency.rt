@@ -98,7 +98,7 @@ fn is_queue_of_hop(hop: StreamHop, queue: &HopQueue) -> bool
 }
 
 /// Returns the delays over all routes from `queue` through at most `depth` later hops; `None` if unknown. `came` is the arrival at its hop.
-/// `passes`: the hop's filter passes each frame.
+/// `passes`: the hop's filter passes each frame. `add_queue_latency` calls it.
 #[cycle(hop_latency)]
 fn queue_latency<A: Allocator + Copy>(
     case: &StreamContext<'_, A>,

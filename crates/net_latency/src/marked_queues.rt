@@ -87,7 +87,7 @@ fn rows_warnings<A: Allocator + Copy>(alloc: A, rows: &[SharedQueue]) -> Result<
 }
 
 /// Returns one warning for each shared queue of an accepted plan that may drop copies as full, or that only its capacity bounds. Empty
-/// without such a queue.
+/// without such a queue. `plan_warnings` of `app_networks` calls it.
 pub fn shared_warnings<A: Allocator + Copy>(
     alloc: A,
     accepted: &Accepted<A>,

@@ -46,7 +46,7 @@ pub(crate) fn far_end(links: &[Link], bridge: u16, port: u8) -> Option<FarEnd>
     None
 }
 
-/// Returns the first hop in `hops` at a bridge, or `None` if there is none.
+/// Returns the first hop in `hops` at a bridge, or `None` if there is none. `is_handed`, `next_hop` and `is_first_at_bridge` call it.
 pub(crate) fn hop_at_bridge(hops: &[StreamHop], bridge: u16) -> Option<StreamHop>
     ensures { result ≡ hop_at_bridge hops.now bridge }
 {

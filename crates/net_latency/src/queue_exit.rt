@@ -79,6 +79,8 @@ pub(crate) fn hop_passes<A: Allocator + Copy>(
 
 /// Returns the delays of a route that ends at a queue with delays `x`. `worst` is the lesser of two limits: summed worst delays, and time
 /// from phase `from` to the last of `done`.
+///
+/// `exit_over_link` calls it.
 fn latency_at_last_queue(
     from: u64,
     came: &HopArrival,

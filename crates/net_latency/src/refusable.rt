@@ -279,7 +279,7 @@ fn put_gate(
     put_hint(said, is_shorter_passing(plan, filter, traffic));
 }
 
-/// Returns whether the filter would pass each frame if it were shorter by a frame check sequence of 4 octets.
+/// Returns whether the filter would pass each frame if it were shorter by a frame check sequence of 4 octets. `put_gate` calls it.
 fn is_shorter_passing(plan: &Plan<Global>, filter: &FilterPlan, traffic: &Traffic) -> bool
     requires traffic { IsTraffic traffic.now }
 {
@@ -297,7 +297,7 @@ fn is_shorter_passing(plan: &Plan<Global>, filter: &FilterPlan, traffic: &Traffi
 }
 
 /// Appends a hint if frames would pass without 4 octets (`is_shorter_passing`): their lengths may include the frame check sequence. Ends
-/// the line in any case.
+/// the line in any case. `put_limited_reason`, `put_reason` and `put_gate` call it.
 fn put_hint(said: &mut TextBuilder<Global>, is_shorter_passing: bool) {
     if is_shorter_passing {
         said.put(

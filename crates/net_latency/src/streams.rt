@@ -56,7 +56,7 @@ fn greater_bound(filter: u32, most: u64, row: &QueueBound) -> u64
     }
 }
 
-/// Returns the greatest delay bound in ns of a filter's queues in `rows`; 0 if it has none.
+/// Returns the greatest delay bound in ns of a filter's queues in `rows`; 0 if it has none. `hop_bound` calls it.
 fn filter_bound(filter: u32, rows: &[QueueBound]) -> u64
     ensures { result ≡ filter_bound filter rows.now }
 {
@@ -80,7 +80,7 @@ pub fn bounds_of_bridge<'a, A: Allocator + Copy>(
     }
 }
 
-/// Returns the greatest delay bound of a hop's queues in ns: a frame can wait in any of them.
+/// Returns the greatest delay bound of a hop's queues in ns: a frame can wait in any of them. `total_bound` calls it.
 fn hop_bound<A: Allocator + Copy>(bounds: &[Vec<QueueBound, A>], hop: (u16, u32)) -> u64
     ensures { result ≡ hop_bound bounds.now hop }
 {
@@ -94,7 +94,7 @@ fn has_hop_at_bridge(hops: &[(u16, u32)], bridge: u16) -> bool
     hops.iter().any(|hop| hop.0 == bridge)
 }
 
-/// Whether a link joins the bridge to the bridge of one of these hops, in either direction.
+/// Whether a link joins the bridge to the bridge of one of these hops, in either direction. `greater_delay` calls it.
 fn is_joining_link(hops: &[(u16, u32)], bridge: u16, link: &LinkRow) -> bool
     ensures { result ≡ is_joining_link hops.now bridge link.now }
 {
@@ -127,14 +127,15 @@ fn link_delay(links: &[LinkRow], hops: &[(u16, u32)], bridge: u16) -> u64
     greatest
 }
 
-/// Returns the greatest delay in ns of a link between the bridge of `hop` and the bridges of `hops`; 0 without a link.
+/// Returns the greatest delay in ns of a link between the bridge of `hop` and the bridges of `hops`; 0 without a link. `total_delay` calls
+/// it.
 fn hop_delay(links: &[LinkRow], hops: &[(u16, u32)], hop: (u16, u32)) -> u64
     ensures { result ≡ hop_delay links.now hops.now hop }
 {
     link_delay(links, hops, hop.0)
 }
 
-/// Returns the sum over all hops of `hop_bound`, in ns.
+/// Returns the sum over all hops of `hop_bound`, in ns. `stream_bound` calls it.
 fn total_bound<A: Allocator + Copy>(bounds: &[Vec<QueueBound, A>], hops: &[(u16, u32)]) -> u128
     requires few { length hops.now ≤ 64 }
     ensures sum { result ≡ sum_by (hop_bound bounds.now) hops.now }
@@ -163,6 +164,8 @@ fn total_delay(links: &[LinkRow], hops: &[(u16, u32)], later: &[(u16, u32)]) -> 
 
 /// Returns the delay bound in ns of a stream whose frames cross each hop once. It sums each hop's greatest bound, and the greatest link
 /// delay of each hop after the first.
+///
+/// `stream_bounds` and `put_stream`, and `figures_of_stream` of `app_networks` call it.
 pub fn stream_bound<A: Allocator + Copy>(
     bounds: &[Vec<QueueBound, A>],
     links: &[LinkRow],
@@ -176,7 +179,7 @@ pub fn stream_bound<A: Allocator + Copy>(
     total_bound(bounds, hops) + total_delay(links, hops, later)
 }
 
-/// Returns the delay bound of each stream in ns, in file order.
+/// Returns the delay bound of each stream in ns, in file order. `draw_with_bounds` of `app_networks` calls it.
 pub fn stream_bounds<A: Allocator + Copy>(
     alloc: A,
     bounds: &[Vec<QueueBound, A>],
@@ -197,7 +200,8 @@ pub fn stream_bounds<A: Allocator + Copy>(
     Ok(rows)
 }
 
-/// Returns the worst delay of a stream in ns, or its bound if the delay is unknown. A deadline is compared with this value.
+/// Returns the worst delay of a stream in ns, or its bound if the delay is unknown. A deadline is compared with this value. `is_in_time`
+/// and `put_stream` call it.
 fn worst_latency(course: Option<StreamLatency>, bound: u128) -> u128
     ensures { result ≡ spec.worst_latency course bound }
 {
@@ -207,7 +211,7 @@ fn worst_latency(course: Option<StreamLatency>, bound: u128) -> u128
     }
 }
 
-/// Writes the delays and phases of a stream. Writes nothing if they are unknown (`course` is `None`).
+/// Writes the delays and phases of a stream. Writes nothing if they are unknown (`course` is `None`). `put_latency` calls it.
 fn put_course<B: Allocator>(text: &mut TextBuilder<B>, course: Option<StreamLatency>)
     ensures { HasGrown text.old (spec.course_words course) text.new }
 {
@@ -217,7 +221,7 @@ fn put_course<B: Allocator>(text: &mut TextBuilder<B>, course: Option<StreamLate
     put_delays(text, course.worst, course.best, Some(course.phases));
 }
 
-/// Writes the delays of a stream if they are known, and its bound.
+/// Writes the delays of a stream if they are known, and its bound. `put_stream` calls it.
 fn put_latency<B: Allocator>(text: &mut TextBuilder<B>, course: Option<StreamLatency>, bound: u128)
     ensures { HasGrown text.old (spec.latency_words course bound) text.new }
 {
@@ -227,7 +231,7 @@ fn put_latency<B: Allocator>(text: &mut TextBuilder<B>, course: Option<StreamLat
 }
 
 /// Returns ` arrives` for a stream whose frames all arrive within known delays, ` refusable` if frames may be refused, otherwise an empty
-/// text.
+/// text. `put_stream` calls it.
 fn arrival_word(passes: bool, course: Option<StreamLatency>) -> &'static str
     ensures { result.now ≡ spec.arrival_word passes course }
 {
@@ -323,7 +327,7 @@ fn both(a: bool, b: bool) -> bool
 }
 
 /// Returns the lines of all streams of a network, and whether all of them pass and meet their deadlines. `bounds` has the delay bounds of
-/// each bridge.
+/// each bridge. `network_lines` of `net_check` calls it.
 pub fn stream_lines<A: Allocator + Copy, B: Allocator + Copy>(
     alloc: A,
     heap: B,

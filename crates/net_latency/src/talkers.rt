@@ -78,7 +78,7 @@ fn suits_hops<A: Allocator + Copy>(
 }
 
 /// Returns the fault of the first stream whose period isn't a multiple of each cycle time on its route, or `None`. `check_periods` of
-/// net_check refuses the network by it.
+/// net_check refuses the network by it. `explain_plans` of `net_check` calls it.
 pub fn first_misfit<A: Allocator + Copy>(
     plans: &[Accepted<A>],
     streams: &[StreamRow<A>],
@@ -215,7 +215,7 @@ pub fn latency_through_hops<A: Allocator + Copy>(
 }
 
 /// Returns the delays of a stream's frames, for its line and its pictures. Returns `None` without a periodic talker, or if the delays are
-/// unknown.
+/// unknown. `stream_lines` and `stream_figures` of `app_networks` call it.
 pub fn talker_latency<A: Allocator + Copy>(
     alloc: A,
     plans: &[Accepted<A>],

@@ -27,7 +27,8 @@ pub struct TightBound {
     pub padded: Option<u64>,
 }
 
-/// Appends to `made` the tight bounds of the queue of `bound`, for all frames and for frames of at least 60 octets.
+/// Appends to `made` the tight bounds of the queue of `bound`, for all frames and for frames of at least 60 octets. `tighten_bounds` calls
+/// it.
 fn put_tight_bound<A: Allocator + Copy>(
     accepted: &Accepted<A>,
     bound: &QueueBound,
@@ -68,6 +69,7 @@ fn put_tight_bound<A: Allocator + Copy>(
 }
 
 /// Returns the tight bounds of the queues in `bounds`, in the order of `bounds`. A tight bound is at most the queue's bound there.
+/// `tight_queue_bounds` calls it.
 fn tighten_bounds<A: Allocator + Copy>(
     alloc: A,
     accepted: &Accepted<A>,
@@ -85,7 +87,7 @@ fn tighten_bounds<A: Allocator + Copy>(
     Ok(made)
 }
 
-/// Returns the tight delay bounds of all reachable queues of protected filters, by rising filter, port and class.
+/// Returns the tight delay bounds of all reachable queues of protected filters, by rising filter, port and class. `bound_lines` calls it.
 pub fn tight_queue_bounds<A: Allocator + Copy>(
     alloc: A,
     accepted: &Accepted<A>,
@@ -110,7 +112,7 @@ fn lower_bound<A: Allocator + Copy>(accepted: &Accepted<A>, queue: &QueueBound) 
     }
 }
 
-/// Returns the queues of `bounds`, in the same order, with their least bounds.
+/// Returns the queues of `bounds`, in the same order, with their least bounds. `least_queue_bounds` calls it.
 fn lower_bounds<A: Allocator + Copy>(
     alloc: A,
     accepted: &Accepted<A>,
@@ -131,6 +133,8 @@ fn lower_bounds<A: Allocator + Copy>(
 
 /// Returns the least delay bounds of all reachable queues of protected filters, by rising filter, port and class. They hold for any capture.
 /// Networks add them up over the hops of a stream.
+///
+/// `all_queue_bounds` calls it.
 pub fn least_queue_bounds<A: Allocator + Copy>(
     alloc: A,
     accepted: &Accepted<A>,

@@ -239,7 +239,7 @@ fn is_kept(figures: &TrafficFigures) -> bool
 }
 
 /// Returns whether each row has a queue, and each frame passes and meets its deadline in each queue. If not, `bounds --traffic` ends with
-/// status 1.
+/// status 1. `report_traffic` calls it.
 pub fn are_in_time(timings: &[TrafficFigures]) -> bool
     ensures { result ≡ spec.are_in_time timings.now }
 {
@@ -374,7 +374,7 @@ fn put_row_line<A: Allocator>(text: &mut TextBuilder<A>, figures: &TrafficFigure
 }
 
 /// Returns the lines of `timings`: one for each queue, or one for a row without reachable queue. `bounds --traffic` prints them after the
-/// lines of bounds.
+/// lines of bounds. `report_traffic` calls it.
 pub fn timings_text<A: Allocator + Copy>(
     alloc: A,
     timings: &[TrafficFigures],

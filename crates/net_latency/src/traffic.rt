@@ -20,6 +20,8 @@ use std::alloc::Allocator;
 
 /// Returns whether a period is a multiple of each cycle time of a stream gate: of the old and of the new list. Returns true for a fixed
 /// gate, which has no cycle.
+///
+/// `suits_gate` calls it.
 fn suits_schedule<A: Allocator + Copy>(period: u64, schedule: &Schedule<A>) -> bool
     ensures { result ≡ spec.suits_schedule period schedule.now }
 {
@@ -136,7 +138,7 @@ fn has_misfit<A: Allocator + Copy>(
 }
 
 /// Returns whether a period is a multiple of each cycle time on a filter's route. The route has its stream gate, and each port with a
-/// reachable queue.
+/// reachable queue. `suits_filter` and `row_fault` call it.
 pub(crate) fn suits<A: Allocator + Copy>(plan: &Plan<A>, filter: &FilterPlan, period: u64) -> bool
     ensures { result ≡ spec.suits plan.now filter.now period }
 {

@@ -55,6 +55,7 @@ fn has_group(groups: &[FrameGroup], group: &FrameGroup) -> bool
 }
 
 /// Appends `group` to `groups` unless `groups` contains it. So the search for loops examines each group once, and `net check` warns once.
+/// `add_entry_groups`, `add_vlan_groups` and `all_groups` call it.
 fn add_group<A: Allocator + Copy>(
     groups: &mut Vec<FrameGroup, A>,
     group: FrameGroup,

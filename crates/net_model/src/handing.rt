@@ -121,6 +121,8 @@ struct Handing<'a, A: Allocator + Copy> {
 impl<'a, A: Allocator + Copy> Handing<'a, A> {
     /// Returns whether the receiving filter gets each frame with this tag that `entry` identifies at ingress port `from`. True for another
     /// filter's frames, or frames that can't leave over the link.
+    ///
+    /// `hands_priority` and `is_fed_by_entry` call it.
     fn hands_tag(&self, entry: &StreamEntry, from: &PortPlan<A>, tag: Option<Tag>) -> bool
         requires handing { IsHanding self.now }
         requires from { 1 ≤ from.now.number }

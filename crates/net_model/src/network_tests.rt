@@ -89,7 +89,7 @@ fn is_linked(links: &[Link], end: BridgePort) -> bool
 }
 
 /// Returns the first end of `link` whose port has a link in `before`, or `None`. If the link joins a port to itself, its end `other`
-/// counts.
+/// counts. `link_test_fault` calls it.
 fn doubly_linked_end(before: &[Link], link: &Link) -> Option<BridgePort>
     ensures { result ≡ spec.doubly_linked_end before.now link.now }
 {
@@ -474,7 +474,7 @@ impl<'a, A: Allocator + Copy> TestedNetwork<'a, A> {
 
 impl<'a, A: Allocator + Copy> TestedNetwork<'a, A> {
     /// Returns the fault of `test` (`Closed` or `Fed`) for hop `k` of stream `i`, at the bridge with plan `next`. Returns `None` if the hop
-    /// passes or its filter names no handle.
+    /// passes or its filter names no handle. `hop_test_fault_by_handle` calls it.
     fn hop_test_fault_in_plan(
         &self,
         test: HopTest,

@@ -24,6 +24,7 @@ fn has_incoming_step(steps: &[Step], x: BridgePort) -> bool
 }
 
 /// Returns whether a step begins where `step` ends, and a step ends where `step` begins. Each step of a loop is such an inner step.
+/// `inner_steps` calls it.
 fn is_inner_step(steps: &[Step], step: &Step) -> bool
     ensures { result ≡ peeling.is_inner_step steps.now step.now }
 {

@@ -73,7 +73,8 @@ pub(crate) fn classified_vid<A: Allocator + Copy>(port: &PortPlan<A>, tag: Optio
     }
 }
 
-/// Returns the priority that a frame with tag `tag` has on `port`; `None` stands for an untagged frame.
+/// Returns the priority that a frame with tag `tag` has on `port`; `None` stands for an untagged frame. `is_given`, `maps_tag_to_filter`
+/// and `first_frame_on_ingress` call it.
 pub(crate) fn frame_priority<A: Allocator + Copy>(port: &PortPlan<A>, tag: Option<Tag>) -> u8
     ensures { result ≡ classified.frame_priority port.now tag }
 {
@@ -96,6 +97,8 @@ pub(crate) fn is_same_kind(a: Kind, b: Kind) -> bool
 
 /// Returns whether `entry` can match frames with this tag and the address of `named`, on port `port` in VLAN `vid`. If `entry` compares the
 /// other kind of address, it can match.
+///
+/// `gives_all` and `first_by_handle` call it.
 pub(crate) fn can_match(
     entry: &StreamEntry,
     port: u8,
@@ -122,7 +125,7 @@ fn lesser_filter(a: Option<(u32, FilterPlan)>, b: (u32, FilterPlan)) -> Option<(
 }
 
 /// Returns the filter of frames with this handle and priority, with its number, or `None` if no filter matches. Among several, the lowest
-/// number decides.
+/// number decides. `is_given`, `maps_tag_to_filter` and `find_frames` call it.
 #[tactic(auto, using(crate::proofs::Flows::lesser_none, crate::proofs::Flows::lesser_more))]
 pub(crate) fn matching_filter(
     filters: &[(u32, FilterPlan)],
@@ -310,7 +313,7 @@ impl<'a, A: Allocator + Copy> SendingPort<'a, A> {
     }
 
     /// Returns the first example among frames with tag `tag`, the address of `named`, VLAN `vid` and priority `priority` on port `port`, or
-    /// `None`. Tries the handles that they can get.
+    /// `None`. Tries the handles that they can get. `first_frame_on_ingress` calls it.
     fn first_by_handle(
         &self,
         named: &StreamEntry,

@@ -104,7 +104,7 @@ impl<'a, A: Allocator + Copy> TakingFilter<'a, A> {
 }
 
 /// Returns example frames that the bridge with plan `plan` can send from `end`, or `None`. The hop's filter, with handle `handle`, would
-/// accept them although they belong to no hop.
+/// accept them although they belong to no hop. `first_stray_from_peer` calls it.
 fn first_stray_of_sender<A: Allocator + Copy>(
     stream: &[StreamHop],
     hop: StreamHop,
@@ -229,6 +229,8 @@ fn first_stray_on_port_number<A: Allocator + Copy>(
 
 /// Returns example frames that a hop accepts at a port over its link although they belong to no hop of the stream. Returns frames exactly
 /// if the test `Closed` finds stray frames at this port.
+///
+/// `explain_open_stream` of `net_check` calls it.
 pub fn find_stray<A: Allocator + Copy>(
     plans: &[Accepted<A>],
     links: &[Link],

@@ -36,7 +36,8 @@ fn put_source_frame<A: Allocator>(text: &mut TextBuilder<A>, root: Option<Source
     }
 }
 
-/// Writes the beginning of a row of `frames.csv`: stream, hop, source frame, and the arrival time at this hop in ns.
+/// Writes the beginning of a row of `frames.csv`: stream, hop, source frame, and the arrival time at this hop in ns. `put_refused`,
+/// `put_drop` and `put_departure` call it.
 fn put_line_start<A: Allocator>(
     text: &mut TextBuilder<A>,
     stream: &str,

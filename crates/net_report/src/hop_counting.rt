@@ -242,7 +242,7 @@ pub(crate) fn counts_by_ports<A: Allocator>(ways: &[bool], view: &View<A>) -> Ho
 }
 
 /// Returns the counts of hop `hop` of the stream with hops `hops`, for the lines about lost frames. The links decide which ports lead to a
-/// hop.
+/// hop. `hop_loss` of `app_networks` calls it.
 pub fn hop_counts<A: Allocator + Copy>(
     alloc: A,
     links: &[Link],
@@ -276,6 +276,8 @@ fn push_delay<A: Allocator>(
 
 /// Returns the delays in ns of the copies that a hop delivered (by `ways`), from arrival at the first hop, in the order of leaving. Leaves
 /// out copies with unknown source.
+///
+/// `rows_of_hop` and `push_delays` call it.
 pub(crate) fn departure_delays<A: Allocator + Copy>(
     alloc: A,
     ways: &[bool],

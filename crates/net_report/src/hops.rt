@@ -15,6 +15,7 @@ fn has_hop_at_bridge<A: Allocator>(hops: &[HopRun<'_, A>], bridge: usize) -> boo
 }
 
 /// Returns whether a port is linked to a bridge with a hop of the stream. If not, copies that leave by the port count as delivered.
+/// `onward_ports` calls it.
 pub fn has_next_hop<A: Allocator>(
     links: &[Link],
     hops: &[HopRun<'_, A>],

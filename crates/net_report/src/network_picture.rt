@@ -59,6 +59,8 @@ fn column_distance(one: u16, other: u16) -> u64 {
 
 /// Returns the height of a link's arc above the boxes, in pixels. It depends on the distance of the bridges and on the port modulo 4, so
 /// that arcs rarely coincide.
+///
+/// `tallest_arc` and `put_link` call it.
 fn arc_height(link: &LinkRow) -> u64 {
     let lane = u64::from(link.one.1 % 4);
     let columns = column_distance(link.one.0, link.other.0);

@@ -22,7 +22,8 @@ const REFUSED_WORDS: &str = "frame {0}, arrived at {1} ns: refused ({a})";
 /// Title of a dropped copy, which browsers show as a hint.
 const DROPPED_WORDS: &str = "frame {0}, arrived at {1} ns: dropped at port {2} ({a})";
 
-/// Returns the arrival time in ns of a hop's frame with number `own`, from 1, or `other` if the frame is missing.
+/// Returns the arrival time in ns of a hop's frame with number `own`, from 1, or `other` if the frame is missing. `put_departure`,
+/// `put_refused` and `put_dropped` call it.
 fn arrival_time_or(origins: &[StoredOrigin], own: u64, other: u64) -> u64 {
     if own == 0 {
         return other;

@@ -76,7 +76,8 @@ fn widen_span_by_record<A: Allocator>(view: &View<A>, span: Span) -> Span {
     Span { from, to }
 }
 
-/// Returns the position of time `moment` on the time axis, in pixels from the left edge of the picture.
+/// Returns the position of time `moment` on the time axis, in pixels from the left edge of the picture. `put_link`, `time_mark` and
+/// `bar_x_and_width` call it.
 pub(crate) fn time_x(picture: &RunPicture, moment: u64) -> u64 {
     LEFT_MARGIN + picture.span.axis_distance(moment, TIME_WIDTH)
 }
@@ -104,6 +105,7 @@ pub(crate) fn row_y(row: u64) -> u64 {
 }
 
 /// Returns a bar from time `from` to time `to`, `y` pixels from the top and `height` pixels high. Rows and windows are drawn by it.
+/// `put_window`, `put_hatch` and `put_departure` call it.
 pub(crate) fn bar_x_and_width(
     picture: &RunPicture,
     from: u64,

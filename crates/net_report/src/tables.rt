@@ -65,6 +65,7 @@ struct HopRows<A: Allocator> {
 }
 
 /// Writes a text to the writer of a table, also the tables' first lines. If this fails, returns the fault `Broken` with the table.
+/// `write_hop` and `write_stream`, and `write_tables` of `app_networks` call it.
 pub fn put_table<W: Write>(writer: &mut W, text: &str, table: Table) -> Result<(), TableFault>
     ensures { OnOk result (Appends (W.contents writer.old) (W.contents writer.new) text.now) }
 {

@@ -9,7 +9,7 @@ use std::alloc::Allocator;
 /// schedule change.
 const MAX_TURNS: usize = 8 * MAX_ENTRIES;
 
-/// Returns whether the gate control lists open a class at time `at`.
+/// Returns whether the gate control lists open a class at time `at`. `put_windows`, `count_windows` and `next_gate_change` call it.
 pub(crate) fn is_class_open<A: Allocator + Copy>(list: &Egress<A>, class: u8, at: u64) -> bool
     requires class { class < 8 }
     requires soon { at < END_OF_TURNS }
@@ -37,7 +37,7 @@ fn active_list<A: Allocator + Copy>(list: &Egress<A>, at: u64) -> (u64, u64)
 }
 
 /// Returns the number of times that a class opens after time `after` and up to time `to`. The caller ensures that this is at most one cycle
-/// of a list.
+/// of a list. `count_list_openings` and `count_windows` call it.
 fn count_openings<A: Allocator + Copy>(list: &Egress<A>, class: u8, after: u64, to: u64) -> u64
     requires class { class < 8 }
     requires soon { to < END_OF_TURNS }

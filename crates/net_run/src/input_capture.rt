@@ -94,7 +94,8 @@ impl<A: Allocator + Copy> Model for InputCapture<A> {
 }
 
 impl<A: Allocator + Copy> InputCapture<A> {
-    /// Returns the input capture with these octets: the capture of an open port, or a capture without frames.
+    /// Returns the input capture with these octets: the capture of an open port, or a capture without frames. `delivered_capture`,
+    /// `input_captures` and `capture_over_link` call it.
     pub(crate) fn from_octets(octets: Vec<u8, A>) -> InputCapture<A>
         ensures { result ≡ octets.items }
     {

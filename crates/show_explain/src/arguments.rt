@@ -20,7 +20,7 @@ fn option_name(word: &str) -> Option<&str> {
 }
 
 /// Explains why the arguments are refused: the first fault, and the command's usage. `clap` has refused them before. `--explain` prints the
-/// explanation.
+/// explanation. `explain_words_fault` of `app_commands` calls it.
 pub fn explain_arguments(alloc: Global, words: &[String]) -> Result<String, NoMemory>
     ensures { IfOk result (λ said. StartsWithName (codes "command line: ") (string_bytes said)) }
 {
@@ -201,7 +201,7 @@ fn has_word(words: &[String], name: &str) -> bool {
     false
 }
 
-/// Returns whether an argument can be the value of the option before it: it exists and isn't an option.
+/// Returns whether an argument can be the value of the option before it: it exists and isn't an option. `option_fault` calls it.
 fn is_value(word: Option<&String>) -> bool {
     match word {
         Some(word) => option_name(word.as_str()).is_none(),

@@ -95,7 +95,7 @@ fn entry_interval(entry: &Value) -> u64 {
 }
 
 /// Returns whether the list with keys `keys` in an instance's table is refused for `fault`. An instance can have several lists, and the
-/// fault doesn't name one.
+/// fault doesn't name one. `put_refused_list` calls it.
 fn is_list_refused(
     alloc: Global,
     said: &mut Said,

@@ -12,7 +12,7 @@ const EMPTY_PATH: &str =
     "A path is empty. Name the file or the folder, for example . for the current folder.\n";
 
 /// Explains why a file can't be opened, created, read or written, with a remedy. The explanation begins with `path`. It answers
-/// `--explain`.
+/// `--explain`. `explain_file_cause` and `explain_capture` of `app_commands` call it.
 pub fn explain_file(alloc: Global, path: &str, cause: Cause) -> Result<String, NoMemory>
     ensures { IfOk result (λ said. StartsWithName path.now (string_bytes said)) }
 {

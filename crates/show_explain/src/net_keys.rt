@@ -173,6 +173,8 @@ fn lower_limit(instance: Instance<'_>, field: NetField) -> Option<(NetField, u64
 
 /// Returns the key that limits `field` from above (period or burst), its value, and the greatest value of `field`. `None` without such a
 /// key, or if its value is missing or doesn't limit.
+///
+/// `put_range` calls it.
 fn upper_limit(instance: Instance<'_>, field: NetField) -> Option<(NetField, u64, u64)> {
     let (key, less) = match field {
         NetField::From | NetField::To => (NetField::Period, 1),

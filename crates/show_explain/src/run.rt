@@ -31,6 +31,7 @@ pub fn explain_run(
 }
 
 /// Explains why the octets of standard input weren't run. The explanation begins with `-`, which stands for standard input.
+/// `explain_words_fault` of `app_commands` calls it.
 pub fn explain_text(alloc: Global, fault: &TextFault) -> Result<String, NoMemory>
     ensures { IfOk result (λ said. StartsWithName (codes "-") (string_bytes said)) }
 {

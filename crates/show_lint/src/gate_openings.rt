@@ -60,7 +60,7 @@ pub(crate) fn has_port_change<A: Allocator + Copy>(port: &PortPlan<A>) -> bool {
 }
 
 /// Returns the stages for which callers look for warnings: before and after the schedule change if `is_changed` is true, otherwise
-/// `Always`.
+/// `Always`. `find_class`, `find_rates` and `find_port_warnings` call it.
 pub(crate) fn change_stages(is_changed: bool) -> &'static [ScheduleStage] {
     if is_changed {
         &[ScheduleStage::BeforeChange, ScheduleStage::AfterChange]
@@ -125,6 +125,8 @@ struct OpeningSpan {
 impl OpeningSpan {
     /// Returns how many frames of transmission time `time` in ns can arrive on one link during the entry. If other entries also open the
     /// stream gate, each frame's transmission must lie within the entry.
+    ///
+    /// `frames_on_all_links` calls it.
     fn frames_on_link(self, time: u64) -> u64 {
         if time == 0 {
             return 0;

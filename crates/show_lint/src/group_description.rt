@@ -106,7 +106,7 @@ fn is_in_group(filter: &FilterPlan, group: u32) -> bool {
     }
 }
 
-/// Returns the number of the first filter in the group; 0 without one.
+/// Returns the number of the first filter in the group; 0 without one. `put_filters` calls it.
 pub(crate) fn first_of_group(filters: &[(u32, FilterPlan)], group: u32) -> u32 {
     for (number, filter) in filters {
         if is_in_group(filter, group) {
@@ -116,7 +116,7 @@ pub(crate) fn first_of_group(filters: &[(u32, FilterPlan)], group: u32) -> u32 {
     0
 }
 
-/// Writes the filters of a group, and the queues that they share. `rows` has the shared queues of all groups.
+/// Writes the filters of a group, and the queues that they share. `rows` has the shared queues of all groups. `put_filters` calls it.
 pub(crate) fn put_group<A: Allocator + Copy>(
     said: &mut LintText,
     plan: &Plan<A>,
@@ -192,7 +192,8 @@ fn put_capacity(said: &mut LintText, row: &SharedQueue) {
     }
 }
 
-/// Returns the shared queues of a plan's groups. If memory runs out, discards the text, so the caller's `finish` fails.
+/// Returns the shared queues of a plan's groups. If memory runs out, discards the text, so the caller's `finish` fails. `describe_plan`
+/// calls it.
 pub(crate) fn shared_queues(
     alloc: Global,
     said: &mut LintText,

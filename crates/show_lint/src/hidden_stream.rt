@@ -34,7 +34,7 @@ fn is_same_kind(one: Kind, other: Kind) -> bool
 }
 
 /// Returns whether entry `one` matches each frame that `other` matches: equal port, VLAN and address, and a tag kind that covers the
-/// other's.
+/// other's. `first_hiding_stream` calls it.
 #[tactic(auto, using(crate::proofs::Hiding::hides_frames))]
 pub fn hides(one: &StreamEntry, other: &StreamEntry) -> bool
     ensures asks { result ≡ spec.hides one.now other.now }

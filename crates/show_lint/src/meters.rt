@@ -63,7 +63,7 @@ fn has_small_buckets(limits: &MeterPlan, octets: u32) -> bool {
 }
 
 /// Adds a warning if the buckets of filter `filter`'s meter are smaller than its longest frame, which has `octets` metered octets. Smaller
-/// than the shortest frame is warning `NoToken`.
+/// than the shortest frame is warning `NoToken`. `find_meter_warnings` calls it.
 fn find_burst(
     found: &mut Vec<Warning>,
     filter: u32,

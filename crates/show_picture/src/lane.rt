@@ -43,7 +43,8 @@ pub(crate) struct Window {
     open: Option<(bool, Option<u8>)>,
 }
 
-/// Returns the number of decimal digits of `number`: its width in letters, for the space at lanes and in the legend.
+/// Returns the number of decimal digits of `number`: its width in letters, for the space at lanes and in the legend. `lane_name`,
+/// `put_filter_numbers` and `put_filter_legend` call it.
 pub(crate) fn digit_count(number: u32) -> usize {
     number.checked_ilog10().unwrap_or(0) as usize + 1
 }

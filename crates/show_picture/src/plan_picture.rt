@@ -34,6 +34,8 @@ const NEVER_FITS: &str =
 
 /// Returns a template that explains a fault, and three numbers: `{1}` the other filter, `{2}` the class and `{3}` the port (0 if the fault
 /// has none). `{0}` in the template is the faulty filter.
+///
+/// `put_fault` calls it.
 fn fault_template(fault: CheckFault) -> (&'static str, u32, u8, u8) {
     match fault {
         CheckFault::QueueShared {

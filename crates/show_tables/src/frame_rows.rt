@@ -39,7 +39,8 @@ pub(crate) fn put_last_field<A: Allocator>(text: &mut TextBuilder<A>, number: u6
     text.put("\n");
 }
 
-/// Writes the start of each row of a frame: filter, frame number, ingress port, arrival time and verdict.
+/// Writes the start of each row of a frame: filter, frame number, ingress port, arrival time and verdict. `put_lone_row`,
+/// `put_departure_row` and `put_drop_row` call it.
 fn put_row_start<A: Allocator>(text: &mut TextBuilder<A>, frame: &FilterFrame)
     ensures { HasGrown text.old (spec.row_start frame.now) text.new }
 {

@@ -34,7 +34,7 @@ pub(crate) fn count_never_on_port(port: u8, drops: &[StoredDrop]) -> usize
         .count()
 }
 
-/// Writes the field with the number of frames refused for `reason`.
+/// Writes the field with the number of frames refused for `reason`. `put_filter_losses`, `put_gate_losses` and `put_meter_losses` call it.
 fn put_refused_count<A: Allocator>(
     text: &mut TextBuilder<A>,
     reason: Reason,
