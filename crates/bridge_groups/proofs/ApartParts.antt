@@ -1,9 +1,8 @@
 -- Parts of a queue that are apart in time are as if alone at the port.
-use Rattle.std.proofs.Common.{◌≡◌, ◌<◌, ◌≤◌, ◌+◌, ℕ, Bool, true, false, max, List, [], ◌∷◌, arith, ap, refl, sym, ◌∙◌, subst, inl, inr}
+use Rattle.std.proofs.Common.{◌≡◌, ◌<◌, ◌≤◌, ℕ, Bool, true, false, max, List, [], ◌∷◌, arith, refl, sym, subst, inl, inr}
 use Rattle.std.proofs.Math.Bool.{and-false}
-use Rattle.std.proofs.lemmas.Bool.{both_ways}
 use Rattle.std.proofs.lemmas.Bool.Decides.{nat_tests}
-use Rattle.std.specs.Prelude.{nat_eq, nat_lt, not, ◌&&◌, if◌then◌else◌}
+use Rattle.std.specs.Prelude.{nat_lt, not}
 use Rattle.bridge_limits.specs.Members.{IsMember}
 use Rattle.bridge_limits.proofs.Cases.{by_bool}
 use Rattle.bridge_cycle.specs.Fits.{IsFirstFit}

@@ -58,7 +58,7 @@ use Rattle.bridge_groups.proofs.Sums.{least_occupied, work_as}
 
 -- EACH COPY OF A QUEUE
 
-each_in_time : {X : Type 0} (r : PortRules X) (lets : ℕ → Bool) (begin limit : ℕ → ℕ) (c occ least b s h : ℕ) (x : Copy X) (xs : List (Copy X)) → AreIntervals begin → IsIntervalBound (r.opens c) lets occ least begin limit b → IsSolo r xs → AreOffersInOrder h xs → HaveBoundedTimes r c least occ xs → HasIntervalWork r lets begin limit xs → IsMember x xs → x.fate ≡ Started s → s + r.occ x.item ≤ x.at + b
+pub each_in_time : {X : Type 0} (r : PortRules X) (lets : ℕ → Bool) (begin limit : ℕ → ℕ) (c occ least b s h : ℕ) (x : Copy X) (xs : List (Copy X)) → AreIntervals begin → IsIntervalBound (r.opens c) lets occ least begin limit b → IsSolo r xs → AreOffersInOrder h xs → HaveBoundedTimes r c least occ xs → HasIntervalWork r lets begin limit xs → IsMember x xs → x.fate ≡ Started s → s + r.occ x.item ≤ x.at + b
 each_in_time r lets begin limit c occ least b s h x [] are is solo order between keeps i started = absurd i
 each_in_time r lets begin limit c occ least b s h x (y ∷ ys) are is solo order between keeps (inl same) started =
     let own : y.fate ≡ Started s = subst (λ (z : Copy _). z.fate ≡ Started s) same started in
@@ -68,11 +68,11 @@ each_in_time r lets begin limit c occ least b s h x (y ∷ ys) are is solo order
 -- OFFERS
 
 -- Holds if offers come only while `lets` is true, and the offers of each interval keep its limit.
-abbrev HaveIntervalOffers : {A : Type 0} → PortPlan A → (ℕ → Bool) → (ℕ → ℕ) → (ℕ → ℕ) → List Offer → Type 0
+abbrev pub HaveIntervalOffers : {A : Type 0} → PortPlan A → (ℕ → Bool) → (ℕ → ℕ) → (ℕ → ℕ) → List Offer → Type 0
 HaveIntervalOffers out lets begin limit [] = Unit {0}
 HaveIntervalOffers out lets begin limit (o ∷ os) = (lets o.at ≡ true) × (recent_offer_work out.speed (begin o.at) (o ∷ os) ≤ limit (begin o.at)) × HaveIntervalOffers out lets begin limit os
 
-copies_keep : {A : Type 0} (out : PortPlan A) (lets : ℕ → Bool) (begin limit : ℕ → ℕ) (xs : List (Copy CarriedFrame)) → HaveIntervalOffers out lets begin limit (copy_offers xs) → HasIntervalWork (egress_rules out) lets begin limit xs
+pub copies_keep : {A : Type 0} (out : PortPlan A) (lets : ℕ → Bool) (begin limit : ℕ → ℕ) (xs : List (Copy CarriedFrame)) → HaveIntervalOffers out lets begin limit (copy_offers xs) → HasIntervalWork (egress_rules out) lets begin limit xs
 copies_keep out lets begin limit [] keep = tt
 copies_keep out lets begin limit (x ∷ xs) keep = (keep.0, rw (work_as out (begin x.at) (x ∷ xs)) (keep.1), copies_keep out lets begin limit xs keep.2)
 
@@ -94,7 +94,7 @@ same_start : (x : Turn GateEntry) → is_same_turn (Some x) (Some x) ≡ true
 same_start x = grind arith
 
 -- No interval ends in a span within one interval.
-none_ends : (turn_at : ℕ → Option (Turn GateEntry)) (x : Turn GateEntry) (u w : ℕ) → ((v : ℕ) → u ≤ v → v ≤ u + w → turn_at v ≡ Some x) → ended_turn_limits turn_at u w ≡ 0
+pub none_ends : (turn_at : ℕ → Option (Turn GateEntry)) (x : Turn GateEntry) (u w : ℕ) → ((v : ℕ) → u ≤ v → v ≤ u + w → turn_at v ≡ Some x) → ended_turn_limits turn_at u w ≡ 0
 none_ends turn_at x u zero all = refl
 none_ends turn_at x u (suc w) all =
     let before = none_ends turn_at x u w (λ v p q. all v p (omega (arith, q))) in
@@ -116,7 +116,7 @@ module _ (l : cyclic.Cyclic GateEntry) (lawful : cyclic.IsLawful l) where
       let last : cyclic.turn_by_time l (z + (t - z)) ≡ Some x = ap (cyclic.turn_by_time l) back ∙ here in
       rw (none, last, first) (omega arith)
 
-closed_limit : (o : Option (Turn GateEntry)) → is_open_turn o ≡ false → turn_limit o ≡ 0
+pub closed_limit : (o : Option (Turn GateEntry)) → is_open_turn o ≡ false → turn_limit o ≡ 0
 closed_limit None h = refl
 closed_limit (Some x) h = rw h refl
 
@@ -131,7 +131,7 @@ limit_of None h = absurd (false≢true h)
 limit_of (Some n) h = (n, refl)
 
 -- If each open entry has a limit, so has each open interval.
-limits_of : (l : cyclic.Cyclic GateEntry) → cyclic.IsLawful l → are_limited l.entries ≡ true → HasOctetLimits (cyclic.turn_by_time l)
+pub limits_of : (l : cyclic.Cyclic GateEntry) → cyclic.IsLawful l → are_limited l.entries ≡ true → HasOctetLimits (cyclic.turn_by_time l)
 limits_of l lawful limited = record {
   limited = λ t x here lets.
       let (e, there, same) = among l t x here in
@@ -286,19 +286,22 @@ pub one_list_bound : {A : Type 0} (lists : Egress A) (l : cyclic.Cyclic ℕ) (g 
     → IfSome r (IsIntervalBound (lists_open (Some lists) c) (gate_opens g) occ shortest (last_opening g) (opening_work g shortest share))
 one_list_bound {A} lists l g c occ shortest share r e h = subst (λ (o : Egress A). IfSome r (IsIntervalBound (lists_open (Some o) c) (gate_opens g) occ shortest (last_opening g) (opening_work g shortest share))) (sym e) h
 
--- What a search over one list of the gate and of the port finds is a bound of the schedule.
-pub schedule_bound_is : {A : Type 0} (s : Schedule A) (out : PortPlan A) (lists : Egress A) (g : cyclic.Cyclic GateEntry) (c m occ shortest share : ℕ) (r : Option ℕ) → s ≡ scheduled.Cyclic g → out.list ≡ Some lists → are_limited g.entries ≡ true → occ ≡ transmission_time (longest_frame m) out.speed → shortest ≡ transmission_time 60 out.speed
+-- What a search over the port's list finds is a bound at the port.
+pub port_bound_is : {A : Type 0} (out : PortPlan A) (lists : Egress A) (g : cyclic.Cyclic GateEntry) (c m occ shortest share : ℕ) (r : Option ℕ) → out.list ≡ Some lists → occ ≡ transmission_time (longest_frame m) out.speed → shortest ≡ transmission_time 60 out.speed
     → IfSome r (IsIntervalBound (lists_open (Some lists) c) (gate_opens g) occ shortest (last_opening g) (opening_work g shortest share))
+    → IfSome r (IsIntervalBound (lists_open out.list c) (gate_opens g) (transmission_time (longest_frame m) out.speed) (transmission_time 60 out.speed) (last_opening g) (opening_work g (transmission_time 60 out.speed) share))
+port_bound_is out lists g c m occ shortest share None listed longest short h = h
+port_bound_is {A} out lists g c m occ shortest share (Some b) listed longest short h =
+    subst (λ (o : Option (Egress A)). IsIntervalBound (lists_open o c) (gate_opens g) (transmission_time (longest_frame m) out.speed) (transmission_time 60 out.speed) (last_opening g) (opening_work g (transmission_time 60 out.speed) share) b) (sym listed)
+    (subst (λ (i : ℕ). IsIntervalBound (lists_open (Some lists) c) (gate_opens g) (transmission_time (longest_frame m) out.speed) i (last_opening g) (opening_work g i share) b) short
+    (subst (λ (i : ℕ). IsIntervalBound (lists_open (Some lists) c) (gate_opens g) i shortest (last_opening g) (opening_work g shortest share) b) longest h))
+
+-- What a search over one list of the gate finds is a bound of the schedule.
+pub schedule_bound_is : {A : Type 0} (s : Schedule A) (out : PortPlan A) (g : cyclic.Cyclic GateEntry) (c m share : ℕ) (r : Option ℕ) → s ≡ scheduled.Cyclic g → are_limited g.entries ≡ true
+    → IfSome r (IsIntervalBound (lists_open out.list c) (gate_opens g) (transmission_time (longest_frame m) out.speed) (transmission_time 60 out.speed) (last_opening g) (opening_work g (transmission_time 60 out.speed) share))
     → IfSome r (IsScheduleBound s out c m share)
-schedule_bound_is s out lists g c m occ shortest share None gated listed limited longest short h = h
-schedule_bound_is {A} s out lists g c m occ shortest share (Some b) gated listed limited longest short h = record {
-  list = g;
-  schedule = gated;
-  limited = limited;
-  is = subst (λ (o : Option (Egress A)). IsIntervalBound (lists_open o c) (gate_opens g) (transmission_time (longest_frame m) out.speed) (transmission_time 60 out.speed) (last_opening g) (opening_work g (transmission_time 60 out.speed) share) b) (sym listed)
-      (subst (λ (i : ℕ). IsIntervalBound (lists_open (Some lists) c) (gate_opens g) (transmission_time (longest_frame m) out.speed) i (last_opening g) (opening_work g i share) b) short
-      (subst (λ (i : ℕ). IsIntervalBound (lists_open (Some lists) c) (gate_opens g) i shortest (last_opening g) (opening_work g shortest share) b) longest h));
-}
+schedule_bound_is s out g c m share None gated limited h = h
+schedule_bound_is s out g c m share (Some b) gated limited h = record { list = g; schedule = gated; limited = limited; is = h }
 
 pub gate_bound_is : {A : Type 0} (p : Plan A) (n q c m share : ℕ) (f : FilterPlan) (out : PortPlan A) (gate : GatePlan A) (r : Option ℕ) → 1 ≤ share → share ≤ 44 → lookup (nat_eq n) p.filters ≡ Some f → f.protected ≡ true → f.max_sdu ≡ Some m → find_port p.ports q ≡ Some out → reaches_queue p f q c ≡ true → lookup (nat_eq f.gate) p.gates ≡ Some gate → IfSome r (IsScheduleBound gate.schedule out c m share) → IfSome r (IsGateWorkBound p n q c share)
 gate_bound_is p n q c m share f out gate None some few found protected size at reach gated h = h

@@ -17,6 +17,8 @@ pub mod Rows
 pub mod Leaving
 pub mod Admitting
 pub mod GateRuns
+pub mod MergedGates
+pub mod GroupGates
 pub mod NthFits
 pub mod Chain
 pub mod MeterAllowance

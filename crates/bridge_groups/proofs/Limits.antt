@@ -63,7 +63,7 @@ flow_counts speed (g ∷ gs) n f u o os (inl same) flow late =
     rw (own, late) (omega (arith, rest))
 flow_counts speed (g ∷ gs) n f u o os (inr i) flow late = let rest = flow_counts speed gs n f u o os i flow late in omega (arith, rest)
 
-work_by_flows : (speed : Speed) (sharers : List (ℕ × FilterPlan)) (u : ℕ) (os : List Offer) → AreSharerOffers sharers os → recent_offer_work speed u os ≤ recent_sharer_work speed sharers u os
+pub work_by_flows : (speed : Speed) (sharers : List (ℕ × FilterPlan)) (u : ℕ) (os : List Offer) → AreSharerOffers sharers os → recent_offer_work speed u os ≤ recent_sharer_work speed sharers u os
 work_by_flows speed sharers u [] of = omega arith
 work_by_flows speed sharers u (o ∷ os) of =
     let rest = work_by_flows speed sharers u os (λ x i. of x (inr i)) in

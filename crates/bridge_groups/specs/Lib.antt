@@ -7,6 +7,7 @@ pub mod Departures
 pub mod QueueBounds
 pub mod Sharers
 pub mod SharedQueues
+pub mod MergedGates
 pub mod GroupRows
 pub mod Admission
 pub mod Examples

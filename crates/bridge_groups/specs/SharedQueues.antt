@@ -16,6 +16,7 @@ use Rattle.bridge_bounds.specs.Bounds.{IsRoomBound}
 use Rattle.bridge_groups.specs.Work.{IsDelayBound, IsSufficientRoom}
 use Rattle.bridge_groups.specs.CostCurves.{HasLongStarts, sharers_cost_curve}
 use Rattle.bridge_groups.specs.Curves.{sharers_curve, sharers_frame_limit}
+use Rattle.bridge_groups.specs.MergedGates.{IsGatesBound}
 use Rattle.bridge_groups.specs.Sharers.{are_metered, longest_sdu, queue_sharers}
 use Rattle.bridge_groups.specs.declared.shared_queues.SharedQueue.{SharedQueue}
 
@@ -69,7 +70,7 @@ pub record IsSharedRoom {A : Type 0} (p : Plan A) (out : PortPlan A) (sharers : 
   pub sufficient : IsSufficientRoom (lists_open out.list c) (transmission_time (longest_frame (longest_sdu sharers)) out.speed) (transmission_time 60 out.speed) (sharers_curve p sharers out.speed) (sharers_frame_limit p sharers) room
 
 -- Holds if row `s` describes a shared queue: its delay bound, a sufficient capacity if one is known, and the capacity
--- that it has. If `s.is_metered` is true, the meters give a bound.
+-- that it has. If `s.is_metered` is true, the meters give a bound. Further bounds follow from the stream gates.
 pub record IsSharedQueue {A : Type 0} (p : Plan A) (s : SharedQueue) : Type 0 where
   pub out : PortPlan A
   pub at : find_port p.ports s.port ≡ Some out
@@ -78,6 +79,8 @@ pub record IsSharedQueue {A : Type 0} (p : Plan A) (s : SharedQueue) : Type 0 wh
   pub metered : s.is_metered ≡ true → (b : ℕ) × IsMeterBound p out (queue_sharers p s.group s.port s.class p.filters) s.class b
   pub room : IfSome s.room (IsSharedRoom p out (queue_sharers p s.group s.port s.class p.filters) s.class)
   pub capacity : s.capacity ≡ (egress_rules out).room s.class
+  pub by_gates : IfSome s.by_gates (IsGatesBound p out (queue_sharers p s.group s.port s.class p.filters) s.class 2)
+  pub padded : IfSome s.padded (IsGatesBound p out (queue_sharers p s.group s.port s.class p.filters) s.class 44)
 
 -- Holds if row `s` describes the queue of class `c` at port `q`, which the group shares.
 pub record IsRowOf {A : Type 0} (p : Plan A) (group q c : ℕ) (s : SharedQueue) : Type 0 where

@@ -33,7 +33,7 @@ pub const PADDED_SDU: u64 = 44;
 const SHORTEST_FRAME: u32 = 60;
 
 /// Whether each open entry of a stream gate's list has an octet limit. Otherwise `schedule_bound` returns no bound.
-fn are_limited(entries: &[(GateEntry, u64)]) -> bool
+pub(crate) fn are_limited(entries: &[(GateEntry, u64)]) -> bool
     ensures { result ≡ spec.are_limited entries.now }
 {
     entries
@@ -70,9 +70,35 @@ fn lists_gate_bound<A: Allocator + Copy>(
     }
 }
 
+/// Returns the delay bound in ns of a queue at `port`, by the list of a stream gate. SDUs have `fewest` to `sdu` octets.
+///
+/// Returns `None` if the port has no list or a schedule change, or if no bound is found.
+pub(crate) fn port_gate_bound<A: Allocator + Copy>(
+    gate: &CyclicList<GateEntry, A>,
+    port: &PortPlan<A>,
+    class: u8,
+    sdu: u32,
+    fewest: u64,
+) -> Option<u64>
+    requires class { class < 8 }
+    requires sdu { sdu ≤ 65535 }
+    requires fewest { 1 ≤ fewest }
+    requires ever { lists_can_fit port.now.list class (transmission_time (longest_frame sdu) port.now.speed) ≡ true }
+    ensures { IfSome result (IsIntervalBound (lists_open port.now.list class) (gate_opens gate.now)
+        (transmission_time (longest_frame sdu) port.now.speed) (transmission_time 60 port.now.speed)
+        (last_opening gate.now) (opening_work gate.now (transmission_time 60 port.now.speed) fewest)) }
+{
+    let Some(lists) = &port.list else {
+        return None;
+    };
+    let longest = occupation((sdu + 16).min(LONGEST_FRAME), port.speed);
+    let shortest = occupation(SHORTEST_FRAME, port.speed);
+    lists_gate_bound(lists, class, longest, shortest, gate, fewest)
+}
+
 /// Returns the delay bound in ns of a queue at `port`, by the stream gate's schedule. SDUs have `fewest` to `sdu` octets.
 ///
-/// Returns `None` unless gate and port have one list each and all open entries have octet limits. `reached_gate_bound` calls it.
+/// Returns `None` unless gate and port have one list each and all open entries have octet limits.
 fn schedule_bound<A: Allocator + Copy>(
     schedule: &Schedule<A>,
     port: &PortPlan<A>,
@@ -89,15 +115,10 @@ fn schedule_bound<A: Allocator + Copy>(
     let Schedule::Cyclic(gate) = schedule else {
         return None;
     };
-    let Some(lists) = &port.list else {
-        return None;
-    };
     if !are_limited(gate.entries()) {
         return None;
     }
-    let longest = occupation((sdu + 16).min(LONGEST_FRAME), port.speed);
-    let shortest = occupation(SHORTEST_FRAME, port.speed);
-    lists_gate_bound(lists, class, longest, shortest, gate, fewest)
+    port_gate_bound(gate, port, class, sdu, fewest)
 }
 
 /// Returns the delay bound in ns of a queue that protected filter `number` can reach, by its stream gate; `None` if no bound is found.

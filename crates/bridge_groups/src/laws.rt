@@ -412,3 +412,34 @@ pub fn frames_have_sdus()
     ensures captured { (es : List Event) → AreWithinLengths es → HaveSdus 2 es }
     ensures padded { (es : List Event) → HasNoRunts es → HaveSdus 44 es }
 {}
+
+/// Each copy that starts leaves a shared queue within the bound by the stream gates of its filters. Clauses: SDUs of at least two octets
+/// (`captured`), frames of at least 60 octets (`padded`).
+pub fn shared_queue_leaves_in_time_by_gates<A: Allocator + Copy>()
+    ensures captured { (p : Plan A) (s : SharedQueue) (is : IsSharedQueue p s) (b start : ℕ) (es : List Event)
+        (moments : ℕ → ℕ) (lists : ℕ → List (Copy CarriedFrame)) (x : Copy CarriedFrame)
+        → s.by_gates ≡ Some b
+        → IsPlan p
+        → HasAcceptableGroups p
+        → IsRun p es moments lists
+        → AreFinished lists
+        → AreArrivalsInOrder es
+        → HaveSdus 2 es
+        → IsMember x (lists s.port)
+        → x.class ≡ s.class
+        → x.fate ≡ Started start
+        → start + transmission_time x.item.len is.out.speed ≤ x.at + b }
+    ensures padded { (p : Plan A) (s : SharedQueue) (is : IsSharedQueue p s) (b start : ℕ) (es : List Event)
+        (moments : ℕ → ℕ) (lists : ℕ → List (Copy CarriedFrame)) (x : Copy CarriedFrame)
+        → s.padded ≡ Some b
+        → IsPlan p
+        → HasAcceptableGroups p
+        → IsRun p es moments lists
+        → AreFinished lists
+        → AreArrivalsInOrder es
+        → HasNoRunts es
+        → IsMember x (lists s.port)
+        → x.class ≡ s.class
+        → x.fate ≡ Started start
+        → start + transmission_time x.item.len is.out.speed ≤ x.at + b }
+{}

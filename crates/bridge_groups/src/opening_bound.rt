@@ -128,7 +128,7 @@ fn visit_openings<A: Allocator + Copy>(
 
 /// Returns the least common multiple in ns of the cycle times of a port and a stream gate. Returns `None` if it has too many of the port's
 /// cycles.
-fn common_cycle(port: u64, gate: u64) -> Option<u64>
+pub(crate) fn common_cycle(port: u64, gate: u64) -> Option<u64>
     requires port { (1 ≤ port) × (port ≤ LONGEST_CYCLE) }
     requires gate { 1 ≤ gate }
     ensures port { IfSome result (λ common. (n : ℕ) × (common ≡ n * port)) }

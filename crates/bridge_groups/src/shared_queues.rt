@@ -13,6 +13,7 @@ ghost use Rattle.bridge_groups.specs.Sharers as sharing;
 ghost use Rattle.bridge_groups.specs.SharedQueues as spec;
 
 use crate::cost_search::lists_cost_bound;
+use crate::group_gates::gate_figures;
 use crate::meter_curves::{count_curves, sharers_curve};
 use crate::sharers::{are_metered, longest_sdu, queue_sharers};
 use crate::{LinearCurve, list_delay_bound, sufficient_room};
@@ -49,6 +50,10 @@ pub struct SharedQueue {
     pub room: Option<u16>,
     /// Capacity of the queue in frames.
     pub capacity: u16,
+    /// Delay bound in ns by the stream gates of the filters, for any capture; `None` if none is known.
+    pub by_gates: Option<u64>,
+    /// Delay bound in ns by the stream gates, for frames of at least 60 octets; `None` if none is known.
+    pub padded: Option<u64>,
 }
 
 /// Returns the curve that allows in `w` ns what `curve` allows in `w` + `shift` ns. Returns `None` if its burst is above `LARGEST_CURVE`.
@@ -281,6 +286,9 @@ pub fn shared_queue<A: Allocator + Copy>(
     let Ok(figures) = meter_figures(alloc, plan, &sharers, port, class, sdu) else {
         return Err(NoMemory);
     };
+    let Ok(gates) = gate_figures(alloc, plan, &sharers, port, class, sdu) else {
+        return Err(NoMemory);
+    };
     Ok(SharedQueue {
         group,
         port: port.number,
@@ -289,5 +297,7 @@ pub fn shared_queue<A: Allocator + Copy>(
         is_metered: figures.bound.is_some(),
         room: figures.room,
         capacity: port.rooms[class as usize],
+        by_gates: gates.captured,
+        padded: gates.padded,
     })
 }

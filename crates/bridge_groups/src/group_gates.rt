@@ -1,0 +1,63 @@
+//! Delay bounds of a shared queue by the stream gates of the filters that share it.
+ghost use Rattle.std.specs.Prelude.{◌≡◌, ◌≤◌, ◌<◌, IfOk, IfSome, true};
+ghost use Rattle.bridge_frame.specs.Link.{transmission_time};
+ghost use Rattle.bridge_port.specs.GateSchedule.{lists_can_fit};
+ghost use Rattle.bridge_check.specs.Windows.{longest_frame};
+ghost use Rattle.bridge_groups.specs.MergedGates.{IsGatesBound};
+ghost use Rattle.bridge_groups.specs.Sharers as sharing;
+
+use crate::gate_bounds::{CAPTURED_SDU, PADDED_SDU, port_gate_bound};
+use crate::merged_gates::{gate_lists, merged_list};
+use bridge_config::{Plan, PortPlan};
+use bridge_filter::FilterPlan;
+use bridge_limits::NoMemory;
+use std::alloc::Allocator;
+
+/// Delay bounds in ns of a shared queue by stream gates; `None` if none is known.
+#[derive(Clone, Copy)]
+pub(crate) struct GateFigures {
+    /// Bound for any capture: SDUs have at least `CAPTURED_SDU` octets.
+    pub(crate) captured: Option<u64>,
+    /// Bound for frames of at least 60 octets, as on every Ethernet link.
+    pub(crate) padded: Option<u64>,
+}
+
+/// Returns the delay bounds of a queue by the stream gates of `sharers`, whose largest SDU has `sdu` octets. `shared_queue` calls it.
+///
+/// Both are `None` if one list can't stand for all gates (`merged_list`), or if a gate has no list whose open entries have octet limits.
+pub(crate) fn gate_figures<A: Allocator + Copy>(
+    alloc: A,
+    plan: &Plan<A>,
+    sharers: &[(u32, FilterPlan)],
+    port: &PortPlan<A>,
+    class: u8,
+    sdu: u32,
+) -> Result<GateFigures, NoMemory>
+    requires class { class < 8 }
+    requires sdu { sdu ≡ sharing.longest_sdu sharers.now }
+    requires small { sdu ≤ 65535 }
+    requires ever { lists_can_fit port.now.list class (transmission_time (longest_frame sdu) port.now.speed) ≡ true }
+    ensures captured { IfOk result (λ g. IfSome g.captured (IsGatesBound plan.now port.now sharers.now class 2)) }
+    ensures padded { IfOk result (λ g. IfSome g.padded (IsGatesBound plan.now port.now sharers.now class 44)) }
+{
+    let none = GateFigures {
+        captured: None,
+        padded: None,
+    };
+    let Ok(found) = gate_lists(alloc, plan, sharers) else {
+        return Err(NoMemory);
+    };
+    let Some(lists) = found else {
+        return Ok(none);
+    };
+    let Ok(list) = merged_list(alloc, &lists) else {
+        return Err(NoMemory);
+    };
+    let Some(merged) = list else {
+        return Ok(none);
+    };
+    Ok(GateFigures {
+        captured: port_gate_bound(&merged, port, class, sdu, CAPTURED_SDU),
+        padded: port_gate_bound(&merged, port, class, sdu, PADDED_SDU),
+    })
+}
