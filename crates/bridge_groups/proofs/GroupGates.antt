@@ -1,7 +1,8 @@
 -- Delays of a group's frames in a queue, by the stream gates of the filters that share it.
 use Rattle.std.proofs.Common.{◌≡◌, ◌≤◌, ◌<◌, ◌+◌, ◌-◌, ◌*◌, ℕ, true, Option, None, Some, List, [], ◌∷◌, arith, ap, refl, sym, subst, ◌∙◌, inl, inr}
-use Rattle.std.specs.Prelude.{IfSome, nat_eq, nat_le}
+use Rattle.std.specs.Prelude.{IfSome, nat_eq, nat_le, nat_lt}
 use Rattle.std.proofs.Math.Nat.{le-div_iff_mul-le, mul-le-mul_left}
+use Rattle.std.proofs.lemmas.Option.{same_Some}
 use Rattle.bridge_limits.specs.Members.{IsMember}
 use Rattle.bridge_limits.proofs.Cases.{by_bool}
 use Rattle.bridge_cycle.specs.Cyclic.{Cyclic, IsLawful, turn_by_time}
@@ -29,20 +30,21 @@ use Rattle.bridge_semantics.specs.Offers.{CarriedFrame, Offer, class_offers, cop
 use Rattle.bridge_semantics.specs.Runs.{AreFinished, IsRun}
 use Rattle.bridge_semantics.proofs.GroupMembers as members
 use Rattle.bridge_semantics.proofs.Headline.{in_only}
-use Rattle.bridge_groups.specs.Curves.{AreArrivalsInOrder, AreSharers, has_filter_number, last_arrival_time, recent_filter_work, recent_offer_work, recent_sharer_work}
+use Rattle.bridge_groups.specs.Curves.{AreArrivalsInOrder, AreSharers, HasNoRunts, has_filter_number, last_arrival_time, recent_filter_work, recent_offer_work, recent_sharer_work}
 use Rattle.bridge_groups.specs.GateBounds.{HaveSdus}
 use Rattle.bridge_groups.specs.GateIntervals.{gate_opens, last_opening, opening_work, turn_limit}
 use Rattle.bridge_groups.specs.GateLimits.{HasOctetLimits, octet_budget}
 use Rattle.bridge_groups.specs.IntervalWork.{HasIntervalWork, IsIntervalBound}
 use Rattle.bridge_groups.specs.MergedGates.{AreGateLists, IsGateList, IsGatesBound, IsMergedList, limit_sum}
-use Rattle.bridge_groups.specs.SharedQueues.{IsSharedQueue}
+use Rattle.bridge_groups.specs.SharedQueues.{IsSharedQueue, bound_below, least_shared_bound, lesser_bound, padded_shared_bound}
 use Rattle.bridge_groups.specs.declared.shared_queues.SharedQueue.{SharedQueue}
 use Rattle.bridge_groups.specs.Sharers.{longest_sdu, queue_sharers}
 use Rattle.bridge_groups.proofs.GateCycles.{opened_turn}
 use Rattle.bridge_groups.proofs.GateOpenings.{opening_before, openings_are_intervals}
 use Rattle.bridge_groups.proofs.GateRuns.{HaveIntervalOffers, closed_limit, copies_keep, each_in_time, limits_of, none_ends}
 use Rattle.bridge_groups.proofs.MergedGates.{limit_more}
-use Rattle.bridge_groups.proofs.Limits.{work_by_flows, work_within_budget}
+use Rattle.bridge_groups.proofs.SharedRuns.{in_time}
+use Rattle.bridge_groups.proofs.Limits.{padded_sdus, work_by_flows, work_within_budget}
 use Rattle.bridge_groups.proofs.SharedQueues.{sharers_are}
 use Rattle.bridge_groups.proofs.Sharing as sharing
 use Rattle.bridge_groups.proofs.Sharing.{one_by_way, only_order}
@@ -142,8 +144,10 @@ module _ {A : Type 0} (p : Plan A) (group : ℕ) (sharers : List (ℕ × FilterP
     where
       same_le : (t : ℕ) → nat_le t t ≡ true
       same_le t = grind arith
+
       same_number : (n : ℕ) → nat_eq n n ≡ true
       same_number n = grind arith
+
       its_number : (x : Option ℕ) (n : ℕ) → x ≡ Some n → has_filter_number x n ≡ true
       its_number x n e = rw e (same_number n)
 
@@ -196,10 +200,10 @@ module _ {A : Type 0} (p : Plan A) (group : ℕ) (sharers : List (ℕ × FilterP
     pub done_by_gates : (b s : ℕ) (x : Copy CarriedFrame) → IsIntervalBound (lists_open out.list c) (gate_opens m) (transmission_time (longest_frame sdu) out.speed) least (last_opening m) (opening_work m least share) b → IsMember x (lists q) → x.class ≡ c → x.fate ≡ Started s → s + transmission_time x.item.len out.speed ≤ x.at + b
     done_by_gates b s x is i class started =
         each_in_time (egress_rules out) (gate_opens m) (last_opening m) (opening_work m least share) c (transmission_time (longest_frame sdu) out.speed) least b s (moments q) x (class_copies c (lists q)) (openings_are_intervals m merged.lawful) is
-            (sharing.alone p group sharers q c sdu out plan good at reached are_sharers es moments lists run whole)
-            (only_order c (moments q) (lists q) (run.lawful q out at).offers)
-            (sharing.between p group sharers q c sdu out plan good at reached are_sharers es moments lists run whole)
-            keeps (in_only c x (lists q) i class) started
+        (sharing.alone p group sharers q c sdu out plan good at reached are_sharers es moments lists run whole)
+        (only_order c (moments q) (lists q) (run.lawful q out at).offers)
+        (sharing.between p group sharers q c sdu out plan good at reached are_sharers es moments lists run whole)
+        keeps (in_only c x (lists q) i class) started
 
 -- Each copy that starts leaves a shared queue within its bound by the gates.
 pub left_by_gates : {A : Type 0} (p : Plan A) (s : SharedQueue) (is : IsSharedQueue p s) (share b : ℕ) → IsGatesBound p is.out (queue_sharers p s.group s.port s.class p.filters) s.class share b → IsPlan p → HasAcceptableGroups p → (es : List Event) (moments : ℕ → ℕ) (lists : ℕ → List (Copy CarriedFrame)) → IsRun p es moments lists → AreFinished lists → AreArrivalsInOrder es → HaveSdus share es → (start : ℕ) (x : Copy CarriedFrame) → IsMember x (lists s.port) → x.class ≡ s.class → x.fate ≡ Started start → start + transmission_time x.item.len is.out.speed ≤ x.at + b
@@ -207,9 +211,36 @@ left_by_gates p s is share b by plan good es moments lists run whole order long 
     let sharers = queue_sharers p s.group s.port s.class p.filters in
     done_by_gates p s.group sharers s.port s.class (longest_sdu sharers) share by.some by.few is.out plan good is.at is.reached (sharers_are p s.group s.port s.class plan good) by.lists by.are by.merged by.is_merged es moments lists run whole order long b start x by.is i class started
 
--- The bound of an optional figure.
-pub figure_of : {A : Type 0} (p : Plan A) (out : PortPlan A) (sharers : List (ℕ × FilterPlan)) (c k b : ℕ) (o : Option ℕ) → o ≡ Some b → IfSome o (IsGatesBound p out sharers c k) → IsGatesBound p out sharers c k b
-figure_of p out sharers c k b o e h = subst (λ (x : Option ℕ). IfSome x (IsGatesBound p out sharers c k)) e h
+module _ {A : Type 0} (p : Plan A) (s : SharedQueue) (is : IsSharedQueue p s) where
+  abbrev filters : List (ℕ × FilterPlan)
+  filters = queue_sharers p s.group s.port s.class p.filters
+
+  module _ (plan : IsPlan p) (good : HasAcceptableGroups p) (es : List Event) (moments : ℕ → ℕ) (lists : ℕ → List (Copy CarriedFrame)) (run : IsRun p es moments lists) (whole : AreFinished lists) (order : AreArrivalsInOrder es) where
+    -- Each copy that starts leaves within the least bound.
+    pub left_in_least_time : HaveSdus 2 es → (start : ℕ) (x : Copy CarriedFrame) → IsMember x (lists s.port) → x.class ≡ s.class → x.fate ≡ Started start → start + transmission_time x.item.len is.out.speed ≤ x.at + least_shared_bound s
+    left_in_least_time long start x i class started = by_figure s.by_gates is.by_gates
+      where
+        first : start + transmission_time x.item.len is.out.speed ≤ x.at + s.bound
+        first = in_time p s is plan good es moments lists run whole order start x i class started
+
+        by_figure : (o : Option ℕ) → IfSome o (IsGatesBound p is.out filters s.class 2) → start + transmission_time x.item.len is.out.speed ≤ x.at + lesser_bound s.bound o
+        by_figure None h = first
+        by_figure (Some b) h =
+            let before = first in
+            let left = left_by_gates p s is 2 b h plan good es moments lists run whole order long start x i class started in
+            omega (arith, before, left)
+
+    -- If frames have at least 60 octets, each copy that starts leaves within the padded bound.
+    pub left_in_padded_time : (b : ℕ) → padded_shared_bound s ≡ Some b → HasNoRunts es → (start : ℕ) (x : Copy CarriedFrame) → IsMember x (lists s.port) → x.class ≡ s.class → x.fate ≡ Started start → start + transmission_time x.item.len is.out.speed ≤ x.at + b
+    left_in_padded_time b known long start x i class started = by_figure s.padded is.padded known
+      where
+        by_figure : (o : Option ℕ) → IfSome o (IsGatesBound p is.out filters s.class 44) → bound_below (least_shared_bound s) o ≡ Some b → start + transmission_time x.item.len is.out.speed ≤ x.at + b
+        by_figure None h k = absurd (cc)
+        by_figure (Some g) h k =
+            let left = left_by_gates p s is 44 g h plan good es moments lists run whole order (padded_sdus es long) start x i class started in
+            by_bool (nat_lt g (least_shared_bound s))
+            (λ l. let same : Some g ≡ Some b = rw l at k in let e = same_Some g b same in omega (arith, left, e))
+            (λ l. let same : None ≡ Some b = rw l at k in absurd (cc))
 
 -- A search over the merged list gives a bound of the queue.
 pub gates_bound_is : {A : Type 0} (p : Plan A) (out : PortPlan A) (fs : List (ℕ × FilterPlan)) (c k sdu : ℕ) (r : Option ℕ) (ls : List (Cyclic GateEntry)) (m : Cyclic GateEntry) → 1 ≤ k → k ≤ 44 → AreGateLists p fs ls → IsMergedList ls m → sdu ≡ longest_sdu fs

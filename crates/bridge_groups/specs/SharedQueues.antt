@@ -1,5 +1,5 @@
 -- Delay bounds and capacities of the queues that a plan's groups share.
-use Rattle.std.specs.Prelude.{◌≡◌, ◌⊎◌, ◌≤◌, ℕ, Bool, true, ◌+◌, List, Option, Some, IfSome}
+use Rattle.std.specs.Prelude.{◌≡◌, ◌⊎◌, ◌≤◌, ℕ, Bool, true, ◌+◌, min, nat_lt, List, Option, None, Some, IfSome, if◌then◌else◌}
 use Rattle.bridge_cycle.specs.ChangingList.{Joined}
 use Rattle.bridge_cycle.specs.declared.gate_control_lists.Egress.{Egress}
 use Rattle.bridge_frame.specs.declared.Speed.{Speed}
@@ -88,3 +88,25 @@ pub record IsRowOf {A : Type 0} (p : Plan A) (group q c : ℕ) (s : SharedQueue)
   pub group_is : s.group ≡ group
   pub port_is : s.port ≡ q
   pub class_is : s.class ≡ c
+
+-- The lesser of a bound and an optional bound.
+abbrev pub lesser_bound : ℕ → Option ℕ → ℕ
+lesser_bound b None = b
+lesser_bound b (Some g) = min b g
+
+-- The optional bound if it is less than `b`, otherwise `None`.
+abbrev pub bound_below : ℕ → Option ℕ → Option ℕ
+bound_below b None = None
+bound_below b (Some g) = if nat_lt g b then Some g else None
+
+-- The least delay bound in ns of a shared queue for any capture: by meters, costs, capacity or stream gates.
+abbrev pub least_shared_bound : SharedQueue → ℕ
+least_shared_bound s = lesser_bound s.bound s.by_gates
+
+-- The delay bound in ns of a shared queue for frames of at least 60 octets, if it is less than `least_shared_bound`.
+abbrev pub padded_shared_bound : SharedQueue → Option ℕ
+padded_shared_bound s = bound_below (least_shared_bound s) s.padded
+
+-- True if the stream gates give the least bound.
+abbrev pub is_bounded_by_gates : SharedQueue → Bool
+is_bounded_by_gates s = nat_lt (least_shared_bound s) s.bound

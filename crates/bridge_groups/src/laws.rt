@@ -41,7 +41,7 @@ ghost use Rattle.bridge_gate.specs.Gates.{GateEvent, GateRules, gate_steps, last
 ghost use Rattle.bridge_groups.specs.GateLimits.{AreGateFramesInOrder, HasOctetLimits, octet_budget, recent_passed_octets};
 ghost use Rattle.bridge_check.specs.Acceptable.{IsAcceptable};
 ghost use Rattle.bridge_groups.specs.GateBounds.{HaveSdus, IsGateWorkBound};
-ghost use Rattle.bridge_groups.specs.SharedQueues.{IsSharedQueue};
+ghost use Rattle.bridge_groups.specs.SharedQueues.{IsSharedQueue, least_shared_bound, padded_shared_bound};
 ghost use Rattle.bridge_groups.specs.declared.shared_queues.SharedQueue.{SharedQueue};
 ghost use Rattle.bridge_groups.specs.Admission.{HasSufficientQueue, admits_talker};
 ghost use Rattle.bridge_groups.specs.Talkers.{IsDelivered, AdmitsTalker, IsConformingTalker};
@@ -413,12 +413,11 @@ pub fn frames_have_sdus()
     ensures padded { (es : List Event) → HasNoRunts es → HaveSdus 44 es }
 {}
 
-/// Each copy that starts leaves a shared queue within the bound by the stream gates of its filters. Clauses: SDUs of at least two octets
-/// (`captured`), frames of at least 60 octets (`padded`).
+/// Each copy that starts leaves a shared queue within the bounds that `bounds` prints, which know the filters' stream gates. Clauses: SDUs
+/// of at least two octets (`captured`), frames of at least 60 octets (`padded`).
 pub fn shared_queue_leaves_in_time_by_gates<A: Allocator + Copy>()
-    ensures captured { (p : Plan A) (s : SharedQueue) (is : IsSharedQueue p s) (b start : ℕ) (es : List Event)
+    ensures captured { (p : Plan A) (s : SharedQueue) (is : IsSharedQueue p s) (start : ℕ) (es : List Event)
         (moments : ℕ → ℕ) (lists : ℕ → List (Copy CarriedFrame)) (x : Copy CarriedFrame)
-        → s.by_gates ≡ Some b
         → IsPlan p
         → HasAcceptableGroups p
         → IsRun p es moments lists
@@ -428,10 +427,10 @@ pub fn shared_queue_leaves_in_time_by_gates<A: Allocator + Copy>()
         → IsMember x (lists s.port)
         → x.class ≡ s.class
         → x.fate ≡ Started start
-        → start + transmission_time x.item.len is.out.speed ≤ x.at + b }
+        → start + transmission_time x.item.len is.out.speed ≤ x.at + least_shared_bound s }
     ensures padded { (p : Plan A) (s : SharedQueue) (is : IsSharedQueue p s) (b start : ℕ) (es : List Event)
         (moments : ℕ → ℕ) (lists : ℕ → List (Copy CarriedFrame)) (x : Copy CarriedFrame)
-        → s.padded ≡ Some b
+        → padded_shared_bound s ≡ Some b
         → IsPlan p
         → HasAcceptableGroups p
         → IsRun p es moments lists

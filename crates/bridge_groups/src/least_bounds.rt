@@ -1,9 +1,11 @@
-//! Least delay bounds of a protected filter's queues: by capacity, or by the octets that its stream gate passes.
-ghost use Rattle.std.specs.Prelude.{◌≤◌, ◌<◌, IfSome, MatchOption};
+//! Least delay bounds of queues: by capacity or meters, or by the octets that stream gates pass.
+ghost use Rattle.std.specs.Prelude.{◌≡◌, ◌≤◌, ◌<◌, IfSome, MatchOption};
 ghost use Rattle.bridge_bounds.specs.Bounds.{HasNoBound, IsTightBound};
 ghost use Rattle.bridge_groups.specs.GateBounds.{IsLeastBound, IsPaddedBound};
+ghost use Rattle.bridge_groups.specs.SharedQueues as shared;
 
 use crate::gate_bounds::{CAPTURED_SDU, PADDED_SDU, gate_work_bound};
+use crate::shared_queues::SharedQueue;
 use bridge_bounds::{is_coarse, tight_queue_bound};
 use bridge_check::Accepted;
 use std::alloc::Allocator;
@@ -81,4 +83,34 @@ pub fn least_queue_bound<A: Allocator + Copy>(
     let tight = tight_queue_bound(accepted, number, port, class)?;
     let coarse = is_coarse(accepted, number, port);
     Some(least_bound(accepted, number, port, class, tight, coarse))
+}
+
+/// Returns the least delay bound in ns of a shared queue, for any capture: by meters, costs, capacity or stream gates. `bounds`, `check`,
+/// tables and pictures show it.
+pub fn least_shared_bound(row: &SharedQueue) -> u64
+    ensures { result ≡ shared.least_shared_bound row.now }
+{
+    match row.by_gates {
+        Some(gates) => row.bound.min(gates),
+        None => row.bound,
+    }
+}
+
+/// Returns the delay bound in ns of a shared queue for frames of at least 60 octets, if it is less than `least_shared_bound`. `bounds`
+/// prints it as `padded`.
+pub fn padded_shared_bound(row: &SharedQueue) -> Option<u64>
+    ensures { result ≡ shared.padded_shared_bound row.now }
+{
+    let least = least_shared_bound(row);
+    match row.padded {
+        Some(padded) => if padded < least { Some(padded) } else { None },
+        None => None,
+    }
+}
+
+/// Whether the stream gates of the filters give the least bound of a shared queue. Then `bounds` doesn't call the queue `unmetered`.
+pub fn is_bounded_by_gates(row: &SharedQueue) -> bool
+    ensures { result ≡ shared.is_bounded_by_gates row.now }
+{
+    least_shared_bound(row) < row.bound
 }

@@ -29,7 +29,10 @@ mod span_search;
 pub use admission::{admits_talker, committed_tokens, is_open_gate};
 pub use delay_bound::list_delay_bound;
 pub use group_rows::plan_shared_queues;
-pub use least_bounds::{least_bound, least_queue_bound, padded_bound};
+pub use least_bounds::{
+    is_bounded_by_gates, least_bound, least_queue_bound, least_shared_bound, padded_bound,
+    padded_shared_bound,
+};
 pub use linear_curve::{LARGEST_BURST, LinearCurve};
 pub use opening_bound::gate_delay_bound;
 pub use room::sufficient_room;

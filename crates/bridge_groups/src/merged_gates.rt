@@ -132,11 +132,7 @@ fn is_any_open<A: Allocator + Copy>(lists: &[CyclicList<GateEntry, A>], at: u64)
 }
 
 /// Returns the earliest end in ns of the gates' intervals at `at` ns, at most `until`.
-fn first_end<A: Allocator + Copy>(
-    lists: &[CyclicList<GateEntry, A>],
-    at: u64,
-    until: u64,
-) -> u64
+fn first_end<A: Allocator + Copy>(lists: &[CyclicList<GateEntry, A>], at: u64, until: u64) -> u64
     requires at { at < until }
     requires until { until ≤ LONGEST_CYCLE }
     ensures end { result ≡ spec.first_end lists.now at until }

@@ -1,6 +1,7 @@
 -- Lines of the queues that groups share.
 use Rattle.std.specs.Prelude.{ℕ, Bool, true, List, [], ◌++◌, Option, Some, None, flat_map, codes, decimal, nat_lt, if◌then◌else◌}
 use Rattle.bridge_groups.specs.declared.shared_queues.SharedQueue.{SharedQueue}
+use Rattle.bridge_groups.specs.SharedQueues.{is_bounded_by_gates, least_shared_bound, padded_shared_bound}
 
 -- True if a queue may drop copies as full: no capacity is known to suffice, or the queue's own `capacity` is less.
 abbrev pub is_lossy : Option ℕ → ℕ → Bool
@@ -8,9 +9,14 @@ is_lossy None capacity = true
 is_lossy (Some room) capacity = nat_lt capacity room
 
 -- The mark of a shared queue: ` unmetered` if only its capacity bounds the delay. Otherwise ` lossy` if it may drop copies as full, or
--- nothing.
+-- nothing. Without meters, no capacity is known to suffice.
 abbrev pub shared_mark : SharedQueue → List ℕ
-shared_mark s = if s.is_metered then (if is_lossy s.room s.capacity then codes " lossy" else []) else codes " unmetered"
+shared_mark s = if s.is_metered then (if is_lossy s.room s.capacity then codes " lossy" else []) else if is_bounded_by_gates s then codes " lossy" else codes " unmetered"
+
+-- The words for the bound of frames of at least 60 octets, or nothing if there is none.
+abbrev pub padded_words : Option ℕ → List ℕ
+padded_words None = []
+padded_words (Some padded) = codes " padded " ++ decimal padded
 
 -- The words for the capacity that suffices (`none` if none is known), and for the queue's own capacity.
 abbrev pub room_words : Option ℕ → ℕ → List ℕ
@@ -19,7 +25,7 @@ room_words (Some room) capacity = codes " room " ++ (decimal room ++ (codes " of
 
 -- The line of a shared queue.
 unfoldable pub shared_line : SharedQueue → List ℕ
-shared_line s = codes "group " ++ (decimal s.group ++ (codes " port " ++ (decimal s.port ++ (codes " class " ++ (decimal s.class ++ (shared_mark s ++ (codes " bound " ++ (decimal s.bound ++ (room_words s.room s.capacity ++ codes "\n")))))))))
+shared_line s = codes "group " ++ (decimal s.group ++ (codes " port " ++ (decimal s.port ++ (codes " class " ++ (decimal s.class ++ (shared_mark s ++ (codes " bound " ++ (decimal (least_shared_bound s) ++ (padded_words (padded_shared_bound s) ++ (room_words s.room s.capacity ++ codes "\n"))))))))))
 
 -- One line for each shared queue.
 abbrev pub shared_text : List SharedQueue → List ℕ

@@ -3,6 +3,7 @@ use Rattle.std.specs.Prelude.{◌≡◌, ℕ, List, [], ◌++◌, Option, Some, 
 use Rattle.bridge_config.specs.Model.{Plan}
 use Rattle.bridge_groups.specs.declared.shared_queues.SharedQueue.{SharedQueue}
 use Rattle.bridge_groups.specs.GroupRows.{AreSharedQueues}
+use Rattle.bridge_groups.specs.SharedQueues.{is_bounded_by_gates}
 use Rattle.net_latency.specs.SharedLines.{is_lossy}
 
 -- The warning for a queue whose delay only its capacity bounds.
@@ -10,6 +11,12 @@ unfoldable pub unmetered_warning : SharedQueue → List ℕ
 unmetered_warning s =
     codes "Warning: only the capacity bounds the delay of group " ++ (decimal s.group ++ (codes " at port " ++ (decimal s.port ++ (codes ", class " ++ (decimal s.class
     ++ codes ". A filter has no meter, or the meters pass more than the windows carry. Give each filter a meter, or lower the rates.\n")))))
+
+-- The warning for a queue whose delay stream gates bound, but for which no capacity is known to suffice, because meters are missing.
+unfoldable pub unknown_room_warning : SharedQueue → List ℕ
+unknown_room_warning s =
+    codes "Warning: group " ++ (decimal s.group ++ (codes " may lose frames at port " ++ (decimal s.port ++ (codes ", class " ++ (decimal s.class
+    ++ codes ", because no capacity of the queue is known to suffice. Give each filter a meter.\n")))))
 
 -- The warning of a queue that may drop copies as full: no capacity is known to suffice, or its own is less than `room`.
 unfoldable pub lossy_words : Option ℕ → SharedQueue → List ℕ
@@ -27,7 +34,7 @@ lossy_warning s = lossy_words s.room s
 
 -- The warning of a shared queue with the mark `unmetered` or `lossy`; empty for a queue without a mark.
 abbrev pub shared_warning : SharedQueue → List ℕ
-shared_warning s = if s.is_metered then (if is_lossy s.room s.capacity then lossy_warning s else []) else unmetered_warning s
+shared_warning s = if s.is_metered then (if is_lossy s.room s.capacity then lossy_warning s else []) else if is_bounded_by_gates s then unknown_room_warning s else unmetered_warning s
 
 -- One warning for each marked queue.
 abbrev pub shared_warnings : List SharedQueue → List ℕ

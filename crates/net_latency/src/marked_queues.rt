@@ -1,10 +1,10 @@
 //! Warnings of `bounds` about queues that groups share: queues that may drop copies as full, and queues that only their capacity bounds.
 ghost use Rattle.std.specs.Prelude.{◌≡◌, ◌++◌, IfOk, OnOk, string_bytes};
-ghost use Rattle.net_latency.specs.SharedWarnings.{AreSharedWarnings, lossy_warning, shared_warning, shared_warnings, unmetered_warning};
+ghost use Rattle.net_latency.specs.SharedWarnings.{AreSharedWarnings, lossy_warning, shared_warning, shared_warnings, unknown_room_warning, unmetered_warning};
 
 use crate::shared_lines::is_lossy;
 use bridge_check::Accepted;
-use bridge_groups::{SharedQueue, plan_shared_queues};
+use bridge_groups::{SharedQueue, is_bounded_by_gates, plan_shared_queues};
 use bridge_limits::NoMemory;
 use std::alloc::{AllocError, Allocator};
 
@@ -26,6 +26,27 @@ fn push_unmetered_warning<A: Allocator + Copy>(
     write!(
         text,
         "Warning: only the capacity bounds the delay of group {group} at port {port}, class {class}. A filter has no meter, or the meters pass more than the windows carry. Give each filter a meter, or lower the rates.\n"
+    )
+}
+
+/// Appends the warning for a queue whose delay stream gates bound, but whose filters don't all have meters, so no capacity is known to
+/// suffice. `push_shared_warning` calls it.
+#[tactic(auto, unfolding(crate::specs::SharedWarnings::unknown_room_warning))]
+fn push_unknown_room_warning<A: Allocator + Copy>(
+    text: &mut String<A>,
+    row: &SharedQueue,
+) -> Result<(), AllocError>
+    ensures { OnOk result (string_bytes text.new ≡ string_bytes text.old ++ unknown_room_warning row.now) }
+{
+    let SharedQueue {
+        group,
+        port,
+        class,
+        ..
+    } = *row;
+    write!(
+        text,
+        "Warning: group {group} may lose frames at port {port}, class {class}, because no capacity of the queue is known to suffice. Give each filter a meter.\n"
     )
 }
 
@@ -65,7 +86,11 @@ fn push_shared_warning<A: Allocator + Copy>(
     ensures { OnOk result (string_bytes text.new ≡ string_bytes text.old ++ shared_warning row.now) }
 {
     if !row.is_metered {
-        return push_unmetered_warning(text, row);
+        return if is_bounded_by_gates(row) {
+            push_unknown_room_warning(text, row)
+        } else {
+            push_unmetered_warning(text, row)
+        };
     }
     if is_lossy(row.room, row.capacity) {
         return push_lossy_warning(text, row);

@@ -1,8 +1,8 @@
 //! Lines of `bounds` about the queues that groups share.
 ghost use Rattle.std.specs.Prelude.{◌≡◌, ◌++◌, OnOk, string_bytes};
-ghost use Rattle.net_latency.specs.SharedLines.{is_lossy, room_words, shared_line, shared_mark, shared_text};
+ghost use Rattle.net_latency.specs.SharedLines.{is_lossy, padded_words, room_words, shared_line, shared_mark, shared_text};
 
-use bridge_groups::SharedQueue;
+use bridge_groups::{SharedQueue, is_bounded_by_gates, least_shared_bound, padded_shared_bound};
 use bridge_limits::NoMemory;
 use std::alloc::{AllocError, Allocator};
 
@@ -17,13 +17,17 @@ pub(crate) fn is_lossy(room: Option<u16>, capacity: u16) -> bool
     }
 }
 
-/// Returns the mark of a shared queue's line, with a blank before it: ` unmetered` or ` lossy`. Empty for a queue that is metered and drops
-/// no copy as full. `push_shared_line` calls it.
+/// Returns the mark of a shared queue's line, with a blank before it: ` unmetered` or ` lossy`. Empty for a queue that drops no copy as
+/// full. `push_shared_line` calls it.
 fn shared_mark(row: &SharedQueue) -> &'static str
     ensures { result.now ≡ shared_mark row.now }
 {
     if !row.is_metered {
-        return " unmetered";
+        return if is_bounded_by_gates(row) {
+            " lossy"
+        } else {
+            " unmetered"
+        };
     }
     if is_lossy(row.room, row.capacity) {
         " lossy"
@@ -47,6 +51,19 @@ fn push_room<A: Allocator + Copy>(
     }
 }
 
+/// Appends the delay bound in ns of frames of at least 60 octets, if there is one. `push_shared_line` calls it.
+fn push_padded<A: Allocator + Copy>(
+    text: &mut String<A>,
+    padded: Option<u64>,
+) -> Result<(), AllocError>
+    ensures { OnOk result (string_bytes text.new ≡ string_bytes text.old ++ padded_words padded) }
+{
+    match padded {
+        Some(padded) => write!(text, " padded {padded}"),
+        None => Ok(()),
+    }
+}
+
 /// Appends the line of a shared queue, such as `group 1 port 3 class 6 bound 348665 room 134 of 256`. `push_shared_text` calls it.
 #[tactic(auto, unfolding(crate::specs::SharedLines::shared_line))]
 fn push_shared_line<A: Allocator + Copy>(
@@ -59,16 +76,17 @@ fn push_shared_line<A: Allocator + Copy>(
         group,
         port,
         class,
-        bound,
         room,
         capacity,
         ..
     } = *row;
     let mark = shared_mark(row);
+    let bound = least_shared_bound(row);
     write!(
         text,
         "group {group} port {port} class {class}{mark} bound {bound}"
     )?;
+    push_padded(text, padded_shared_bound(row))?;
     push_room(text, room, capacity)?;
     text.push_str("\n")
 }

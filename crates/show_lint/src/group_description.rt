@@ -8,7 +8,9 @@ use bridge_check::{Accepted, can_wait};
 use bridge_config::{Plan, PortPlan};
 use bridge_filter::FilterPlan;
 use bridge_frame::occupation;
-use bridge_groups::{SharedQueue, plan_shared_queues};
+use bridge_groups::{
+    SharedQueue, is_bounded_by_gates, least_shared_bound, padded_shared_bound, plan_shared_queues,
+};
 use bridge_limits::LONGEST_FRAME;
 use std::alloc::{Allocator, Global};
 
@@ -19,6 +21,18 @@ const BOUND: &str =
 /// Sentence on the meters from which the bound follows.
 const METERS: &str =
     "Together, the meters pass at most {0} metered octets at once, and {1} bit/s in the long run.\n";
+
+/// Sentence on a bound by stream gates.
+const GATES: &str =
+    "The bound follows from the windows and the octet limits of the filters' stream gates.\n";
+
+/// Sentence on the bound for frames of at least 60 octets.
+const PADDED: &str =
+    "For frames of at least 60 octets, as on every Ethernet link, the bound is {0} ns.\n";
+
+/// Sentence on a queue that stream gates bound, without a sufficient capacity.
+const NO_METER_ROOM: &str =
+    "The queue may drop frames: no sufficient capacity is known, because filter {0} has no meter.\n";
 
 /// Sentence on a bound by capacity, because a filter has no meter.
 const NO_METER: &str =
@@ -166,10 +180,27 @@ fn put_bound<A: Allocator + Copy>(
     } else {
         "filters"
     };
-    let numbers = [row.bound, sharers.count, u64::from(length), occupied];
+    let bound = least_shared_bound(row);
+    let numbers = [bound, sharers.count, u64::from(length), occupied];
     said.put_template(BOUND, &numbers, &[word]);
+    if let Some(padded) = padded_shared_bound(row) {
+        said.put_template(PADDED, &[padded], &[]);
+    }
+    put_cause(said, row, sharers);
+}
+
+/// Writes from what the delay bound of a shared queue follows: stream gates, meters or capacity. `put_bound` calls it.
+fn put_cause(said: &mut LintText, row: &SharedQueue, sharers: &Sharers) {
     let capacity = u64::from(row.capacity);
+    let by_gates = is_bounded_by_gates(row);
+    if by_gates {
+        said.put(GATES);
+    }
     match (row.is_metered, sharers.unmetered) {
+        (false, Some(filter)) if by_gates => {
+            said.put_template(NO_METER_ROOM, &[u64::from(filter)], &[]);
+        }
+        (false, None) if by_gates => said.put(NO_ROOM),
         (true, _) => said.put_template(METERS, &[sharers.burst, sharers.rate], &[]),
         (false, Some(filter)) => {
             said.put_template(NO_METER, &[capacity, u64::from(filter)], &[]);

@@ -8,7 +8,7 @@ use crate::selection::Selection;
 use bridge_bounds::find_filter;
 use bridge_check::Accepted;
 use bridge_config::Plan;
-use bridge_groups::{SharedQueue, least_queue_bound, plan_shared_queues};
+use bridge_groups::{SharedQueue, least_queue_bound, least_shared_bound, plan_shared_queues};
 use bridge_limits::NoMemory;
 use bridge_semantics::{Outcome, StoredDeparture, StoredOrigin};
 use bridge_text::{AXIS_LEFT, AXIS_WIDTH, Bar, Element, Mark, Span};
@@ -51,7 +51,7 @@ fn longest_group_delay(rows: &[SharedQueue], group: Option<u32>, port: u8) -> Op
     let mut longest = None;
     for row in rows {
         if Some(row.group) == group && row.port == port {
-            longest = longest.max(Some(row.bound));
+            longest = longest.max(Some(least_shared_bound(row)));
         }
     }
     longest

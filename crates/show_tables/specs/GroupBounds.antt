@@ -4,6 +4,7 @@ use Rattle.std.specs.Map.{lookup}
 use Rattle.bridge_filter.specs.declared.FilterPlan.{FilterPlan}
 use Rattle.bridge_config.specs.Model.{Plan}
 use Rattle.bridge_groups.specs.GroupRows.{AreSharedQueues}
+use Rattle.bridge_groups.specs.SharedQueues.{least_shared_bound}
 use Rattle.bridge_groups.specs.declared.shared_queues.SharedQueue.{SharedQueue}
 use Rattle.show_tables.specs.PortBounds.{ArePortBounds, greater_bound}
 
@@ -12,9 +13,9 @@ abbrev pub group_of : Option FilterPlan → Option ℕ
 group_of None = None
 group_of (Some f) = f.group
 
--- The bound of shared queue `s` in ns if it is a queue of the group at port `q`, otherwise `None`.
+-- The least bound of shared queue `s` in ns if it is a queue of the group at port `q`, otherwise `None`.
 abbrev pub bound_at : ℕ → ℕ → SharedQueue → Option ℕ
-bound_at group q s = if nat_eq s.group group && nat_eq s.port q then Some s.bound else None
+bound_at group q s = if nat_eq s.group group && nat_eq s.port q then Some (least_shared_bound s) else None
 
 -- The greater of an optional bound and the bound of shared queue `s`, if `s` is a queue of the group at port `q`.
 abbrev pub greater_at : ℕ → ℕ → Option ℕ → SharedQueue → Option ℕ

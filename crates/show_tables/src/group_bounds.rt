@@ -8,7 +8,7 @@ use crate::port_bounds::{greater_bound, port_bounds};
 use bridge_bounds::find_filter;
 use bridge_check::Accepted;
 use bridge_filter::FilterPlan;
-use bridge_groups::SharedQueue;
+use bridge_groups::{SharedQueue, least_shared_bound};
 use bridge_limits::NoMemory;
 use std::alloc::Allocator;
 
@@ -22,12 +22,12 @@ fn filter_group(filters: &[(u32, FilterPlan)], filter: u32) -> Option<u32>
     }
 }
 
-/// Returns the bound of a shared queue in ns if it is a queue of group `group` at port `port`, otherwise `None`. `group_bound` calls it.
+/// Returns the least bound of a shared queue in ns if it is a queue of group `group` at port `port`, otherwise `None`. `group_bound` calls it.
 fn bound_at(queue: &SharedQueue, group: u32, port: u8) -> Option<u64>
     ensures { result ≡ spec.bound_at group port queue.now }
 {
     if queue.group == group && queue.port == port {
-        Some(queue.bound)
+        Some(least_shared_bound(queue))
     } else {
         None
     }
