@@ -3,7 +3,7 @@ use crate::groups::shape::{EGRESS, Member, Shape};
 use crate::plans::{add_if, is_pass};
 use crate::runs::filter_view;
 use bridge_core::{Outcome, View};
-use bridge_groups::SharedQueue;
+use bridge_groups::{SharedQueue, least_shared_bound};
 use bridge_port::Refusal;
 use std::alloc::Global;
 
@@ -95,7 +95,10 @@ fn judge_member(queue: &SharedQueue, view: &View<Global>, conforms: bool, shown:
     let full = count_full(view);
     let refused = count_refused(view);
     shown.frames = shown.frames.saturating_add(view.origins.len() as u64);
-    add_if(&mut shown.late, queue.bound < greatest_delay(view));
+    add_if(
+        &mut shown.late,
+        least_shared_bound(queue) < greatest_delay(view),
+    );
     add_if(&mut shown.refused, conforms && refused > 0);
     if has_room(queue) {
         shown.dropped = shown.dropped.saturating_add(full);
@@ -135,5 +138,5 @@ pub fn bound_share(queue: &SharedQueue, shape: &Shape, outcome: &Outcome<Global>
             }
         }
     }
-    greatest.saturating_mul(1_000) / queue.bound.max(1)
+    greatest.saturating_mul(1_000) / least_shared_bound(queue).max(1)
 }
