@@ -484,7 +484,8 @@ pub fn parse_arguments<'a>(alloc: Global, words: &'a [String]) -> Result<ArgMatc
     command.try_get_matches_from(words)
 }
 
-/// Builds the `clap` program with its commands, in the order of the help. The definition `commands` states the result.
+/// Builds the `clap` program with its commands, in the order of the help. The definition `commands` states the result. `parse_arguments`
+/// calls it.
 fn commands_of<'a>(alloc: Global) -> Result<Command<'a>, AllocError>
     ensures { IfOk result (λ c. app_of c ≡ commands) }
 {

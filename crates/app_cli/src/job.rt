@@ -139,7 +139,8 @@ fn job_by_command(
     }
 }
 
-/// Returns the command `wire` with the values that `clap` found. Fails with `Words` for a wrong speed or capacity.
+/// Returns the command `wire` with the values that `clap` found. Fails with `Words` for a wrong speed or capacity. `job_by_command` calls
+/// it.
 fn wire_job(alloc: Global, values: &ArgMatches) -> Result<Command, ArgumentsFault>
     ensures ok { IfOk result (IsWireJob (rows_of (found_of values.now))) }
     ensures room { IfOk result HasRoom }
@@ -174,7 +175,7 @@ fn wire_job(alloc: Global, values: &ArgMatches) -> Result<Command, ArgumentsFaul
     })
 }
 
-/// Returns the command `check` with the values that `clap` found.
+/// Returns the command `check` with the values that `clap` found. `job_by_command` calls it.
 fn check_job(alloc: Global, values: &ArgMatches) -> Result<Command, ArgumentsFault>
     ensures ok { IfOk result (IsCheckJob (rows_of (found_of values.now))) }
     ensures room { IfOk result HasRoom }
@@ -187,7 +188,7 @@ fn check_job(alloc: Global, values: &ArgMatches) -> Result<Command, ArgumentsFau
     }
 }
 
-/// Returns the command `run` with the values that `clap` found.
+/// Returns the command `run` with the values that `clap` found. `job_by_command` calls it.
 fn run_job(alloc: Global, values: &ArgMatches) -> Result<Command, ArgumentsFault>
     ensures ok { IfOk result (IsRunJob (rows_of (found_of values.now))) }
     ensures room { IfOk result HasRoom }
@@ -236,7 +237,7 @@ fn picture_job(alloc: Global, values: &ArgMatches) -> Result<Command, ArgumentsF
     Ok(Command::Picture { plan, file })
 }
 
-/// Returns the command `bounds` with the values that `clap` found.
+/// Returns the command `bounds` with the values that `clap` found. `job_by_command` calls it.
 fn bounds_job(alloc: Global, values: &ArgMatches) -> Result<Command, ArgumentsFault>
     ensures ok { IfOk result (IsBoundsJob (rows_of (found_of values.now))) }
     ensures room { IfOk result HasRoom }
@@ -255,6 +256,7 @@ fn bounds_job(alloc: Global, values: &ArgMatches) -> Result<Command, ArgumentsFa
 }
 
 /// Returns the command `net` with the values that `clap` found: a network run if there are three arguments, otherwise a check.
+/// `job_by_command` calls it.
 fn network_job(alloc: Global, values: &ArgMatches) -> Result<Command, ArgumentsFault>
     ensures ok { IfOk result (IsNetworkJob (rows_of (found_of values.now))) }
     ensures room { IfOk result HasRoom }
@@ -328,14 +330,15 @@ fn network_run_job(
     })
 }
 
-/// Returns the value that `clap` found for argument or option `name`, or `None` if it is absent.
+/// Returns the value that `clap` found for argument or option `name`, or `None` if it is absent. `wire_job`, `network_job` and others call
+/// it.
 pub(crate) fn argument_value<'a>(values: &ArgMatches<'a>, name: &str) -> Option<&'a str>
     ensures { option_map (λ s. s.now) result ≡ first_of name.now (rows_of (found_of values.now)) }
 {
     values.get_str(name)
 }
 
-/// Copies the value of argument `name`. Fails with `Words` if it is missing.
+/// Copies the value of argument `name`. Fails with `Words` if it is missing. `wire_job`, `check_job` and others call it.
 fn required_text(alloc: Global, values: &ArgMatches, name: &str) -> Result<String, ArgumentsFault>
     ensures value { IfOk result (λ t. first_of name.now (rows_of (found_of values.now)) ≡ Some (string_bytes t)) }
     ensures none { result ≡ Err ArgumentsFault.Words → first_of name.now (rows_of (found_of values.now)) ≡ None }
@@ -349,7 +352,7 @@ fn required_text(alloc: Global, values: &ArgMatches, name: &str) -> Result<Strin
     }
 }
 
-/// Copies the value of argument `name`. Returns `None` if it is absent.
+/// Copies the value of argument `name`. Returns `None` if it is absent. `run_job`, `bounds_job` and others call it.
 pub(crate) fn optional_text(
     alloc: Global,
     values: &ArgMatches,

@@ -106,7 +106,7 @@ fn run_picture(alloc: Global, values: &ArgMatches) -> Result<Option<PictureReque
     }
 }
 
-/// Returns the requested part of a plan's picture, or `None` for the whole plan.
+/// Returns the requested part of a plan's picture, or `None` for the whole plan. `picture_by_matches` calls it.
 fn plan_picture(
     alloc: Global,
     values: &ArgMatches,

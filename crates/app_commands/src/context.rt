@@ -40,7 +40,7 @@ pub struct Texts {
 }
 
 impl Texts {
-    /// Returns the texts of a command that hasn't read any.
+    /// Returns the texts of a command that hasn't read any. `request_output` of `app_networks` calls it.
     pub fn new(alloc: Global) -> Texts {
         Texts {
             plan: Vec::new(alloc),

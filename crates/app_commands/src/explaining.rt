@@ -31,7 +31,8 @@ pub fn explain_words_fault(alloc: Global, words: &[String], fault: &Failure) -> 
     }
 }
 
-/// Explains why a file failed, by its path and cause. Returns `None` for other faults, or if memory runs out.
+/// Explains why a file failed, by its path and cause. Returns `None` for other faults, or if memory runs out. `explain_words_fault`,
+/// `explain_plan_fault` and functions of `app_networks` call it.
 pub fn explain_file_fault(alloc: Global, fault: &Failure) -> Option<String> {
     match fault {
         Failure::File(FileError { path, cause }) => explain_file_cause(
@@ -51,7 +52,7 @@ pub fn explain_file_cause(alloc: Global, path: &str, cause: Cause) -> Option<Str
 }
 
 /// Explains why a plan is refused, by its path and its text, or why its file failed. Returns `None` for other faults, or if memory runs
-/// out.
+/// out. `explain_run_fault` and functions of `app_networks` call it.
 pub fn explain_plan_fault(
     alloc: Global,
     path: &str,
@@ -104,6 +105,7 @@ pub fn explain_run_fault(
 }
 
 /// Explains why a run stopped, by the paths of the input and output capture of the port at fault. Without a port, port 1 serves as example.
+/// `explain_run_fault` calls it.
 fn explain_stopped_run(
     rt: &(impl AllocGlobal + Files),
     job: &RunRequest<'_>,
@@ -177,7 +179,8 @@ fn capture_fault<H: AllocGlobal + Files>(rt: &H, path: &str) -> Option<CaptureFa
     None
 }
 
-/// Explains a refused or unreadable capture, by its first octets. Returns `None` if they can't be read again.
+/// Explains a refused or unreadable capture, by its first octets. Returns `None` if they can't be read again. `explain_captures` and
+/// `explain_capture_file` call it.
 fn explain_capture(
     rt: &(impl AllocGlobal + Files),
     path: &str,
@@ -222,7 +225,7 @@ pub(crate) fn warnings_of_run<H: AllocGlobal + Files>(
     said.finish().ok()
 }
 
-/// Writes a warning if the folder has a capture for `port`, which the plan lacks: the run doesn't read it.
+/// Writes a warning if the folder has a capture for `port`, which the plan lacks: the run doesn't read it. `warnings_of_run` calls it.
 fn warn_if_capture_unread<H: AllocGlobal + Files>(
     rt: &H,
     said: &mut TextBuilder<Global>,

@@ -132,6 +132,7 @@ fn write_run_picture<H: AllocGlobal + Files>(
 }
 
 /// Returns one line for each protected filter that lost a frame or a copy, if losses are errors; otherwise the empty text.
+/// `write_run_picture` calls it.
 fn lost_if(alloc: Global, outcome: &Outcome<Global>, is_strict: bool) -> Result<String, NoMemory>
     ensures { IfOk result (λ lost. string_bytes lost ≡ lost_if is_strict outcome.now.filters.items) }
 {

@@ -30,7 +30,7 @@ pub fn show_line(rt: &impl Eprint, line: &str) {
     let _ = eprint!(rt; "\r{line}\x1b[K");
 }
 
-/// Removes the line that `show_line` wrote.
+/// Removes the line that `show_line` wrote. `Progress::clear` and `ProgressPrinter::clear` of `app_networks` call it.
 pub fn clear_line(rt: &impl Eprint) {
     let _ = eprint!(rt; "\r\x1b[K");
 }
@@ -53,7 +53,8 @@ pub(crate) struct Progress<'a, H> {
 }
 
 impl<'a, H: Clock + Eprint> Progress<'a, H> {
-    /// Returns the progress of a run that hasn't read any octet of `total`. Shows nothing unless `is_watched` is true and the input is long.
+    /// Returns the progress of a run that hasn't read any octet of `total`. Shows nothing unless `is_watched` is true and the input is
+    /// long. `wire_files` and `run_watched` call it.
     pub(crate) fn new(rt: &'a H, total: u64, is_watched: bool) -> Progress<'a, H> {
         let is_wanted = is_watched && (total >= LONG_INPUT || total == 0);
         let start = if is_wanted {
@@ -82,7 +83,7 @@ impl<'a, H: Clock + Eprint> Progress<'a, H> {
         }
     }
 
-    /// Writes the line: frames, and the share of the input and the time left if the input's length is known.
+    /// Writes the line: frames, and the share of the input and the time left if the input's length is known. `Progress::add` calls it.
     fn show(&self, start: Instant, read: u64) {
         let frames = self.frames.get();
         if self.total == 0 {
@@ -180,7 +181,7 @@ impl RecordCounter {
         true
     }
 
-    /// Returns the number of record headers that end in the next octets of the capture.
+    /// Returns the number of record headers that end in the next octets of the capture. `WatchedReader::read` calls it.
     fn count(&mut self, octets: &[u8]) -> u64 {
         if self.is_big.is_none() && !octets.is_empty() {
             self.is_big = Some(octets[0] == BIG_ENDIAN);

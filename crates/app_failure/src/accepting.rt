@@ -13,7 +13,8 @@ use std::alloc::{Allocator, Global};
 
 /// Returns the plan of a text, if it isolates each of its protected filters and groups.
 ///
-/// Fails with `Plan` and the text's first fault, or with `Check` and the plan's first fault.
+/// Fails with `Plan` and the text's first fault, or with `Check` and the plan's first fault. `text_warnings` and `explain_bridge_plan` of
+/// `app_networks`, and `check_bridge_plan` of `net_check` call it.
 pub fn accepted_plan<A: Allocator + Copy>(
     alloc: A,
     heap: Global,

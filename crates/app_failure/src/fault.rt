@@ -95,7 +95,7 @@ impl From<FileFault> for Failure {
     }
 }
 
-/// Returns a fault of `app_files` as a fault of the program.
+/// Returns a fault of `app_files` as a fault of the program. Functions of `app_commands`, `app_networks` and `net_check` call it.
 pub fn file_failure(fault: FileFault) -> Failure
     ensures same { result ≡ of_file_fault fault }
     ensures ends { EndsFiles result }

@@ -33,7 +33,8 @@ pub fn read_accepted_plan<R: Read + Drop, A: Allocator + Copy>(
 
 /// Reads a plan from a reader, without checking isolation. A fault of the reader names `path`.
 ///
-/// Reads at most 1,048,577 octets, one more than a plan may have. Fails with `Plan` and the text's first fault.
+/// Reads at most 1,048,577 octets, one more than a plan may have. Fails with `Plan` and the text's first fault. `read_accepted_plan`, and
+/// `plan_picture` and `read_plan_and_commands` of `app_commands` call it.
 pub fn read_plan<R: Read + Drop, A: Allocator + Copy>(
     alloc: A,
     heap: Global,

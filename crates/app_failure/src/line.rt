@@ -18,7 +18,8 @@ use bridge_text::TextBuilder;
 use std::alloc::Allocator;
 use std::process::ExitCode;
 
-/// Returns the fault line, without its line feed, and the exit status, 1 to 4.
+/// Returns the fault line, without its line feed, and the exit status, 1 to 4. `print_fault` and functions of `app_commands` and
+/// `app_networks` call it.
 pub fn fault_line<A: Allocator + Copy>(
     alloc: A,
     fault: &Failure,
@@ -34,7 +35,7 @@ pub fn fault_line<A: Allocator + Copy>(
     }
 }
 
-/// Writes the fault line of a fault by the function for its kind. A fault of a network has its line already.
+/// Writes the fault line of a fault by the function for its kind. A fault of a network has its line already. `fault_line` calls it.
 fn put_fault<A: Allocator + Copy>(alloc: A, text: &mut TextBuilder<A>, fault: &Failure)
     ensures { HasGrown text.old (fault_line fault.now) text.new }
 {

@@ -60,7 +60,8 @@ fn kind_cause(kind: ErrorKind) -> Cause {
     }
 }
 
-/// Returns why a file can't be opened or read, by the error and the folder. Returns `Unknown` if neither shows the cause.
+/// Returns why a file can't be opened or read, by the error and the folder. Returns `Unknown` if neither shows the cause. `capture_cause`,
+/// `open_input` and functions of `app_networks` call it.
 pub fn read_cause(rt: &impl Files, path: &str, error: &Error) -> Cause {
     match error.kind() {
         ErrorKind::NotFound => {

@@ -31,7 +31,7 @@ pub struct CommandFiles<'a, H> {
 }
 
 impl<'a, H: AllocGlobal + Files> CommandFiles<'a, H> {
-    /// Returns the files of a command that hasn't opened any file.
+    /// Returns the files of a command that hasn't opened any file. Functions of `app_networks` and `net_check` call it.
     pub fn new(rt: &'a H) -> CommandFiles<'a, H> {
         CommandFiles {
             rt,
@@ -253,7 +253,8 @@ pub fn read_text_file<H: AllocGlobal + Files>(rt: &H, path: &str) -> Result<Vec<
     read_open(rt, path, reader, MOST_TEXT)
 }
 
-/// Opens the captures of `ports` in a folder for reading, in list order. Fails at the first capture that can't be opened.
+/// Opens the captures of `ports` in a folder for reading, in list order. Fails at the first capture that can't be opened. `send_named` of
+/// `app_commands` calls it.
 pub fn open_captures<H: AllocGlobal + Files>(
     rt: &H,
     folder: &str,
@@ -278,7 +279,8 @@ pub fn open_captures<H: AllocGlobal + Files>(
     Ok(files)
 }
 
-/// Opens a capture for reading. If it doesn't exist and no file next to it explains that, the cause is `missing`.
+/// Opens a capture for reading. If it doesn't exist and no file next to it explains that, the cause is `missing`. `open_captures` and
+/// `wire_files` of `app_commands` call it.
 pub fn open_capture<H: AllocGlobal + Files>(
     rt: &H,
     path: &str,

@@ -29,7 +29,7 @@ pub fn write_file<F: Write + OpenFile + Drop>(
     }
 }
 
-/// Writes `octets` to an output file, flushes and completes it, and returns the file.
+/// Writes `octets` to an output file, flushes and completes it, and returns the file. `write_file` calls it.
 fn write_all<F: Write + OpenFile + Drop>(output: Output<F>, octets: &[u8]) -> io::Result<Output<F>>
     ensures { IfOk result (λ done. Appends (⟦<Output<F> as Write>⟧.contents output)
         (⟦<Output<F> as Write>⟧.contents done) octets.now) }

@@ -120,7 +120,7 @@ fn explain_bridge_commands(
 }
 
 /// Explains a stopped network run, by its fault line `line`: why a capture is refused, or which loops let inputs change forever. Returns
-/// `None` if a file can't be read again.
+/// `None` if a file can't be read again. `explain_network_fault` calls it.
 pub(crate) fn explain_stopped_run(
     rt: &(impl AllocGlobal + Files),
     path: &str,

@@ -75,7 +75,7 @@ fn read_captures<F: ReadFiles>(
     Ok(captures)
 }
 
-/// Returns the commands in a text, which must suit the bridge's plan. A fault has the bridge's name `name`.
+/// Returns the commands in a text, which must suit the bridge's plan. A fault has the bridge's name `name`. `read_commands` calls it.
 fn bridge_commands(
     alloc: Global,
     accepted: &Accepted<Global>,
@@ -91,7 +91,7 @@ fn bridge_commands(
     }
 }
 
-/// Reads the commands in a bridge's folder. Returns none if the folder has no file of commands.
+/// Reads the commands in a bridge's folder. Returns none if the folder has no file of commands. `read_bridge_input` calls it.
 fn read_commands<F: ReadFiles>(
     alloc: Global,
     files: &mut F,

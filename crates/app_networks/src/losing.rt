@@ -67,7 +67,8 @@ fn stream_losses(
     Ok(all)
 }
 
-/// Writes the lines about a stream that lost frames or missed its deadline. Traces the stream's frames to find them.
+/// Writes the lines about a stream that lost frames or missed its deadline. Traces the stream's frames to find them. `fault_lines` calls
+/// it.
 fn put_stream(
     alloc: Global,
     text: &mut TextBuilder<Global>,

@@ -134,7 +134,7 @@ fn put_all_streams(
     Ok(())
 }
 
-/// Returns the picture of a network run as SVG text.
+/// Returns the picture of a network run as SVG text. `write_picture` calls it.
 fn draw_run(
     alloc: Global,
     file: &NetworkFile<Global>,

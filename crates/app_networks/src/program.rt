@@ -215,7 +215,7 @@ fn run_network_request<H: AllocGlobal + Eprint + Files>(
 }
 
 /// Draws the file at `path`: a network, a plan, or the requested part of a plan. Returns the output of `picture`. A part of a network is
-/// refused.
+/// refused. `run_request` calls it.
 fn draw<H: AllocGlobal + Files>(
     files: &mut CommandFiles<'_, H>,
     path: &String,

@@ -97,7 +97,7 @@ fn hop_names(
     Ok(names)
 }
 
-/// Writes the rows of a stream to both tables, and returns the totals with its frames added.
+/// Writes the rows of a stream to both tables, and returns the totals with its frames added. `write_both_tables` calls it.
 fn put_stream<V: Write, W: Write>(
     alloc: Global,
     file: &NetworkFile<Global>,
@@ -174,7 +174,7 @@ fn write_both_tables<V: Write, W: Write>(
     Ok(totals)
 }
 
-/// Writes both tables: each begins with its header, followed by the rows of all streams in file order.
+/// Writes both tables: each begins with its header, followed by the rows of all streams in file order. `put_files` calls it.
 pub(crate) fn write_tables<V: Write, W: Write>(
     alloc: Global,
     file: &NetworkFile<Global>,
@@ -282,6 +282,7 @@ fn put_files<F: Write + OpenFile + Drop>(
 }
 
 /// Writes the tables of streams and frames of a network run, and returns their files. A fault names the path of its table in `folder`.
+/// `write_results` calls it.
 pub(crate) fn put_tables<F: Write + OpenFile + Drop>(
     alloc: Global,
     file: &NetworkFile<Global>,

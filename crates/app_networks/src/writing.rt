@@ -74,7 +74,7 @@ fn write_captures<F: Write + OpenFile + Drop>(
     Ok(done)
 }
 
-/// Writes the report of a bridge to its file, and returns the file. A fault names its path.
+/// Writes the report of a bridge to its file, and returns the file. A fault names its path. `write_bridge` calls it.
 fn write_report_file<F: Write + OpenFile + Drop>(
     alloc: Global,
     folder: &str,

@@ -10,7 +10,7 @@ use bridge_cycle::{CyclicList, Egress, LONGEST_CYCLE, Timeline, first_fit, is_op
 use std::alloc::Allocator;
 
 /// Returns the first time in ns, from `from` on, at which a frame with transmission time `occ` ns fits. Wraps `first_fit`, and bounds the
-/// wait by `LONGEST_CYCLE`.
+/// wait by `LONGEST_CYCLE`. `latest_start`, `frames_end` and others call it.
 pub(crate) fn list_first_fit<A: Allocator + Copy>(
     list: &CyclicList<u8, A>,
     class: u8,

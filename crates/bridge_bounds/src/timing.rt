@@ -93,7 +93,7 @@ fn timing_by_lists<A: Allocator + Copy>(
 }
 
 /// Returns the delays of traffic in a class of a port. `bound` is the queue's delay bound in ns; the filter's maximum SDU `sdu` limits the
-/// transmission times.
+/// transmission times. `filter_timing` calls it.
 fn port_timing<A: Allocator + Copy>(
     port: &PortPlan<A>,
     class: u8,

@@ -23,6 +23,7 @@ pub(crate) struct Waits {
 }
 
 /// Returns the first time in ns, from `from` on, at which a frame with transmission time `occ` ns fits. The list must have a window for it.
+/// `longest_wait` and `list_waits` call it.
 fn first_fit_time<A: Allocator + Copy>(
     list: &CyclicList<u8, A>,
     class: u8,

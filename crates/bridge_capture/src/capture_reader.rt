@@ -27,7 +27,7 @@ pub struct CaptureReader<A: Allocator + Copy> {
 }
 
 impl<A: Allocator + Copy> CaptureReader<A> {
-    /// Reads the header and the first record of a capture, or returns the first fault.
+    /// Reads the header and the first record of a capture, or returns the first fault. `begin_readers` and `wire` of `bridge_wire` call it.
     pub fn begin<R: ByteSource>(
         alloc: A,
         number: u8,
@@ -97,7 +97,8 @@ impl<A: Allocator + Copy> CaptureReader<A> {
     }
 }
 
-/// Returns the run's fault for a capture fault of `port`. Lack of memory becomes `NoMemory` of the run.
+/// Returns the run's fault for a capture fault of `port`. Lack of memory becomes `NoMemory` of the run. `begin_readers` and functions of
+/// `bridge_core` and `bridge_wire` call it.
 pub fn run_fault(port: u8, fault: CaptureFault) -> RunFault
     ensures { result ≡ run_fault port fault }
 {

@@ -14,7 +14,7 @@ pub struct FromRead<R: Read> {
 }
 
 impl<R: Read> FromRead<R> {
-    /// Makes a source of a reader that hasn't failed.
+    /// Makes a source of a reader that hasn't failed. `with_width` calls it.
     pub fn new(reader: R) -> FromRead<R>
         ensures remaining { ⟦<FromRead<R> as ByteSource>⟧.remaining result ≡ R.remaining reader }
         ensures sound { ⟦<FromRead<R> as ByteSource>⟧.has_failed result ≡ false }

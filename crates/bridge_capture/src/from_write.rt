@@ -15,7 +15,7 @@ pub struct FromWrite<W: Write> {
 }
 
 impl<W: Write> FromWrite<W> {
-    /// Makes a sink of a writer that hasn't failed.
+    /// Makes a sink of a writer that hasn't failed. `with_block` calls it.
     pub fn new(writer: W) -> FromWrite<W>
         ensures contents { ⟦<FromWrite<W> as ByteSink>⟧.contents result ≡ W.contents writer }
         ensures sound { ⟦<FromWrite<W> as ByteSink>⟧.has_failed result ≡ false }

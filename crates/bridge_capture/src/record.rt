@@ -103,7 +103,8 @@ fn check_record_header(number: u32, earliest: u64, head: RecordHeader) -> Result
     Ok(())
 }
 
-/// Reads the `captured` octets of record `number` into the vector `octets`, which loses its old contents.
+/// Reads the `captured` octets of record `number` into the vector `octets`, which loses its old contents. `read_unbuffered_record` calls
+/// it.
 #[inline(always)]
 fn read_octets<R: ByteSource, A: Allocator>(
     number: u32,

@@ -40,7 +40,7 @@ impl<'a> Model for SliceSource<'a> {
 impl<'a> SliceSource<'a> {
     ghost use Rattle.std.specs.Prelude.{◌≡◌, ◌<◌, Some, None, false};
 
-    /// Makes a source that never fails.
+    /// Makes a source that never fails. `wire_text` of `app_commands` and `capture_sources` of `net_run` call it.
     pub fn new(octets: &'a [u8]) -> SliceSource<'a>
         ensures octets { result.octets ≡ octets.entry.now }
         ensures never { result.allowance ≡ None }

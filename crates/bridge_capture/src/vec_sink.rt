@@ -44,7 +44,8 @@ impl<A: Allocator> Model for VecSink<A> {
 impl<A: Allocator> VecSink<A> {
     ghost use Rattle.std.specs.Prelude.{◌≡◌, ◌<◌, [], Some, None, false};
 
-    /// Makes an empty sink that fails only if memory runs out.
+    /// Makes an empty sink that fails only if memory runs out. `wire_text` of `app_commands`, and `empty_sinks` and `copy_sink` of
+    /// `net_run` call it.
     pub fn new(alloc: A) -> VecSink<A>
         ensures octets { result.octets ≡ [] }
         ensures never { result.allowance ≡ None }

@@ -72,6 +72,7 @@ impl<W: Write + Drop, A: Allocator> WriteBehind<W, A> {
     }
 
     /// Writes the first `count` octets held back. Octets that the writer doesn't accept stay. A failure is permanent.
+    /// `WriteBehind::finish`, `write_with_flush` and `drop` call it.
     fn flush_octets(&mut self, count: usize) -> Result<(), Broken>
         requires { count ≤ self.old.held.count }
         ensures kept { Keeps (write_behind_contents W.contents self.old) (write_behind_contents W.contents self.new) }

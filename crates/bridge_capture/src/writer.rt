@@ -19,7 +19,8 @@ pub struct Writer {
 }
 
 impl Writer {
-    /// Writes the header. Allocates no memory. If the sink fails, it has a prefix of the header.
+    /// Writes the header. Allocates no memory. If the sink fails, it has a prefix of the header. `begin_writers` of `bridge_core` and
+    /// `wire` of `bridge_wire` call it.
     pub fn begin<W: ByteSink>(sink: &mut W) -> Result<Writer, CaptureFault>
         ensures ok { OnOk result (Appends (W.contents sink.old) (W.contents sink.new) written_header) }
         ensures err { OnErr result (AppendsPrefix (W.contents sink.old) (W.contents sink.new) written_header) }

@@ -53,7 +53,7 @@ fn lesser_number(least: Option<u32>, number: u32) -> u32
     }
 }
 
-/// Whether a filter's group `own` is `group`. A filter without a group is in none.
+/// Whether a filter's group `own` is `group`. A filter without a group is in none. `is_outsider` calls it.
 fn is_in_group(group: u32, own: Option<u32>) -> bool
     ensures { result ≡ is_in_group group own }
 {

@@ -72,7 +72,7 @@ impl<A: Allocator + Copy> Model for Plan<A> {
 }
 
 impl<A: Allocator + Copy> Plan<A> {
-    /// Returns the ports, in file order.
+    /// Returns the ports, in file order. Functions of `app_commands`, `bridge_check`, `bridge_relay` and other crates call it.
     pub fn ports(&self) -> &[PortPlan<A>]
         ensures ports { result.now ≡ self.now.ports }
         ensures rules { rules.IsPlan self.now }
@@ -88,7 +88,8 @@ impl<A: Allocator + Copy> Plan<A> {
         find_port(&self.ports, number)
     }
 
-    /// Returns the numbers of the ports in rising order.
+    /// Returns the numbers of the ports in rising order. Functions of `app_commands`, `app_networks`, `bridge_core` and other crates call
+    /// it.
     pub fn port_numbers<B: Allocator + Copy>(&self, alloc: B) -> Result<Vec<u8, B>, NoMemory>
         ensures { IfOk result (λ v. rules.IsSortedCopy (map (λ p. p.number) self.now.ports) v.items) }
     {
@@ -119,7 +120,8 @@ impl<A: Allocator + Copy> Plan<A> {
         &self.streams
     }
 
-    /// Returns the stream gates with their numbers, in file order.
+    /// Returns the stream gates with their numbers, in file order. `CommandTargets::has` and functions of `bridge_bounds`, `bridge_check`,
+    /// `bridge_groups` and other crates call it.
     pub fn gates(&self) -> &[(u32, GatePlan<A>)]
         ensures gates { result.now ≡ self.now.gates }
         ensures rules { rules.IsPlan self.now }
@@ -127,7 +129,8 @@ impl<A: Allocator + Copy> Plan<A> {
         &self.gates
     }
 
-    /// Returns the flow meters with their numbers, in file order.
+    /// Returns the flow meters with their numbers, in file order. `CommandTargets::has` and functions of `bridge_groups`, `bridge_relay`
+    /// and `show_lint` call it.
     pub fn meters(&self) -> &[(u32, MeterPlan)]
         ensures meters { result.now ≡ self.now.meters }
         ensures rules { rules.IsPlan self.now }
@@ -135,7 +138,8 @@ impl<A: Allocator + Copy> Plan<A> {
         &self.meters
     }
 
-    /// Returns the stream filters with their numbers, in file order.
+    /// Returns the stream filters with their numbers, in file order. `CommandTargets::has` and functions of `app_commands`, `app_failure`,
+    /// `bridge_bounds` and other crates call it.
     pub fn filters(&self) -> &[(u32, FilterPlan)]
         ensures filters { result.now ≡ self.now.filters }
         ensures rules { rules.IsPlan self.now }
@@ -290,7 +294,8 @@ fn read_plan<A: Allocator + Copy>(alloc: A, arrays: SectionArrays<'_>) -> Result
     })
 }
 
-/// Parses a text as a TOML document, with a plan's faults. The readers of plans and of commands share this function.
+/// Parses a text as a TOML document, with a plan's faults. The readers of plans and of commands share this function. `commands_of` and
+/// `plan_of` call it.
 #[tactic(auto, unfolding(crate::specs::Document::read_document))]
 pub(crate) fn read_document(heap: Global, text: &[u8]) -> Result<Table, PlanFault>
     ensures { MatchesReadingView table_view result (doc.read_document text.now) }

@@ -111,6 +111,7 @@ fn read_stream_by_lookup<P: NumberLookup + Copy>(
 }
 
 /// Reads a stream identification, whose port must be one of `ports`. The earlier identifications have no influence on it.
+/// `StreamSection::read` calls it.
 fn read_stream<A: Allocator + Copy>(
     ports: &[PortPlan<A>],
     earlier: &[StreamEntry],

@@ -61,7 +61,8 @@ impl<S: Copy, A: Allocator + Copy> Joined<S, A> {
         })
     }
 
-    /// Returns the old and the new list, for searches that examine each list by itself.
+    /// Returns the old and the new list, for searches that examine each list by itself. Functions of `bridge_bounds`, `bridge_check`,
+    /// `bridge_gate` and other crates call it.
     pub fn lists(&self) -> (&CyclicList<S, A>, &CyclicList<S, A>)
         ensures old { result.0.now ≡ self.now.old }
         ensures new { result.1.now ≡ self.now.new }
@@ -70,7 +71,7 @@ impl<S: Copy, A: Allocator + Copy> Joined<S, A> {
         (&self.old, &self.new)
     }
 
-    /// Returns the time in ns of the schedule change.
+    /// Returns the time in ns of the schedule change. Functions of `bridge_port`, `net_report`, `show_lint` and other crates call it.
     pub fn change_time(&self) -> u64
         ensures at { result ≡ self.now.at }
         ensures bounded { result < END_OF_TIME }

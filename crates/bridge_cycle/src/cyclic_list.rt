@@ -97,8 +97,8 @@ impl<S, A: Allocator + Copy> Model for CyclicList<S, A> {
 impl<S: Copy, A: Allocator + Copy> CyclicList<S, A> {
     /// Makes a list of a base time and cycle time in ns, and of states with their intervals in ns.
     ///
-    /// Tests run in the order `Empty`, `TooManyEntries`, `CycleOutOfRange`, `ZeroInterval`, `OverCycle`. After a fault, the entries
-    /// are dropped.
+    /// Tests run in the order `Empty`, `TooManyEntries`, `CycleOutOfRange`, `ZeroInterval`, `OverCycle`. After a fault, the entries are
+    /// dropped. `optional_list` of `bridge_config` and `is_list_refused` of `show_explain` call it.
     pub fn new(
         alloc: A,
         base: u64,

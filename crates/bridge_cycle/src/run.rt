@@ -21,7 +21,7 @@ pub enum Run {
 }
 
 impl Run {
-    /// Whether a transmission of `occupied` ns fits within the run.
+    /// Whether a transmission of `occupied` ns fits within the run. Functions of `bridge_check`, `bridge_port` and `show_lint` call it.
     pub fn allows(self, occupied: u64) -> bool
         ensures { (result ≡ true) ↔ Allows self occupied }
     {

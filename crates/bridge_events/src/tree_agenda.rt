@@ -99,7 +99,7 @@ impl Agenda for TreeAgenda {
     }
 }
 
-/// Returns the key of the port with index `place`, at time `t` in ns.
+/// Returns the key of the port with index `place`, at time `t` in ns. `TreeAgenda::set` calls it.
 #[inline(always)]
 fn entry_key(place: usize, t: u64) -> u64
     requires { place < 16 }

@@ -67,7 +67,7 @@ impl<A: Allocator + Copy> Model for Police<A> {
 impl<A: Allocator + Copy> Police<A> {
     /// Makes the police of numbered filters, gates and meters, in any order. If memory runs out, the three lists are dropped.
     ///
-    /// Finding the filter of a frame later takes one look-up of its handle.
+    /// Finding the filter of a frame later takes one look-up of its handle. `make_police` of `bridge_relay` calls it.
     pub fn new(
         alloc: A,
         filters: Vec<(u32, FilterPlan), A>,

@@ -16,7 +16,7 @@ use std::alloc::Allocator;
 use std::marker::Model;
 
 /// Whether an address is 01-80-C2-00-00-00 to 01-80-C2-00-00-0F. The first octet already excludes most addresses. Frames to these addresses
-/// aren't forwarded.
+/// aren't forwarded. `Forwarding::forward` calls it.
 #[inline(always)]
 #[tactic(auto, using(crate::proofs::Reserved::is_not_reserved))]
 fn is_reserved(da: &[u8; 6]) -> bool
@@ -75,8 +75,8 @@ impl<A: Allocator + Copy> Model for Forwarding<A> {
 }
 
 impl<A: Allocator + Copy> Forwarding<A> {
-    /// Makes a database. If several VLANs or static entries have one key, the first applies. If memory runs out, both lists are
-    /// dropped.
+    /// Makes a database. If several VLANs or static entries have one key, the first applies. If memory runs out, both lists are dropped.
+    /// `read_plan` of `bridge_config` calls it.
     pub fn new(
         alloc: A,
         vlans: Vec<Vlan, A>,

@@ -30,14 +30,15 @@ fn has_no_port(bits: u16) -> bool
 }
 
 impl PortSet {
-    /// Makes a set of bits: bit n - 1 stands for port n.
+    /// Makes a set of bits: bit n - 1 stands for port n. `output_ports`, `Forwarding::forward` and functions of `bridge_config` and
+    /// `net_model` call it.
     pub fn from_bits(bits: u16) -> PortSet
         ensures { result ≡ bits }
     {
         PortSet { bits }
     }
 
-    /// Returns the bits of the set: bit n - 1 stands for port n.
+    /// Returns the bits of the set: bit n - 1 stands for port n. Functions of `bridge_relay` and `net_model` call it.
     pub fn bits(self) -> u16
         ensures { result ≡ self }
     {
@@ -60,7 +61,7 @@ impl PortSet {
         has_no_port(self.bits)
     }
 
-    /// Returns the ports in both sets: the VLAN's members that a static entry allows.
+    /// Returns the ports in both sets: the VLAN's members that a static entry allows. `output_ports` calls it.
     pub(crate) fn intersection(self, other: PortSet) -> PortSet
         ensures { result ≡ bit_and self other }
     {

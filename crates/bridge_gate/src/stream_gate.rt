@@ -88,7 +88,7 @@ impl<A: Allocator + Copy> StreamGate<A> {
     }
 
     /// Answers a frame of `sdu` SDU octets that arrives at `t` ns. A refusal may set a flag; a passing frame counts towards the octet
-    /// limit.
+    /// limit. `ask_gate` of `bridge_filter` calls it.
     pub fn ask(&mut self, t: u64, sdu: u32) -> GateAnswer
         requires time { self.old.earliest ≤ t }
         requires range { t < END_OF_TIME }

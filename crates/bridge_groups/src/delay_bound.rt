@@ -12,7 +12,8 @@ use crate::span_search::{fits_per_cycle, spans_bound};
 use bridge_cycle::{CyclicList, LONGEST_CYCLE, Timeline, is_open};
 use std::alloc::Allocator;
 
-/// Returns a time in ns at which `class` is closed, or `None` if it is always open.
+/// Returns a time in ns at which `class` is closed, or `None` if it is always open. `list_cost_bound`, `list_delay_bound` and others call
+/// it.
 pub(crate) fn find_closed<A: Allocator + Copy>(list: &CyclicList<u8, A>, class: u8) -> Option<u64>
     requires class { class < 8 }
     requires lawful { IsLawful list.now }

@@ -38,7 +38,7 @@ fn first_closed<A: Allocator + Copy>(list: &CyclicList<u8, A>, class: u8, from: 
 }
 
 /// Returns the first run of fits, at time `from` or later, for transmissions of `occ` ns in `class`. The class must be closed at some time
-/// of each cycle.
+/// of each cycle. `has_long_starts`, `all_spans_bound` and others call it.
 pub(crate) fn next_fit_run<A: Allocator + Copy>(
     list: &CyclicList<u8, A>,
     class: u8,

@@ -77,6 +77,7 @@ impl StreamEntry {
 const TWO_POW_64: u128 = 1 << 64;
 
 /// Returns the key of entries with a port, a VLAN identifier and an address. Look-ups compute the keys of a frame's addresses by it.
+/// `index_entry` and `AddressIndex::find_handle` call it.
 #[tactic(auto, unfolding(crate::specs::StreamIndex::entry_key))]
 fn entry_key(port: u8, vid: u16, address: [u8; 6]) -> u128
     ensures number { result ≡ entry_key port vid address }
@@ -94,7 +95,7 @@ fn last_octet(key: u128) -> usize
     (key % 256) as usize
 }
 
-/// Adds an entry at `key` and marks the key's last octet, unless `key` has an entry.
+/// Adds an entry at `key` and marks the key's last octet, unless `key` has an entry. `index_entry` calls it.
 fn insert_if_new<A: Allocator + Copy>(
     firsts: &mut FirstEntries<A>,
     marks: &mut OctetMarks,
@@ -178,6 +179,8 @@ const HINTS_PER_ENTRY: usize = 4;
 
 /// Returns the index of the hint for `key` among `hints` hints, by mixing the bits of the key. The port enters the four bits above the VLAN
 /// identifier, which are 0.
+///
+/// `hinted_index` and `make_hints` call it.
 #[inline(always)]
 fn hint_slot(key: u128, hints: usize) -> usize {
     let folded = ((key >> 64 << 60) ^ key) % TWO_POW_64;
@@ -194,7 +197,7 @@ fn hinted_index(hints: &[u16], key: u128) -> usize {
     }
 }
 
-/// Makes hints of the entries' indexes. If several keys have one hint, it is the index of the last of them.
+/// Makes hints of the entries' indexes. If several keys have one hint, it is the index of the last of them. `with_hints` calls it.
 fn make_hints<A: Allocator + Copy>(
     alloc: A,
     firsts: &FirstEntries<A>,
@@ -391,7 +394,7 @@ impl<A: Allocator + Copy> AddressIndex<A> {
 }
 
 impl<A: Allocator + Copy> StreamIndex<A> {
-    /// Makes the index of a list of entries: one part for frames with a VLAN tag, one for other frames.
+    /// Makes the index of a list of entries: one part for frames with a VLAN tag, one for other frames. `with_index` calls it.
     pub(crate) fn new(alloc: A, entries: &[StreamEntry]) -> Result<StreamIndex<A>, AllocError>
         ensures tagged { IfOk result (λ index. HasAddressEntries true entries.now index.tagged.destinations
             index.tagged.destination_marks index.tagged.sources index.tagged.source_marks) }

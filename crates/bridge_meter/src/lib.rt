@@ -101,7 +101,7 @@ impl Model for Meter {
 }
 
 impl Meter {
-    /// Makes a meter with full buckets. Allocates no memory.
+    /// Makes a meter with full buckets. Allocates no memory. `make_meters` of `bridge_filter` calls it.
     pub fn new(plan: MeterPlan) -> Meter
         requires { is_within_limits plan ≡ true }
         ensures { StandsFor plan result [] }

@@ -53,7 +53,7 @@ pub fn queue_head<T, A: Allocator + Copy>(
     rings[class].front()
 }
 
-/// Whether the queue of `class` is full. If so, the port drops the next copy.
+/// Whether the queue of `class` is full. If so, the port drops the next copy. `Port::refusal` calls it.
 #[inline(always)]
 pub fn is_full<T, A: Allocator + Copy>(
     rings: &Vec<HeapCircularBuffer<Item<T>, A>, A>,

@@ -65,7 +65,7 @@ impl SearchHints {
 }
 
 impl<A: Allocator + Copy> ClassSpans<A> {
-    /// Makes empty spans, in place of a list that a port doesn't have. Allocates no memory.
+    /// Makes empty spans, in place of a list that a port doesn't have. Allocates no memory. `make_cache` calls it.
     pub fn empty(alloc: A) -> ClassSpans<A> {
         ClassSpans {
             runs: [Run::Never; 8],
@@ -142,6 +142,7 @@ fn fit_in_spans(spans: &[OpenSpan], from: u64, occ: u64, stop: u64) -> Option<u6
 }
 
 /// Returns the number of first spans that end at `t` or earlier, by binary search. This is the index of the first span that ends later.
+/// `find_index` calls it.
 #[inline(never)]
 fn search_index(spans: &[OpenSpan], t: u64) -> usize
     ensures within { result ≤ length spans.now }

@@ -138,7 +138,7 @@ fn has_time<A: Allocator + Copy>(kept: &Turn<u8>, list: &Egress<A>, t: u64) -> b
     kept.start <= t as i64 && t < kept.end
 }
 
-/// Keeps the interval that contains `t`: the interval kept so far, or an interval from the lists.
+/// Keeps the interval that contains `t`: the interval kept so far, or an interval from the lists. `fits_in_turn` calls it.
 fn find_turn<A: Allocator + Copy>(kept: &mut Turn<u8>, list: &Egress<A>, t: u64)
     requires range { t < END_OF_SEARCHES }
     requires kept { IsListsTurn list.now kept.old }
@@ -300,7 +300,7 @@ fn search_fit<A: Allocator + Copy>(
 }
 
 impl<A: Allocator + Copy> TransmissionGates<A> {
-    /// Makes the gates for the lists. Without lists, all gates are always open.
+    /// Makes the gates for the lists. Without lists, all gates are always open. `Port::new` calls it.
     pub fn new(alloc: A, list: Option<Egress<A>>) -> Result<TransmissionGates<A>, AllocError>
         ensures { IfOk result (λ g. g ≡ gate_schedule list) }
     {

@@ -571,6 +571,8 @@ impl<'a, G: Agenda + Drop, A: Allocator + Copy> Relay<'a, G, A> {
 
     /// Judges a frame by its filter `found`, counts it at its ingress port, and records verdict and origin. Returns the ruling and the
     /// frame's number within the filter; `None` for an unfiltered frame.
+    ///
+    /// `relay_frame` calls it.
     #[inline(always)]
     fn police_frame(
         &mut self,
@@ -701,7 +703,7 @@ impl<'a, G: Agenda + Drop, A: Allocator + Copy> Relay<'a, G, A> {
     }
 
     /// Handles a frame that arrived on port `port`. Octets that no queue accepts return to the pool. If memory runs out, returns the frame
-    /// and leaves the relay unchanged.
+    /// and leaves the relay unchanged. `handle_arrival` calls it.
     #[inline(always)]
     pub fn arrive(
         &mut self,

@@ -73,7 +73,8 @@ fn has_reason(reason: Reason, verdict: &StoredVerdict) -> bool
     }
 }
 
-/// Returns the number of frames that the filter refused for reason `reason`, by their verdicts.
+/// Returns the number of frames that the filter refused for reason `reason`, by their verdicts. `count_losses` and `put_refused_count` of
+/// `show_tables` call it.
 pub fn count_refused(reason: Reason, verdicts: &[StoredVerdict]) -> u64
     ensures { result ≡ spec.refused_for reason verdicts.now }
 {
@@ -142,7 +143,8 @@ fn put_counted<A: Allocator>(text: &mut TextBuilder<A>, place: &str, word: &str,
     text.put_integer(count);
 }
 
-/// Writes a comma, `place`, the reason `word` and its number `count`. Writes nothing if the number is 0.
+/// Writes a comma, `place`, the reason `word` and its number `count`. Writes nothing if the number is 0. `put_losses` and `put_why` of
+/// `net_report` call it.
 pub fn put_reason<A: Allocator>(text: &mut TextBuilder<A>, place: &str, word: &str, count: u128)
     ensures { HasGrown text.old (spec.reason_words place.now word.now count) text.new }
 {

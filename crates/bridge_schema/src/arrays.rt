@@ -19,7 +19,7 @@ fn are_integers(items: &[Value]) -> bool
     true
 }
 
-/// Whether each item is an integer from `low` to `high`. If not, an array is refused.
+/// Whether each item is an integer from `low` to `high`. If not, an array is refused. `numbers_flaw` and `KnownPorts::read` call it.
 fn are_in_range(items: &[Value], low: u64, high: u64) -> bool
     ensures { result ≡ spec.are_in_range low high (items_view items.now) }
 {

@@ -36,7 +36,8 @@ fn is_spelled<W: Spell>(words: &[W], text: &str) -> bool
     words.iter().any(|word| word.spell() == text)
 }
 
-/// Whether each key of a table is one of `words`: keys of an instance, or sections of a document.
+/// Whether each key of a table is one of `words`: keys of an instance, or sections of a document. Functions of `bridge_config` and
+/// `net_file` call it.
 pub fn has_only<W: Spell>(table: &Table, words: &[W]) -> bool
     ensures known { result ≡ spec.are_known W.spelling words.now (table_view table.now) }
 {
@@ -48,7 +49,8 @@ pub fn has_only<W: Spell>(table: &Table, words: &[W]) -> bool
     true
 }
 
-/// Whether a section has no tables. The reader of plans refuses a plan without ports.
+/// Whether a section has no tables. The reader of plans refuses a plan without ports. `read_arrays` of `bridge_config` and `read_arrays` of
+/// `net_file` call it.
 #[tactic(auto, using(crate::proofs::Counts::is_empty_view))]
 pub fn is_empty(items: &[Value]) -> bool
     ensures empty { result ≡ is_empty (items_view items.now) }
@@ -95,6 +97,8 @@ fn array_items<'a, F: ReaderFault>(
 
 /// Returns the tables of a section in the document `table`; none if the section is absent. Refuses a section that isn't an array of tables
 /// or exceeds its limit. Allocates no memory.
+///
+/// Functions of `bridge_config` and `net_file` call it.
 pub fn section_items<'a, F: ReaderFault>(
     section: F::Section,
     table: &'a Table,

@@ -26,7 +26,8 @@ pub struct InstanceTable<'t> {
 }
 
 impl<'t> InstanceTable<'t> {
-    /// Returns the location of `key`, for faults.
+    /// Returns the location of `key`, for faults. `InstanceTable::read_required`, `InstanceTable::read_optional` and functions of
+    /// `bridge_config` call it.
     pub fn locate_key(&self, key: Field) -> KeyLocation
         ensures { result ≡ record { section = self.now.section; index = self.now.index; field = key } }
     {

@@ -100,7 +100,7 @@ pub trait ReaderFault {
         ensures takes_no_memory { ¬ (result ≡ memory) };
 }
 
-/// Returns the largest number of instances of a section. A section with more is the fault `TooMany`.
+/// Returns the largest number of instances of a section. A section with more is the fault `TooMany`. `Section::limit` calls it.
 pub fn max_instances(section: Section) -> usize
     ensures { result ≡ limit_of section }
 {

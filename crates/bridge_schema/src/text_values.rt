@@ -97,7 +97,7 @@ fn has_hyphens(text: &[u8]) -> bool
     text[2] == 45 && text[5] == 45 && text[8] == 45 && text[11] == 45 && text[14] == 45
 }
 
-/// Parses a MAC address such as `01-80-C2-00-00-0E`; `None` for any other text.
+/// Parses a MAC address such as `01-80-C2-00-00-0E`; `None` for any other text. `Address::parse_text` calls it.
 #[tactic(auto, unfolding(crate::specs::Texts::parse_address))]
 fn parse_address(text: &[u8]) -> Option<[u8; 6]>
     ensures { result ≡ texts.parse_address text.now }

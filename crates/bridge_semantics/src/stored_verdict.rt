@@ -81,7 +81,7 @@ impl Model for StoredVerdict {
 }
 
 impl StoredVerdict {
-    /// Stores a verdict, whose internal priority value is at most 7.
+    /// Stores a verdict, whose internal priority value is at most 7. `FilterRecorder::record_verdict` of `bridge_relay` calls it.
     #[inline(always)]
     pub fn new(verdict: Verdict) -> StoredVerdict
         requires { HasValidPriority verdict }
@@ -100,7 +100,7 @@ impl StoredVerdict {
         self.kind
     }
 
-    /// Returns the verdict.
+    /// Returns the verdict. Functions of `bridge_report`, `net_report`, `show_picture` and other crates call it.
     #[inline(always)]
     pub fn verdict(&self) -> Verdict
         ensures { result ≡ self.now }
@@ -136,7 +136,8 @@ impl StoredVerdict {
     }
 }
 
-/// Returns the verdict `Pass` with an optional internal priority value. If `eligible` is true, the frame is marked drop eligible.
+/// Returns the verdict `Pass` with an optional internal priority value. If `eligible` is true, the frame is marked drop eligible. `verdict`
+/// calls it.
 #[inline(always)]
 fn pass(ipv: Option<u8>, eligible: bool) -> Verdict
     ensures { result ≡ Pass ipv eligible }

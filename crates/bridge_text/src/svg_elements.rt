@@ -167,7 +167,7 @@ pub enum Size {
 }
 
 /// Returns the head of a picture: its size, the styles of its shapes, the hatching with squares of side `hatch` (none for `None`), and the
-/// background.
+/// background. `Page::finish`, and `draw_network` and `RunPicture::finish` of `net_report` call it.
 pub fn picture_head(
     alloc: Global,
     size: Size,
@@ -191,7 +191,8 @@ pub fn picture_head(
     head.finish()
 }
 
-/// Returns a line of text at a point, for the head or the foot of a picture.
+/// Returns a line of text at a point, for the head or the foot of a picture. `Page::finish`, and `draw_network` and `RunPicture::finish` of
+/// `net_report` call it.
 pub fn text_line(alloc: Global, at: Point, words: &str) -> Result<String, NoMemory> {
     fill_form(alloc, NOTE, &[at.0, at.1], &[words])
 }

@@ -53,7 +53,7 @@ pub struct Page {
 }
 
 impl Page {
-    /// Returns an empty page of height 0.
+    /// Returns an empty page of height 0. `Picture::new` of `show_picture` calls it.
     pub fn new(alloc: Global) -> Page {
         Page {
             shapes: Shapes::new(alloc),
@@ -77,41 +77,44 @@ impl Page {
         self.bottom = self.bottom_plus(by);
     }
 
-    /// Writes a piece of the current shape: the text of `form` with its numbers and its word.
+    /// Writes a piece of the current shape: the text of `form` with its numbers and its word. `Page::put_text`, `put_time` and `put_span`
+    /// call it.
     pub fn add_piece(&mut self, form: &str, numbers: &[u64], word: &str) {
         self.shapes.add_piece(form, numbers, &[word]);
     }
 
     /// Writes words of the program itself as a piece of the current shape. The words aren't escaped, so they must not come from users.
+    /// `put_span` and functions of `show_picture` call it.
     pub fn add_words(&mut self, words: &str) {
         self.shapes.add_piece(words, &[], &[]);
     }
 
-    /// Begins a text at the point `x`, `y`. `end_text` ends it.
+    /// Begins a text at the point `x`, `y`. `end_text` ends it. `begin_text_line`, `Page::put_text` and `put_axis_label` call it.
     pub fn begin_text(&mut self, style: &str, x: u64, y: u64) {
         self.shapes.begin_text(style, (x, y));
     }
 
-    /// Moves down by `by`, and begins a line of text at the left end of the time axis.
+    /// Moves down by `by`, and begins a line of text at the left end of the time axis. Functions of `show_picture` call it.
     pub fn begin_text_line(&mut self, style: &str, by: u64) {
         self.skip_height(by);
         self.begin_text(style, AXIS_LEFT, self.bottom);
     }
 
-    /// Ends a text and its shape.
+    /// Ends a text and its shape. `Page::put_text` and `put_axis_label` call it.
     pub fn end_text(&mut self) {
         self.shapes.end_text();
         self.shapes.end_shape();
     }
 
-    /// Draws the text of `form`, with its numbers, at `x`, `by` below the page's lower end.
+    /// Draws the text of `form`, with its numbers, at `x`, `by` below the page's lower end. `put_legend_row` calls it.
     pub fn put_text(&mut self, style: &str, x: u64, by: u64, form: &str, numbers: &[u64]) {
         self.begin_text(style, x, self.bottom_plus(by));
         self.add_piece(form, numbers, "");
         self.end_text();
     }
 
-    /// Draws an element as a shape of its own. If the picture is full, the shape is only counted.
+    /// Draws an element as a shape of its own. If the picture is full, the shape is only counted. `put_bar`, `put_sample` and `put_axis`
+    /// call it.
     pub fn draw(&mut self, style: &str, element: Element) {
         self.shapes.draw(style, element);
         self.shapes.end_shape();
@@ -128,7 +131,7 @@ impl Page {
         self.shapes.end_shape();
     }
 
-    /// Draws a bar at `x`, `by` below the page's lower end.
+    /// Draws a bar at `x`, `by` below the page's lower end. `put_axis` and functions of `show_picture` call it.
     pub fn put_bar(&mut self, style: &str, x: u64, by: u64, width: u64, height: u64) {
         self.draw(style, bar(x, self.bottom_plus(by), width, height));
     }
@@ -271,7 +274,8 @@ impl Page {
 }
 
 impl Span {
-    /// Returns the distance from the left of time `t`. Times outside the span are at the ends of the axis.
+    /// Returns the distance from the left of time `t`. Times outside the span are at the ends of the axis. `put_axis`, `page_extent` and
+    /// functions of `show_picture` call it.
     pub fn page_x(self, t: u64) -> u64
         ensures from { AXIS_LEFT ≤ result }
         ensures to { result ≤ AXIS_LEFT + AXIS_WIDTH }
@@ -308,7 +312,7 @@ fn sample_mark(x: u64, base: u64, tip: u64) -> Element {
     })
 }
 
-/// Returns `yes` if `is` is true, otherwise `no`.
+/// Returns `yes` if `is` is true, otherwise `no`. `put_time` and functions of `show_picture` call it.
 pub fn choose_word(is: bool, yes: &'static str, no: &'static str) -> &'static str {
     if is { yes } else { no }
 }

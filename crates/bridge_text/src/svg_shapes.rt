@@ -28,7 +28,7 @@ pub struct Shapes {
 }
 
 impl Shapes {
-    /// Returns an empty list of shapes.
+    /// Returns an empty list of shapes. `Page::new`, and `draw_network` and `RunPicture::new` of `net_report` call it.
     pub fn new(alloc: Global) -> Shapes {
         Shapes {
             text: TextBuilder::new(alloc),
@@ -37,7 +37,7 @@ impl Shapes {
         }
     }
 
-    /// Returns the number of omitted shapes, for a note in the picture.
+    /// Returns the number of omitted shapes, for a note in the picture. `Page::finish` and functions of `net_report` call it.
     pub fn omitted_shapes(&self) -> u64 {
         self.omitted
     }
@@ -48,14 +48,15 @@ impl Shapes {
     }
 
     /// Writes a piece of the current shape by a form: numbers replace `{0}` to `{9}`, and words replace `{a}` to `{z}`. Writes nothing if
-    /// the picture is full.
+    /// the picture is full. `put_shape` calls it.
     pub fn add_piece(&mut self, form: &str, numbers: &[u64], words: &[&str]) {
         if !self.is_full {
             put_form(&mut self.text, form, numbers, words);
         }
     }
 
-    /// Ends the current shape: a new line, or one more omitted shape if the picture is full.
+    /// Ends the current shape: a new line, or one more omitted shape if the picture is full. `Page::end_text`, `Page::draw` and functions
+    /// of `net_report` call it.
     pub fn end_shape(&mut self) {
         if self.is_full {
             return self.omit_shape();
@@ -101,7 +102,8 @@ pub fn fill_form(
     text.finish()
 }
 
-/// Writes the text of a form: numbers replace `{0}` to `{9}`, and escaped words replace `{a}` to `{z}`.
+/// Writes the text of a form: numbers replace `{0}` to `{9}`, and escaped words replace `{a}` to `{z}`. `picture_head`, `Shapes::add_piece`
+/// and `fill_form` call it.
 pub(crate) fn put_form(
     text: &mut TextBuilder<Global>,
     form: &str,
@@ -119,7 +121,7 @@ pub(crate) fn put_form(
     }
 }
 
-/// Writes the number or word of the placeholder `place`. Writes nothing if `numbers` or `words` lacks it.
+/// Writes the number or word of the placeholder `place`. Writes nothing if `numbers` or `words` lacks it. `put_form` calls it.
 fn put_placeholder(text: &mut TextBuilder<Global>, place: &[u8], numbers: &[u64], words: &[&str]) {
     match place {
         [digit @ b'0'..=b'9'] => {

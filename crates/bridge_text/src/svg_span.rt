@@ -15,14 +15,15 @@ pub struct Span {
 pub type TimeScale = (u64, &'static str, u64);
 
 impl Span {
-    /// Returns the span's duration in ns, at least 1: it is a divisor.
+    /// Returns the span's duration in ns, at least 1: it is a divisor. `axis_distance`, `Span::origin` and others call it.
     fn duration(self) -> u64
         ensures { 1 ≤ result }
     {
         self.to.saturating_sub(self.from).max(1)
     }
 
-    /// Whether the span overlaps the time from `from` up to `to` in ns; both ends are excluded.
+    /// Whether the span overlaps the time from `from` up to `to` in ns; both ends are excluded. `put_axis` and functions of `show_picture`
+    /// call it.
     pub fn has_overlap(self, from: u64, to: u64) -> bool {
         self.from < to && from < self.to
     }
@@ -47,7 +48,8 @@ impl Span {
         if is_far { from - from % power } else { 0 }
     }
 
-    /// Returns the span's origin and unit: µs below 2 ms, ms below 2 s, otherwise s.
+    /// Returns the span's origin and unit: µs below 2 ms, ms below 2 s, otherwise s. `put_duration`, `put_span` and functions of
+    /// `show_picture` call it.
     pub fn time_scale(self) -> TimeScale {
         match self.duration() {
             0..2_000_000 => (self.origin(), "µs", 1),

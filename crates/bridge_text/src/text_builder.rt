@@ -57,7 +57,7 @@ impl<A: Allocator> TextBuilder<A> {
         }
     }
 
-    /// Adds a number in decimal digits.
+    /// Adds a number in decimal digits. `TextBuilder::put_placeholder` calls it.
     pub fn put_number(&mut self, number: u64)
         ensures { HasGrown self.old (decimal number) self.new }
     {
@@ -65,7 +65,8 @@ impl<A: Allocator> TextBuilder<A> {
         self.put(digits.format(number));
     }
 
-    /// Adds an integer of any width in decimal digits, with a minus sign if it is negative.
+    /// Adds an integer of any width in decimal digits, with a minus sign if it is negative. `put_item` and functions of `bridge_report`,
+    /// `net_check`, `net_latency` and other crates call it.
     pub fn put_integer<I: Integer>(&mut self, number: I)
         ensures { HasGrown self.old (I.text number) self.new }
     {
@@ -166,6 +167,8 @@ impl<A: Allocator> TextBuilder<A> {
 
     /// Adds a template. `{0}` to `{9}` stand for numbers and `{a}` to `{z}` for words, by index. A placeholder without a value adds
     /// nothing.
+    ///
+    /// `put_too_many`, `put_position` and functions of `app_commands`, `net_check`, `net_latency` and other crates call it.
     #[tactic(auto, using(crate::proofs::Longer::longer))]
     pub fn put_template(&mut self, template: &str, numbers: &[u64], words: &[&str])
         ensures { IsLonger self.old self.new }
@@ -191,6 +194,7 @@ impl<A: Allocator> TextBuilder<A> {
     }
 
     /// Adds the value of a placeholder: `place` is the digit or letter between its braces. Adds nothing for an unknown placeholder.
+    /// `put_template_piece` calls it.
     #[tactic(auto, using(crate::proofs::Longer::longer))]
     fn put_placeholder(&mut self, place: &[u8], numbers: &[u64], words: &[&str])
         ensures { IsLonger self.old self.new }

@@ -100,7 +100,7 @@ pub fn put_value(said: &mut Said, value: &Value) {
     }
 }
 
-/// Writes a sentence that ends with a value, or with `word` if the value is missing.
+/// Writes a sentence that ends with a value, or with `word` if the value is missing. `put_no_list` and functions of `show_explain` call it.
 pub fn put_value_sentence(
     said: &mut Said,
     template: &str,

@@ -34,7 +34,8 @@ fn is_one_port(one: BridgePort, other: BridgePort) -> bool {
     one.bridge == other.bridge && one.port == other.port
 }
 
-/// Returns the name of the bridge at this end of a link, or an empty text if the bridge is missing.
+/// Returns the name of the bridge at this end of a link, or an empty text if the bridge is missing. `put_end`, `put_speeds` and `put_ports`
+/// call it.
 fn bridge_name<'a>(asked: NetworkText<'a>, end: BridgePort) -> &'a str {
     match asked.bridge(end.bridge) {
         Some(bridge) => bridge.name(),

@@ -241,6 +241,8 @@ fn is_absolute(path: &str) -> bool
 
 /// Returns the path of the plan file `file`, which a network file at `path` names. A relative path counts from the network file's folder,
 /// so both can be moved together.
+///
+/// `explain_plan_path`, `read_plan` and functions of `app_networks` call it.
 pub fn sibling_path(alloc: Global, path: &str, file: &str) -> Result<String, NoMemory>
     ensures { IfOk result (λ place. string_bytes place ≡ beside path.now file.now) }
 {

@@ -7,6 +7,7 @@ use bridge_limits::NoMemory;
 use std::alloc::Allocator;
 
 /// Returns the fault line of a network without line feed, for example `network refused: OutOfRange link 2 delay` or `no memory`.
+/// `check_periods` and `refused_text_fault` of `net_check`, and `traffic_refusal` of `net_latency` call it.
 pub fn fault_line<A: Allocator + Copy>(alloc: A, fault: &NetFault) -> Result<String<A>, NoMemory>
     ensures { IfOk result (λ line. string_bytes line ≡ fault_line fault.now) }
 {

@@ -40,7 +40,8 @@ fn is_present(value: Option<&Value>) -> bool
     }
 }
 
-/// Returns whether a table has at least one of these keys. By it, streams have a talker, and traffic rows a limit.
+/// Returns whether a table has at least one of these keys. By it, streams have a talker, and traffic rows a limit. `is_limited`,
+/// `has_limited_keys` and others call it.
 pub(crate) fn has_any_key(table: &Table, keys: &[NetField]) -> bool
     ensures { result ≡ sections.has_any_key keys.now (table_view table.now) }
 {

@@ -30,6 +30,7 @@ pub struct NetworkText<'a> {
 
 impl<'a> NetworkText<'a> {
     /// Returns the bridge of the network file with index `place`, from 0, or `None` if the file lacks it. Explanations name bridges by it.
+    /// `explain_period`, `explain_hop_fault` and functions of `net_check` call it.
     pub fn bridge(self, place: u16) -> Option<&'a BridgeRow<Global>> {
         self.file.bridges().get(place as usize)
     }
@@ -48,7 +49,7 @@ impl<'a> NetworkText<'a> {
     }
 
     /// Returns the position of a key, or of the section's header if `key` is `None`. `index` counts the section's instances from 1. Returns
-    /// `None` if the document lacks it.
+    /// `None` if the document lacks it. `NetworkText::put_place` calls it.
     fn position(self, section: NetSection, index: usize, key: Option<&str>) -> Option<Position> {
         let instance = Instance {
             document: self.document,

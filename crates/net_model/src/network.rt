@@ -37,7 +37,8 @@ impl<A: Allocator + Copy> Model for Network<A> {
 }
 
 impl<A: Allocator + Copy> Network<A> {
-    /// Returns the bridges' plans. Links and hops name a bridge by its index in this list.
+    /// Returns the bridges' plans. Links and hops name a bridge by its index in this list. Functions of `app_networks`, `net_check`,
+    /// `net_latency` and other crates call it.
     pub fn plans(&self) -> &[Accepted<A>]
         ensures plans { result.now ≡ self.now.plans }
         ensures network { IsNetwork (network_value self.now) }

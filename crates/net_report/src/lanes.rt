@@ -18,6 +18,8 @@ const HATCH_WORDS: &str =
 
 /// Draws a window of a queue (port and class), from time `from` to time `to` in ns, in the row at height `y`. Counts it as drawn unless the
 /// picture is full.
+///
+/// `put_windows` and `RunPicture::put_open_windows` call it.
 pub(crate) fn put_window(picture: &mut RunPicture, y: u64, queue: (u8, u8), from: u64, to: u64) {
     let (port, class) = (u64::from(queue.0), u64::from(queue.1));
     let bar = bar_x_and_width(picture, from, to, y.saturating_sub(10), 20);

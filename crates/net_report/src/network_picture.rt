@@ -44,7 +44,8 @@ fn put_text(shapes: &mut Shapes, style: &str, at: Point, form: &str, word: &str)
     shapes.end_text();
 }
 
-/// Returns the middle of the column of the bridge with index `place`, in pixels. Links, boxes and hops are drawn there.
+/// Returns the middle of the column of the bridge with index `place`, in pixels. Links, boxes and hops are drawn there. `put_link`,
+/// `put_bridge` and others call it.
 fn column_middle(place: u16) -> u64 {
     LEFT_MARGIN + COLUMN_WIDTH * u64::from(place) + COLUMN_WIDTH / 2
 }
@@ -215,7 +216,7 @@ fn put_all<A: Allocator + Copy>(
 }
 
 /// Returns a network's picture as SVG of at most 2,000,000 octets, for `picture NET`. `bounds` has the streams' delay bounds in ns. A note
-/// counts omitted shapes.
+/// counts omitted shapes. `draw_with_bounds` of `app_networks` calls it.
 pub fn draw_network<A: Allocator + Copy>(
     alloc: Global,
     bridges: &[BridgeRow<A>],

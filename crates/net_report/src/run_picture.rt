@@ -84,6 +84,8 @@ pub(crate) fn time_x(picture: &RunPicture, moment: u64) -> u64 {
 
 /// Draws an element with a title, which browsers show when the pointer rests on it. The title is `words` with `numbers` and `word` at its
 /// marks. Rows and windows are drawn by it.
+///
+/// `put_window`, `put_hatch` and others call it.
 pub(crate) fn put_titled(
     picture: &mut RunPicture,
     style: &str,
@@ -99,7 +101,8 @@ pub(crate) fn put_titled(
     shapes.end_shape();
 }
 
-/// Returns the position of the row with index `row`, in pixels from the top of the picture.
+/// Returns the position of the row with index `row`, in pixels from the top of the picture. `put_link`, `RunPicture::put_open_windows` and
+/// others call it.
 pub(crate) fn row_y(row: u64) -> u64 {
     row.saturating_mul(ROW_HEIGHT).saturating_add(TOP_MARGIN)
 }
@@ -123,7 +126,7 @@ pub(crate) fn bar_x_and_width(
 }
 
 impl RunPicture {
-    /// Returns an empty picture, whose span is empty until `include_stream` widens it.
+    /// Returns an empty picture, whose span is empty until `include_stream` widens it. `draw_run` of `app_networks` calls it.
     pub fn new(alloc: Global) -> RunPicture {
         RunPicture {
             span: Span {

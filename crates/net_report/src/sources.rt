@@ -119,6 +119,7 @@ fn due_departures(
 }
 
 /// Returns the source of a hop's frame with number `own`, from 1. Returns `None` if the frame is missing or its source unknown.
+/// `count_departures`, `count_drops` and others call it.
 pub fn source_frame(roots: &[Option<SourceFrame>], own: u64) -> Option<SourceFrame>
     ensures { result ≡ spec.source_frame roots.now own }
 {

@@ -125,7 +125,8 @@ pub fn hop_line<A: Allocator + Copy>(
     text.finish()
 }
 
-/// Returns the number of delivered first-hop frames: a copy was delivered, and no copy was refused, dropped or astray.
+/// Returns the number of delivered first-hop frames: a copy was delivered, and no copy was refused, dropped or astray. `put_lost`,
+/// `put_lost_if` and functions of `app_networks` call it.
 pub fn delivered_frames(tallies: &[CopyCounts]) -> usize
     ensures { result ≡ spec.delivered_frames tallies.now }
 {

@@ -344,6 +344,7 @@ impl<'a, A: Allocator + Copy> BridgeRun<'a, A> {
     }
 
     /// Returns the sender of the port with index `place`: the port at the other end of its link. Returns `None` for an open port.
+    /// `feed_port` calls it.
     pub(crate) fn sender(&self, place: usize) -> Option<Sender>
         requires { place < length self.now.ports }
         ensures { slice_get self.now.senders place ≡ Some (option_map sender_value result) }

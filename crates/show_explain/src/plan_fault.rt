@@ -163,7 +163,7 @@ fn allowed_sentence(allowed: AllowedValue) -> &'static str {
     }
 }
 
-/// Writes the sentence for the allowed values of a key.
+/// Writes the sentence for the allowed values of a key. `put_flaw` and `put_allowed_instances` call it.
 pub(crate) fn put_allowed(said: &mut Said, allowed: AllowedValue) {
     let (low, high) = match allowed {
         AllowedValue::Between(range) | AllowedValue::Set(range) | AllowedValue::Eight(range) => (

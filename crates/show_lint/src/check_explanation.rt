@@ -227,7 +227,8 @@ fn greatest_filter_number(filters: &[(u32, FilterPlan)]) -> u32 {
     last
 }
 
-/// Returns the word for a filter's kind: `protected`, `grouped` or `unprotected`.
+/// Returns the word for a filter's kind: `protected`, `grouped` or `unprotected`. `put_check`, `kind_of_number` and `put_shared_queue` call
+/// it.
 fn kind_word(filter: &FilterPlan) -> &'static str {
     if filter.protected {
         "protected"

@@ -77,7 +77,7 @@ impl Sharers {
     }
 }
 
-/// Returns what the filters that share the queue of `row` can send together.
+/// Returns what the filters that share the queue of `row` can send together. `put_shared_queue` calls it.
 fn queue_sharers<A: Allocator + Copy>(plan: &Plan<A>, row: &SharedQueue) -> Sharers
     requires from { 1 ≤ row.now.port }
     requires to { row.now.port ≤ 16 }
@@ -98,7 +98,7 @@ fn queue_sharers<A: Allocator + Copy>(plan: &Plan<A>, row: &SharedQueue) -> Shar
     sharers
 }
 
-/// Whether a filter is in the group.
+/// Whether a filter is in the group. `queue_sharers`, `first_of_group` and `put_group` call it.
 fn is_in_group(filter: &FilterPlan, group: u32) -> bool {
     match filter.group {
         Some(own) => own == group,
@@ -138,7 +138,7 @@ pub(crate) fn put_group<A: Allocator + Copy>(
     }
 }
 
-/// Writes the windows, the bound, the meters and the capacity of a shared queue.
+/// Writes the windows, the bound, the meters and the capacity of a shared queue. `put_group` calls it.
 fn put_shared_queue<A: Allocator + Copy>(said: &mut LintText, plan: &Plan<A>, row: &SharedQueue) {
     if row.port < 1 || row.port > 16 || row.class > 7 {
         return;
@@ -152,7 +152,8 @@ fn put_shared_queue<A: Allocator + Copy>(said: &mut LintText, plan: &Plan<A>, ro
     put_capacity(said, row);
 }
 
-/// Writes the delay bound of a shared queue, and what the meters pass, or why the bound doesn't follow from the meters.
+/// Writes the delay bound of a shared queue, and what the meters pass, or why the bound doesn't follow from the meters. `put_shared_queue`
+/// calls it.
 fn put_bound<A: Allocator + Copy>(
     said: &mut LintText,
     port: &PortPlan<A>,

@@ -94,7 +94,7 @@ fn refusal_cause(verdict: Verdict) -> &'static str {
 }
 
 impl DrawnGroup {
-    /// Returns a group without frames. If memory runs out, `is_refused` is set, and `draw_run` fails.
+    /// Returns a group without frames. If memory runs out, `is_refused` is set, and `draw_run` fails. `select_frames` calls it.
     fn new(alloc: Global) -> DrawnGroup {
         let none = Share { left: 0, room: 0 };
         let (shares, is_refused) = match Vec::from_elem(alloc, none, 17 * TIME_PARTS) {

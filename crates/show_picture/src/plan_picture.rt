@@ -194,6 +194,8 @@ impl Picture {
 
 /// Returns a plan's picture as SVG text of at most 2,000,000 octets: windows and open stream gates, by default over one hypercycle. A
 /// refused plan's fault is in the head. Hatches windows beyond a limit.
+///
+/// `draw_checked` and `draw_selected_plan` of `app_commands` call it.
 pub fn draw_plan<A: Allocator + Copy>(
     alloc: Global,
     checked: &Result<Accepted<A>, Refused<A>>,

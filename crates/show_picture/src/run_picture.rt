@@ -217,6 +217,8 @@ impl Picture {
 
 /// Returns a run's picture as SVG text of at most 2,000,000 octets: windows, stream gates, frames that left, and marks of refused and
 /// dropped ones. Omits unfiltered frames, and hatches frames beyond a limit.
+///
+/// `draw_selected_run` of `app_commands` calls it.
 pub fn draw_run<B: Allocator>(
     alloc: Global,
     accepted: &Accepted<Global>,
