@@ -120,7 +120,10 @@ fn explain_stopped_run(
     explain_captures(rt, read.as_str(), written.as_str(), fault)
 }
 
-/// Explains why the command `wire` failed, by the paths of its captures. `explain_failure` of `app_networks` calls it.
+/// Explains why the command `wire` failed; `read` and `written` are the paths of its input and its output.
+///
+/// Returns `None` if memory runs out, the input can't be read again, or the failure is of another kind. `explain_failure` of `app_networks`
+/// calls it.
 pub fn explain_wire_fault(
     rt: &(impl AllocGlobal + Files),
     read: &str,

@@ -125,8 +125,9 @@ fn has_file_with_suffix(rt: &(impl AllocGlobal + Files), path: &str, ending: &st
     }
 }
 
-/// Whether the path leads to a regular file. `has_file_with_suffix`, and `warn_if_capture_unread` and `is_network` of `app_commands` call
-/// it.
+/// Whether `path` leads to a regular file; false for pipes, folders, and paths whose metadata can't be read.
+///
+/// Callers ask before they read a file that will be read again (`is_network`), or name a file in a warning or a cause.
 pub fn is_file(rt: &impl Files, path: &str) -> bool {
     match fs::metadata(rt, path) {
         Ok(data) => data.is_file(),

@@ -91,7 +91,8 @@ fn bridge_commands(
     }
 }
 
-/// Reads the commands in a bridge's folder. Returns none if the folder has no file of commands. `read_bridge_input` calls it.
+/// Reads the commands in `folder`, the input folder of the bridge with name `name`. Returns an empty list if the folder has no file
+/// `commands.toml`. `read_bridge_input` calls it.
 fn read_commands<F: ReadFiles>(
     alloc: Global,
     files: &mut F,

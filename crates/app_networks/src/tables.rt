@@ -51,7 +51,7 @@ fn hop_run<'a>(settled: &'a [BridgeResult<Global>], hop: (u16, u32)) -> HopRun<'
     }
 }
 
-/// Returns the records of a stream's hops, in file order. `put_stream`, `include_streams` and `put_all_streams` call it.
+/// Returns the records of a stream's hops, in file order. `put_stream_rows`, `include_streams` and `put_all_streams` call it.
 pub(crate) fn hop_runs<'a>(
     alloc: Global,
     settled: &'a [BridgeResult<Global>],
@@ -82,7 +82,7 @@ pub(crate) fn hop_name(
     Ok(format!(in alloc; "{name}.{filter}")?)
 }
 
-/// Returns the names of these hops as in the network's file, for the tables. `put_stream` calls it.
+/// Returns the names of these hops as in the network's file, for the tables. `put_stream_rows` calls it.
 fn hop_names(
     alloc: Global,
     bridges: &[BridgeRow<Global>],
@@ -98,7 +98,7 @@ fn hop_names(
 }
 
 /// Writes the rows of a stream to both tables, and returns the totals with its frames added. `write_both_tables` calls it.
-fn put_stream<V: Write, W: Write>(
+fn put_stream_rows<V: Write, W: Write>(
     alloc: Global,
     file: &NetworkFile<Global>,
     links: &[Link],
@@ -156,7 +156,7 @@ fn write_both_tables<V: Write, W: Write>(
         delivered: 0,
     };
     for (place, stream) in file.streams().iter().enumerate() {
-        let more = put_stream(
+        let more = put_stream_rows(
             alloc,
             file,
             links,

@@ -241,8 +241,10 @@ fn is_edge<A: Allocator + Copy>(list: &CyclicList<u8, A>, class: u8, occ: u64, m
         && list_first_fit(list, class, occ, moment + 1) != moment + 1
 }
 
-/// Returns the longest time in ns in which `room` frames leave. They begin to wait at `from`, or 1 ns after a window's last fit between
-/// `from` and `to`. `interval_longest_time` and `list_longest_time` call it.
+/// Returns the longest time in ns until `room` frames of `occ` ns have left, if all begin to wait at `from`, or 1 ns after a window's last
+/// fit, at `to` or before.
+///
+/// `list_longest_time` and `interval_longest_time` call it: frames that just miss a window wait longest.
 pub(crate) fn longest_time_after_edges<A: Allocator + Copy>(
     list: &CyclicList<u8, A>,
     class: u8,

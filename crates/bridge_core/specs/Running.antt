@@ -138,12 +138,12 @@ pub record IsUnderWay {R W G A : Type 0} (remaining : R → Option (List ℕ)) (
   pub late : newest_time inputs ≤ b.earliest
   pub written : AreWritten contents (port_numbers lanes) olds sinks left
 
--- Holds if the next frame of the reader at index `place` is before the next command; always if there is no further
--- command.
+-- Holds if the next frame of the reader at index `place` arrives before the next command `next`, or if `next` is `None`: no command
+-- follows.
 abbrev pub PrecedesCommand : {A : Type 0} → List (CaptureReader A) → ℕ → Option Input → Type 0
 PrecedesCommand {A} lanes place next = (l : CaptureReader A) (c : Packet A) → slice_get lanes place ≡ Some l → l.ahead ≡ Some c → IfSome next (λ y. c.time < y.at)
 
--- Holds if the reader at index `place` has its next frame before time `until`. Without `until`, it always holds.
+-- Holds if the next frame of the reader at index `place` arrives before time `until` in ns, or if `until` is `None`.
 abbrev pub IsHeadEarlier : {A : Type 0} → Option ℕ → List (CaptureReader A) → ℕ → Type 0
 IsHeadEarlier {A} until lanes place = (l : CaptureReader A) (c : Packet A) → slice_get lanes place ≡ Some l → l.ahead ≡ Some c → IfSome until (λ t. c.time < t)
 

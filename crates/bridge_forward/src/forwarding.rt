@@ -28,8 +28,10 @@ fn is_reserved(da: &[u8; 6]) -> bool
     da[..5] == [0x01, 0x80, 0xC2, 0x00, 0x00] && da[5] <= 0x0F
 }
 
-/// Returns the egress ports of a frame: its VLAN's members that the static entry allows, without the ingress port. Empty if the VLAN is
-/// unknown or lacks the ingress port. `forward` calls it.
+/// Returns the egress ports of a frame: members of its VLAN that its static entry allows, without ingress port `port`. The set is empty if
+/// the VLAN is unknown (`members` is `None`) or lacks `port`.
+///
+/// `forward` calls it.
 #[inline(always)]
 fn output_ports(members: Option<PortSet>, entry: Option<PortSet>, port: u8) -> PortSet
     requires from { 1 ≤ port }

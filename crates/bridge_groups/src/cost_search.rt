@@ -65,8 +65,10 @@ fn plain_fit(speed: Speed, sdu: u32) -> u64
         .max(least)
 }
 
-/// Returns the greatest of the filters' limits of SDU octets that are at most `most`; 0 for none. `list_cost_bound` calls it.
-fn longest_sdu_upto(filters: &[(u32, FilterPlan)], most: u32) -> u32
+/// Returns the greatest `max_sdu` of the filters, in octets, that is at most `most`; 0 if there is none.
+///
+/// `list_cost_bound` takes it as the next frame size of its search, with half of the last size as `most`.
+fn next_search_sdu(filters: &[(u32, FilterPlan)], most: u32) -> u32
     ensures { result ≤ most }
 {
     let mut longest = 0;
@@ -152,7 +154,7 @@ fn list_cost_bound<A: Allocator + Copy>(
             least,
             fit_bound(plan, sharers, list, class, speed, long, fit, start),
         );
-        size = longest_sdu_upto(sharers, size / 2);
+        size = next_search_sdu(sharers, size / 2);
     }
     least
 }

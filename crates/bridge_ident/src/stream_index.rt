@@ -294,8 +294,8 @@ fn entry_by_index<A: Allocator + Copy>(
     }
 }
 
-/// Whether surely no entry has `key`, because no entry's address ends in the key's last octet. If false, an entry may have the key.
-/// `handle_by_keys` calls it.
+/// Whether surely no entry has `key`, because no entry's address ends in the key's last octet; if false, an entry may have it.
+/// `handle_by_keys` calls it, because the test needs no hash.
 #[inline(always)]
 fn is_absent<A: Allocator + Copy>(firsts: &FirstEntries<A>, marks: &OctetMarks, key: u128) -> bool
     ensures { result ≡ true → HasMarks firsts.now marks.now → get nat_eq firsts.now key ≡ None }

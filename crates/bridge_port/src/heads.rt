@@ -130,10 +130,9 @@ pub fn refresh_fits<T: Drop, A: Allocator + Copy>(
     best
 }
 
-/// Stores the earliest start, `from` or later, of a new item with transmission time `occ` ns if the queue of `class` is empty. Returns time
-/// and class of the best head; before, it was `best`.
+/// If the queue of `class` is empty, stores in `fits` the earliest start in ns, `from` or later, of a new item of `occ` ns.
 ///
-/// `offer` calls it.
+/// Returns the best head (time and class): `best`, or the new item. `offer` calls it.
 #[inline(always)]
 pub fn add_item_fit<A: Allocator + Copy>(
     fits: &mut [Option<u64>; 8],

@@ -252,8 +252,10 @@ pub fn class_spans<A: Allocator + Copy>(
     Ok(ClassSpans { runs, each })
 }
 
-/// Returns the earliest time, `from` or later, from which a list opens `class` for `occ` ns or up to `stop`. `None` if the spans
-/// show none. `fit_in_list` and `fit_in_changing_list` call it.
+/// Returns the earliest time in ns, `from` or later, from which `list` opens `class` for `occ` ns or up to `stop`, by stored spans. `None`
+/// if no span is long enough.
+///
+/// `fit_in_list` and `fit_in_changing_list` call it.
 fn fit_until_stop<A: Allocator + Copy>(
     list: &CyclicList<u8, A>,
     spans: &ClassSpans<A>,
@@ -289,8 +291,9 @@ fn fit_until_stop<A: Allocator + Copy>(
     }
 }
 
-/// Returns the earliest time, `from` or later, from which a list opens `class` for `occ` ns. `None` if the spans show none.
-/// `fit_in_changing_list` and `fit_by_spans` call it.
+/// Returns the earliest time in ns, `from` or later, from which `list` opens `class` for `occ` ns, by stored spans; updates hint `last`.
+///
+/// `None` if no span is long enough; `fit_by_spans` and, after a schedule change, `fit_in_changing_list` call it.
 pub fn fit_in_list<A: Allocator + Copy>(
     list: &CyclicList<u8, A>,
     spans: &ClassSpans<A>,
@@ -308,8 +311,10 @@ pub fn fit_in_list<A: Allocator + Copy>(
     fit_until_stop(list, spans, last, class, occ, from, u64::MAX)
 }
 
-/// Returns the earliest time, `from` or later, from which two lists with a schedule change open `class` for `occ` ns. `None` if the
-/// spans show none. `fit_by_spans` calls it.
+/// Returns the earliest time in ns, `from` or later, from which the lists before and after a schedule change open `class` for `occ` ns, by
+/// stored spans. `None` if no span is long enough.
+///
+/// `fit_by_spans` calls it, and updates hints `last`.
 pub fn fit_in_changing_list<A: Allocator + Copy>(
     lists: &Joined<u8, A>,
     old: &ClassSpans<A>,

@@ -154,8 +154,9 @@ pub fn others_change_nothing<A: Allocator + Copy>()
         → AreSameViews u v }
 {}
 
-/// At most as many frames leave a port as arrive at the bridge, in a complete run (`whole`), up to a time (`so_far`) and up to a start
-/// (`to_start`). Written captures are therefore limited.
+/// No port sends more frames than arrive at the bridge, so output captures keep the limit of records.
+///
+/// Clauses: complete runs (`whole`), runs up to a time (`so_far`), runs up to the start of a transmission (`to_start`).
 pub fn few_leave<A: Allocator + Copy>()
     ensures whole { (p : Plan A) (es : List Event) (left : ℕ
         → List CapturedFrame) (o : Outcome A) (q : ℕ) (out : PortPlan A)

@@ -179,7 +179,8 @@ fn verdict_kind(verdict: Verdict) -> VerdictKind
     }
 }
 
-/// Returns the kind of a frame that passes with an internal priority value. `verdict_kind` calls it.
+/// Returns the `VerdictKind` of a frame that passes with internal priority value `ipv` and isn't marked drop eligible. `verdict_kind` calls
+/// it.
 #[inline(always)]
 fn pass_kind(ipv: u8) -> VerdictKind
     requires { ipv ≤ 7 }
@@ -197,7 +198,8 @@ fn pass_kind(ipv: u8) -> VerdictKind
     }
 }
 
-/// Returns the kind of a frame that passes with an internal priority value, marked drop eligible. `verdict_kind` calls it.
+/// Returns the `VerdictKind` of a frame that passes with internal priority value `ipv` and is marked drop eligible. `verdict_kind` calls
+/// it.
 #[inline(always)]
 fn eligible_kind(ipv: u8) -> VerdictKind
     requires { ipv ≤ 7 }

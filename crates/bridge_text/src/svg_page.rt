@@ -283,8 +283,10 @@ impl Span {
         AXIS_LEFT + self.axis_distance(t, AXIS_WIDTH)
     }
 
-    /// Returns the left end and the width of a span on the page. The width is at least 8, which keeps the span visible. `put_window`,
-    /// `put_wait` and `put_frame` of `show_picture` call it.
+    /// Returns the left end and the width of the span `from` to `to` (ns) on the page, in tenths of a pixel. The width is at least 8, which
+    /// keeps the span visible.
+    ///
+    /// `put_window`, `put_wait` and `put_frame` of `show_picture` call it.
     pub fn page_extent(self, from: u64, to: u64) -> (u64, u64) {
         let x = self.page_x(from);
         (x, self.page_x(to).saturating_sub(x).max(8))

@@ -69,8 +69,10 @@ fn offer_frame<W: ByteSink, A: Allocator + Copy>(
     Ok(())
 }
 
-/// Writes the frames that start before `time` ns, when the frame ahead arrived, and offers this frame. Then reads the next record, and
-/// returns its arrival time in ns; `None` at the capture's end.
+/// Writes frames that start before `time` ns, then offers the frame ahead, which arrived at `time`, to the queue; malformed frames are only
+/// counted.
+///
+/// Reads the next record and returns its arrival time in ns, or `None` at the capture's end.
 #[inline(always)]
 fn process_frame<R: ByteSource, W: ByteSink, A: Allocator + Copy>(
     speed: Speed,

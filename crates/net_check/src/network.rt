@@ -218,8 +218,8 @@ fn parse_network_text(alloc: Global, text: &[u8]) -> Result<NetworkFile<Global>,
     }
 }
 
-/// Returns the program's fault for a network file whose text has the fault `fault`: its fault line, or out of memory. `parse_network_text`
-/// calls it.
+/// Returns the command's failure for a network file with fault `fault`: the fault line, or `NoMemory` if memory ran out, now or before.
+/// `parse_network_text` calls it.
 fn refused_text_fault(alloc: Global, fault: &NetFault) -> Failure
     ensures { SaysText fault.now result }
 {

@@ -1,4 +1,4 @@
--- Lines of the queues that groups share.
+-- Lines of `bounds` about the queues that groups share.
 use Rattle.std.specs.Prelude.{ℕ, Bool, true, List, [], ◌++◌, Option, Some, None, flat_map, codes, decimal, nat_lt, if◌then◌else◌}
 use Rattle.bridge_groups.specs.declared.shared_queues.SharedQueue.{SharedQueue}
 
@@ -17,7 +17,7 @@ abbrev pub room_words : Option ℕ → ℕ → List ℕ
 room_words None capacity = codes " room none of " ++ decimal capacity
 room_words (Some room) capacity = codes " room " ++ (decimal room ++ (codes " of " ++ decimal capacity))
 
--- The line of a shared queue.
+-- The line of `bounds` about shared queue `s`: group, port, class, mark, delay bound in ns, and capacities.
 unfoldable pub shared_line : SharedQueue → List ℕ
 shared_line s = codes "group " ++ (decimal s.group ++ (codes " port " ++ (decimal s.port ++ (codes " class " ++ (decimal s.class ++ (shared_mark s ++ (codes " bound " ++ (decimal s.bound ++ (room_words s.room s.capacity ++ codes "\n")))))))))
 

@@ -71,7 +71,8 @@ timings_text xs = flat_map figures_line xs
 
 -- THE COMMAND `bounds --traffic`
 
--- Holds if the first 1,048,577 octets of a file with the octets `words` have these rows. Longer files are refused.
+-- Holds if a traffic file with the octets `words` has the rows `rows`. The first 1,048,577 octets decide, because a file of more than
+-- 1,048,576 octets is refused.
 abbrev pub ReadsRows : List ℕ → List TalkerRow → Type 0
 ReadsRows words rows = rows_of_text (take 1048577 words) ≡ Ok rows
 

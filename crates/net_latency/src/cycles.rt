@@ -76,7 +76,7 @@ fn traffic_text<'a>(
 
 /// Appends the path of the traffic file, and the position of the key `field` in row `index`, from 1. `explain_grouped_filter`,
 /// `explain_limited_row` and others call it.
-fn put_place(said: &mut TextBuilder<Global>, asked: TrafficText<'_>, index: u32, field: NetField) {
+fn put_row_position(said: &mut TextBuilder<Global>, asked: TrafficText<'_>, index: u32, field: NetField) {
     let row = Instance {
         document: asked.document,
         section: NetSection::Traffic.name(),
@@ -141,7 +141,7 @@ fn explain_grouped_filter(
     group: u32,
 ) -> Option<String> {
     let mut said = TextBuilder::new(alloc);
-    put_place(&mut said, asked, index, NetField::Filter);
+    put_row_position(&mut said, asked, index, NetField::Filter);
     let span = row.traffic.to.saturating_sub(row.traffic.from);
     said.put_template(
         "`filter` of `traffic` {0} is {1}, a filter of group {2} in the plan {a}. The bound of a shared queue needs no phases.\nIts talker sends at most one frame in any {3} ns: give `frames = 1` and `period = {3}` instead of `from` and `to`.\n",
@@ -180,7 +180,7 @@ fn explain_limited_row(
         ),
     };
     let mut said = TextBuilder::new(alloc);
-    put_place(&mut said, asked, index, NetField::Filter);
+    put_row_position(&mut said, asked, index, NetField::Filter);
     said.put_template(
         template,
         &[u64::from(index), u64::from(number)],
@@ -211,7 +211,7 @@ fn explain_unusable_filter(
         ),
     };
     let mut said = TextBuilder::new(alloc);
-    put_place(&mut said, asked, index, NetField::Filter);
+    put_row_position(&mut said, asked, index, NetField::Filter);
     said.put_template(
         template,
         &[u64::from(index), u64::from(number)],
@@ -339,7 +339,7 @@ fn explain_row(
     row: &TrafficRow,
 ) -> Option<String> {
     let mut said = TextBuilder::new(alloc);
-    put_place(&mut said, asked, index, NetField::Period);
+    put_row_position(&mut said, asked, index, NetField::Period);
     said.put_template(
         "`period` of `traffic` {0} is {1} ns. It must be a multiple of each cycle on the route of filter {2}:\n",
         &[u64::from(index), row.traffic.period, u64::from(row.filter)],

@@ -62,14 +62,14 @@ fn explain_refusable_rows(
     let mut index: u32 = 0;
     for row in rows {
         index = index.saturating_add(1);
-        put_row(&mut said, accepted.plan(), &shared, index, row, &timings);
+        put_refusable_row(&mut said, accepted.plan(), &shared, index, row, &timings);
     }
     said.finish().ok()
 }
 
 /// Appends a sentence for each queue in which frames of row `index` may be refused. `timings` has the results of all rows, `shared` the
 /// shared queues. `explain_refusable_rows` calls it.
-fn put_row(
+fn put_refusable_row(
     said: &mut TextBuilder<Global>,
     plan: &Plan<Global>,
     shared: &[SharedQueue],
@@ -88,7 +88,7 @@ fn put_row(
     }
 }
 
-/// Appends a sentence: the traffic row, its filter, the queue's port, and the first condition that fails there. `put_row` calls it.
+/// Appends a sentence: the traffic row, its filter, the queue's port, and the first condition that fails there. `put_refusable_row` calls it.
 fn put_queue(
     said: &mut TextBuilder<Global>,
     plan: &Plan<Global>,

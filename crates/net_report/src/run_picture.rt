@@ -3,7 +3,7 @@ ghost use Rattle.std.specs.Prelude.{◌≤◌, IfOk, length, string_bytes};
 
 use crate::copy_counting::HopRun;
 use crate::lanes::{put_window, put_windows};
-use crate::rows::put_hop;
+use crate::rows::put_hop_row;
 use bridge_cycle::Egress;
 use bridge_limits::NoMemory;
 use bridge_semantics::View;
@@ -181,7 +181,7 @@ impl RunPicture {
                 return;
             }
             let y = row_y(self.rows.saturating_add(place as u64));
-            put_hop(self, links, hops, &hops[place], y, names[place].as_str());
+            put_hop_row(self, links, hops, &hops[place], y, names[place].as_str());
         }
         self.rows = self.rows.saturating_add(hops.len() as u64);
     }

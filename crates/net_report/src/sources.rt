@@ -428,7 +428,7 @@ fn trace_all<A: Allocator + Copy>(
 /// Returns the source of each frame of each hop, or `None` for a frame without source. A frame from a link has the source of the copy that
 /// ended one delay before.
 ///
-/// `put_stream` of `app_networks` calls it.
+/// `put_stream_lines` and `put_stream_rows` of `app_networks` call it.
 pub fn trace_source_frames<A: Allocator + Copy>(
     alloc: A,
     links: &[Link],

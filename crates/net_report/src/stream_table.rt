@@ -133,7 +133,7 @@ pub fn delivered_frames(tallies: &[CopyCounts]) -> usize
     tallies.iter().filter(|tally| tally.is_delivered()).count()
 }
 
-/// Returns the number of astray copies of all frames of a stream. `put_stream_start` and `put_why` call it.
+/// Returns the number of astray copies of all frames of a stream. `put_stream_start` and `put_loss_causes` call it.
 pub(crate) fn total_astray(tallies: &[CopyCounts]) -> u128
     ensures { result ≡ sum_by astray tallies.now }
 {

@@ -35,7 +35,7 @@ fn put_nearest_key(alloc: Global, said: &mut Said, word: &str, keys: &'static [K
     put_nearest(alloc, said, word, &names, KEYS);
 }
 
-/// Writes which key at the top of a plan or of commands is unknown, and the nearest section. Both functions `put_fault` call it.
+/// Writes which key at the top of a plan or of commands is unknown, and the nearest section. `put_fault` calls it.
 pub(crate) fn put_top_key(alloc: Global, said: &mut Said, source: SourceText<'_>) {
     let sections: &'static [Section] = if source.is_commands {
         &COMMAND_SECTIONS

@@ -26,7 +26,7 @@ pub(crate) fn net_instance<'a>(
 }
 
 /// Writes the position of instance `index`, from 1, of a section, or of its key `key`, and the instance's name, ends or filter.
-/// Explanations in `network` begin with it. `put_fault`, `put_stray_key` and others call it.
+/// Explanations in `network` begin with it. `put_net_fault`, `put_stray_key` and others call it.
 pub(crate) fn put_net_place(
     said: &mut Said,
     document: Document<'_>,

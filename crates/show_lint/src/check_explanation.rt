@@ -367,8 +367,9 @@ fn shared_state<A: Allocator + Copy>(port: &PortPlan<A>, class: u8, at: u64) -> 
     }
 }
 
-/// Returns the result of `shared_state` at offset `at` for port `port` of the plan. Returns `None` if the plan lacks the port, or if
-/// `class` is above 7. `put_window` calls it.
+/// Returns the gate state at offset `at` ns of port `port` that opens `class` and another class, and whether only the new list has it.
+///
+/// `put_window` calls it; for `None` (no such port, list, entry or class) it writes that the port has no gate control list.
 fn shared_state_of_port<A: Allocator + Copy>(
     plan: &Plan<A>,
     port: u8,

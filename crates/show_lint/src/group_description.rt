@@ -116,7 +116,9 @@ pub(crate) fn first_of_group(filters: &[(u32, FilterPlan)], group: u32) -> u32 {
     0
 }
 
-/// Writes the filters of a group, and the queues that they share. `rows` has the shared queues of all groups. `put_filters` calls it.
+/// Writes the filters of group `group`, and its shared queues with windows, bound and capacity, for the description of an accepted plan.
+///
+/// `put_filters` calls it once for each group; `rows` has the shared queues of all groups.
 pub(crate) fn put_group<A: Allocator + Copy>(
     said: &mut LintText,
     plan: &Plan<A>,

@@ -125,7 +125,7 @@ fn stream_cause<A: Allocator + Copy>(
 }
 
 /// Adds a warning about filter `filter` for each port of the stream's static entry that isn't a member of its VLAN. `place` is the stream's
-/// position, from 1. `find_ways` calls it.
+/// number in the plan, from 1. `find_egress_warnings` calls it.
 fn find_non_member_ports<A: Allocator + Copy>(
     found: &mut Vec<Warning>,
     plan: &Plan<A>,
@@ -162,7 +162,7 @@ fn are_several(set: PortSet) -> bool {
 }
 
 /// Adds a warning about filter `filter` if the stream's frames leave by several ports because no static entry has their address. `place` is
-/// the stream's position, from 1. `find_ways` calls it.
+/// the stream's number in the plan, from 1. `find_egress_warnings` calls it.
 fn find_flooded<A: Allocator + Copy>(
     found: &mut Vec<Warning>,
     plan: &Plan<A>,
@@ -183,9 +183,10 @@ fn find_flooded<A: Allocator + Copy>(
     push_warning(found, Warning::Flooded(Flooded { filter, place, vid }))
 }
 
-/// Adds warnings about egress ports of a forwarded stream of filter `filter`: ports that its VLAN lacks, and flooding. `place` is the
-/// stream's position, from 1. `find_stream_warnings` calls it.
-fn find_ways<A: Allocator + Copy>(
+/// Adds warnings about where a forwarded stream leaves: static-entry ports that aren't members of its VLAN, and flooding.
+///
+/// `find_stream_warnings` calls it for streams identified by destination; `place` is the stream's number in the plan, from 1.
+fn find_egress_warnings<A: Allocator + Copy>(
     found: &mut Vec<Warning>,
     plan: &Plan<A>,
     filter: u32,
@@ -199,8 +200,8 @@ fn find_ways<A: Allocator + Copy>(
     find_flooded(found, plan, filter, place, stream)
 }
 
-/// Adds warnings about a stream of a protected filter: it isn't forwarded, or has doubtful egress ports. `place` is its position, from 1.
-/// `find_not_forwarded` calls it.
+/// Adds warnings about a stream of protected filter `filter`: it isn't forwarded, or has doubtful egress ports. `place` is the stream's
+/// number in the plan, from 1. `find_not_forwarded` calls it.
 fn find_stream_warnings<A: Allocator + Copy>(
     found: &mut Vec<Warning>,
     plan: &Plan<A>,
@@ -223,7 +224,7 @@ fn find_stream_warnings<A: Allocator + Copy>(
             };
             push_warning(found, Warning::NotForwarded(stuck))
         }
-        (None, Kind::Null) => find_ways(found, plan, filter, place, stream),
+        (None, Kind::Null) => find_egress_warnings(found, plan, filter, place, stream),
         (None, Kind::Source) => Ok(()),
     }
 }
