@@ -112,7 +112,8 @@ with_word command word = with_rule command (rule_in word.form word.id.now)
 abbrev pub described : Description → App
 described d = fold with_word (new_app d.name.now) d.words.now
 
--- The program's fault of arguments that `clap` refuses, by the kind of its error.
+-- The fault of arguments that `clap` refuses with an error of kind `kind`: `NoMemory` if memory ran out, otherwise
+-- `Words`.
 abbrev pub fault_of_kind : ErrorKind → ArgumentsFault
 fault_of_kind kind.OutOfMemory = fault.NoMemory
 fault_of_kind _ = fault.Words

@@ -1,4 +1,4 @@
-//! Finds requests for help or the version.
+//! Finds out whether the arguments request help or the version.
 ghost use Rattle.std.specs.Prelude.{◌≡◌, Ok, Err, None, IfOk, IfErr, IfSome, map, string_bytes, false, true};
 ghost use Rattle.std.specs.List.{list_any};
 ghost use Rattle.clap.specs.Words.{fault_of, kind_of};

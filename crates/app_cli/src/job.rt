@@ -113,7 +113,8 @@ pub(crate) fn job_by_matches(
     }
 }
 
-/// Returns the requested command, by its name and its values. `job_by_matches` calls it.
+/// Returns the requested command with the values `values` that `clap` found; `name` is the command's name in the arguments.
+/// `job_by_matches` calls it.
 fn job_by_command(
     alloc: Global,
     words: &[String],

@@ -1,4 +1,4 @@
-//! Reads numbers from arguments.
+//! Reads numbers and lists of numbers from arguments.
 ghost use Rattle.std.specs.Prelude.{◌<◌, ◌^◌, MatchOption};
 ghost use Rattle.std.specs.Option.{SomeIff};
 ghost use Rattle.std.specs.Str.Parse.{IsNumeral, digits_value};

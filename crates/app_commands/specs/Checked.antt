@@ -1,4 +1,4 @@
--- Faults that can end the check of a plan.
+-- Failures that can end the check of a plan.
 use Rattle.std.specs.Prelude.{ℕ, List}
 use Rattle.app_failure.specs.declared.fault.Failure.{Failure}
 use Rattle.app_failure.specs.Jobs.{EndsCheck}

@@ -1,4 +1,4 @@
--- Outputs that were flushed after a run.
+-- Output captures that are flushed after a run.
 use Rattle.std.specs.Prelude.{◌≡◌, ℕ, Bool, false, ◌⊎◌, Option, List, [], ◌∷◌}
 use Rattle.std.specs.Io.KnownBytes.{Keeps}
 use Rattle.bridge_config.specs.declared.command.Command.{Command}

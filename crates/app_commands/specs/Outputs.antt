@@ -9,7 +9,7 @@ use Rattle.app_failure.specs.Lines.{fault_line}
 use Rattle.app_failure.specs.Status.{fault_status}
 use Rattle.app_commands.specs.declared.output.Output.{Output}
 
--- The program's fault for refused arguments, or for memory that ran out while they were read.
+-- The command's failure for refused arguments, or for memory that ran out while they were read.
 abbrev pub of_words_fault : ArgumentsFault → Failure
 of_words_fault words.Words = fault.Words
 of_words_fault words.NoMemory = fault.NoMemory

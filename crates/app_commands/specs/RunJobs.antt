@@ -1,4 +1,4 @@
--- Faults that can end the command `run`.
+-- Failures that can end the command `run`.
 use Rattle.std.specs.Prelude.{option_map, string_bytes}
 use Rattle.std.specs.declared.alloc.Global.{Global}
 use Rattle.bridge_config.specs.Model.{Plan}

@@ -1,4 +1,4 @@
--- Tables and pictures that fail.
+-- Failures of the tables and pictures that a run writes.
 use Rattle.std.specs.Prelude.{◌≡◌, ◌⊎◌, ℕ, List, Option, None, Some, String}
 use Rattle.std.specs.declared.alloc.Global.{Global}
 use Rattle.std.specs.Io.KnownBytes.{Appends}

@@ -1,4 +1,4 @@
-//! Arguments of the command `run`.
+//! What the commands receive: arguments of `run`, options, and the texts that they read.
 use app_cli::{PictureRequest, TableRequest};
 use std::alloc::Global;
 

@@ -31,8 +31,10 @@ pub fn explain_words_fault(alloc: Global, words: &[String], fault: &Failure) -> 
     }
 }
 
-/// Explains why a file failed, by its path and cause. Returns `None` for other faults, or if memory runs out. `explain_words_fault`,
-/// `explain_plan_fault` and functions of `app_networks` call it.
+/// Explains why a file failed, if `fault` is such a failure: it has the path and the cause. Returns `None` for other failures, or if memory
+/// runs out.
+///
+/// `explain_words_fault`, `explain_plan_fault` and functions of `app_networks` call it.
 pub fn explain_file_fault(alloc: Global, fault: &Failure) -> Option<String> {
     match fault {
         Failure::File(FileError { path, cause }) => explain_file_cause(
@@ -51,8 +53,8 @@ pub fn explain_file_cause(alloc: Global, path: &str, cause: Cause) -> Option<Str
     explain_file(alloc, shown.as_str(), cause).ok()
 }
 
-/// Explains why a plan is refused, by its path and its text, or why its file failed. Returns `None` for other faults, or if memory runs
-/// out. `explain_run_fault` and functions of `app_networks` call it.
+/// Explains why the plan at `path` with the contents `text` is refused, or why its file failed. Returns `None` for other failures, or if
+/// memory runs out. `explain_run_fault` and functions of `app_networks` call it.
 pub fn explain_plan_fault(
     alloc: Global,
     path: &str,
@@ -82,8 +84,8 @@ fn explain_check_fault(
     said.ok()
 }
 
-/// Explains why the command `run` failed, by the texts that it has read. Returns `None` if memory runs out or a capture can't be read
-/// again. `explain_failure` of `app_networks` calls it.
+/// Explains why the command `run` failed; `texts` has the plan and the commands that it read. Returns `None` if memory runs out or a
+/// capture can't be read again. `explain_failure` of `app_networks` calls it.
 pub fn explain_run_fault(
     rt: &(impl AllocGlobal + Files),
     job: &RunRequest<'_>,
@@ -104,8 +106,8 @@ pub fn explain_run_fault(
     }
 }
 
-/// Explains why a run stopped, by the paths of the input and output capture of the port at fault. Without a port, port 1 serves as example.
-/// `explain_run_fault` calls it.
+/// Explains why a run stopped. The explanation names the input or the output capture of the port at fault; without a port, port 1 serves as
+/// example. `explain_run_fault` calls it.
 fn explain_stopped_run(
     rt: &(impl AllocGlobal + Files),
     job: &RunRequest<'_>,
@@ -137,8 +139,8 @@ pub fn explain_wire_fault(
     }
 }
 
-/// Explains why a run stopped, by the path of an input or an output capture. The fault decides which of the two the explanation names.
-/// `explain_stopped_run` and `explain_wire_fault` call it.
+/// Explains why a run stopped; `read` and `written` are the paths of an input and an output capture. The fault decides which of the two the
+/// explanation names. `explain_stopped_run` and `explain_wire_fault` call it.
 fn explain_captures(
     rt: &(impl AllocGlobal + Files),
     read: &str,
@@ -182,8 +184,8 @@ fn capture_fault<H: AllocGlobal + Files>(rt: &H, path: &str) -> Option<CaptureFa
     None
 }
 
-/// Explains a refused or unreadable capture, by its first octets. Returns `None` if they can't be read again. `explain_captures` and
-/// `explain_capture_file` call it.
+/// Explains why the capture at `path` is refused or can't be read; reads its first octets again. Returns `None` if they can't be read
+/// again. `explain_captures` and `explain_capture_file` call it.
 fn explain_capture(
     rt: &(impl AllocGlobal + Files),
     path: &str,

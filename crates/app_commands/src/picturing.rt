@@ -1,4 +1,4 @@
-//! Draws pictures, and writes them to files.
+//! Draws pictures of plans and runs, and writes them to files.
 ghost use Rattle.std.specs.Prelude.{ℕ, IfErr, IfOk, List, codes, string_bytes};
 ghost use Rattle.std.specs.declared.alloc.Global.{Global};
 ghost use Rattle.app_commands.specs.ShownFiles.{EndsPicture, IsOfPicture, IsWritten};

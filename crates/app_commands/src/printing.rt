@@ -1,4 +1,4 @@
-//! Prints to standard output.
+//! Prints outputs, fault lines and explanations to standard output and standard error.
 ghost use Rattle.std.specs.Prelude.{◌≡◌, ◌⊎◌, IfOk, map, string_bytes, IfErr};
 ghost use Rattle.app_cli.specs.Helping.{explains};
 ghost use Rattle.std.specs.Io.KnownBytes.{Appends};
@@ -90,7 +90,7 @@ pub fn tell(rt: &impl Eprint, output: Result<Output, NoMemory>) -> ExitCode
     }
 }
 
-/// Returns the program's fault for refused arguments, or for memory that ran out while they were read. `perform` and `perform_request` of
+/// Returns the command's failure for refused arguments, or for memory that ran out while they were read. `perform` and `perform_request` of
 /// `app_networks`, and `main` of `tsnbridge` call it.
 pub fn words_failure(fault: ArgumentsFault) -> Failure
     ensures { result ≡ of_words_fault fault }

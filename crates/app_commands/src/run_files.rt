@@ -1,4 +1,4 @@
-//! Runs a folder of captures.
+//! Runs a bridge over a folder of captures, and writes captures and report.
 ghost use Rattle.std.specs.Prelude.{◌≡◌, IfOk, IfErr, length, option_map, string_bytes};
 ghost use Rattle.bridge_config.specs.Commands.{AreCommands};
 ghost use Rattle.app_files.specs.Folders.{HavePaths};

@@ -1,4 +1,4 @@
-//! Writes tables of a run to files.
+//! Writes the tables that `run` makes of delays and frames to their files.
 ghost use Rattle.std.specs.Prelude.{IfErr, IfOk, Some, option_map, string_bytes};
 ghost use Rattle.show_tables.specs.DelayTable.{IsDelayTable};
 ghost use Rattle.app_commands.specs.ShownFiles.{IsFrameTable, IsOfTable, IsOfTables, IsTableWritten, IsWritten};

@@ -1,4 +1,4 @@
--- The line for an accepted plan.
+-- The line that `check` prints for an accepted plan.
 use Rattle.std.specs.Prelude.{ℕ, List, ◌++◌, count_by, is_some, length, nat_eq, codes, decimal, if◌then◌else◌}
 use Rattle.bridge_filter.specs.declared.FilterPlan.{FilterPlan}
 

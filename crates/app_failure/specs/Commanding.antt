@@ -1,4 +1,4 @@
--- A plan with the commands of its run.
+-- A plan with the commands of its run, and the failures of reading both.
 use Rattle.std.specs.Prelude.{◌≡◌, ◌≢◌, ℕ, List, [], Option, None, Some, Result, Ok, string_bytes}
 use Rattle.bridge_schema.specs.declared.plan_fault.PlanFault.{PlanFault}
 use Rattle.bridge_schema.specs.Readers.{IsReadFault}

@@ -1,4 +1,4 @@
--- Fault lines, without a line feed.
+-- Fault lines of commands that failed, without line feed.
 use Rattle.std.specs.Prelude.{ℕ, List, ◌++◌, codes, decimal, string_bytes}
 use Rattle.bridge_capture.specs.declared.capture_fault.CaptureFault.{CaptureFault}
 use Rattle.bridge_capture.specs.declared.capture_fault.CaptureFault.TheVariants as capture
@@ -61,7 +61,7 @@ text_fault_line (text.Run f) = run_fault_line f
 abbrev pub file_fault_line : List ℕ → List ℕ
 file_fault_line path = codes "file " ++ escaped path
 
--- The fault line of a fault, by its kind.
+-- The fault line of a command's failure, without line feed. A network's failure has its line already.
 abbrev pub fault_line : Failure → List ℕ
 fault_line (fault.Text f) = text_fault_line f
 fault_line (fault.Run f) = run_fault_line f

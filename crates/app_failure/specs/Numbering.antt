@@ -1,4 +1,4 @@
--- Numbers of the faults of a text.
+-- Numbers of the faults of the hexadecimal text on standard input.
 use Rattle.std.specs.Prelude.{ℕ}
 use Rattle.app_failure.specs.declared.fault.TextFault.{TextFault}
 use Rattle.app_failure.specs.declared.fault.TextFault.TheVariants.{NotHex, TooLong, Run}

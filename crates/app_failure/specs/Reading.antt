@@ -1,4 +1,4 @@
--- Faults of files.
+-- Failures of commands because of a file, or of standard input or output.
 use Rattle.std.specs.Prelude.{◌≡◌, ◌⊎◌, ℕ, List, [], codes, string_bytes}
 use Rattle.app_files.specs.FailedFiles.{IsCapture}
 use Rattle.app_failure.specs.declared.fault.Failure.{Failure}

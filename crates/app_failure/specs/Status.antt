@@ -1,4 +1,4 @@
--- Exit statuses of faults.
+-- Exit statuses of commands that failed.
 use Rattle.std.specs.Prelude.{ℕ}
 use Rattle.bridge_capture.specs.declared.capture_fault.CaptureFault.{CaptureFault}
 use Rattle.bridge_capture.specs.declared.capture_fault.CaptureFault.TheVariants as capture

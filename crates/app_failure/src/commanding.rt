@@ -1,4 +1,4 @@
-//! Reads the commands of a run.
+//! Reads the commands of a run for an accepted plan.
 ghost use Rattle.std.specs.Prelude.{◌≡◌, ℕ, List, Option, None, Some, Ok, IfOk, IfErr, option_map, string_bytes};
 ghost use Rattle.bridge_check.specs.Faults.{first_fault};
 ghost use Rattle.bridge_config.specs.Commands.{AreCommands};

@@ -89,8 +89,8 @@ pub fn standard_stream_fault(alloc: Global) -> Failure
     failed_file(alloc, "-", Cause::Standard)
 }
 
-/// Returns the fault of the file at `path`, by the fault of its reader. `read_commands` and `read_plan`, and `read_rows` of `net_latency`
-/// call it.
+/// Returns the command's failure for the file at `path`, from which its reader can't read (`Broken`), or for lack of memory.
+/// `read_commands` and `read_plan`, and `read_rows` of `net_latency` call it.
 pub fn read_failure(alloc: Global, path: &str, fault: ReadFault) -> Failure
     ensures { IsFileFault path.now result }
 {
@@ -100,8 +100,8 @@ pub fn read_failure(alloc: Global, path: &str, fault: ReadFault) -> Failure
     }
 }
 
-/// Returns the program's fault of the file at `path`. If memory for the path runs out, returns `NoMemory` instead. `standard_stream_fault`
-/// and `read_failure` call it.
+/// Returns the command's failure for the failed file at `path`; `NoMemory` if memory for the path runs out. `standard_stream_fault` and
+/// `read_failure` call it.
 fn failed_file(alloc: Global, path: &str, cause: Cause) -> Failure
     ensures { IsFileFault path.now result }
 {

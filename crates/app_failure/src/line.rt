@@ -1,4 +1,4 @@
-//! Writes the fault line of each fault.
+//! Writes the fault line of a command's failure.
 ghost use Rattle.std.specs.Prelude.{◌≡◌, IfOk, string_bytes, ◌⊎◌, IfErr};
 ghost use Rattle.bridge_text.specs.Growth.{HasGrown};
 ghost use Rattle.app_failure.specs.Lines.{fault_line, capture_fault_line, run_fault_line, text_fault_line, not_read, not_written, file_fault_line, refused_capture, refused_record};

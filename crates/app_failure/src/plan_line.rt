@@ -1,4 +1,4 @@
-//! Writes the fault line of a refused plan.
+//! Writes the fault line of a plan that is refused.
 ghost use Rattle.bridge_text.specs.Growth.{HasGrown};
 ghost use Rattle.app_failure.specs.PlanLines.{instance_text, key_text, list_fault_line, plan_fault_line, list_refused, plan_refused, plan_refused_section};
 

@@ -1,4 +1,4 @@
-//! Exit statuses of faults.
+//! Exit statuses of commands that failed.
 ghost use Rattle.std.specs.Prelude.{◌≡◌};
 ghost use Rattle.app_failure.specs.Status.{fault_status, capture_fault_status, check_fault_status, list_fault_status, plan_fault_status, run_fault_status, text_fault_status};
 
@@ -20,7 +20,7 @@ const FAILED: u8 = 3;
 /// Status after refused arguments.
 const WORDS: u8 = 4;
 
-/// Returns the exit status after a fault, 1 to 4, by the kind of the fault. `fault_line` calls it.
+/// Returns the exit status of a command with failure `fault`, 1 to 4. `fault_line` calls it.
 pub fn fault_status(fault: &Failure) -> u8
     ensures { result ≡ fault_status fault.now }
 {

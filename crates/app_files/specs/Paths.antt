@@ -1,4 +1,4 @@
--- Paths of the files of a run.
+-- Paths of the captures and the report of a run.
 use Rattle.std.specs.Prelude.{ℕ, List, ◌++◌, Option, codes, decimal, option_map}
 use Rattle.std.specs.Path.{rsplit_once}
 

@@ -50,8 +50,8 @@ fn has_folder(rt: &impl Files, path: &str) -> bool {
     }
 }
 
-/// Returns the cause that an error's kind alone shows, for reading and for writing. Returns `Unknown` for other kinds: `read_cause` and
-/// `write_cause` then look further.
+/// Returns the cause that an error's kind shows by itself, for reading and for writing; `Unknown` for other kinds. `read_cause` and
+/// `write_cause` call it for the kinds that they don't handle themselves.
 fn kind_cause(kind: ErrorKind) -> Cause {
     match kind {
         ErrorKind::IsADirectory => Cause::Folder,
@@ -60,8 +60,10 @@ fn kind_cause(kind: ErrorKind) -> Cause {
     }
 }
 
-/// Returns why a file can't be opened or read, by the error and the folder. Returns `Unknown` if neither shows the cause. `capture_cause`,
-/// `open_input` and functions of `app_networks` call it.
+/// Returns why the file at `path` can't be opened or read, after the error `error`. For a missing file, examines whether its folder exists.
+/// `Unknown` for other errors.
+///
+/// `capture_cause`, `open_input` and functions of `app_networks` call it.
 pub fn read_cause(rt: &impl Files, path: &str, error: &Error) -> Cause {
     match error.kind() {
         ErrorKind::NotFound => {
@@ -76,8 +78,10 @@ pub fn read_cause(rt: &impl Files, path: &str, error: &Error) -> Cause {
     }
 }
 
-/// Returns why a file can't be opened or created for writing, by the error and the folder. Returns `Unknown` if neither shows the cause.
-/// `create_output` and `make_folder` of `app_networks` call it.
+/// Returns why the file at `path` can't be opened or created for writing, after the error `error`. For a missing file, examines whether its
+/// folder exists. `Unknown` for other errors.
+///
+/// `create_output`, and `make_folder` of `app_networks` call it.
 pub fn write_cause(rt: &impl Files, path: &str, error: &Error) -> Cause {
     match error.kind() {
         ErrorKind::NotFound => {

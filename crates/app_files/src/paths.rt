@@ -1,4 +1,4 @@
-//! Paths of the files of a run.
+//! Paths of the files of a run: captures, report and folders.
 ghost use Rattle.std.specs.Prelude.{◌≡◌, IfOk, string_bytes, IfErr, OnOk, option_map};
 ghost use Rattle.app_files.specs.Paths.{capture_path, folder_of, report_path};
 ghost use Rattle.app_files.specs.Folders.{HavePaths, LackPath};

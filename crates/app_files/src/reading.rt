@@ -1,4 +1,4 @@
-//! Reads files and standard input whole.
+//! Reads whole files and the whole standard input, up to a limit.
 ghost use Rattle.std.specs.Prelude.{◌≡◌, List, ℕ, Some, IfOk, take};
 ghost use Rattle.std.specs.IoError.{error_kind};
 ghost use Rattle.app_files.specs.Reading.{read_fault};

@@ -1,4 +1,4 @@
-//! Writes files whole.
+//! Writes the whole contents of an output file.
 ghost use Rattle.std.specs.Prelude.{◌≡◌, IfErr, IfOk};
 ghost use Rattle.std.specs.Io.KnownBytes.{Appends};
 ghost use Rattle.app_files.specs.FailedFiles.{IsOfPath};

@@ -50,7 +50,7 @@ IsStoppedLine bridges (rounds.Bridge b e) line = IsCaptureLine (bridge_name brid
 IsStoppedLine bridges (rounds.NotSettled b port) line = line ≡ unsettled_line (bridge_name bridges b) port
 IsStoppedLine bridges rounds.NoMemory line = ⊥
 
--- Holds if a fault of the program reports this fault of a network run, or memory ran out.
+-- Holds if the command's failure has the fault line of `e`, why a network run stopped, or is `NoMemory`.
 abbrev pub IsStoppedRunFault : List Bridge → RoundsFault → Failure → Type 0
 IsStoppedRunFault bridges e (fault.Rounds line) = IsStoppedLine bridges e (string_bytes line)
 IsStoppedRunFault bridges e fault.NoMemory = Unit {0}
@@ -60,13 +60,14 @@ IsStoppedRunFault bridges e f = ⊥
 unfoldable pub commands_lines : List ℕ → List ℕ → List ℕ
 commands_lines name line = codes "network refused: Commands " ++ (name ++ (codes "\n" ++ line))
 
--- Holds if a fault of the program has the lines of bridge `name`'s commands, refused by fault `e`, or memory ran out.
+-- Holds if the command's failure has the fault lines of bridge `name`'s commands, which fault `e` refuses, or is `NoMemory`.
 abbrev pub SaysCommands : List ℕ → PlanFault → Failure → Type 0
 SaysCommands name e (fault.Network line) = (fault_status (fault.Commands e) ≡ 1) × (string_bytes line ≡ commands_lines name (commands_fault_line e))
 SaysCommands name e fault.NoMemory = Unit {0}
 SaysCommands name e f = ⊥
 
--- Holds if `lines` are the fault lines of some commands for a bridge with plan `p`, by the fault of their text.
+-- Holds if `lines` are the fault lines of commands that are refused for bridge `name` with plan `p`: a text of commands has the fault in
+-- these lines.
 abbrev pub RefusesCommandsOf : {A : Type 0} → Plan A → List ℕ → List ℕ → Type 0
 RefusesCommandsOf p name lines = (text : List ℕ) × (e : PlanFault) × (text_commands p text ≡ Err e) × (lines ≡ commands_lines name (commands_fault_line e))
 

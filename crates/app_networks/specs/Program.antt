@@ -76,7 +76,7 @@ PerformsRequest r output = PerformsJob r.job r.is_strict r.is_explained output
 abbrev pub FailsPicture : List ℕ → List ℕ → Bool → Failure → Type 0
 FailsPicture path file part f = EndsPicture Global path file f ⊎ (FailsNetworkPicture path file f ⊎ ((part ≡ true) × (f ≡ fault.Words)))
 
--- Holds if fault `f` can end `bounds`, by the paths of the plan and the optional traffic.
+-- Holds if failure `f` can end `bounds` for the plan at path `plan` and, if given, the traffic at path `file`.
 abbrev pub FailsBounds : List ℕ → Option (List ℕ) → Failure → Type 0
 FailsBounds plan None f = EndsChecked Global plan f
 FailsBounds plan (Some file) f = FailsTraffic plan file f

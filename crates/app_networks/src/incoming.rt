@@ -22,8 +22,8 @@ use std::alloc::Global;
 /// Largest number of octets read from a capture: 1,000,001 records of the greatest length, one more than a capture may have.
 const MOST_CAPTURE: u64 = 65_552_065_576;
 
-/// Reads at most `most` octets of the file at `path`. Converts a file fault to the program's fault. `read_capture` and `read_commands` call
-/// it.
+/// Reads at most `most` octets of the file at `path`. Converts a file fault to the command's failure. `read_capture` and `read_commands`
+/// call it.
 fn read_file<F: ReadFiles>(files: &mut F, path: &str, most: u64) -> Result<Vec<u8>, Failure>
     ensures { IfErr result (IsFileFault path.now) }
 {

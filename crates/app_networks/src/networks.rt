@@ -113,8 +113,8 @@ fn output_of_run(alloc: Global, said: NetworkRunResult, flags: Flags) -> Output
     }
 }
 
-/// Returns the text `told`, followed by the number of rounds if `is_explained`. If memory runs out, the number is left out. `output_of_run`
-/// calls it.
+/// Returns the text `told`, and if `is_explained`, the number of rounds after it. If memory runs out, the number is left out.
+/// `output_of_run` calls it.
 fn with_rounds(alloc: Global, told: String, rounds: u32, is_explained: bool) -> String
     ensures { IsWithRounds (string_bytes told) is_explained (string_bytes result) }
 {

@@ -217,7 +217,7 @@ pub(crate) struct WrittenTables<F: Write + OpenFile + Drop> {
     pub frames: Output<F>,
 }
 
-/// Returns the program's fault for the table `name` in `folder`, which wasn't written. `folder_fault` calls it.
+/// Returns the command's failure for the table `name` in `folder`, which wasn't written. `folder_fault` calls it.
 fn table_fault(alloc: Global, folder: &str, name: &str) -> Failure
     ensures { IsFileFault (table_path folder.now name.now) result }
 {
@@ -227,7 +227,7 @@ fn table_fault(alloc: Global, folder: &str, name: &str) -> Failure
     }
 }
 
-/// Returns the program's fault for a table that wasn't written, with the table's path in `folder`. `put_tables` calls it.
+/// Returns the command's failure for a table that wasn't written, with the table's path in `folder`. `put_tables` calls it.
 fn folder_fault(alloc: Global, folder: &str, fault: TableFault) -> Failure
     ensures { NamesFile (IsTableFile folder.now) result }
 {

@@ -1,4 +1,4 @@
--- Examples of the definitions, computed.
+-- Computed examples of delay bounds and of their definitions.
 use Rattle.std.specs.Prelude.{◌≡◌, true, false, None, Some, [], ◌∷◌, refl}
 use Rattle.std.proofs.Common.{lit<, lit≤}
 use Rattle.bridge_cycle.specs.Cyclic.{Cyclic, turn_by_time}

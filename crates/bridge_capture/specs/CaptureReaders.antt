@@ -1,4 +1,4 @@
--- Captures that are read one record ahead.
+-- Captures of a bridge's ports, which a run reads one record ahead.
 use Rattle.std.specs.Prelude.{◌≡◌, ℕ, ◌+◌, ◌<◌, ◌≤◌, ◌⊎◌, length, Option, Some, None, is_some, List, [], ◌∷◌, ◌++◌, slice_get, sum_by, Result, Ok, Err, if◌then◌else◌}
 use Rattle.bridge_limits.specs.declared.TheConstants.{END_OF_TIME, MAX_CAPTURED_OCTETS}
 use Rattle.bridge_capture.specs.declared.fault.RunFault.{RunFault}

@@ -1,4 +1,4 @@
--- Octets of a hexadecimal text.
+-- Octets that a hexadecimal text on standard input stands for.
 use Rattle.std.specs.Prelude.{ℕ, ◌+◌, ◌-◌, ◌*◌, ◌==◌, ◌&&◌, ◌||◌, nat_lt, Bool, if◌then◌else◌, List, [], ◌∷◌, length, Option, Some, None, Result, Ok, Err}
 use Rattle.std.specs.Char.{digit_value, is_digit}
 use Rattle.bridge_capture.specs.declared.hex_fault.HexFault.{HexFault}

@@ -1,4 +1,4 @@
-//! Sinks of octets.
+//! Defines `ByteSink`: the interface by which captures are written, to a writer or to memory.
 ghost use Rattle.std.specs.Prelude.{◌≡◌, ◌≤◌, ◌<◌, ◌++◌, ℕ, List, Option, Bool, true, false, length, IsErr, IfOk, OnOk, OnErr};
 ghost use Rattle.std.specs.Int.{w64, to_le_bytes};
 ghost use Rattle.std.specs.Io.KnownBytes.{WriteAppends, Appends};

@@ -1,4 +1,4 @@
-//! Sources of octets.
+//! Defines `ByteSource`: the interface by which captures are read, from a reader or from memory.
 ghost use Rattle.std.specs.Prelude.{◌≡◌, ◌≤◌, ◌<◌, ℕ, List, Option, Bool, true, false, length, take, drop, IsErr, IsOk, IfOk, OnOk, OnErr};
 ghost use Rattle.std.specs.Io.KnownBytes.{ReadConsumes, Consumes};
 

@@ -1,4 +1,4 @@
-//! Capture that is being read.
+//! Capture whose records are being read, one after another.
 use crate::byte_source::ByteSource;
 use crate::capture_fault::CaptureFault;
 use crate::format::CaptureFormat;

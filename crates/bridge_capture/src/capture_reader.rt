@@ -1,4 +1,4 @@
-//! Captures that are read one record ahead.
+//! Reads the capture of a bridge's port one record ahead.
 ghost use Rattle.std.specs.Prelude.{◌≡◌, ◌≢◌, ℕ, ◌<◌, ◌≤◌, List, Option, [], None, Some, length, Err, true, IfOk, IfErr, OnOk};
 ghost use Rattle.bridge_limits.specs.Members.{IsOrdered};
 ghost use Rattle.bridge_limits.specs.declared.TheConstants.{MAX_ARRIVALS};

@@ -1,4 +1,4 @@
-//! Reasons why a run stops.
+//! Reasons why a run of a bridge or of one queue stops.
 ghost use Rattle.std.specs.Prelude.{◌≡◌};
 
 use crate::capture_fault::CaptureFault;

@@ -1,4 +1,4 @@
-//! Readers of the standard library as sources.
+//! Makes a source of captures from a reader of the standard library.
 ghost use Rattle.std.specs.Prelude.{◌≡◌, [], false};
 
 use crate::byte_source::{Broken, ByteSource};

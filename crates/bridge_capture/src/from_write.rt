@@ -1,4 +1,4 @@
-//! Writers of the standard library as sinks.
+//! Makes a sink for captures from a writer of the standard library.
 ghost use Rattle.std.specs.Prelude.{◌≡◌, false};
 
 use crate::byte_sink::ByteSink;

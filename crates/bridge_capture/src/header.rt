@@ -1,4 +1,4 @@
-//! Header of a capture.
+//! Reads the header of a capture: its magic number, version and link type.
 ghost use Rattle.std.specs.Prelude.{◌≡◌, length, take, IfErr};
 ghost use Rattle.std.specs.Int.{w32, from_le_bytes};
 ghost use Rattle.bridge_capture.specs.Grammar.{format_by_magic, format_after_magic, word16, word32};

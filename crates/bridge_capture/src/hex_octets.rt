@@ -1,4 +1,4 @@
-//! Parses hexadecimal text.
+//! Parses hexadecimal text into octets, for the program without arguments.
 ghost use Rattle.std.specs.Prelude.{◌≡◌, Ok, Err, IfOk};
 ghost use Rattle.bridge_capture.specs.Hex.{is_blank, digits_octet, spelled_octets};
 

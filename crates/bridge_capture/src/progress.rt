@@ -1,4 +1,4 @@
-//! Progress of reading a capture.
+//! Result of one step of reading a capture.
 use crate::capture_fault::CaptureFault;
 
 /// Whether more records of a capture can follow.

@@ -1,4 +1,4 @@
-//! Record of a capture.
+//! Reads the records of a capture: header and captured octets of each frame.
 ghost use Rattle.std.specs.Prelude.{◌≡◌, ◌≢◌, ◌≤◌, ◌<◌, ◌+◌, ◌*◌, Some, None, Err, true, length, take, IfSome, IfErr, MatchResult};
 ghost use Rattle.bridge_capture.specs.Grammar.{record_time, captured_length, original_length, record_header_fault, front_item};
 ghost use Rattle.bridge_capture.specs.Reading.{TakesFront, TakesOctets, AgreesWithSource, IfPacket, IsInBounds, IsRecordHeaderFault, packet_result};

@@ -1,4 +1,4 @@
-//! Octets held back from a writer.
+//! Buffer of octets that a sink holds back until a block is full.
 ghost use Rattle.std.specs.Prelude.{◌≡◌, ◌≤◌, ◌<◌, ◌+◌, ◌++◌, length, vec_len};
 ghost use Rattle.std.specs.Int.{w64, to_le_bytes};
 ghost use Rattle.bridge_capture.specs.declared.write_buffer.TheConstants.{MAX_BLOCK, MAX_RECORD_OCTETS};

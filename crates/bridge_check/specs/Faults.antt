@@ -189,7 +189,7 @@ abbrev pub tests_in_group : {A : Type 0} → Plan A → Option ℕ → ℕ → F
 tests_in_group p None n f = filter_tests p n f
 tests_in_group p (Some k) n f = member_tests p k n f
 
--- The test results for filter `f` with number `n`, by its kind: protected or grouped.
+-- The test results for filter `f` with number `n`: results of protected filters, or if `f` is grouped, of grouped filters.
 abbrev pub kind_tests : {A : Type 0} → Plan A → ℕ → FilterPlan → List (Option CheckFault)
 kind_tests p n f = tests_in_group p (queue_group f) n f
 

@@ -1,4 +1,4 @@
-//! Lists every test that a plan fails.
+//! Lists every test of `check` that a plan fails, for explanations.
 ghost use Rattle.std.specs.Prelude.{◌≡◌, ◌≤◌, ◌++◌, IfOk, OnOk};
 ghost use Rattle.std.specs.Option.{ForSome};
 ghost use Rattle.bridge_check.specs.Faults.{all_faults, failed_tests, filter_failures, has_catch_all};

@@ -1,4 +1,4 @@
-//! Reads commands for the bridge of a plan.
+//! Reads the commands of a run from their text.
 ghost use Rattle.std.specs.Prelude.{◌≡◌, ◌<◌, ◌≤◌, IfErr, IfOk, All, true, length};
 ghost use Rattle.toml.specs.View.{table_view, items_view};
 ghost use Rattle.bridge_limits.specs.declared.TheConstants.{END_OF_TIME};

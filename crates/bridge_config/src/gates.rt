@@ -1,4 +1,4 @@
-//! Stream gates of a plan.
+//! Reads the section `gate` of a plan: stream gates and their lists.
 ghost use Rattle.std.specs.Prelude.{◌≡◌, ◌<◌, IfOk, All, false, true};
 ghost use Rattle.std.specs.Option.{ForSome};
 ghost use Rattle.toml.specs.Data.{get_member};

@@ -1,4 +1,4 @@
-//! Ports of a plan.
+//! Reads the section `port` of a plan: egress ports and their gate control lists.
 ghost use Rattle.std.specs.Prelude.{◌≡◌, ◌<◌, IfOk, All, false};
 ghost use Rattle.std.specs.Option.{ForSome};
 ghost use Rattle.toml.specs.Data.{get_member};

@@ -1,4 +1,4 @@
-//! Static filtering entries of a plan.
+//! Reads the section `static` of a plan: static filtering entries.
 ghost use Rattle.std.specs.Prelude.{◌≡◌, ◌≤◌, ◌+◌, ◌&&◌, ◌||◌, nat_eq, IfOk, drop, false, length};
 ghost use Rattle.std.specs.Str.{bytes_eq};
 ghost use Rattle.toml.specs.View.{table_view};

@@ -1,4 +1,4 @@
-//! Stream identifications of a plan.
+//! Reads the section `stream` of a plan: stream identifications.
 ghost use Rattle.std.specs.Prelude.{◌≡◌, ◌≤◌, true, IfOk, All};
 ghost use Rattle.toml.specs.View.{table_view};
 ghost use Rattle.bridge_schema.specs.Readers.{MatchesReading};

@@ -1,4 +1,4 @@
-//! VLANs of a plan.
+//! Reads the section `vlan` of a plan: VLANs and their member ports.
 ghost use Rattle.std.specs.Prelude.{◌≡◌, IfOk, false};
 ghost use Rattle.toml.specs.View.{table_view};
 ghost use Rattle.bridge_schema.specs.Readers.{MatchesReading};

@@ -1,4 +1,4 @@
--- Output captures, one for each port.
+-- Output captures of a run, one for each port.
 use Rattle.std.specs.Prelude.{◌≡◌, ◌≢◌, ℕ, Bool, true, ◌*◌, ◌^◌, ◌<◌, ◌≤◌, nat_eq, All, Option, Some, IfSome, List, [], ◌∷◌, ◌++◌, length, slice_get, Result, Ok, Err, if◌then◌else◌}
 use Rattle.std.specs.Io.KnownBytes.{Appends}
 use Rattle.bridge_capture.specs.Grammar.{CapturedFrame}

@@ -1,4 +1,4 @@
--- Laws of cyclic lists.
+-- Statements of the laws about gate control lists that repeat in cycles.
 use Rattle.std.proofs.Common.{◌≡◌, ℕ, ◌<◌, ◌≤◌, ◌+◌, ◌-◌, ◌*◌, ◌/◌, ◌%◌, Option, Some, None, List, [], ◌∷◌, length, arith, subst, sym, ◌∙◌, ap, inl, inr, refl}
 use Rattle.std.proofs.lemmas.Int.{ints}
 use Rattle.std.proofs.lemmas.Bool.{cases_lt}

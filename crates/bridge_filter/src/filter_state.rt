@@ -1,4 +1,4 @@
-//! State of a filter.
+//! State of one stream filter during a run.
 
 ghost use Rattle.std.specs.Prelude.{◌≡◌};
 ghost use Rattle.bridge_filter.specs.Steps.{refusal, state_with_verdict, new_filter, AreBounded};

@@ -1,4 +1,4 @@
-//! Look-up tables of sets of ports.
+//! Tables in which the bridge looks up the ports of VLANs and static entries.
 
 ghost use Rattle.std.specs.Prelude.{◌≡◌, ◌<◌, ℕ, List, [], ◌∷◌, All, IfOk, IfSome, OnOk, Some, None, nat_eq, length, if◌then◌else◌};
 ghost use Rattle.std.specs.Option.{option_or};

@@ -1,4 +1,4 @@
-//! Sets of ports.
+//! Set of a bridge's ports, with one bit for each port.
 
 ghost use Rattle.std.specs.Prelude.{◌≡◌, ◌≤◌, ◌↔◌, IsTrue, bit_and};
 ghost use Rattle.bridge_forward.specs.Ports.{has_port, without_port, IsEmpty};

@@ -1,4 +1,4 @@
--- The shared queues of a plan.
+-- The shared queues of all groups of a plan.
 use Rattle.std.specs.Prelude.{◌≡◌, ◌⊎◌, ℕ, ◌+◌, ◌*◌, ◌-◌, ◌<◌, ◌≤◌, List, [], ◌∷◌, Option, Some, None, nat_le, if◌then◌else◌}
 use Rattle.bridge_limits.specs.Members.{IsMember}
 use Rattle.bridge_filter.specs.declared.FilterPlan.{FilterPlan}

@@ -1,4 +1,4 @@
--- Capacities that suffice.
+-- Queue capacities that suffice for a group.
 use Rattle.std.specs.Prelude.{◌≡◌, ℕ, Bool, false, ◌+◌, ◌-◌, ◌*◌, ◌<◌, ◌≤◌}
 use Rattle.bridge_groups.specs.Work.{HasFitsPerCycle, IsNthFit}
 use Rattle.bridge_groups.specs.declared.linear_curve.LinearCurve.{LinearCurve}

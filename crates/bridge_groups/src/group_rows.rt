@@ -1,4 +1,4 @@
-//! All queues that the groups of a plan share.
+//! Lists all queues that the groups of a plan share, each with bound and capacity.
 ghost use Rattle.std.specs.Prelude.{◌≡◌, ◌≤◌, ◌<◌, ◌+◌, [], IfOk, OnOk, Some};
 ghost use Rattle.bridge_filter.specs.Routes.{lesser_number};
 ghost use Rattle.bridge_config.specs.Rules.{find_port};

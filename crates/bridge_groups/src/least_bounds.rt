@@ -1,4 +1,4 @@
-//! Least delay bounds of a protected filter's queues: by capacity, or by the octets that its stream gate passes.
+//! Lesser delay bounds of a protected filter's queues, which follow from the octets that its stream gate passes in an interval.
 ghost use Rattle.std.specs.Prelude.{◌≤◌, ◌<◌, IfSome, MatchOption};
 ghost use Rattle.bridge_bounds.specs.Bounds.{HasNoBound, IsTightBound};
 ghost use Rattle.bridge_groups.specs.GateBounds.{IsLeastBound, IsPaddedBound};
@@ -8,7 +8,8 @@ use bridge_bounds::{is_coarse, tight_queue_bound};
 use bridge_check::Accepted;
 use std::alloc::Allocator;
 
-/// Returns the lesser of two bounds of a queue in ns: `tight`, and the bound by the octets that the filter's stream gate passes.
+/// Returns the lesser of two bounds of a queue in ns: `tight`, and the bound that follows from the octets that the filter's stream gate
+/// passes.
 ///
 /// Returns `tight` if the lists of stream gate and port have no common cycle (`coarse`), because the search for the other bound would take
 /// too long.
@@ -35,7 +36,7 @@ pub fn least_bound<A: Allocator + Copy>(
     }
 }
 
-/// Returns a queue's bound in ns for frames of at least 60 octets, by the octets that the filter's stream gate passes.
+/// Returns a queue's bound in ns for frames of at least 60 octets: it follows from the octets that the filter's stream gate passes.
 ///
 /// Returns `None` if it isn't below `bound`, if no frame of this length passes, or if the lists of stream gate and port have no common
 /// cycle (`coarse`).

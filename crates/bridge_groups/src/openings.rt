@@ -1,4 +1,4 @@
-//! Intervals in which a stream gate is open.
+//! Intervals in which a stream gate is open, for delay bounds of its filter.
 ghost use Rattle.std.specs.Prelude.{◌≡◌, ◌+◌, ◌<◌, ◌≤◌, ◌*◌, IfSome, Some};
 ghost use Rattle.bridge_cycle.specs.Cyclic.{IsLawful};
 ghost use Rattle.bridge_groups.specs.GateIntervals as spec;

@@ -1,4 +1,4 @@
--- Rings of a port as contracts see them.
+-- Queues of an egress port and their capacities, as contracts see them.
 use Rattle.std.specs.Prelude.{ℕ, List, map}
 use Rattle.circular_buffer.specs.Buffer.{Buffer}
 use Rattle.bridge_port.specs.declared.item.Item.{Item}

@@ -1,4 +1,4 @@
--- The schedule of a class alone.
+-- The schedule of a class that has its port to itself.
 use Rattle.std.specs.Prelude.{◌≡◌, ℕ, true, false, ◌<◌, ◌≤◌, ◌+◌, nat_eq, max, List, [], ◌∷◌, if◌then◌else◌}
 use Rattle.bridge_cycle.specs.Fits.{IsFirstFit}
 use Rattle.bridge_port.specs.Schedule.{Fate, Never, Full, Queued, Started, Copy, PortRules, count_waiting, is_queued}

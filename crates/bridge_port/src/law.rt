@@ -1,4 +1,4 @@
-//! Laws of schedules.
+//! Laws about the schedules of egress ports.
 ghost use Rattle.std.specs.Prelude.{◌≡◌, ◌≢◌, ◌+◌, ◌*◌, ◌<◌, ◌≤◌, ◌↔◌, ◌∷◌, ℕ, List, Some, true};
 ghost use Rattle.bridge_cycle.specs.Cyclic.{Cyclic};
 ghost use Rattle.bridge_cycle.specs.ChangingList.{Joined};

@@ -1,4 +1,4 @@
-//! Egress port.
+//! Egress port of a bridge: queues, transmission gates, and the next start.
 ghost use Rattle.std.specs.Prelude.{◌≡◌, ◌<◌, ◌≤◌, ◌+◌, ◌-◌, ◌&&◌, ℕ, Bool, true, Option, Some, None, IfOk, IfSome, IfNone, List, [], ◌∷◌, length, max, replicate, is_none, MatchOption, if◌then◌else◌};
 
 use crate::heads::{add_item_fit, refresh_after_start};

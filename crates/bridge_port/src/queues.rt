@@ -1,4 +1,4 @@
-//! Rings of a port, one for each class.
+//! Queues of an egress port, one for each class, as rings of limited capacity.
 ghost use Rattle.std.specs.Prelude.{◌≡◌, nat_le, ◌<◌, [], ◌∷◌, ◌++◌, Option, length, replicate, IfOk, slice_get, slice_index_or, slice_set, drop, vec_len};
 ghost use Rattle.std.specs.Option.{option_copied};
 ghost use Rattle.bridge_port.specs.GateSchedule.{are_valid_rooms};

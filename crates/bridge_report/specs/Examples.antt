@@ -1,4 +1,4 @@
--- Computed examples of sections.
+-- Computed examples of sections of a run's report.
 use Rattle.std.specs.Prelude.{◌≡◌, ℕ, true, false, Option, Some, None, List, [], ◌∷◌, ◌++◌, codes, flat_map, refl}
 use Rattle.std.specs.Fmt.{digits}
 use Rattle.bridge_filter.specs.declared.Verdict.{Verdict}

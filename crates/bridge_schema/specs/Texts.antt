@@ -1,4 +1,4 @@
--- Meanings of texts in a plan.
+-- Meanings of MAC addresses and of other texts in a plan.
 use Rattle.std.specs.Prelude.{ℕ, ◌+◌, ◌*◌, ◌-◌, Bool, true, false, ◌&&◌, List, [], ◌∷◌, codes, Option, Some, None, nat_le, nat_eq, length, slice_index, if◌then◌else◌}
 use Rattle.std.specs.Cmp.Lexicographic.{pointwise}
 

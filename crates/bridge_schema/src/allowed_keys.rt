@@ -1,4 +1,4 @@
-//! Keys that are allowed in a table.
+//! Tests which keys are allowed in a table of a plan.
 ghost use Rattle.std.specs.Prelude.{◌≡◌, ◌&&◌, is_none, nat_eq, option_map};
 ghost use Rattle.std.specs.Cmp.Lexicographic.{pointwise};
 ghost use Rattle.toml.specs.View.{view, table_view, items_view};

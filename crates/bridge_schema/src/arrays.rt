@@ -1,4 +1,4 @@
-//! Arrays of numbers, and arrays of tables.
+//! Reads arrays of numbers, such as ports, and tests arrays of tables.
 ghost use Rattle.std.specs.Prelude.{◌≡◌, ◌≤◌, ◌<◌, ◌+◌, ◌-◌, ◌^◌, true, length, nat_eq, bit_or};
 ghost use Rattle.toml.specs.View.{view, items_view};
 ghost use Rattle.bridge_schema.specs.Readers as spec;

@@ -1,4 +1,4 @@
-//! Faults of a plan, and their locations.
+//! Faults of plans and commands, and the sections and keys where they are.
 ghost use Rattle.std.specs.Prelude.{◌≡◌};
 ghost use Rattle.bridge_schema.specs.declared.plan_fault.PlanFault.TheVariants.{NoMemory};
 ghost use Rattle.bridge_schema.specs.Keys.{key_name, section_name};

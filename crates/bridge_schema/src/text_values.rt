@@ -1,4 +1,4 @@
-//! Texts of a fixed set, and addresses.
+//! Reads texts of a fixed set, such as `open`, and MAC addresses.
 ghost use Rattle.std.specs.Prelude.{◌≡◌, ◌+◌, ◌<◌, ℕ, List, Option, ⊤, length};
 ghost use Rattle.bridge_schema.specs.Readers as spec;
 ghost use Rattle.bridge_schema.specs.Texts as texts;

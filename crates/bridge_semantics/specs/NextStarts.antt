@@ -1,4 +1,4 @@
--- The bridge's next start of a transmission.
+-- The next start of a transmission at any port of the bridge.
 use Rattle.std.specs.Prelude.{◌≡◌, ℕ, true, ◌+◌, ◌≤◌, nat_lt, Option, Some, None, List, if◌then◌else◌}
 use Rattle.bridge_capture.specs.Grammar.{CapturedFrame}
 use Rattle.bridge_cycle.specs.Fits.{Fits}

@@ -1,4 +1,4 @@
--- Verdicts, as a run stores them.
+-- Verdicts, as a run of a bridge stores them.
 use Rattle.std.specs.Prelude.{Bool, true, false, Some, None}
 use Rattle.bridge_filter.specs.declared.Verdict.{Verdict}
 use Rattle.bridge_filter.specs.declared.Verdict.TheVariants as verdict

@@ -1,4 +1,4 @@
-//! Verdicts as a run stores them.
+//! Verdicts as a run stores them, in one octet each.
 ghost use Rattle.std.specs.Prelude.{◌≡◌, ◌≤◌, Some, true, false};
 ghost use Rattle.bridge_filter.specs.Verdicts.{HasValidPriority};
 ghost use Rattle.bridge_filter.specs.declared.Verdict.TheVariants.{Pass};

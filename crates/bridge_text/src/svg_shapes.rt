@@ -1,4 +1,4 @@
-//! Writes shapes as lines of SVG.
+//! Writes the shapes of a picture as lines of SVG, up to a limit.
 ghost use Rattle.std.specs.Prelude.{◌≤◌, IfOk, length, string_bytes};
 
 use crate::TextBuilder;

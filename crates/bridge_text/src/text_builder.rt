@@ -1,4 +1,4 @@
-//! Texts that grow at their end.
+//! Builds texts such as explanations and reports, piece by piece.
 ghost use Rattle.std.specs.Prelude.{◌≡◌, ◌<◌, [], ◌∷◌, IfErr, IfOk, IfSome, None, Some, decimal, encode_utf8, length, string_bytes};
 ghost use Rattle.std.specs.Char.{digit_char};
 ghost use Rattle.bridge_text.specs.Escaped.{control_escape, escaped, escaped_letter, hexadecimal};

@@ -1,4 +1,4 @@
-//! Values of a document in words of planners.
+//! Writes values of a TOML document in words that planners know.
 
 use crate::text_builder::TextBuilder;
 use std::alloc::Global;

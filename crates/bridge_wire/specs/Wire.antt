@@ -1,4 +1,4 @@
--- Run of one capture through one queue.
+-- Run of `wire`: one capture through one queue.
 use Rattle.std.specs.Prelude.{◌≡◌, ◌≢◌, ◌⊎◌, ℕ, Bool, true, ◌+◌, ◌<◌, ◌≤◌, All, not, is_ok, List, [], ◌∷◌, ◌++◌, length, map, filter, reverse, count_by, Option, Some, ◌↔◌}
 use Rattle.std.specs.Io.KnownBytes.{Appends, Keeps}
 use Rattle.bridge_frame.specs.declared.Speed.{Speed}

@@ -206,7 +206,7 @@ pub fn read_network<F: ReadFiles>(
     }
 }
 
-/// Returns the network that the text describes. For a refused text, returns the program's fault with the line of the text's first fault.
+/// Returns the network that the text describes. For a refused text, returns the command's failure with the line of the text's first fault.
 /// `read_network` calls it.
 fn parse_network_text(alloc: Global, text: &[u8]) -> Result<NetworkFile<Global>, Failure>
     ensures file { IfOk result (λ file. network_of_text text.now ≡ Ok file) }
@@ -255,8 +255,8 @@ pub fn sibling_path(alloc: Global, path: &str, file: &str) -> Result<String, NoM
     }
 }
 
-/// Returns the program's fault for a refused plan: a line with the bridge's name, then the plan's fault line. Returns `NoMemory` if `fault`
-/// isn't a refusal or memory runs out. `check_bridge_plan` calls it.
+/// Returns the command's failure for a refused plan: a line with the bridge's name, then the plan's fault line. Returns `NoMemory` if
+/// `fault` isn't a refusal or memory runs out. `check_bridge_plan` calls it.
 #[tactic(auto, unfolding(crate::specs::Networks::plan_lines))]
 fn plan_failure(alloc: Global, name: &str, fault: &Failure) -> Failure
     ensures { SaysPlan name.now fault.now result }
@@ -273,7 +273,7 @@ fn plan_failure(alloc: Global, name: &str, fault: &Failure) -> Failure
     }
 }
 
-/// Returns the accepted plan of a text. For a refused plan, returns the program's fault with the name of the bridge, `name`. `read_plan`
+/// Returns the accepted plan of a text. For a refused plan, returns the command's failure with the name of the bridge, `name`. `read_plan`
 /// calls it.
 fn check_bridge_plan(alloc: Global, name: &str, text: &[u8]) -> Result<Accepted<Global>, Failure>
     ensures accepts { IfOk result (Accepts text.now) }

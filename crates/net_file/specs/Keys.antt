@@ -1,4 +1,4 @@
--- Reading of keys, and the allowed keys.
+-- Keys of network and traffic files: how they are read, and which are allowed.
 use Rattle.std.specs.Prelude.{ℕ, Bool, true, false, List, Option, Result, Ok, Err, if◌then◌else◌}
 use Rattle.toml.specs.Data.{Data, string, Items, Members, get_member}
 use Rattle.bridge_schema.specs.declared.plan_fault.Flaw.{Flaw}

@@ -1,4 +1,4 @@
--- The parts of a network file.
+-- Contents of a network file: bridges, links and streams.
 use Rattle.std.specs.Prelude.{ℕ, List, Option}
 use Rattle.net_file.specs.declared.link_row.LinkRow.{LinkRow}
 use Rattle.net_file.specs.declared.talker.Talker.{Talker}

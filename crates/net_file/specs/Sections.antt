@@ -1,4 +1,4 @@
--- The sections of a network, key by key.
+-- Bridges, links and streams of a network file, as they are read key by key.
 use Rattle.std.specs.Prelude.{ℕ, ◌-◌, ◌^◌, Bool, true, false, not, ◌&&◌, List, [], ◌∷◌, ◌++◌, Option, Some, None, Result, Ok, Err, nat_le, nat_lt, if◌then◌else◌}
 use Rattle.std.specs.List.{list_any}
 use Rattle.toml.specs.Data.{Data, string, array, Items, no_items, item, Members, get_member}

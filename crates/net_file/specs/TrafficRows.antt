@@ -1,4 +1,4 @@
--- The rows of a traffic file, key by key.
+-- Rows of a traffic file, as they are read key by key.
 use Rattle.std.specs.Prelude.{◌≡◌, ℕ, ◌-◌, ◌^◌, ◌≤◌, Bool, true, List, [], ◌∷◌, All, Result, Ok, nat_eq, nat_lt, if◌then◌else◌}
 use Rattle.std.specs.List.{list_any}
 use Rattle.std.specs.Option.{ForSome}

@@ -1,4 +1,4 @@
--- Lines of delay bounds.
+-- Lines of delay bounds that `bounds` prints.
 use Rattle.std.specs.Prelude.{◌≡◌, ℕ, Bool, List, [], ◌++◌, Option, None, Some, flat_map, codes, decimal, if◌then◌else◌}
 use Rattle.bridge_config.specs.Model.{Plan}
 use Rattle.app_failure.specs.Jobs.{Accepts}

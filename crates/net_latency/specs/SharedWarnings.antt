@@ -1,4 +1,4 @@
--- Warnings about queues that groups share.
+-- Warnings of `bounds` about queues that groups share.
 use Rattle.std.specs.Prelude.{◌≡◌, ℕ, List, [], ◌++◌, Option, Some, None, flat_map, codes, decimal, if◌then◌else◌}
 use Rattle.bridge_config.specs.Model.{Plan}
 use Rattle.bridge_groups.specs.declared.shared_queues.SharedQueue.{SharedQueue}

@@ -94,7 +94,7 @@ pub record PrintsTraffic (A : Type 0) (input words lines : List ℕ) (kept : Boo
   pub reads : ReadsRows words rows
   pub are_lines : AreLinesOfTraffic plan rows lines kept
 
--- Holds if the program's fault is `NoMemory`, or has the fault line of traffic fault `e`.
+-- Holds if the command's failure is `NoMemory`, or has the fault line of traffic fault `e`.
 abbrev pub IsTrafficFailure : TrafficFault → Failure → Type 0
 IsTrafficFailure e (fault.Network line) = string_bytes line ≡ traffic_line e
 IsTrafficFailure e fault.NoMemory = Unit {0}

@@ -1,4 +1,4 @@
--- Statistics of delays.
+-- Statistics of delays in the tables of a network run.
 use Rattle.std.specs.Prelude.{ℕ, ◌-◌, ◌/◌, Option, Some, None, List, [], ◌∷◌, length, sum}
 use Rattle.bridge_report.specs.Figures.{greatest_of, least_of}
 use Rattle.net_report.specs.declared.statistics.DelayStatistics.{DelayStatistics}

@@ -25,7 +25,11 @@ fn greatest_common_divisor(one: u64, other: u64) -> u64 {
 /// `aligned_period` and `waits_by_cycle` call it.
 pub(crate) fn cycles_until_aligned(port_cycle: u64, cycle: u64) -> u64 {
     let divisor = greatest_common_divisor(port_cycle, cycle);
-    if divisor == 0 { 0 } else { port_cycle / divisor }
+    if divisor == 0 {
+        0
+    } else {
+        port_cycle / divisor
+    }
 }
 
 /// Returns the least common multiple of the cycle times `cycle` and `port_cycle` in ns, at most 2^64 - 1, for a warning about cycles.

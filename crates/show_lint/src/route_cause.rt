@@ -66,7 +66,8 @@ fn route_cause<A: Allocator + Copy>(
     }
 }
 
-/// Writes why frames of filter `number` can reach port `port`, by the first stream that leads there. `check_explanation` calls it.
+/// Writes why frames of filter `number` can reach port `port`: the first stream that leads there, or that any frame can.
+/// `check_explanation` calls it.
 pub(crate) fn put_route<A: Allocator + Copy>(
     said: &mut LintText,
     plan: &Plan<A>,
