@@ -11,9 +11,9 @@ use std::alloc::{AllocError, Global};
 /// How an argument of a command is written.
 #[derive(Clone, Copy)]
 pub enum Form {
-    /// Required, by its position.
+    /// Required, identified by its place among the arguments.
     Place,
-    /// Optional, by its position after the required arguments.
+    /// Optional, identified by its place after the required arguments.
     Extra,
     /// Optional, as the value after an option's name.
     Choice,

@@ -154,15 +154,17 @@ fn explain_captures(
     }
 }
 
-/// Explains why the capture at `path` is refused, by reading it again. Returns `None` if this reading finds no fault, or if the path leads
-/// to no regular file. `explain_refused_capture` of `app_networks` calls it.
+/// Explains why the capture at `path` is refused: reads it again. Returns `None` if this reading finds no fault, or if the path leads to no
+/// regular file. `explain_refused_capture` of `app_networks` calls it.
 pub fn explain_capture_file(rt: &(impl AllocGlobal + Files), path: &str) -> Option<String> {
     let fault = capture_fault(rt, path)?;
     explain_capture(rt, path, &RunFault::Capture { port: 1, fault })
 }
 
-/// Returns the fault of the capture at `path`, found by reading it whole. Returns `None` if it has none, isn't a regular file, or can't be
-/// read. `explain_capture_file` calls it.
+/// Returns the fault of the capture at `path`, found by reading it whole. Returns `None` if the capture has no fault, or the path leads to
+/// no regular file, or can't be opened.
+///
+/// `explain_capture_file` calls it.
 fn capture_fault<H: AllocGlobal + Files>(rt: &H, path: &str) -> Option<CaptureFault> {
     if !fs::metadata(rt, path).ok()?.is_file() {
         return None;

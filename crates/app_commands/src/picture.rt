@@ -1,4 +1,4 @@
-//! The command `picture` for a plan, as far as it draws the whole plan.
+//! The command `picture` for a plan: draws the plan, or the requested part of it.
 ghost use Rattle.std.specs.Prelude.{IfErr, IfOk};
 ghost use Rattle.std.specs.declared.alloc.Global.{Global};
 ghost use Rattle.app_commands.specs.ShownFiles.{EndsPicture};

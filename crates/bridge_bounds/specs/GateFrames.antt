@@ -45,7 +45,8 @@ abbrev pub AreTurnsApart : (ℕ → Option (Turn GateEntry)) → ℕ → Type 0
 AreTurnsApart turn_at w =
     (t u : ℕ) (x y : Turn GateEntry) → t < u → turn_at t ≡ Some x → turn_at u ≡ Some y → x.state.lets ≡ true → y.state.lets ≡ true → ¬ (x.start ≡ y.start) → t + w ≤ u
 
--- Holds if each open interval has an octet limit that passes at most `k` frames, and open intervals are `w` ns apart.
+-- Holds if each open interval has an octet limit that passes at most `k` frames, and open intervals are separated by at
+-- least `w` ns.
 pub record LetsFew (turn_at : ℕ → Option (Turn GateEntry)) (k w : ℕ) : Type 0 where
   pub few : (t : ℕ) (x : Turn GateEntry) → turn_at t ≡ Some x → x.state.lets ≡ true → IsFrameLimit x.state.octets k
   pub apart : AreTurnsApart turn_at w

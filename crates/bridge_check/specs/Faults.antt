@@ -142,8 +142,7 @@ filter_tests p n f =
     ∷ size_fault p n f
     ∷ []
 
--- The fault of the first of eight tests that filter `f` with number `n` fails in plan `p`; `None` if it passes all
--- eight.
+-- The fault of the first of eight tests that filter `f` with number `n` fails in plan `p`; `None` if the filter passes all eight tests.
 abbrev pub filter_fault : {A : Type 0} → Plan A → ℕ → FilterPlan → Option CheckFault
 filter_fault p n f = first_test_fault (filter_tests p n f)
 
@@ -168,8 +167,7 @@ member_tests p k n f =
     ∷ size_fault p n f
     ∷ []
 
--- The fault of the first of eight tests that filter `f` with number `n` in group `k` fails; `None` if it passes all
--- eight.
+-- The fault of the first of eight tests that filter `f` with number `n` in group `k` fails; `None` if the filter passes all eight tests.
 abbrev pub member_fault : {A : Type 0} → Plan A → ℕ → ℕ → FilterPlan → Option CheckFault
 member_fault p k n f = first_test_fault (member_tests p k n f)
 
@@ -205,8 +203,7 @@ filter_failures p f = if is_tested f.1 then failed_tests (kind_tests p f.0 f.1) 
 abbrev pub all_faults : {A : Type 0} → Plan A → List CheckFault
 all_faults p = flat_map (filter_failures p) p.filters
 
--- The one of two optional pairs (filter number, fault) with the lower number, the first if equal; `None` if both are
--- absent.
+-- The optional pair (filter number, fault) with the lower number; the first of both if the numbers are equal. `None` if both are absent.
 abbrev pub lesser_fault : Option (ℕ × CheckFault) → Option (ℕ × CheckFault) → Option (ℕ × CheckFault)
 lesser_fault None b = b
 lesser_fault (Some a) None = Some a

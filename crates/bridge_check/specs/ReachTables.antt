@@ -42,8 +42,8 @@ abbrev pub is_outsider : Option ℕ → ℕ → FilterReach → Bool
 is_outsider None n r = not (nat_eq r.number n)
 is_outsider (Some k) n r = not (is_in_group k r.group)
 
--- The lowest number of a listed filter that can reach class `c` at port `q` and may not share this queue with filter
--- `n`; `None` if there is none.
+-- The lowest number of a listed filter that can reach class `c` at port `q` and may not share this queue with filter `n`; `None` if there
+-- is no such filter.
 abbrev pub least_outsider : List FilterReach → Option ℕ → ℕ → ℕ → List ℕ → ℕ → Option ℕ
 least_outsider [] group n q classes c = None
 least_outsider (r ∷ rs) group n q classes c = if is_outsider group n r && has_queue r.reach q classes c then lesser_number (Some r.number) (least_outsider rs group n q classes c) else least_outsider rs group n q classes c

@@ -74,8 +74,10 @@ fn is_outsider(group: Option<u32>, number: u32, other: &FilterReach) -> bool
     }
 }
 
-/// Returns the lowest number of an outsider that can reach class `class` at port `port`; `None` if none can. Filter `number` shares queues
-/// with `group`; `classes` gives the class of each priority. `other_filter_in_queue` calls it.
+/// Returns the lowest number of an outsider that can reach class `class` at port `port`; `None` if no outsider can reach it. Filter
+/// `number` shares queues with `group`; `classes` gives the class of each priority.
+///
+/// `other_filter_in_queue` calls it.
 pub(crate) fn least_outsider(
     reaches: &[FilterReach],
     group: Option<u32>,

@@ -138,8 +138,8 @@ fn gate_schedule<A: Allocator + Copy>(
     }
 }
 
-/// Reads the lists of a stream gate; `None` if it has no list. `change` is the time of the schedule change in ns. `take_gate_lists` calls
-/// it.
+/// Reads the lists of a stream gate; `None` if the gate has no list. `change` is the time of the schedule change in ns. `take_gate_lists`
+/// calls it.
 fn read_gate_lists<A: Allocator + Copy>(
     alloc: A,
     change: Option<u64>,

@@ -172,8 +172,8 @@ fn port_lists<A: Allocator + Copy>(
     }
 }
 
-/// Reads the gate control lists of a port; `None` if it has no list. `change` is the time of the schedule change in ns. `take_port_lists`
-/// calls it.
+/// Reads the gate control lists of a port; `None` if the port has no list. `change` is the time of the schedule change in ns.
+/// `take_port_lists` calls it.
 fn read_port_lists<A: Allocator + Copy>(
     alloc: A,
     change: Option<u64>,

@@ -126,8 +126,8 @@ fn visit_openings<A: Allocator + Copy>(
     None
 }
 
-/// Returns the least common multiple in ns of the cycle times of a port and a stream gate. Returns `None` if it has too many of the port's
-/// cycles. `gate_delay_bound` calls it.
+/// Returns the least common multiple in ns of the cycle times of a port and a stream gate. Returns `None` if this multiple contains too
+/// many of the port's cycles. `gate_delay_bound` calls it.
 fn common_cycle(port: u64, gate: u64) -> Option<u64>
     requires port { (1 ≤ port) × (port ≤ LONGEST_CYCLE) }
     requires gate { 1 ≤ gate }

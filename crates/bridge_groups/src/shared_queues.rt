@@ -45,7 +45,7 @@ pub struct SharedQueue {
     pub bound: u64,
     /// Whether the bound holds by the meters of the filters too; otherwise only by the capacity.
     pub is_metered: bool,
-    /// Capacity in frames with which the queue drops no copy as full; `None` if none is known.
+    /// Capacity in frames with which the queue drops no copy as full; `None` if no such capacity is known.
     pub room: Option<u16>,
     /// Capacity of the queue in frames.
     pub capacity: u16,
@@ -125,10 +125,10 @@ fn lists_bound<A: Allocator + Copy>(
     }
 }
 
-/// Returns a capacity with which a queue under one gate control list never overflows, by the curves of its frames. Returns `None` if the
-/// search finds none, or if the port has a schedule change.
+/// Returns a capacity with which a queue under one gate control list never overflows. `curve` bounds the work of its frames, `counts` their
+/// number.
 ///
-/// `curve_figures` calls it.
+/// Returns `None` if no tried capacity suffices, or if the port has a schedule change. `curve_figures` calls it.
 fn lists_room<A: Allocator + Copy>(
     lists: &Egress<A>,
     class: u8,

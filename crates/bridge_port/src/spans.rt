@@ -122,10 +122,10 @@ fn open_spans<A: Allocator + Copy>(
     Ok(spans)
 }
 
-/// Returns the first time, `from` or later, from which a span lasts for `occ` ns or up to `stop`, when the list ends; `None` if none does.
-/// All times count from a cycle's start.
+/// Returns the first time in ns, `from` or later, from which a span lasts for `occ` ns, or up to `stop`, when the list ends. `None` if no
+/// span lasts that long.
 ///
-/// `fit_until_stop` calls it.
+/// All times count from a cycle's start. `fit_until_stop` calls it.
 fn fit_in_spans(spans: &[OpenSpan], from: u64, occ: u64, stop: u64) -> Option<u64>
     requires from { from < 9_000_000_000_000_000_000 }
     requires occ { occ ≤ 1_000_000_000 }

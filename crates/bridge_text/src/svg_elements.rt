@@ -64,7 +64,7 @@ pub struct Bar {
     pub height: u64,
 }
 
-/// Triangle with a horizontal base: left and right end of the base, its height, and the tip.
+/// Triangle with a horizontal base: left and right end of the base, its distance from the top, and the tip. Units are the caller's.
 #[derive(Clone, Copy)]
 pub struct Mark {
     pub left: u64,
@@ -74,7 +74,7 @@ pub struct Mark {
     pub tip: u64,
 }
 
-/// Point: distances from the left and from the top.
+/// Point: distances from the left and from the top, in the caller's units.
 pub type Point = (u64, u64);
 
 /// Element with its positions. `Shapes` and `Page` draw it.

@@ -7,16 +7,16 @@ use crate::svg_span::{MAX_INTERVALS, Span, TimeScale};
 use bridge_limits::NoMemory;
 use std::alloc::Global;
 
-/// Width of a page.
+/// Width of a page, in tenths of a pixel.
 pub const PAGE_WIDTH: u64 = 12_000;
 
-/// Left end of the time axis.
+/// Left end of the time axis, in tenths of a pixel from the left.
 pub const AXIS_LEFT: u64 = 1_500;
 
-/// Width of the time axis.
+/// Width of the time axis, in tenths of a pixel.
 pub const AXIS_WIDTH: u64 = 10_000;
 
-/// Side of the hatching's squares.
+/// Side of the hatching's squares, in tenths of a pixel.
 const HATCHES: u64 = 70;
 
 /// Note at the end of a picture with omitted shapes.
@@ -44,7 +44,7 @@ pub enum Sample {
 /// Legend row: a sample, the style of its shapes, and the words after it.
 pub type LegendRow = (Sample, &'static str, &'static str);
 
-/// Page under construction: its shapes, its lower end, and the right end of its current legend line.
+/// Page under construction: its shapes, its lower end and the right end of its current legend line, in tenths of a pixel.
 #[derive(Drop)]
 pub struct Page {
     shapes: Shapes,
@@ -62,17 +62,18 @@ impl Page {
         }
     }
 
-    /// Returns the distance from the top to the page's lower end. `put_ports` of `show_picture` calls it.
+    /// Returns the distance from the top to the page's lower end, in tenths of a pixel. `put_ports` of `show_picture` calls it.
     pub fn bottom(&self) -> u64 {
         self.bottom
     }
 
-    /// Returns the distance from the top to the point `by` below the page's lower end: callers place shapes by it.
+    /// Returns the distance from the top to the point `by` below the page's lower end, both in tenths of a pixel: callers place shapes by
+    /// it.
     pub fn bottom_plus(&self, by: u64) -> u64 {
         self.bottom.saturating_add(by)
     }
 
-    /// Moves the page's lower end down by `by`, so that later shapes lie below.
+    /// Moves the page's lower end down by `by` (tenths of a pixel), so that later shapes lie below.
     pub fn skip_height(&mut self, by: u64) {
         self.bottom = self.bottom_plus(by);
     }
@@ -94,7 +95,8 @@ impl Page {
         self.shapes.begin_text(style, (x, y));
     }
 
-    /// Moves down by `by`, and begins a line of text at the left end of the time axis. Functions of `show_picture` call it.
+    /// Moves down by `by` (tenths of a pixel), and begins a line of text at the left end of the time axis. Functions of `show_picture` call
+    /// it.
     pub fn begin_text_line(&mut self, style: &str, by: u64) {
         self.skip_height(by);
         self.begin_text(style, AXIS_LEFT, self.bottom);
@@ -106,7 +108,8 @@ impl Page {
         self.shapes.end_shape();
     }
 
-    /// Draws the text of `form`, with its numbers, at `x`, `by` below the page's lower end. `put_legend_row` calls it.
+    /// Draws the text of `form`, with its numbers, at the distance `x` from the left and `by` below the page's lower end, in tenths of a
+    /// pixel. `put_legend_row` calls it.
     pub fn put_text(&mut self, style: &str, x: u64, by: u64, form: &str, numbers: &[u64]) {
         self.begin_text(style, x, self.bottom_plus(by));
         self.add_piece(form, numbers, "");
@@ -131,7 +134,8 @@ impl Page {
         self.shapes.end_shape();
     }
 
-    /// Draws a bar at `x`, `by` below the page's lower end. `put_axis` and functions of `show_picture` call it.
+    /// Draws a bar at the distance `x` from the left and `by` below the page's lower end. All lengths are tenths of a pixel. `put_axis` and
+    /// functions of `show_picture` call it.
     pub fn put_bar(&mut self, style: &str, x: u64, by: u64, width: u64, height: u64) {
         self.draw(style, bar(x, self.bottom_plus(by), width, height));
     }
@@ -225,8 +229,10 @@ impl Page {
         self.end_text();
     }
 
-    /// Draws the time axis below the page's contents, with grid lines up to the height `top` and their times. A tall picture has times
-    /// above too. Draws a schedule change, if present.
+    /// Draws the time axis below the page's contents, with grid lines up to the distance `top` from the page's upper end (tenths of a
+    /// pixel) and their times. A tall picture has times above too.
+    ///
+    /// Draws a schedule change, if present.
     ///
     /// `finish_ports` of `show_picture` calls it.
     pub fn put_axis(&mut self, span: Span, top: u64, change: Option<u64>) {
@@ -274,8 +280,10 @@ impl Page {
 }
 
 impl Span {
-    /// Returns the distance from the left of time `t`. Times outside the span are at the ends of the axis. `put_axis`, `page_extent` and
-    /// functions of `show_picture` call it.
+    /// Returns the distance of time `t` (ns) from the left of the page, in tenths of a pixel. Times outside the span are at the ends of the
+    /// axis.
+    ///
+    /// `put_axis`, `page_extent` and functions of `show_picture` call it.
     pub fn page_x(self, t: u64) -> u64
         ensures from { AXIS_LEFT ≤ result }
         ensures to { result ≤ AXIS_LEFT + AXIS_WIDTH }
@@ -303,7 +311,8 @@ fn bar(x: u64, y: u64, width: u64, height: u64) -> Element {
     })
 }
 
-/// Returns the triangle of a sample by the heights of its base and its tip. `put_sample` calls it; `x` is the left end of the sample.
+/// Returns the triangle of a legend's sample with the left end `x`; `base` and `tip` are distances from the top, in tenths of a pixel.
+/// `put_sample` calls it.
 fn sample_mark(x: u64, base: u64, tip: u64) -> Element {
     Element::Mark(Mark {
         left: x.saturating_add(30),

@@ -64,8 +64,8 @@ fn put_lists_of_bridge(
     }
 }
 
-/// Appends the line that proposes to start `list` earlier by `earlier` ns. It names the plan, the port, and the new base time in ns, below
-/// the cycle time. `put_lists_of_bridge` calls it.
+/// Appends the line that proposes to let `list` begin `earlier` ns before its present start. It names the plan, the port, and the new base
+/// time in ns, below the cycle time. `put_lists_of_bridge` calls it.
 fn put_list_shift(
     said: &mut TextBuilder<Global>,
     row: &BridgeRow<Global>,

@@ -93,7 +93,7 @@ fn read_talker(index: u32, table: &Table) -> Result<Talker, NetFault>
     })
 }
 
-/// Reads the talker of stream `index`. Returns `None` if the stream's table has none of a talker's keys. Allocates no memory. `read_stream`
+/// Reads the talker of stream `index`. Returns `None` if the stream's table has no key of a talker. Allocates no memory. `read_stream`
 /// calls it.
 pub(crate) fn read_optional_talker(index: u32, table: &Table) -> Result<Option<Talker>, NetFault>
     ensures reads { Gives result (sections.read_optional_talker index (table_view table.now)) }

@@ -6,8 +6,8 @@ use bridge_groups::SharedQueue;
 use bridge_limits::NoMemory;
 use std::alloc::{AllocError, Allocator};
 
-/// Returns whether a queue may drop copies as full. `room` is the capacity that suffices (`None` if none is known), `capacity` the queue's
-/// own capacity. `push_limited_timing`, `push_shared_warning` and `shared_mark` call it.
+/// Returns whether a queue may drop copies as full. `room` is the capacity that suffices (`None` if no such capacity is known), `capacity`
+/// the queue's own capacity. `push_limited_timing`, `push_shared_warning` and `shared_mark` call it.
 pub(crate) fn is_lossy(room: Option<u16>, capacity: u16) -> bool
     ensures { result ≡ is_lossy room capacity }
 {

@@ -13,7 +13,8 @@ use Rattle.net_report.specs.declared.sources.SourceFrame.{SourceFrame}
 abbrev pub is_due : ℕ → ℕ → ℕ → Departure → Bool
 is_due q delay at d = nat_eq d.port q && nat_le at (d.done + delay)
 
--- The list of copies, without those before the first one that left by port `q` and arrives `delay` ns later, at time `at` or after.
+-- The list of copies, from the first copy on that left by port `q` and, after the link's delay of `delay` ns, arrives at time `at` or
+-- later.
 abbrev pub due_departures : ℕ → ℕ → ℕ → List Departure → List Departure
 due_departures q delay at [] = []
 due_departures q delay at (d ∷ ds) = if is_due q delay at d then d ∷ ds else due_departures q delay at ds

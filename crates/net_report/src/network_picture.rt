@@ -85,7 +85,8 @@ fn bridge_name<'a, A: Allocator + Copy>(bridges: &'a [BridgeRow<A>], place: u16)
     }
 }
 
-/// Draws the arc of a link, with a title that shows its ports and its delay. `top` is the upper edge of the boxes. `put_network` calls it.
+/// Draws the arc of a link, with a title that shows its ports and its delay. `top` is the upper edge of the boxes, in pixels from the top.
+/// `put_network` calls it.
 fn put_link<A: Allocator + Copy>(
     shapes: &mut Shapes,
     bridges: &[BridgeRow<A>],
@@ -107,7 +108,8 @@ fn put_link<A: Allocator + Copy>(
     shapes.end_shape();
 }
 
-/// Draws the box of the bridge with index `place`, with its name. `top` is its upper edge. `put_network` calls it.
+/// Draws the box of the bridge with index `place`, with its name. `top` is the upper edge of the boxes, in pixels from the top.
+/// `put_network` calls it.
 fn put_bridge<A: Allocator + Copy>(
     shapes: &mut Shapes,
     bridge: &BridgeRow<A>,
@@ -132,8 +134,9 @@ fn put_bridge<A: Allocator + Copy>(
     shapes.end_shape();
 }
 
-/// Draws a hop of a stream at height `y`, with its filter as title, and the line from the hop before, whose x is `before`. `None` stands
-/// for the first hop. `put_stream_row` calls it.
+/// Draws the dot of a hop, `y` pixels from the top, with its filter as title, and the line from the hop before.
+///
+/// `before` is that hop's distance from the left in pixels; `None` stands for the first hop. `put_stream_row` calls it.
 fn put_hop_dot<A: Allocator + Copy>(
     shapes: &mut Shapes,
     bridges: &[BridgeRow<A>],
@@ -152,7 +155,7 @@ fn put_hop_dot<A: Allocator + Copy>(
     shapes.end_shape();
 }
 
-/// Draws the row of a stream at height `y`: its name, its hops and, if known, its delay bound in ns. `put_network` calls it.
+/// Draws the row of a stream, `y` pixels from the top: its name, its hops and, if known, its delay bound in ns. `put_network` calls it.
 fn put_stream_row<A: Allocator + Copy>(
     alloc: Global,
     shapes: &mut Shapes,
@@ -190,7 +193,8 @@ fn stream_y(top: u64, place: usize) -> u64 {
         .saturating_add(ROW_HEIGHT.saturating_mul(place as u64))
 }
 
-/// Draws all links, bridges and streams, with the streams' delay bounds. `top` is the upper edge of the boxes. `draw_network` calls it.
+/// Draws all links, bridges and streams, with the streams' delay bounds. `top` is the upper edge of the boxes, in pixels from the top.
+/// `draw_network` calls it.
 fn put_network<A: Allocator + Copy>(
     alloc: Global,
     shapes: &mut Shapes,

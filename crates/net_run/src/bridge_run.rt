@@ -360,8 +360,8 @@ impl<'a, A: Allocator + Copy> BridgeRun<'a, A> {
         &self.texts[place]
     }
 
-    /// Returns the input capture for the port at the other end of a link: the frames that `port` sent, `delay` ns later. The capture is
-    /// empty if the port is missing. `capture_over_link` calls it.
+    /// Returns the input capture for the port at the other end of a link: the frames that `port` sent, delayed by `delay` ns. The capture
+    /// is empty if the port is missing. `capture_over_link` calls it.
     pub(crate) fn delivered_capture(
         &self,
         alloc: A,

@@ -169,7 +169,7 @@ fn with_bridge(bridge: usize, port: Option<u8>) -> Option<(usize, u8)>
 }
 
 /// Delivers to every linked port the frames sent to it in this round (`ran`). Returns the first bridge and port whose input changed, or
-/// `None` if none changed. `run_round` calls it.
+/// `None` if no input changed. `run_round` calls it.
 fn feed_bridges<A: Allocator + Copy>(
     alloc: A,
     stations: &mut [BridgeRun<'_, A>],

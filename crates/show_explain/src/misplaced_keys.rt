@@ -71,8 +71,8 @@ fn first_misplaced_key<'a>(
     None
 }
 
-/// Returns the position, from 1, of the first entry with a key that isn't allowed there, and the key. Returns `None` if all entries are
-/// sound. `put_misplaced_entry_key` calls it.
+/// Returns the number in the list, from 1, of the first entry with a key that isn't allowed there, and the key. Returns `None` if all keys
+/// are allowed. `put_misplaced_entry_key` calls it.
 fn first_misplaced_entry_key<'a>(
     keys: &'static [KeyRule],
     table: &'a Table,

@@ -109,8 +109,10 @@ fn filter_position(text: &[u8], filters: &[(u32, FilterPlan)], number: u32) -> O
     None
 }
 
-/// Writes the finding of a failed test, which follows the path of the plan: the filter's position and the explanation. Without the filter,
-/// writes only its position. `explain_check` and `put_other_findings` call it.
+/// Writes the finding of a failed test, which follows the path of the plan: line and column of the filter, and the explanation. Writes only
+/// the position if the plan lacks the filter.
+///
+/// `explain_check` and `put_other_findings` call it.
 fn put_finding<A: Allocator + Copy>(
     said: &mut LintText,
     text: &[u8],

@@ -95,8 +95,9 @@ const NEED_ENTRY: &str =
 const NEED_KIND: &str =
     "Identify `stream` {0} by its destination address (`kind = \"null\"`), and add a `static` entry for this address that names only its egress ports.\n";
 
-/// Returns the position, from 1, and the cause of the first stream that leads frames of `handle` to `port`. `None` if a `static` entry
-/// leads there, as intended. `put_other_way` calls it.
+/// Returns the number in the plan, from 1, and the cause of the first stream that leads frames of `handle` to `port`.
+///
+/// `None` if no stream leads there, or one does by a `static` entry, as intended. `put_other_way` calls it.
 fn other_way<A: Allocator + Copy>(
     plan: &Plan<A>,
     handle: u32,
@@ -139,7 +140,7 @@ pub(crate) fn put_other_way<A: Allocator + Copy>(
     true
 }
 
-/// Writes the sentence of a cause about filter `number`, the stream at position `place` (0 for none), port `port` and VLAN `vid`.
+/// Writes the sentence of a cause about filter `number`, stream `place` of the plan (from 1; 0 for no stream), port `port` and VLAN `vid`.
 /// `put_route` calls it.
 fn put_route_sentence(
     said: &mut LintText,

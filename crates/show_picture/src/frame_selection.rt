@@ -163,7 +163,7 @@ impl DrawnGroup {
 
 impl Picture {
     /// Hatches the parts of a port's time axis with omitted frames of `group`. `put_port_link` calls it. Bars start `by` below the page's
-    /// lower end, and are `high` high, in tenths of a pixel.
+    /// lower end; `high` is their height, both in tenths of a pixel.
     pub(crate) fn put_hatches(&mut self, group: &DrawnGroup, port: u8, by: u64, high: u64) {
         let (first, mut x) = (usize::from(port) * TIME_PARTS, AXIS_LEFT);
         for place in 0..TIME_PARTS {

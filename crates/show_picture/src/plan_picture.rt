@@ -178,8 +178,8 @@ impl Picture {
         self.finish_ports(top);
     }
 
-    /// Draws the time axis below the lanes, and writes above them how many lanes are hatched. `top` is the upper edge of the lanes.
-    /// `put_ports` calls it.
+    /// Draws the time axis below the lanes, and writes above them how many lanes are hatched. `top` is the upper edge of the lanes, in
+    /// tenths of a pixel. `put_ports` calls it.
     fn finish_ports(&mut self, top: u64) {
         self.page.put_axis(self.span, top, self.change);
         if self.hatched_lanes > 0 {
