@@ -27,7 +27,8 @@ FailsText f = (input : List ℕ) × EndsText input f
 
 -- WIRE
 
--- Holds if the program prints the counts of a run through one queue to standard output, or to standard error if the capture goes to standard output.
+-- Holds if the program prints the counts of a run through one queue to standard output. If the capture goes to standard output, the counts
+-- go to standard error.
 abbrev pub IsWireOutput : List ℕ → Output → Type 0
 IsWireOutput path output =
     (line : List ℕ) × IsCountsLine line × (((¬ IsStandard path) × Prints line [] 0 output) ⊎ (IsStandard path × Prints [] line 0 output))

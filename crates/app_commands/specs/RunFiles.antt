@@ -58,7 +58,7 @@ IsCaptureOfRun p input output path = (ports : List ℕ) × ArePortNumbers p port
 abbrev pub IsFileOfRun : {A : Type 0} → Plan A → List ℕ → List ℕ → List ℕ → Type 0
 IsFileOfRun p input output path = IsCaptureOfRun p input output path ⊎ ((path ≡ output) ⊎ (path ≡ report_path output))
 
--- Holds if `f` ends a run under a plan between two folders: a fault of an empty path, of a file of the run, or of the run.
+-- Holds if failure `f` can end a run under a plan between two folders. An empty path, a file of the run, or the run itself failed.
 abbrev pub EndsSending : {A : Type 0} → Plan A → List ℕ → List ℕ → Failure → Type 0
 EndsSending p input output (fault.File e) =
     LacksPath input output (fault.File e) ⊎ (HavePaths input output × IsFileOfRun p input output (string_bytes e.path))

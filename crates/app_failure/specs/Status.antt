@@ -50,7 +50,8 @@ abbrev pub check_fault_status : CheckFault → ℕ
 check_fault_status check.NoMemory = 3
 check_fault_status f = 1
 
--- The exit status after a fault: 1 for plans, commands and networks; 2 for texts, captures and network runs; 3 for files and memory; 4 for arguments.
+-- The exit status of a failed command. It is 1 for plans, commands and networks, 2 for texts, captures and network runs, 3 for files and
+-- memory, and 4 for arguments.
 abbrev pub fault_status : Failure → ℕ
 fault_status (fault.Text f) = text_fault_status f
 fault_status (fault.Run f) = run_fault_status f

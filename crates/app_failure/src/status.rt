@@ -37,8 +37,8 @@ pub fn fault_status(fault: &Failure) -> u8
     }
 }
 
-/// Returns the exit status after a refused hexadecimal text (2), or after its stopped run: 2 for a refused capture, 3 if a device failed or
-/// memory ran out. `fault_status` calls it.
+/// Returns the exit status after a refused hexadecimal text (2), or after its stopped run: 2 for a refused capture, 3 for devices and
+/// memory. `fault_status` calls it.
 fn text_fault_status(fault: &TextFault) -> u8
     ensures { result ≡ text_fault_status fault.now }
 {

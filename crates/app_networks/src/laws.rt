@@ -48,8 +48,8 @@ pub fn legs_are_links<A: Allocator + Copy>()
         → HasSource links hops r (length legs) i k }
 {}
 
-/// In a complete run of an accepted network, each copy's delay since the first hop is at most the sum of the bounds of its hops and the
-/// delays of its links.
+/// In a complete run of an accepted network, each copy's delay since the first hop has a bound. It is the sum of the bounds of its hops and
+/// the delays of its links.
 pub fn measured_in_time<A: Allocator + Copy>()
     ensures { (n : Network A) (commands : ℕ → List Input) (captures : ℕ → ℕ → List CapturedFrame) (o : ℕ → Outcome A)
         (stream : List (ℕ × ℕ)) (links : List Link) (hops : List (HopRun A)) (most : ℕ → ℕ) (r : SourceFrame)
@@ -104,8 +104,8 @@ pub fn measured_within_bound<A: Allocator + Copy>()
         → delay ≤ stream_bound bounds f.links s.hops }
 {}
 
-/// No frame passes a hop twice if hops have ranks, and each frame that arrives at a hop over a link comes from a hop of lower rank, such as
-/// an earlier hop.
+/// No frame passes a hop twice if hops have ranks, such as their numbers. Each frame that arrives at a hop over a link must come from a hop
+/// of lower rank.
 pub fn ranked_route_goes_once<A: Allocator + Copy>()
     ensures { (links : List Link) (hops : List (HopRun A)) (rank : ℕ
         → ℕ) (r : SourceFrame) (legs : List (ℕ × ℕ)) (i k : ℕ)

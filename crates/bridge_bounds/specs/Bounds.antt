@@ -100,8 +100,8 @@ pub record IsFramesBound {A : Type 0} (out : PortPlan A) (c m k b : ℕ) : Type 
 abbrev pub IsRoomBound : {A : Type 0} → PortPlan A → ℕ → ℕ → ℕ → Type 0
 IsRoomBound out c m b = IsFramesBound out c m ((egress_rules out).room c) b
 
--- Holds if `b` ns is the delay bound by capacity of the class-`c` queue at port `out`, for frames that arrive while
--- `lets` is true: the longest time in which a full queue leaves, plus one transmission time, minus 1 ns.
+-- Holds if `b` ns is the capacity bound of the class-`c` queue at port `out`, for frames that arrive while `lets` is true. It is a full
+-- queue's longest time, plus one transmission time, minus 1 ns.
 pub record IsOpeningsBound {A : Type 0} (lets : ℕ → Bool) (out : PortPlan A) (c m b : ℕ) : Type 0 where
   pub longest : ℕ
   pub is : IsOpeningsTime lets (lists_open out.list c) (transmission_time (longest_frame m) out.speed) ((egress_rules out).room c) longest
@@ -128,8 +128,8 @@ IsGateBound (Fixed lets ipv) priority out c m b = IsRoomBound out c m b
 IsGateBound (Cyclic gate) priority out c m b = IsGateListBound gate out.list (fills_at out priority c gate) out c m b
 IsGateBound (Joined j) priority out c m b = IsRoomBound out c m b
 
--- Holds if `b` ns bounds the delays of protected filter `n` in its reachable queue of class `c` at port `q`, from
--- arrival to the end of transmission. `b` follows from the queue's capacity.
+-- Holds if `b` ns bounds the delays of protected filter `n` in its reachable queue of class `c` at port `q`, up to the end of transmission.
+-- `b` follows from the queue's capacity.
 pub record IsQueueBound {A : Type 0} (p : Plan A) (n q c b : ℕ) : Type 0 where
   pub filter : FilterPlan
   pub max_sdu : ℕ
@@ -151,8 +151,8 @@ LackCommonCycle (Cyclic gate) (Some (egress.Cyclic list)) = ¬ HaveCommonCycle g
 LackCommonCycle (Cyclic gate) (Some (egress.Joined j)) = ⊥
 LackCommonCycle (Joined j) lists = ⊥
 
--- Holds if the bounds of filter `n` at port `q` count all arrival times because its stream gate's list and the port's
--- list have no common cycle.
+-- Holds if the bounds of filter `n` at port `q` count all arrival times. The reason is that its stream gate's list and the port's list have
+-- no common cycle.
 pub record IsCoarse {A : Type 0} (p : Plan A) (n q : ℕ) : Type 0 where
   pub filter : FilterPlan
   pub gate : GatePlan A

@@ -62,8 +62,8 @@ pub record IsTimingWithoutPhases (o : GateSchedule) (c short long bound : ℕ) (
   pub worst : x.worst ≡ bound
   pub best : x.best ≡ short
 
--- Holds if `x` has the worst and the best delay in ns of traffic `t` in class `c` at port `out`: by
--- `IsTimingWithPhases` if `x` has phases, otherwise by `IsTimingWithoutPhases`.
+-- Holds if `x` has the worst and the best delay in ns of traffic `t` in class `c` at port `out`. If `x` has phases, `IsTimingWithPhases`
+-- defines the delays, otherwise `IsTimingWithoutPhases`.
 abbrev pub IsPortTiming : {A : Type 0} → PortPlan A → ℕ → ℕ → ℕ → Traffic → Timing → Type 0
 IsPortTiming out c m bound t x =
     MatchOption x.phases (IsTimingWithoutPhases (gate_schedule out.list) c (shortest_link_time out m t) (longest_link_time out m t) bound t x)

@@ -62,8 +62,9 @@ pub fn solo_in_time<X: Drop>()
         → s + r.occ x.item ≤ x.at + (occ - 1) + d }
 {}
 
-/// In a queue alone on its link, each sent copy leaves at most `occ - 1 + d` ns after its offer if `lets` is true at each offer. Here `d` is a
-/// full queue's longest time from such times.
+/// If a queue has its link to itself, each sent copy leaves at most `occ - 1 + d` ns after its offer. `lets` must be true at each offer.
+///
+/// Here `d` is a full queue's longest time from such times.
 pub fn solo_from_openings<X: Drop>()
     ensures { (r : PortRules X) (lets : ℕ → Bool) (c occ d s h : ℕ) (x : Copy X) (xs : List (Copy X))
         → IsSolo r xs

@@ -241,7 +241,7 @@ fn is_edge<A: Allocator + Copy>(list: &CyclicList<u8, A>, class: u8, occ: u64, m
         && list_first_fit(list, class, occ, moment + 1) != moment + 1
 }
 
-/// Returns the longest time in ns until `room` frames of `occ` ns have left, if all begin to wait at `from`, or 1 ns after a window's last
+/// Returns the longest time in ns until `room` frames of `occ` ns have left. All begin to wait at `from`, or 1 ns after a window's last
 /// fit, at `to` or before.
 ///
 /// `list_longest_time` and `interval_longest_time` call it: frames that just miss a window wait longest.

@@ -63,8 +63,10 @@ pub fn frames_keep_periods<A: Allocator + Copy>()
         → IsDelayInBounds out x y start }
 {}
 
-/// Both ends of the computed phases are reached, so no narrower phases hold: a shortest frame that arrives at the first phase, or a longest
-/// at the last, starts at its first fit if it arrives alone at an empty queue.
+/// Both ends of the computed phases are reached, so no narrower phases hold. Frames arrive alone at an empty queue: a shortest frame at the
+/// first phase, or a longest at the last.
+///
+/// Each starts at its first fit.
 pub fn phases_are_reached<X: Drop>()
     ensures { (r : PortRules X) (c at start : ℕ) (item : X)
         → r.ever c (r.occ item) ≡ true

@@ -43,8 +43,8 @@ format_by_magic magic =
     else if magic == 0xD4C3B2A1 then Some (record { order = Big; unit = Micro })
     else None
 
--- Format of a capture from its header, or the header's first fault: unknown magic number (`None`), version other than
--- 2.4, link type other than 1 (Ethernet).
+-- Format of a capture from its header, or the header's first fault. Faults are an unknown magic number (`None`), a version other than 2.4,
+-- and a link type other than 1 (Ethernet).
 abbrev pub format_after_magic : Option CaptureFormat → List ℕ → Result CaptureFormat CaptureFault
 format_after_magic None octets = Err BadMagic
 format_after_magic (Some form) octets =

@@ -74,7 +74,7 @@ impl<A: Allocator> WriteBuffer<A> {
         self.octets.len() - self.count
     }
 
-    /// Whether the sink may add `more` octets before it writes a block: the buffer contains less than a block, and `more` is at most a
+    /// Whether the sink may add `more` octets before it writes a block. The buffer must contain less than a block, and `more` be at most a
     /// record's length.
     #[inline(always)]
     pub fn has_room(&self, more: usize) -> bool

@@ -142,14 +142,14 @@ filter_tests p n f =
     ∷ size_fault p n f
     ∷ []
 
--- The fault of the first of eight tests that filter `f` with number `n` fails in plan `p`; `None` if the filter passes all eight tests.
+-- The fault of the first of eight tests that filter `f` with number `n` fails in plan `p`; `None` if it passes these tests.
 abbrev pub filter_fault : {A : Type 0} → Plan A → ℕ → FilterPlan → Option CheckFault
 filter_fault p n f = first_test_fault (filter_tests p n f)
 
 -- GROUPED FILTERS
 
--- Test 6 of a grouped filter returns QueueShared for the first reachable queue of filter `f` that is also reachable for
--- a filter outside group `k`; otherwise `None`.
+-- Test 6 of a grouped filter returns QueueShared for the first queue that filter `f` and a filter outside group `k` can reach. Otherwise it
+-- returns `None`.
 abbrev pub outsider_fault : {A : Type 0} → Plan A → ℕ → ℕ → FilterPlan → Option CheckFault
 outsider_fault p k n f = first_fault_in_reach p f (λ q c. option_map (fault.QueueShared n q c) (outsider_in_queue p p.filters k q c))
 
@@ -167,7 +167,7 @@ member_tests p k n f =
     ∷ size_fault p n f
     ∷ []
 
--- The fault of the first of eight tests that filter `f` with number `n` in group `k` fails; `None` if the filter passes all eight tests.
+-- The fault of the first of eight tests that filter `f` with number `n` in group `k` fails; `None` if it passes these tests.
 abbrev pub member_fault : {A : Type 0} → Plan A → ℕ → ℕ → FilterPlan → Option CheckFault
 member_fault p k n f = first_test_fault (member_tests p k n f)
 

@@ -5,7 +5,7 @@ use Rattle.std.specs.Prelude.{◌≡◌, ℕ, Bool, true, ◌<◌, ◌≤◌, �
 abbrev pub is_open : ℕ → ℕ → Bool
 is_open classes c = eqb (classes / 2 ^ c % 2) 1
 
--- Statement: A transmission that starts at time `t` and lasts `occ` ns fits: `opens` is true at each ns from `t` up to,
+-- Statement: A transmission that starts at time `t` and lasts `occ` ns fits. `opens` is true at each ns from `t` up to,
 -- not including, `t + occ`.
 abbrev pub Fits : (ℕ → Bool) → ℕ → ℕ → Type 0
 Fits opens occ t = (u : ℕ) → t ≤ u → u < t + occ → opens u ≡ true

@@ -6,8 +6,8 @@ ghost use Rattle.bridge_forward.specs.Database.{Database, vlan_members};
 ghost use Rattle.bridge_forward.specs.Forward.{forward};
 ghost use Rattle.bridge_forward.specs.PortRule.{is_output, is_member};
 
-/// A frame leaves on port `q` exactly if the rule for single ports, `is_output`, is true: by reserved addresses, members of the VLAN, the
-/// ingress port and the static entry.
+/// A frame leaves on port `q` exactly if `is_output`, the rule for single ports, is true. The rule compares reserved addresses, members of
+/// the VLAN, the ingress port and the static entry.
 pub fn forward_is_port_rule()
     ensures { (db : Database) (port vid : ℕ) (da : List ℕ) (q : ℕ)
         → 1 ≤ port

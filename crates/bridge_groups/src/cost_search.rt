@@ -159,8 +159,8 @@ fn list_cost_bound<A: Allocator + Copy>(
     least
 }
 
-/// Returns the least delay bound in ns that the search finds by costs, for a port with one gate control list; `None` over a schedule change.
-/// `curve_figures` calls it.
+/// Returns the least delay bound in ns that the search finds by costs, for a port with one gate control list. `None` over a schedule
+/// change. `curve_figures` calls it.
 pub(crate) fn lists_cost_bound<A: Allocator + Copy>(
     plan: &Plan<A>,
     sharers: &[(u32, FilterPlan)],

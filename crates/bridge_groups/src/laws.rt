@@ -141,8 +141,10 @@ pub fn tested_filter_admits_talker<A: Allocator + Copy>()
         → (m : ℕ) × AdmitsTalker p f m most burst rate }
 {}
 
-/// If a filter admits a conforming talker, each of its frames leaves each egress port within the bound of a shared queue, whatever all
-/// others send. Each shared queue that it can reach there has enough capacity.
+/// If a filter admits a conforming talker, each of its frames leaves each egress port within the bound of a shared queue. Other talkers may
+/// send anything.
+///
+/// Each shared queue that it can reach there has enough capacity.
 pub fn conforming_frame_leaves_shared_queue<A: Allocator + Copy>()
     ensures { (p : Plan A) (group n m most burst rate q set : ℕ) (f : FilterPlan)
         (out : PortPlan A) (a : Arrival) (newer older : List Event) (c : FilterInput)
@@ -299,8 +301,8 @@ pub fn group_leaves_in_time_by_cost<A: Allocator + Copy>()
         → s + transmission_time x.item.len out.speed ≤ x.at + b }
 {}
 
-/// If a port's lists change, copies leave a shared queue within the old list's bound `b1`, a longest frame, and the new list's bound `b2`
-/// for a shifted curve.
+/// If a port's lists change, copies leave a shared queue within a sum of times. It has the old list's bound `b1`, a longest frame, and the
+/// new list's bound `b2` for a shifted curve.
 pub fn group_leaves_in_time_over_change<A: Allocator + Copy>()
     ensures { (p : Plan A) (group : ℕ) (sharers : List (ℕ × FilterPlan)) (q c sdu b1 b2 s : ℕ) (out : PortPlan A)
         (j : Joined ℕ) (es : List Event) (moments : ℕ → ℕ) (lists : ℕ → List (Copy CarriedFrame))
@@ -372,7 +374,7 @@ pub fn shared_queue_leaves_in_time<A: Allocator + Copy>()
         → start + transmission_time x.item.len is.out.speed ≤ x.at + s.bound }
 {}
 
-/// If the capacity of a shared queue is at least the one that `shared_queue` finds sufficient, the queue drops no copy as full in any run.
+/// If the capacity of a shared queue is at least the one that `shared_queue` finds, the queue drops no copy as full in any run.
 pub fn shared_queue_is_never_full<A: Allocator + Copy>()
     ensures { (p : Plan A) (s : SharedQueue) (room : ℕ) (es : List Event) (moments : ℕ → ℕ)
         (lists : ℕ → List (Copy CarriedFrame)) (x : Copy CarriedFrame)
@@ -389,7 +391,7 @@ pub fn shared_queue_is_never_full<A: Allocator + Copy>()
         → x.fate ≢ Full }
 {}
 
-/// Each copy that a protected filter's queue sent has left within the bound that `gate_work_bound` returns, in every run whose frames have
+/// Each copy that a protected filter's queue sent has left within the bound that `gate_work_bound` returns. The frames of the run must have
 /// SDUs of at least `fewest` octets.
 pub fn frames_leave_in_time_by_gate<A: Allocator + Copy>()
     ensures { (p : Plan A) (n q c fewest b start : ℕ) (is : IsGateWorkBound p n q c fewest b) (es : List Event)

@@ -8,11 +8,10 @@ use bridge_bounds::{is_coarse, tight_queue_bound};
 use bridge_check::Accepted;
 use std::alloc::Allocator;
 
-/// Returns the lesser of two bounds of a queue in ns: `tight`, and the bound that follows from the octets that the filter's stream gate
-/// passes.
+/// Returns the lesser of two bounds of a queue in ns: `tight`, and the bound from the octets that the filter's stream gate passes.
 ///
-/// Returns `tight` if the lists of stream gate and port have no common cycle (`coarse`), because the search for the other bound would take
-/// too long.
+/// Returns `tight` if the lists of stream gate and port have no common cycle (`coarse`). The search for the other bound would then take too
+/// long.
 pub fn least_bound<A: Allocator + Copy>(
     accepted: &Accepted<A>,
     number: u32,
@@ -38,8 +37,8 @@ pub fn least_bound<A: Allocator + Copy>(
 
 /// Returns a queue's bound in ns for frames of at least 60 octets: it follows from the octets that the filter's stream gate passes.
 ///
-/// Returns `None` if it isn't below `bound`, if no frame of this length passes, or if the lists of stream gate and port have no common
-/// cycle (`coarse`).
+/// Returns `None` if this bound isn't below `bound`, or if no frame of this length passes. Also if the lists of stream gate and port have
+/// no common cycle (`coarse`).
 ///
 /// `put_tight_bound` of `net_latency` and `put_gate_bounds` of `show_lint` call it.
 pub fn padded_bound<A: Allocator + Copy>(

@@ -51,7 +51,7 @@ pub(crate) fn next_opening<A: Allocator + Copy>(
     None
 }
 
-/// Returns the most transmission time in ns of the frames that pass in an interval: each `share` octets of their SDUs take at most `least`
+/// Returns the most transmission time in ns of the frames that pass in an interval. Each `share` octets of their SDUs take at most `least`
 /// ns. Returns 0 without an octet limit. `add_interval` calls it.
 pub(crate) fn turn_work(turn: &Turn<GateEntry>, least: u64, share: u64) -> u64
     requires least { least ≤ 200_000 }

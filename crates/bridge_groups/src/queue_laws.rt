@@ -71,8 +71,8 @@ pub fn conforming_frame_is_green()
         → frame_colour p (meter_history p es) at octets dei ≡ Green }
 {}
 
-/// A delay bound needs proof for few spans only: those that begin just after a run of fits (`fit`, `shut`) and last at most a cycle
-/// (`cycle`), one for each run (`run`).
+/// A delay bound needs proof for few spans only. They begin just after a run of fits (`fit`, `shut`) and last at most a cycle (`cycle`);
+/// each run has one (`run`).
 pub fn few_spans_suffice()
     ensures fit { (opens : ℕ → Bool) (occ least : ℕ) (curve : ℕ → ℕ) (b u w : ℕ)
         → ((t : ℕ) → (v : ℕ) × IsFirstFit opens occ t v)
@@ -150,7 +150,7 @@ pub fn bounds_follow_curves()
         → IsDelayBound opens occ least curve (curve 0) }
 {}
 
-/// At most `n` frames of `m` octets in any period conform to the burst `n * m` and to each rate that gives it in a period.
+/// At most `n` frames of `m` octets in any period conform to a meter. Its burst is `n * m`, and its rate gives this burst in a period.
 pub fn few_frames_conform()
     ensures { (n m period rate unit u w : ℕ) (x : SentFrame) (xs : List SentFrame)
         → 0 < period
@@ -160,7 +160,7 @@ pub fn few_frames_conform()
         → recent_sent_octets u (x ∷ xs) * unit ≤ m * n * unit + rate * w }
 {}
 
-/// If each run of fits of `occ` ns starts with a fit of `on` ns, the cost `on + (on - occ)` suffices for a frame of `on` ns.
+/// The cost `on + (on - occ)` suffices for a frame of `on` ns. Each run of fits of `occ` ns must start with a fit of `on` ns.
 pub fn long_frame_cost_suffices()
     ensures { (opens : ℕ → Bool) (occ least on : ℕ)
         → 1 ≤ occ
@@ -190,7 +190,7 @@ pub fn copies_leave_in_time_over_change<X: Drop>()
         → s + r.occ x.item ≤ x.at + ((b1 + occ) + b2) }
 {}
 
-/// If copies are offered only while a gate is open, and each interval has limited work, each copy that starts leaves within the intervals'
+/// If copies are offered only while a gate is open, and each interval has limited work, each started copy leaves within the intervals'
 /// delay bound.
 pub fn interval_copies_leave_in_time<X: Drop>()
     ensures { (r : PortRules X) (lets : ℕ → Bool) (begin limit : ℕ → ℕ) (c occ least b s : ℕ) (x : Copy X)

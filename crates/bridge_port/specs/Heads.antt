@@ -51,7 +51,7 @@ pub record GainsHead (list : GateSchedule) (from c occ : ℕ) (old new : List (O
   pub fits : new ≡ slice_set old c (Some at)
   pub best : after ≡ sooner_head before at c
 
--- Statement: The next start is at time `k` in class `c`, at most 2 s after the link is free and the next offer may arrive.
+-- Statement: The next start is at time `k` in class `c`. It is at most 2 s after the link is free and the next offer may arrive.
 pub record StartsNext {T : Type 0} (p : EgressState T) (k c : ℕ) : Type 0 where
   pub item : Item T
   pub next : IsNextStart p k c item

@@ -126,7 +126,7 @@ module _ {X : Type 0} where
   AreAnswered r [] = Unit {0}
   AreAnswered r (x ∷ xs) = IsAnswer r x xs x.fate × AreAnswered r xs
 
-  -- Statement: If copy `x` started at time `s`, then `s` is before `h`, at or after the offer, and its class stays open
+  -- Statement: If copy `x` started at time `s`, then `s` is before `h`, and not before the offer. Its class stays open
   -- for the transmission.
   abbrev pub IsLawfulStart : PortRules X → ℕ → Copy X → Fate → Type 0
   IsLawfulStart r h x Never = Unit {0}

@@ -12,8 +12,10 @@ use bridge_frame::{Speed, occupation};
 use circular_buffer::HeapCircularBuffer;
 use std::alloc::Allocator;
 
-/// Returns the better of the head `best` and the head of `class` with the earliest start `fit`: the earlier one, or at equal times the one
-/// of the higher class. `sooner_optional_head` and `add_item_fit` call it.
+/// Returns the better of the head `best` and the head of `class` with the earliest start `fit`. The earlier head is better, or at equal
+/// times that in the higher class.
+///
+/// `sooner_optional_head` and `add_item_fit` call it.
 #[inline(always)]
 fn sooner_head(best: Option<(u64, usize)>, fit: u64, class: usize) -> Option<(u64, usize)>
     ensures { result ≡ heads.sooner_head best fit class }

@@ -311,10 +311,10 @@ pub fn fit_in_list<A: Allocator + Copy>(
     fit_until_stop(list, spans, last, class, occ, from, u64::MAX)
 }
 
-/// Returns the earliest time in ns, `from` or later, from which the lists before and after a schedule change open `class` for `occ` ns, by
-/// stored spans. `None` if no span is long enough.
+/// Returns the earliest time in ns, `from` or later, from which the lists of a schedule change open `class` for `occ` ns, by stored spans.
+/// `None` if no span is long enough.
 ///
-/// `fit_by_spans` calls it, and updates hints `last`.
+/// `fit_by_spans` calls it, and keeps the hints `last`.
 pub fn fit_in_changing_list<A: Allocator + Copy>(
     lists: &Joined<u8, A>,
     old: &ClassSpans<A>,

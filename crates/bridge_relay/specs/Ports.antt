@@ -27,7 +27,7 @@ nth_port slots q = slice_index_or slots (q - 1) None
 abbrev pub port_state : {G A : Type 0} → PortsState G A → ℕ → Option (PortState A)
 port_state p q = nth_port p.slots q
 
--- Holds if a port's state is consistent: classes are at most 7, queued and dropped copies add up to the offers, and counts of frames fit.
+-- Holds if a port's state is consistent. Classes are at most 7, queued and dropped copies add up to the offers, and counts of frames fit.
 pub record IsPortSound {A : Type 0} (s : PortState A) : Type 0 where
   pub classes : (k : ℕ) → k ≤ 7 → slice_index s.classes k < 8
   pub counted : s.count.sent + s.count.dropped ≡ s.port.offered

@@ -214,7 +214,9 @@ pub fn group_queues_hold_members<A: Allocator + Copy>()
         → IsGroupCopy p group x }
 {}
 
-/// The record of a grouped filter in a run equals its record if only the group's own events arrive and each queue has its port to itself.
+/// The record of a grouped filter in a run equals its record on an idle bridge. There, only the group's own events arrive, and queues have
+/// their ports to themselves.
+///
 /// Other traffic changes nothing of it.
 pub fn group_is_isolated<A: Allocator + Copy>()
     ensures { (p : Plan A) (group n : ℕ) (f : FilterPlan) (es : List Event) (lists : ℕ → List (Copy CarriedFrame))

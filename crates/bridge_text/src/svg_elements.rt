@@ -166,8 +166,10 @@ pub enum Size {
     Wide(u64, u64),
 }
 
-/// Returns the head of a picture: its size, the styles of its shapes, the hatching with squares of side `hatch` (none for `None`), and the
-/// background. `Page::finish`, and `draw_network` and `RunPicture::finish` of `net_report` call it.
+/// Returns the head of a picture: its size, the styles of its shapes, its hatching and its background. Squares of the hatching have the
+/// side `hatch`; `None` means no hatching.
+///
+/// `Page::finish`, and `draw_network` and `RunPicture::finish` of `net_report` call it.
 pub fn picture_head(
     alloc: Global,
     size: Size,

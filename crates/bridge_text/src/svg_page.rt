@@ -67,7 +67,7 @@ impl Page {
         self.bottom
     }
 
-    /// Returns the distance from the top to the point `by` below the page's lower end, both in tenths of a pixel: callers place shapes by
+    /// Returns the distance from the top to the point `by` below the page's lower end. Both are tenths of a pixel. Callers place shapes by
     /// it.
     pub fn bottom_plus(&self, by: u64) -> u64 {
         self.bottom.saturating_add(by)
@@ -108,8 +108,8 @@ impl Page {
         self.shapes.end_shape();
     }
 
-    /// Draws the text of `form`, with its numbers, at the distance `x` from the left and `by` below the page's lower end, in tenths of a
-    /// pixel. `put_legend_row` calls it.
+    /// Draws the text of `form`, with its numbers, at the distance `x` from the left and `by` below the page's lower end. Lengths are
+    /// tenths of a pixel. `put_legend_row` calls it.
     pub fn put_text(&mut self, style: &str, x: u64, by: u64, form: &str, numbers: &[u64]) {
         self.begin_text(style, x, self.bottom_plus(by));
         self.add_piece(form, numbers, "");
@@ -229,12 +229,10 @@ impl Page {
         self.end_text();
     }
 
-    /// Draws the time axis below the page's contents, with grid lines up to the distance `top` from the page's upper end (tenths of a
-    /// pixel) and their times. A tall picture has times above too.
+    /// Draws the time axis below the page's contents, with grid lines and their times. The lines begin at the distance `top` from the
+    /// page's upper end, in tenths of a pixel.
     ///
-    /// Draws a schedule change, if present.
-    ///
-    /// `finish_ports` of `show_picture` calls it.
+    /// A tall picture has times above too. Draws a schedule change, if present. `finish_ports` of `show_picture` calls it.
     pub fn put_axis(&mut self, span: Span, top: u64, change: Option<u64>) {
         let step = span.grid_step();
         let first = (span.from / step).saturating_add(u64::from(span.from % step > 0));

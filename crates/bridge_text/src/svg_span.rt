@@ -58,7 +58,7 @@ impl Span {
         }
     }
 
-    /// Returns the time between two lines of the axis in ns: one, two or five times a power of ten, so that the axis has at most
+    /// Returns the time between two lines of the axis in ns: one, two or five times a power of ten. The axis then has at most
     /// `MAX_INTERVALS` whole intervals.
     pub(crate) fn grid_step(self) -> u64
         ensures { 1 ≤ result }

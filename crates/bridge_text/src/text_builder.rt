@@ -178,8 +178,8 @@ impl<A: Allocator> TextBuilder<A> {
         }
     }
 
-    /// Adds a piece of a template, which `put_template` splits at each `{`: the value of the placeholder up to `}`, then the rest of the
-    /// piece.
+    /// Adds a piece of a template: the value of the placeholder up to `}`, then the rest of the piece. `put_template` splits the template
+    /// at each `{`.
     #[tactic(auto, using(crate::proofs::Longer::longer))]
     fn put_template_piece(&mut self, piece: &str, numbers: &[u64], words: &[&str])
         ensures { IsLonger self.old self.new }

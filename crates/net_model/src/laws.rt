@@ -31,8 +31,8 @@ ghost use Rattle.net_model.specs.declared.sending_port.FrameQuery.TheVariants.{S
 
 use std::alloc::Allocator;
 
-/// In every complete run of an accepted network, each hop of a closed stream has the record that it would have if the stream were alone on
-/// an idle network.
+/// In a complete run of an accepted network, each hop of a closed stream has its record of an idle network. There, only this stream sends
+/// frames.
 pub fn stream_alone<A: Allocator + Copy>()
     ensures { (n : Network A) (stream : List (ℕ × ℕ)) (commands : ℕ → List Input) (captures : ℕ → ℕ
         → List CapturedFrame)
@@ -44,7 +44,7 @@ pub fn stream_alone<A: Allocator + Copy>()
         → IsAlone n commands captures stream (λ (h : Hop A). lookup (nat_eq h.number) (o h.bridge).filters.items) }
 {}
 
-/// If a stream is alone on an idle network, its inputs from outside determine the record of each of its hops, even if links form a cycle.
+/// If a stream is alone on an idle network, its inputs from outside determine the records of its hops. Links may form a cycle.
 pub fn stream_alone_has_one_result<A: Allocator + Copy>()
     ensures { (n : Network A) (stream : List (ℕ × ℕ)) (commands others : ℕ → List Input)
         (captures frames : ℕ → ℕ → List CapturedFrame) (tells says : Hop A → Option (View A)) (h : Hop A) (u v : View A)
@@ -75,8 +75,8 @@ pub fn other_traffic_changes_nothing<A: Allocator + Copy>()
         → AreSameViews u v }
 {}
 
-/// If `takes_only` holds for the plans at a link's ends, the hop's filter accepts over this link only frames of the stream, whatever the
-/// sending bridge receives.
+/// If `takes_only` holds for the plans at a link's ends, the hop's filter accepts over this link only frames of the stream. The sending
+/// bridge may receive anything.
 pub fn only_stream_is_taken<A: Allocator + Copy>()
     ensures { (p next : Plan A) (is_of_stream : ℕ → Bool) (q r n t : ℕ) (f : FilterPlan) (out on : PortPlan A)
         (es : List Event) (o : Offer)
@@ -115,8 +115,8 @@ pub fn stray_exists_if_test_fails<A: Allocator + Copy>()
         → (first_taken Strays p is_of_stream q next on n ≡ None) ↔ (takes_only p is_of_stream q next on n ≡ true) }
 {}
 
-/// If `hands_all` holds for the plans at a link's ends, filter `n` at the receiving end gets each copy of filter `m` that arrives over the
-/// link and that the bridge there forwards.
+/// If `hands_all` holds for the plans at a link's ends, filter `n` at the receiving end misses no copy. It gets each copy of filter `m`
+/// that arrives over the link and is forwarded there.
 pub fn each_is_handed<A: Allocator + Copy>()
     ensures { (p next : Plan A) (q r m n t set : ℕ) (f : FilterPlan) (call : FilterInput) (out on : PortPlan A)
         (es : List Event) (o : Offer)

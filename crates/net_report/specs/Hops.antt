@@ -19,7 +19,8 @@ is_bridge_with_hop hops (Some s) = has_hop_at_bridge hops s.from.bridge
 abbrev pub has_next_hop : {A : Type 0} → List Link → List (HopRun A) → ℕ → ℕ → Bool
 has_next_hop links hops b q = is_bridge_with_hop hops (sender (map link_value links) b q)
 
--- Holds if item `i` of `ways`, from 0, is true exactly if port `i` + 1 of bridge `b` is linked to a bridge with a hop.
+-- Holds if each item of `ways` answers whether a port of bridge `b` is linked to a bridge with a hop. Item `i`, from 0,
+-- is for port `i` + 1.
 abbrev pub AreOnwardAnswers : {A : Type 0} → List Link → List (HopRun A) → ℕ → List Bool → Type 0
 AreOnwardAnswers links hops b ways = (i : ℕ) (on : Bool) → slice_get ways i ≡ Some on → on ≡ has_next_hop links hops b (i + 1)
 

@@ -13,8 +13,7 @@ use Rattle.net_report.specs.declared.sources.SourceFrame.{SourceFrame}
 abbrev pub is_due : ℕ → ℕ → ℕ → Departure → Bool
 is_due q delay at d = nat_eq d.port q && nat_le at (d.done + delay)
 
--- The list of copies, from the first copy on that left by port `q` and, after the link's delay of `delay` ns, arrives at time `at` or
--- later.
+-- The list of copies from the first copy on that left by port `q` and arrives at time `at` or later. The link's delay is `delay` ns.
 abbrev pub due_departures : ℕ → ℕ → ℕ → List Departure → List Departure
 due_departures q delay at [] = []
 due_departures q delay at (d ∷ ds) = if is_due q delay at d then d ∷ ds else due_departures q delay at ds

@@ -157,7 +157,7 @@ fn put_refused<A: Allocator>(picture: &mut RunPicture, view: &View<A>, y: u64) {
     }
 }
 
-/// Draws a triangle at the frame's arrival time for each copy that a port of a hop dropped, in the row `y` pixels from the top.
+/// Draws a triangle for each copy that a port of a hop dropped: at the frame's arrival time, in the row `y` pixels from the top.
 /// `put_hop_row` calls it.
 fn put_dropped<A: Allocator>(picture: &mut RunPicture, view: &View<A>, y: u64) {
     for stored in &view.drops {
@@ -170,8 +170,8 @@ fn put_dropped<A: Allocator>(picture: &mut RunPicture, view: &View<A>, y: u64) {
     }
 }
 
-/// Draws the row of a hop, `y` pixels from the top: its name, copies that left with lines to the next hops, dropped copies and refused
-/// frames. `RunPicture::put_stream` calls it.
+/// Draws the row of a hop, `y` pixels from the top. It shows its name, copies that left with lines to the next hops, dropped copies and
+/// refused frames. `RunPicture::put_stream` calls it.
 pub(crate) fn put_hop_row<A: Allocator>(
     picture: &mut RunPicture,
     links: &[Link],

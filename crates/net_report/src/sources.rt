@@ -98,8 +98,8 @@ fn is_due(departure: &Departure, port: u8, delay: u64, at: u64) -> bool
     departure.port == port && at as u128 <= departure.done as u128 + delay as u128
 }
 
-/// Returns the rest of `departures` from the first copy on that left by `port` and, after the link's delay of `delay` ns, arrives at time
-/// `at` or later. `resume_due_departures` calls it.
+/// Returns the rest of `departures` from the first copy on that left by `port` and arrives at time `at` or later. The link's delay is
+/// `delay` ns. `resume_due_departures` calls it.
 fn due_departures(
     departures: &[StoredDeparture],
     port: u8,

@@ -161,8 +161,8 @@ fn find_hiders(
     push_warning(found, Warning::HiddenTogether(hidden))
 }
 
-/// Adds a warning if `stream`, which has number `place` in the plan, from 1, matches no frame: because of its port's VLAN `own`, or of
-/// earlier streams. `find_hidden_streams` calls it.
+/// Adds a warning if `stream`, number `place` of the plan from 1, matches no frame. The cause is its port's VLAN `own`, or earlier streams.
+/// `find_hidden_streams` calls it.
 fn find_unmatched(
     found: &mut Vec<Warning>,
     own: u16,

@@ -32,8 +32,8 @@ const SHARED_WINDOW: &str =
 const NEVER_FITS: &str =
     "refused: the longest frame of filter {0} never fits in class {2} of port {3}";
 
-/// Returns a template that explains a fault, and three numbers: `{1}` the other filter, `{2}` the class and `{3}` the port (0 if the fault
-/// has none). `{0}` in the template is the faulty filter.
+/// Returns a template that explains a fault, and three numbers: the other filter `{1}`, the class `{2}` and the port `{3}`. Missing numbers
+/// are 0. `{0}` in the template is the faulty filter.
 ///
 /// `put_fault` calls it.
 fn fault_template(fault: CheckFault) -> (&'static str, u32, u8, u8) {
