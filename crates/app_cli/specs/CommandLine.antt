@@ -18,7 +18,7 @@ use Rattle.app_cli.specs.declared.job.Command.{Command}
 use Rattle.app_cli.specs.declared.job.Command.TheVariants as job
 use Rattle.app_cli.specs.Numbers.{IsRoom, IsSpeed}
 
--- The rule of a required argument with this name.
+-- The rule by which `clap` reads a required argument with the name `name`.
 abbrev pub word_named : Text → Rule
 word_named name = record (new_rule name) { required = true; value_names = 1 }
 
@@ -73,27 +73,27 @@ net_command = with_rule (with_rule (with_rule (with_rule (with_rule (with_rule (
 abbrev pub program : App
 program = on_top (λ s. record s { no_binary_name = true; has_version = true; propagate_version = true }) (new_app (codes "tsnbridge"))
 
--- The program with the command `wire`.
+-- The `clap` program with the command `wire`; `commands` adds the others, one after another.
 abbrev pub wiring : App
 wiring = with_subcommand program wire_command.top
 
--- The program with `wire` and `check`.
+-- The `clap` program with the commands `wire` and `check`.
 abbrev pub plain_jobs : App
 plain_jobs = with_subcommand wiring check_command.top
 
--- The program with `wire`, `check` and `run`.
+-- The `clap` program with the commands `wire`, `check` and `run`.
 abbrev pub jobs : App
 jobs = with_subcommand plain_jobs run_command.top
 
--- The program with `wire`, `check`, `run` and `picture`.
+-- The `clap` program with the commands `wire`, `check`, `run` and `picture`.
 abbrev pub drawing_jobs : App
 drawing_jobs = with_subcommand jobs picture_command.top
 
--- The program with the commands for one bridge.
+-- The `clap` program with the commands for one bridge: all except `net`.
 abbrev pub bridge_jobs : App
 bridge_jobs = with_subcommand drawing_jobs bounds_command.top
 
--- The program with all commands.
+-- The `clap` program with all commands, by which the arguments are read.
 abbrev pub commands : App
 commands = with_subcommand bridge_jobs net_command.top
 
@@ -104,7 +104,7 @@ rule_in form.Extra name = extra_named name
 rule_in form.Choice name = option_named name
 rule_in form.Flag name = flag_named name
 
--- The command with the rule of one more argument.
+-- The `clap` command `command` with the rule of argument `word` added.
 abbrev pub with_word : App → Argument → App
 with_word command word = with_rule command (rule_in word.form word.id.now)
 
@@ -135,7 +135,7 @@ pub record AsksForWire (values : List Row) (speed : Speed) (room : ℕ) (input o
   pub input_is : first_of (codes "input") values ≡ Some input
   pub output_is : first_of (codes "output") values ≡ Some output
 
--- Holds if the value of `check` is this path.
+-- Holds if the values that `clap` found give `plan` as the path of the plan for `check`.
 abbrev pub AsksForCheck : List Row → Text → Type 0
 AsksForCheck values plan = first_of (codes "plan") values ≡ Some plan
 

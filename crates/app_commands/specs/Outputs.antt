@@ -22,7 +22,7 @@ Prints stdout stderr status output = (string_bytes output.stdout ≡ stdout) × 
 abbrev pub status_if : Bool → ℕ
 status_if well = if well then 0 else 1
 
--- True if a text isn't empty.
+-- True if the text `text` isn't empty, so that the program prints it.
 abbrev pub has_text : List ℕ → Bool
 has_text text = not (nat_eq (length text) 0)
 
@@ -31,7 +31,8 @@ abbrev pub HasLine : List ℕ → Option (String Global) → List ℕ → Type 0
 HasLine line None text = text ≡ line ++ 10 ∷ []
 HasLine line (Some explanation) text = (more : List ℕ) × (text ≡ line ++ 10 ∷ more)
 
--- Holds if the program prints the fault line of `f` to standard error, nothing to standard output, and ends with the status of `f`.
+-- Holds if the program prints the fault line of failure `f` to standard error, and nothing to standard output. The exit status is the one
+-- that `fault_status` defines for `f`.
 abbrev pub ReportsFault : Failure → Option (String Global) → Output → Type 0
 ReportsFault f explanation output =
     (string_bytes output.stdout ≡ []) × HasLine (fault_line f) explanation (string_bytes output.stderr) × (output.status ≡ fault_status f)

@@ -45,7 +45,7 @@ IsCheckedPlan plan accepted = (accepted ≡ plan) × (first_fault plan ≡ None)
 abbrev pub EndsWithCommands : {A : Type 0} → Plan A → Option (List ℕ) → Failure → Type 0
 EndsWithCommands p commands f = (text : Option (List ℕ)) × EndsCommanded p commands text f
 
--- Holds if `f` ends the reading of a plan and its commands: a fault of some plan text, or of a plan with its commands.
+-- Holds if failure `f` can end the reading of a plan and its commands: some plan text is refused, or the commands are, or a file failed.
 abbrev pub EndsReading : (A : Type 0) → List ℕ → Option (List ℕ) → Failure → Type 0
 EndsReading A plan commands f = ((text : List ℕ) × EndsPlan A plan text f) ⊎ ((p : Plan A) × IsPlanOfText p × EndsWithCommands p commands f)
 
@@ -66,10 +66,10 @@ EndsSending p input output fault.NoMemory = Unit {0}
 EndsSending p input output (fault.Run f) = Unit {0}
 EndsSending p input output f = ⊥
 
--- Holds if `f` ends a run over files: a fault of reading, or of a run under some accepted plan.
+-- Holds if failure `f` can end a run over files: reading failed, or the run under some accepted plan.
 abbrev pub EndsRun : (A : Type 0) → List ℕ → Option (List ℕ) → List ℕ → List ℕ → Failure → Type 0
 EndsRun A plan commands input output f = EndsReading A plan commands f ⊎ ((p : Plan A) × IsAcceptedPlan p × EndsSending p input output f)
 
--- Holds if `line` has the counts of some run.
+-- Holds if `line` is the line of counts of some run that `run` prints.
 abbrev pub PrintsRun : (A : Type 0) → List ℕ → Type 0
 PrintsRun A line = (outcome : Outcome A) × (line ≡ summary_text outcome.ports.items)

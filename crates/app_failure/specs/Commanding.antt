@@ -22,7 +22,7 @@ TellsText remaining (Some file) (Some text) = remaining file.1 ≡ Some text
 TellsText remaining None (Some text) = ⊥
 TellsText remaining (Some file) None = ⊥
 
--- Holds if `f` is a fault that ends the reading of commands from the file at `path`.
+-- Holds if failure `f` can end the reading of commands from the file at `path`.
 abbrev pub EndsCommands : {A : Type 0} → Plan A → List ℕ → List ℕ → Failure → Type 0
 EndsCommands plan path input (fault.Commands f) = IsReadFault f (text_commands plan input)
 EndsCommands plan path input f = IsFileFault path f

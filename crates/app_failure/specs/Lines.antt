@@ -45,7 +45,7 @@ capture_fault_line port capture.Read = not_read port
 capture_fault_line port capture.Write = not_written port
 capture_fault_line port capture.NoMemory = codes "no memory"
 
--- The fault line of a stopped run.
+-- The fault line of a run that stopped: at a capture, a failed write, or without memory.
 abbrev pub run_fault_line : RunFault → List ℕ
 run_fault_line (run.Capture port f) = capture_fault_line port f
 run_fault_line (run.Write port) = not_written port

@@ -37,7 +37,7 @@ list_fault_line section index list.CycleOutOfRange = list_refused section index 
 list_fault_line section index list.TooManyEntries = list_refused section index (codes "TooManyEntries")
 list_fault_line section index list.NoMemory = codes "no memory"
 
--- The fault line of a refused plan.
+-- The fault line of a plan with the given fault, without line feed.
 abbrev pub plan_fault_line : PlanFault → List ℕ
 plan_fault_line plan.Syntax = plan_refused (codes "Syntax")
 plan_fault_line plan.TooLong = plan_refused (codes "TooLong")

@@ -26,7 +26,7 @@ LacksPath input output (fault.File e) = ((input ≡ []) ⊎ (output ≡ [])) × 
 LacksPath input output fault.NoMemory = Unit {0}
 LacksPath input output f = ⊥
 
--- Holds if a file failed, or memory ran out.
+-- Holds if the command's failure is a failed file or `NoMemory`.
 abbrev pub EndsFiles : Failure → Type 0
 EndsFiles (fault.File e) = Unit {0}
 EndsFiles fault.NoMemory = Unit {0}

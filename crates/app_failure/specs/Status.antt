@@ -22,7 +22,7 @@ capture_fault_status capture.Write = 3
 capture_fault_status capture.NoMemory = 3
 capture_fault_status f = 2
 
--- The exit status after a stopped run.
+-- The exit status after a run that stopped: 2 for a refused capture, 3 for devices and memory.
 abbrev pub run_fault_status : RunFault → ℕ
 run_fault_status (run.Capture port f) = capture_fault_status f
 run_fault_status (run.Write port) = 3

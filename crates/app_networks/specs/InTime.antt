@@ -33,7 +33,7 @@ abbrev pub HasSourceOverRoute : {A : Type 0} → List Link → List (HopRun A) �
 HasSourceOverRoute links hops r [] i k = IsFirstHopFrame hops i k r
 HasSourceOverRoute links hops r (leg ∷ legs) i k = IsCopyOverRouteHop links hops leg (HasSourceOverRoute links hops r legs) i k
 
--- The indices of the hops on a route.
+-- The indices of the hops on a route, in the order in which a frame passes them.
 abbrev pub route_hops : ℕ → List (ℕ × ℕ) → List ℕ
 route_hops i legs = i ∷ map (λ (leg : ℕ × ℕ). leg.0) legs
 

@@ -23,7 +23,7 @@ NamesFile files f = ⊥
 
 -- INPUTS
 
--- The path of the commands in a bridge's folder.
+-- The path of the file of commands in a bridge's folder `folder`.
 abbrev pub commands_path : List ℕ → List ℕ
 commands_path folder = folder ++ codes "/commands.toml"
 
@@ -53,7 +53,7 @@ abbrev pub IsOutputOfBridges : {A : Type 0} → List (Plan A) → List Bridge �
 IsOutputOfBridges {A} plans bridges output path =
     (b : ℕ) × (p : Plan A) × (slice_get plans b ≡ Some p) × IsBridgeOutputFile p (folder_path output (bridge_name bridges b)) path
 
--- The path of a table in the output folder.
+-- The path of the table `name` in the output folder `folder`: `FOLDER/NAME.csv`.
 abbrev pub table_path : List ℕ → List ℕ → List ℕ
 table_path folder name = folder ++ (codes "/" ++ (name ++ codes ".csv"))
 

@@ -17,7 +17,7 @@ abbrev pub AreSeldom : ℕ → ℕ → List ℕ → Type 0
 AreSeldom w n [] = Unit {0}
 AreSeldom w n (t ∷ ts) = (count_recent w t ts < n) × AreSeldom w n ts
 
--- The offer times of the copies that started.
+-- The offer times in ns of the copies that started, in list order.
 abbrev pub offer_times : {X : Type 0} → List (Copy X) → List ℕ
 offer_times [] = []
 offer_times (x ∷ xs) = if is_started x.fate then x.at ∷ offer_times xs else offer_times xs

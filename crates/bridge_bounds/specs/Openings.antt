@@ -33,7 +33,7 @@ pub record IsCommonCycle (gate : cyclic.Cyclic GateEntry) (list : cyclic.Cyclic 
 abbrev pub HaveCommonCycle : cyclic.Cyclic GateEntry → cyclic.Cyclic ℕ → Type 0
 HaveCommonCycle gate list = (span : ℕ) × IsCommonCycle gate list span
 
--- Holds if `n` is the least number, from 1 to `most`, of cycles of `cycle` ns that are whole cycles of `other` ns.
+-- Holds if `n`, from 1 to `most`, is the least number of cycles of `cycle` ns that make whole cycles of `other` ns.
 pub record AreLeastCycles (cycle other most n : ℕ) : Type 0 where
   pub some : 1 ≤ n
   pub within : n ≤ most

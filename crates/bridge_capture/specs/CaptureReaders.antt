@@ -12,7 +12,7 @@ use Rattle.bridge_capture.specs.StandsFor.{StandsFor, IsRefusal, HasReadFrames, 
 use Rattle.bridge_capture.specs.TakenOctets.{TakesFewer}
 use Rattle.bridge_capture.specs.declared.capture_reader.CaptureReader.{CaptureReader}
 
--- Statement: Guarantees for the frame ahead, for any source.
+-- Statement: Guarantees for the frame that a reader of a capture has read ahead, whatever the source contains.
 pub record IsFrameAhead {A : Type 0} (lane : CaptureReader A) (p : Packet A) : Type 0 where
   pub reading : IsReading lane.capture
   pub latest : lane.capture.latest ≡ p.time
@@ -32,7 +32,7 @@ frames_left lane = if is_some lane.ahead then records_left lane.capture + 1 else
 abbrev pub total_frames_left : {A : Type 0} → List (CaptureReader A) → ℕ
 total_frames_left lanes = sum_by frames_left lanes
 
--- Port numbers in the order of the readers.
+-- Port numbers of the readers of captures, in list order.
 abbrev pub port_numbers : {A : Type 0} → List (CaptureReader A) → List ℕ
 port_numbers [] = []
 port_numbers (lane ∷ more) = lane.number ∷ port_numbers more

@@ -94,13 +94,12 @@ wildcard_fault n f = fault_unless (is_some f.handle) (fault.ProtectedWildcard n)
 abbrev pub max_sdu_fault : ℕ → FilterPlan → Option CheckFault
 max_sdu_fault n f = fault_unless (is_some f.max_sdu) (fault.NoMaxSdu n)
 
--- Test 3 returns the fault GateShared if a filter with another number than `n` uses the stream gate of `f`; otherwise
--- `None`.
+-- Test 3 returns the fault GateShared if a filter with another number than `n` uses the stream gate of filter `f`; otherwise `None`.
 abbrev pub gate_fault : {A : Type 0} → Plan A → ℕ → FilterPlan → Option CheckFault
 gate_fault p n f = fault_unless (not (is_gate_shared p.filters n f)) (fault.GateShared n)
 
--- Test 4 returns the fault MeterShared if a filter with another number than `n` uses the flow meter of `f`; otherwise
--- `None`. A filter without a meter passes.
+-- Test 4 returns the fault MeterShared if a filter with another number than `n` uses the flow meter of filter `f`; otherwise `None`. A
+-- filter without a meter passes.
 abbrev pub meter_fault : {A : Type 0} → Plan A → ℕ → FilterPlan → Option CheckFault
 meter_fault p n f = fault_unless (not (is_meter_shared p.filters n f)) (fault.MeterShared n)
 

@@ -42,7 +42,7 @@ EndsOrFollows text q taken inputs = IsCapture text taken AtEnd ⊎ ((c : Capture
 abbrev pub EndsOrFollowsLater : Option ℕ → List ℕ → ℕ → List CapturedFrame → List Input → Type 0
 EndsOrFollowsLater until text q taken inputs = IsCapture text taken AtEnd ⊎ ((c : CapturedFrame) × HasReadFrames text (taken ++ c ∷ []) × FollowsInputs (capture_input q c) inputs × ((t : ℕ) × (until ≡ Some t) × (t ≤ c.time)))
 
--- Holds if the newest input arrived on port `port`.
+-- Holds if the newest input of the run arrived on port `port`; the port of a command is 0.
 abbrev pub IsNewestPort : ℕ → List Input → Type 0
 IsNewestPort port [] = ⊥
 IsNewestPort port (x ∷ xs) = x.rank ≡ port

@@ -29,7 +29,7 @@ refusal f sdu =
 abbrev pub count_if : Bool → ℕ
 count_if b = if b then 1 else 0
 
--- Counters after one more verdict.
+-- Counters of a filter after one more frame got the given verdict.
 abbrev pub counters_with_verdict : Counters → Verdict → Counters
 counters_with_verdict c v = record {
   matching = c.matching + 1;
@@ -40,11 +40,11 @@ counters_with_verdict c v = record {
   red = c.red + count_if (is_dropped_by_meter v);
 }
 
--- State of a filter after one more verdict.
+-- State of a filter (counters and blocked flag) after one more frame got the given verdict.
 abbrev pub state_with_verdict : FilterState → Verdict → FilterState
 state_with_verdict f v = record f { counters = counters_with_verdict f.counters v; blocked = f.blocked || (f.plan.block_oversize && is_oversize v) }
 
--- Statement: No counter exceeds `n`.
+-- Statement: No counter of a filter exceeds `n`, so counting on can't overflow.
 pub record AreBounded (c : Counters) (n : ℕ) : Type 0 where
   pub matching : c.matching ≤ n
   pub sdu_passed : c.sdu_passed ≤ n

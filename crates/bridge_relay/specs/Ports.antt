@@ -41,7 +41,7 @@ pub record ArePortsSound {G A : Type 0} (held : G → ℕ → Option ℕ) (slots
   pub others : (q k : ℕ) → held agenda q ≡ Some k → (1 ≤ q) × ((s : PortState A) × (nth_port slots q ≡ Some s))
   pub each : (q : ℕ) (s : PortState A) → 1 ≤ q → nth_port slots q ≡ Some s → IsPortSound s
 
--- Holds if no start in the agenda is earlier than `t`.
+-- Holds if no port in the agenda has its next start before time `t` (ns).
 abbrev pub StartsNoEarlier : (ℕ → Option ℕ) → ℕ → Type 0
 StartsNoEarlier held t = (q k : ℕ) → held q ≡ Some k → t ≤ k
 

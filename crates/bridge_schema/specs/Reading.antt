@@ -87,13 +87,13 @@ are_known spelling words (member k d ms) = is_among spelling words k && are_know
 
 -- Sections.
 
--- True if each item is a table.
+-- True if each item of an array is a table.
 abbrev pub are_tables : Items → Bool
 are_tables no_items = true
 are_tables (item (table ms) ds) = are_tables ds
 are_tables (item _ ds) = false
 
--- Number of items of an array.
+-- Number of items of an array in a plan.
 abbrev pub count_items : Items → ℕ
 count_items no_items = 0
 count_items (item d ds) = suc (count_items ds)

@@ -18,7 +18,7 @@ has_bridge bridges name = list_any (λ b. bytes_eq b.name name) bridges
 abbrev pub has_stream : List Stream → List ℕ → Bool
 has_stream streams name = list_any (λ s. bytes_eq s.name name) streams
 
--- Holds if the bridges have valid, different names.
+-- Holds if the bridges of a network file have valid names, and no two names are equal.
 pub record AreBridges (bridges : List Bridge) : Type 0 where
   pub names : All (λ b. is_valid_name b.name ≡ true) bridges
   pub own : has_no_duplicate (λ b c. bytes_eq b.name c.name) bridges ≡ true

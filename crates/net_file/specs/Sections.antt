@@ -59,7 +59,7 @@ read_link_in_list bridges earlier index members = read_link bridges index member
 
 -- STREAM
 
--- True if each item is a text.
+-- True if each item of an array, such as a stream's hops, is a text.
 abbrev pub are_texts : Items → Bool
 are_texts no_items = true
 are_texts (item (string s) ds) = are_texts ds
@@ -100,7 +100,7 @@ talker_keys = field.Period ∷ field.From ∷ field.To ∷ field.Least ∷ field
 abbrev pub stream_keys : List NetField
 stream_keys = field.Name ∷ field.Hops ∷ field.Period ∷ field.From ∷ field.To ∷ field.Least ∷ field.Longest ∷ field.Deadline ∷ []
 
--- True if an optional value is present.
+-- True if the optional value of a key is present.
 abbrev pub is_present : Option Data → Bool
 is_present None = false
 is_present (Some d) = true

@@ -93,8 +93,8 @@ tested_course once handed None = None
 tested_course true handed (Some x) = Some (handed_course handed x)
 tested_course false handed (Some x) = None
 
--- Holds if `r` has the delays of a periodic talker's stream. They are unknown if other frames can get its handles. `passes` needs that each
--- hop's frames get the next hop's filter.
+-- Holds if `r` has the delays of a periodic talker's stream. They are unknown if other frames can get its handles. The flag `passes` needs
+-- that each hop's frames get the next hop's filter.
 abbrev pub IsStreamCourse : {A : Type 0} → List (Plan A) → List Link → List StreamHop → List HopQueue → Traffic → Option StreamLatency → Type 0
 IsStreamCourse plans links hops queues t r =
     (c : Option StreamLatency) × IsStreamLatency plans links hops queues t c

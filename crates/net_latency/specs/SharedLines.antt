@@ -21,6 +21,6 @@ room_words (Some room) capacity = codes " room " ++ (decimal room ++ (codes " of
 unfoldable pub shared_line : SharedQueue → List ℕ
 shared_line s = codes "group " ++ (decimal s.group ++ (codes " port " ++ (decimal s.port ++ (codes " class " ++ (decimal s.class ++ (shared_mark s ++ (codes " bound " ++ (decimal s.bound ++ (room_words s.room s.capacity ++ codes "\n")))))))))
 
--- One line for each shared queue.
+-- The lines of `bounds`, one for each shared queue, in order.
 abbrev pub shared_text : List SharedQueue → List ℕ
 shared_text rows = flat_map shared_line rows

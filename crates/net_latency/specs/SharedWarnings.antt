@@ -29,7 +29,7 @@ lossy_warning s = lossy_words s.room s
 abbrev pub shared_warning : SharedQueue → List ℕ
 shared_warning s = if s.is_metered then (if is_lossy s.room s.capacity then lossy_warning s else []) else unmetered_warning s
 
--- One warning for each marked queue.
+-- The warnings of `bounds`, one for each shared queue with a mark.
 abbrev pub shared_warnings : List SharedQueue → List ℕ
 shared_warnings rows = flat_map shared_warning rows
 

@@ -97,7 +97,7 @@ stream_line bounds links r =
     ++ (deadline_words r.0.deadline (worst_latency r.1 (stream_bound bounds links r.0.hops))
     ++ (margin_words r.0.deadline (worst_latency r.1 (stream_bound bounds links r.0.hops)) ++ codes "\n")))))
 
--- The lines of all streams, in file order.
+-- The lines of `net check` about all streams, in file order.
 abbrev pub stream_lines : {A : Type 0} → List (Vec QueueBound A) → List LinkRow → List (Stream × Option StreamLatency) → List ℕ
 stream_lines bounds links rows = flat_map (stream_line bounds links) rows
 

@@ -34,7 +34,7 @@ abbrev pub deadline_words : Option ℕ → ℕ → List ℕ
 deadline_words None worst = codes ""
 deadline_words (Some d) worst = codes " deadline " ++ (decimal d ++ (codes " " ++ deadline_word (is_met (Some d) worst)))
 
--- The row, filter, port and class of a queue.
+-- The start of a line of `bounds --traffic`: row, filter, port and class of a queue.
 abbrev pub queue_words : QueueTiming → List ℕ
 queue_words x = codes "traffic " ++ (decimal x.row ++ (codes " filter " ++ (decimal x.filter ++ (codes " port " ++ (decimal x.port ++ (codes " class " ++ decimal x.class))))))
 
@@ -48,7 +48,7 @@ abbrev pub delay_words : ℕ → ℕ → Option Phases → List ℕ
 delay_words worst best phases =
     codes " worst " ++ (decimal worst ++ (codes " best " ++ (decimal best ++ (codes " jitter " ++ (decimal (worst - best) ++ phase_words phases)))))
 
--- The words for the delays in a queue.
+-- The words of `bounds --traffic` for the delays of a row in a queue.
 abbrev pub figure_words : QueueTiming → List ℕ
 figure_words x = delay_words x.timing.worst x.timing.best x.timing.phases
 

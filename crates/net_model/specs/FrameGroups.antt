@@ -23,7 +23,7 @@ is_same_destination None None = true
 is_same_destination (Some a) (Some b) = bytes_eq a b
 is_same_destination a b = false
 
--- True if two groups are equal.
+-- True if two groups of frames have the same VLAN and the same destination.
 abbrev pub is_same_group : FrameGroup → FrameGroup → Bool
 is_same_group a b = is_same_vlan a.vlan b.vlan && is_same_destination a.destination b.destination
 

@@ -98,7 +98,7 @@ abbrev pub frame_count : {A : Type 0} → List (HopRun A) → ℕ
 frame_count [] = 0
 frame_count (h ∷ hs) = length h.view.now.origins.items
 
--- Counts of zero, one item for each of `n` first-hop frames.
+-- Copy counts before the first copy is counted: all 0, one item for each of the `n` first-hop frames.
 abbrev pub zero_counts : ℕ → List CopyCounts
 zero_counts n = replicate n (record { delivered = 0; refused = 0; sent_on = 0; taken = 0 })
 

@@ -30,7 +30,7 @@ pub record AreOnwardPorts {A : Type 0} (links : List Link) (hops : List (HopRun 
   pub many : length ways ≡ 16
   pub each : AreOnwardAnswers links hops b ways
 
--- The optional truth value; false for `None`.
+-- The truth value of an optional item; false if the item is missing.
 abbrev pub or_false : Option Bool → Bool
 or_false None = false
 or_false (Some b) = b

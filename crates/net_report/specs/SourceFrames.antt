@@ -132,7 +132,7 @@ pub record AreFirstHopSources (origins : List Origin) (roots : List (Option Sour
   pub many : length roots ≡ length origins
   pub each : AreOwnSources origins roots
 
--- Holds if the source of each frame is unknown.
+-- Holds if no frame of a hop has a known source yet.
 abbrev pub AreUnknown : List (Option SourceFrame) → Type 0
 AreUnknown roots = (k : ℕ) (r : SourceFrame) → ¬ (slice_get roots k ≡ Some (Some r))
 
