@@ -31,7 +31,8 @@ pub struct CommandFiles<'a, H> {
 }
 
 impl<'a, H: AllocGlobal + Files> CommandFiles<'a, H> {
-    /// Returns the files of a command that hasn't opened any file. Functions of `app_networks` and `net_check` call it.
+    /// Returns the files of a command that hasn't opened any file. Functions of `app_networks` and `net_check` call it. Each command needs
+    /// its own.
     pub fn new(rt: &'a H) -> CommandFiles<'a, H> {
         CommandFiles {
             rt,
@@ -39,7 +40,7 @@ impl<'a, H: AllocGlobal + Files> CommandFiles<'a, H> {
         }
     }
 
-    /// Returns the allocator of the command.
+    /// Returns the allocator of the command. Commands allocate their texts and lists with it.
     pub fn alloc(&self) -> Global {
         self.rt.alloc()
     }
@@ -329,14 +330,15 @@ pub trait ReadFiles {
     /// Octets of the file at a path, if they are known.
     ghost octets_at: { Self → List ℕ → Option (List ℕ) };
 
-    /// Reads at most `most` octets of the file at `path`.
+    /// Reads at most `most` octets of the file at `path`. `read_file` of `app_networks`, and `read_network` and `read_plan` of `net_check`
+    /// call it.
     fn read(&mut self, path: &str, most: u64) -> Result<Vec<u8>, FileFault>
         ensures octets { (octets : List ℕ) → octets_at self.old path.now ≡ Some octets
             → IfOk result (λ text. text.items ≡ take most octets) }
         ensures fails { IfErr result (IsOfPath path.now) }
         ensures same { (path : List ℕ) → octets_at self.new path ≡ octets_at self.old path };
 
-    /// Whether a file exists at `path`.
+    /// Whether a file exists at `path`. `read_commands` of `app_networks` asks, because a bridge's commands are optional.
     fn is_there(&self, path: &str) -> bool
         ensures { (octets : List ℕ) → octets_at self.now path.now ≡ Some octets → IsTrue result };
 }

@@ -347,7 +347,7 @@ impl NetworkRunResult {
     ghost use Rattle.std.specs.Prelude.{◌≡◌};
     ghost use Rattle.app_networks.specs.Losing.{status_of};
 
-    /// Returns the exit status: 1 if a warning or a loss is an error, otherwise 0.
+    /// Returns the exit status: 1 if a warning or a loss is an error, otherwise 0. `output_of_run` needs it.
     pub fn status(&self) -> u8
         ensures { result ≡ status_of self.now.is_warned self.now.is_lossy }
     {

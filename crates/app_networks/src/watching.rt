@@ -41,7 +41,8 @@ impl<'a, H: Eprint> ProgressPrinter<'a, H> {
         }
     }
 
-    /// Removes the progress line from standard error, if the observer shows one.
+    /// Removes the progress line from standard error, if the observer shows one. Lines that follow on standard error then begin at the
+    /// left.
     pub(crate) fn clear(&self) {
         if self.is_wanted {
             clear_line(self.rt);

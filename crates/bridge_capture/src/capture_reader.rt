@@ -54,6 +54,8 @@ impl<A: Allocator + Copy> CaptureReader<A> {
 
     /// Reads the next frame into `ahead`, with `spare` as the buffer of its octets. At the capture's end or at a fault, `ahead` becomes
     /// `None`.
+    ///
+    /// `read_next_ahead` of `bridge_core` calls it after the frame ahead was taken.
     #[inline(always)]
     pub fn read_ahead<R: ByteSource>(
         &mut self,

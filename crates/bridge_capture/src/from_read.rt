@@ -25,7 +25,8 @@ impl<R: Read> FromRead<R> {
         }
     }
 
-    /// Returns the reader, which has the remaining octets. The information whether the source has failed is lost.
+    /// Returns the reader, which has the remaining octets. The information whether the source has failed is lost. A caller that used the
+    /// source for a while gets its reader back.
     pub fn into_inner(self) -> R
         ensures { R.remaining result ≡ ⟦<FromRead<R> as ByteSource>⟧.remaining self }
     {

@@ -26,7 +26,8 @@ impl<W: Write> FromWrite<W> {
         }
     }
 
-    /// Returns the writer, which has accepted the octets. The information whether the sink has failed is lost.
+    /// Returns the writer, which has accepted the octets. The information whether the sink has failed is lost. `WriteBehind::finish` calls
+    /// it, and then flushes the writer.
     pub fn into_inner(self) -> W
         ensures { W.contents result ≡ ⟦<FromWrite<W> as ByteSink>⟧.contents self }
     {

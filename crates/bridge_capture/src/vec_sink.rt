@@ -96,7 +96,7 @@ impl<A: Allocator> VecSink<A> {
         }
     }
 
-    /// Returns the octets in the sink.
+    /// Returns the octets in the sink. The program prints them without arguments, and network runs pass them on.
     pub fn octets(&self) -> &[u8]
         ensures { result.now ≡ self.now.octets }
     {

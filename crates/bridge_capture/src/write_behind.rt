@@ -52,7 +52,7 @@ impl<W: Write + Drop, A: Allocator> WriteBehind<W, A> {
         }
     }
 
-    /// Writes the octets held back, and returns the writer. A failed writer is never called again.
+    /// Writes the octets held back, and returns the writer. A failed writer is never called again. A run calls it after its last frame.
     pub fn finish(mut self) -> Result<W, Broken>
         ensures contents { IfOk result (λ writer. Keeps (⟦<WriteBehind<W, A> as ByteSink>⟧.contents self)
             (W.contents writer)) }

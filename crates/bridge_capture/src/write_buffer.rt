@@ -57,7 +57,7 @@ impl<A: Allocator> WriteBuffer<A> {
         self.block
     }
 
-    /// Returns the number of octets held back.
+    /// Returns the number of octets held back. `WriteBehind` writes them when a block is full.
     #[inline(always)]
     pub fn len(&self) -> usize
         ensures count { result ≡ self.now.count }
@@ -83,14 +83,14 @@ impl<A: Allocator> WriteBuffer<A> {
         self.count < self.block && more <= MAX_RECORD_OCTETS
     }
 
-    /// Returns the octets held back.
+    /// Returns the octets held back. `WriteBehind` writes them to its sink.
     pub fn octets(&self) -> &[u8]
         ensures { result.now ≡ held_octets self.now }
     {
         &self.octets[..self.count]
     }
 
-    /// Adds octets, for which the buffer must have capacity.
+    /// Adds octets, for which the buffer must have capacity. `WriteBehind` calls it after it has made room.
     #[inline(always)]
     pub fn put(&mut self, octets: &[u8])
         requires { length octets.now ≤ vec_len self.old.octets - self.old.count }

@@ -40,8 +40,10 @@ impl Writer {
         }
     }
 
-    /// Writes a record: the end of transmission `done` in ns, the length `len` on the link, and the octets. Allocates no memory. If
-    /// the sink fails, it has a prefix of the record.
+    /// Writes a record: the end of transmission `done` in ns, the length `len` on the link, and the octets. Allocates no memory. If the
+    /// sink fails, it has a prefix of the record.
+    ///
+    /// `write_frame` of `bridge_core` and `write_record` of `bridge_wire` call it for each frame that leaves.
     #[inline(always)]
     pub fn put<W: ByteSink>(
         &mut self,

@@ -66,7 +66,7 @@ pub enum CheckFault {
 }
 
 impl CheckFault {
-    /// Returns the fault's number, 1 to 9 in the order of the variants.
+    /// Returns the fault's number, 1 to 9 in the order of the variants. Contracts compare faults by it.
     pub fn number(self) -> u8
         ensures { result ≡ fault_code self }
     {

@@ -57,7 +57,7 @@ impl FirstFault {
         }
     }
 
-    /// Reads a required key. If that fails, stores the fault and returns `other`.
+    /// Reads a required key. If that fails, stores the fault and returns `other`. Readers of sections then go on to the next key.
     pub fn read_required<K: ValueKind>(
         &mut self,
         row: InstanceTable<'_>,
@@ -76,7 +76,7 @@ impl FirstFault {
         self.value_or(row.read_required(key, kind), other)
     }
 
-    /// Reads an optional key. If that fails, stores the fault and returns `None`.
+    /// Reads an optional key. If that fails, stores the fault and returns `None`. Readers of sections then go on to the next key.
     pub fn read_optional<K: ValueKind>(
         &mut self,
         row: InstanceTable<'_>,
@@ -93,7 +93,8 @@ impl FirstFault {
         self.value_or(row.read_optional(key, kind), None)
     }
 
-    /// Reads an optional key with a default. If that fails, stores the fault and returns the default.
+    /// Reads an optional key with a default. If that fails, stores the fault and returns the default. Readers of sections then go on to the
+    /// next key.
     pub fn read_or_default<K: ValueKind>(
         &mut self,
         row: InstanceTable<'_>,
@@ -118,7 +119,7 @@ impl FirstFault {
         self.fault
     }
 
-    /// Ends the reading of a table: returns the first fault, or `value` without a fault.
+    /// Ends the reading of a table: returns the first fault, or `value` without a fault. Readers of sections call it after the last key.
     pub fn finish<T: Drop>(self, value: T) -> Result<T, PlanFault>
         ensures { EndsReading self value result }
     {

@@ -80,7 +80,7 @@ impl<A: Allocator + Copy> Plan<A> {
         &self.ports
     }
 
-    /// Returns the port with this number; `None` if the plan lacks it.
+    /// Returns the port with this number; `None` if the plan lacks it. Checks, bounds and pictures look ports up by it.
     pub fn port(&self, number: u8) -> Option<&PortPlan<A>>
         ensures port { option_map (λ p. p.now) result ≡ rules.find_port self.now.ports number }
         ensures rules { rules.IsPlan self.now }
@@ -98,21 +98,21 @@ impl<A: Allocator + Copy> Plan<A> {
         Ok(ports)
     }
 
-    /// Returns the VLANs, in file order.
+    /// Returns the VLANs, in file order. Warnings and searches for loops need them.
     pub fn vlans(&self) -> &[Vlan]
         ensures { result.now ≡ self.now.database.vlans }
     {
         self.forwarding.vlans()
     }
 
-    /// Returns the static filtering entries, in file order.
+    /// Returns the static filtering entries, in file order. Warnings and searches for loops need them.
     pub fn statics(&self) -> &[StaticEntry]
         ensures { result.now ≡ self.now.database.statics }
     {
         self.forwarding.statics()
     }
 
-    /// Returns the stream identifications, in file order.
+    /// Returns the stream identifications, in file order. Checks, warnings and network tests need them.
     pub fn streams(&self) -> &[StreamEntry]
         ensures streams { result.now ≡ self.now.streams }
         ensures rules { rules.IsPlan self.now }

@@ -138,6 +138,8 @@ impl<'a, G: Agenda + Drop, A: Allocator + Copy> Bridge<'a, G, A> {
 
     /// Returns the port and time in ns of the next start, at equal times of the lowest port; `None` if no copy is queued. No port has
     /// missed an earlier start (`next`). Allocates no memory.
+    ///
+    /// Callers start this transmission before they hand in a later event.
     pub fn due(&self) -> Option<(u8, u64)>
         ensures next { (p : config.Plan A) (es : List Event) (left : ℕ → List CapturedFrame)
             → BridgeStandsFor p self.now es left
@@ -184,7 +186,8 @@ impl<'a, G: Agenda + Drop, A: Allocator + Copy> Bridge<'a, G, A> {
         self.relay.arrived()
     }
 
-    /// Returns the number of starts of port `port` so far: the number of frames that it has sent.
+    /// Returns the number of starts of port `port` so far: the number of frames that it has sent. Callers compare it with the frames that
+    /// they received.
     pub fn started(&self, port: u8) -> u64
         requires { (out : PortPlan A) × (find_port (bridge_plan self.now).ports port ≡ Some out) }
         ensures { (p : config.Plan A) (es : List Event) (left : ℕ → List CapturedFrame)

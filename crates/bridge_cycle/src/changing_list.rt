@@ -49,7 +49,7 @@ impl<S: Copy, A: Allocator + Copy> Joined<S, A> {
         }
     }
 
-    /// Returns equal lists in new memory, or `NoMemory`.
+    /// Returns equal lists in new memory, or `NoMemory`. `Egress::copy` and copies of schedules call it.
     pub fn copy(&self, alloc: A) -> Result<Self, NoMemory>
         ensures equal { IfOk result (λ j. j ≡ self.now) }
     {

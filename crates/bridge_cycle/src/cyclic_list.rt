@@ -35,7 +35,7 @@ pub enum ListFault {
 
 impl ListFault {
     /// Returns the number of the fault: 1 for `Empty`, 2 for `ZeroInterval`, 3 for `OverCycle`, 4 for `CycleOutOfRange`, 5 for
-    /// `TooManyEntries`, 6 for `NoMemory`.
+    /// `TooManyEntries`, 6 for `NoMemory`. Contracts compare faults by it.
     pub fn number(self) -> u8
         ensures { result ≡ cyclic.fault_code self }
     {
@@ -124,7 +124,7 @@ impl<S: Copy, A: Allocator + Copy> CyclicList<S, A> {
         })
     }
 
-    /// Returns an equal list in new memory, or `NoMemory`.
+    /// Returns an equal list in new memory, or `NoMemory`. `Joined::copy` and copies of schedules call it.
     pub fn copy(&self, alloc: A) -> Result<Self, NoMemory>
         ensures equal { IfOk result (λ l. l ≡ self.now) }
     {
@@ -138,7 +138,7 @@ impl<S: Copy, A: Allocator + Copy> CyclicList<S, A> {
         })
     }
 
-    /// Returns the states with their intervals in ns, from the start of a cycle.
+    /// Returns the states with their intervals in ns, from the start of a cycle. Checks and delay bounds examine each entry.
     pub fn entries(&self) -> &[(S, u64)]
         ensures entries { result.now ≡ self.now.entries }
         ensures lawful { cyclic.IsLawful self.now }

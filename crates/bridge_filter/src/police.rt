@@ -114,8 +114,10 @@ impl<A: Allocator + Copy> Police<A> {
         })
     }
 
-    /// Judges a frame that arrives at `t` ns, with `sdu` octets of SDU and `octets` metered octets. Returns its filter and verdict,
-    /// or `None` if no filter matches. Allocates no memory.
+    /// Judges a frame that arrives at `t` ns, with `sdu` octets of SDU and `octets` metered octets. Returns its filter and verdict, or
+    /// `None` if no filter matches. Allocates no memory.
+    ///
+    /// Callers that don't know the frame's route call it; the relay calls `pass_routed`.
     pub fn pass(
         &mut self,
         t: u64,
@@ -209,7 +211,8 @@ impl<A: Allocator + Copy> Police<A> {
         })
     }
 
-    /// Returns the number of the filter that judges frames with this handle and priority. `None` if no filter matches.
+    /// Returns the number of the filter that judges frames with this handle and priority. `None` if no filter matches. Callers without a
+    /// bridge ask it before `pass`.
     pub fn filter_number(&self, handle: Option<u32>, priority: u8) -> Option<u32>
         ensures filter { (at sdu octets : ℕ) (dei : Bool)
             → result ≡ option_map (λ f. f.0) (frame_filter self.now.filters
@@ -222,7 +225,8 @@ impl<A: Allocator + Copy> Police<A> {
         }
     }
 
-    /// Clears a flag of the filter, stream gate or meter `number`, which must exist. Counters, counted octets and bucket levels stay.
+    /// Clears a flag of the filter, stream gate or meter `number`, which must exist. Counters, counted octets and bucket levels stay. The
+    /// relay calls it for a command of a run.
     pub fn clear(&mut self, clear: Clear, number: u32)
         requires { has_instance clear number self.old ≡ true }
         ensures stands { (p : PolicePlans) (es : List FilterEvent) → StandsFor p self.old es

@@ -104,14 +104,14 @@ impl<A: Allocator + Copy> Forwarding<A> {
         })
     }
 
-    /// Returns the VLANs in the given order.
+    /// Returns the VLANs in the given order. `Plan::vlans` returns them.
     pub fn vlans(&self) -> &[Vlan]
         ensures { result.now ≡ self.now.vlans }
     {
         self.vlans.as_slice()
     }
 
-    /// Returns the static entries in the given order.
+    /// Returns the static entries in the given order. `Plan::statics` returns them.
     pub fn statics(&self) -> &[StaticEntry]
         ensures { result.now ≡ self.now.statics }
     {
@@ -119,7 +119,7 @@ impl<A: Allocator + Copy> Forwarding<A> {
     }
 
     /// Returns the egress ports of a frame to address `da` in VLAN `vid` that arrived on `port` (IEEE 802.1Q-2018, 8.6.2 to 8.6.4). Takes
-    /// constant time, and allocates no memory.
+    /// constant time, and allocates no memory. `Plan::forward` calls it for each frame.
     #[inline(always)]
     pub fn forward(&self, port: u8, vid: u16, da: &[u8; 6]) -> PortSet
         requires from { 1 ≤ port }

@@ -45,7 +45,7 @@ impl PortSet {
         self.bits
     }
 
-    /// Whether the set contains `port`.
+    /// Whether the set contains `port`. Bridges, checks of plans and warnings ask it.
     pub fn has(self, port: u8) -> bool
         requires from { 1 ≤ port }
         requires to { port ≤ 16 }
@@ -54,7 +54,7 @@ impl PortSet {
         self.bits >> (port - 1) & 1 == 1
     }
 
-    /// Whether the set contains none of the ports 1 to 16.
+    /// Whether the set contains none of the ports 1 to 16. A frame with such a set isn't forwarded.
     pub fn is_empty(self) -> bool
         ensures { IsTrue result ↔ IsEmpty self }
     {
@@ -70,7 +70,7 @@ impl PortSet {
         }
     }
 
-    /// Returns the set without `port`: a frame never returns to its ingress port.
+    /// Returns the set without `port`: a frame never returns to its ingress port. `output_ports` calls it.
     pub(crate) fn without_port(self, port: u8) -> PortSet
         requires from { 1 ≤ port }
         requires to { port ≤ 16 }

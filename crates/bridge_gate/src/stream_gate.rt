@@ -135,7 +135,8 @@ impl<A: Allocator + Copy> StreamGate<A> {
         self.rx = false;
     }
 
-    /// Clears the octets flag, for a command. Octets that passed in the interval still count.
+    /// Clears the octets flag, because a command of a run says so. Octets that passed in the interval still count. `clear_octets` of
+    /// `bridge_filter` calls it.
     pub fn clear_octets(&mut self)
         ensures stands { (r : GateRules) (es : List GateEvent)
             → StandsFor r self.old es
@@ -147,7 +148,7 @@ impl<A: Allocator + Copy> StreamGate<A> {
         self.octets = false;
     }
 
-    /// Returns the receive flag and the octets flag, for the results of a run.
+    /// Returns the receive flag and the octets flag, for the results of a run. `gate_flags` of `bridge_filter` calls it.
     pub fn flags(&self) -> (bool, bool)
         ensures shows_rx { result.0 ≡ self.now.rx }
         ensures shows_octets { result.1 ≡ self.now.octets }

@@ -122,7 +122,7 @@ impl<A: Allocator + Copy> Model for Ident<A> {
 }
 
 impl<A: Allocator + Copy> Ident<A> {
-    /// Makes a table without index. Allocates no memory.
+    /// Makes a table without index. Allocates no memory. `with_index` adds the index, which makes look-ups faster.
     pub fn new(entries: Vec<StreamEntry, A>) -> Ident<A>
         ensures { result ≡ entries.items }
     {
@@ -144,7 +144,7 @@ impl<A: Allocator + Copy> Ident<A> {
         })
     }
 
-    /// Returns the entries in the given order.
+    /// Returns the entries in the given order. `Plan::streams` returns them.
     pub fn entries(&self) -> &[StreamEntry]
         ensures { result.now ≡ self.now }
     {

@@ -379,7 +379,8 @@ impl<A: Allocator + Copy> AddressIndex<A> {
         }
     }
 
-    /// Returns the handle of the first entry for either address of a frame; `None` if no entry matches.
+    /// Returns the handle of the first entry for either address of a frame; `None` if no entry matches. `StreamIndex::find_handle` calls it
+    /// for the part of the index for tagged or for other frames.
     #[inline(always)]
     fn find_handle(&self, port: u8, head: &Head, vid: u16) -> Option<u32>
         ensures { (entries : List StreamEntry)
@@ -411,7 +412,7 @@ impl<A: Allocator + Copy> StreamIndex<A> {
         Ok(StreamIndex { tagged, others })
     }
 
-    /// Returns the handle of the first matching entry; `None` if no entry matches.
+    /// Returns the handle of the first matching entry; `None` if no entry matches. `handle_of` calls it if the table has an index.
     #[inline(always)]
     pub(crate) fn find_handle(&self, port: u8, head: &Head, vid: u16) -> Option<u32>
         ensures { (entries : List StreamEntry)

@@ -53,7 +53,7 @@ pub struct MeterPlan {
 }
 
 impl MeterPlan {
-    /// Whether the rates and burst sizes are within the limits of a meter.
+    /// Whether the rates and burst sizes are within the limits of a meter. Callers that don't read a plan test a meter before they make it.
     pub fn is_within_limits(&self) -> bool
         ensures { result ≡ is_within_limits self.now }
     {
@@ -151,7 +151,7 @@ impl Meter {
         self.buckets
     }
 
-    /// Clears the red flag. The levels stay.
+    /// Clears the red flag. The levels stay. `clear_red` of `bridge_filter` calls it for a command of a run.
     pub fn clear_red(&mut self)
         ensures plan { self.new.plan ≡ self.old.plan }
         ensures buckets { self.new.buckets ≡ record self.old.buckets { all_red = false } }

@@ -133,7 +133,8 @@ impl<T: Drop, A: Allocator + Copy> Port<T, A> {
         }
     }
 
-    /// Offers an item to the queue of `class` at `t` ns. Returns a dropped item with the first reason that applies.
+    /// Offers an item to the queue of `class` at `t` ns. Returns a dropped item with the first reason that applies. The relay calls it for
+    /// each copy of a frame.
     #[inline(always)]
     pub fn offer(&mut self, t: u64, class: u8, item: Item<T>) -> Result<(), (Item<T>, Refusal)>
         requires class { class < 8 }
@@ -252,7 +253,7 @@ impl<T: Drop, A: Allocator + Copy> Port<T, A> {
         }
     }
 
-    /// Returns the number of offers so far, at most `MAX_ARRIVALS`.
+    /// Returns the number of offers so far, at most `MAX_ARRIVALS`. Callers keep it below `MAX_ARRIVALS`, which `offer` requires.
     pub fn offered(&self) -> u64
         ensures offered { result ≡ self.now.offered }
         ensures counted { self.now.started + count_queued (λ x. true) self.now ≤ result }
@@ -261,14 +262,14 @@ impl<T: Drop, A: Allocator + Copy> Port<T, A> {
         self.offered
     }
 
-    /// Returns the number of starts so far.
+    /// Returns the number of starts so far. `Relay::started` returns it.
     pub fn started(&self) -> u64
         ensures { result ≡ self.now.started }
     {
         self.started
     }
 
-    /// Returns the earliest time in ns at which the next offer may be made.
+    /// Returns the earliest time in ns at which the next offer may be made. Callers of `offer` need it.
     pub fn earliest(&self) -> u64
         ensures earliest { result ≡ self.now.earliest }
         ensures bounded { result ≤ time_limit self.now.started }

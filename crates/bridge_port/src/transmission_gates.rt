@@ -322,7 +322,7 @@ impl<A: Allocator + Copy> TransmissionGates<A> {
         })
     }
 
-    /// Whether each list opens `class` for `occ` ns at some time.
+    /// Whether each list opens `class` for `occ` ns at some time. `Port::refusal` calls it: otherwise the copy is dropped as `NeverFits`.
     #[inline(always)]
     pub fn can_fit(&self, class: usize, occ: u64) -> bool
         requires { class < 8 }

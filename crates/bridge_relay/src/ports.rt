@@ -130,6 +130,7 @@ impl<G: Agenda + Drop, A: Allocator + Copy> Ports<G, A> {
     }
 
     /// Returns the next start: port and time in ns. At equal times, the lowest port is next. Returns `None` if no copy is queued.
+    /// `Relay::due` returns it.
     pub fn due(&self) -> Option<(u8, u64)>
         ensures { IsLeast (G.held self.now.agenda) result }
     {

@@ -11,7 +11,8 @@ use crate::reader_fault::{ReaderFault, Spell, TextSection};
 use std::alloc::Global;
 use toml::{Table, Value};
 
-/// Parses a text as a TOML document. Returns `too_long` above 1,048,576 octets, and `syntax` if the text isn't TOML in UTF-8.
+/// Parses a text as a TOML document. Returns `too_long` above 1,048,576 octets, and `syntax` if the text isn't TOML in UTF-8. Readers of
+/// plans, commands, networks and traffic call it first.
 #[tactic(auto, using(bridge_limits::proofs::Octets::utf8_whole))]
 pub fn read_document<F: ReaderFault>(heap: Global, text: &[u8]) -> Result<Table, F>
     ensures { spec.GivesAs F.is_memory table_view result (spec.document_of F.too_long F.syntax text.now) }

@@ -38,7 +38,8 @@ impl<'t> InstanceTable<'t> {
         }
     }
 
-    /// Reads a required key. Returns `Missing` if the table lacks it, or the fault of a refused value. Allocates no memory.
+    /// Reads a required key. Returns `Missing` if the table lacks it, or the fault of a refused value. Allocates no memory. Readers of
+    /// sections call it.
     pub fn read_required<K: ValueKind>(&self, key: Field, kind: &K) -> Result<K::Out, PlanFault>
         ensures reads { MatchesReading result (spec.read_required (record {
           section = self.now.section;
@@ -51,7 +52,8 @@ impl<'t> InstanceTable<'t> {
         read_required(self.table, self.locate_key(key), key, kind)
     }
 
-    /// Reads an optional key. Returns `None` if the table lacks it, or the fault of a refused value. Allocates no memory.
+    /// Reads an optional key. Returns `None` if the table lacks it, or the fault of a refused value. Allocates no memory. Readers of
+    /// sections call it.
     pub fn read_optional<K: ValueKind>(
         &self,
         key: Field,
@@ -68,7 +70,8 @@ impl<'t> InstanceTable<'t> {
         read_optional(self.table, self.locate_key(key), key, kind)
     }
 
-    /// Reads an optional key, or returns `default` if the table lacks it. A refused value is a fault. Allocates no memory.
+    /// Reads an optional key, or returns `default` if the table lacks it. A refused value is a fault. Allocates no memory. Readers of
+    /// sections call it.
     pub fn read_or_default<K: ValueKind>(
         &self,
         default: K::Out,

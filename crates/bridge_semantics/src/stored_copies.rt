@@ -37,7 +37,7 @@ impl StoredOrigin {
         }
     }
 
-    /// Unpacks the origin.
+    /// Unpacks the origin. Reports and pictures need the frame's port and arrival time.
     #[inline(always)]
     pub fn origin(&self) -> Origin
         ensures { result ≡ self.now }

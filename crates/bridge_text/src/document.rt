@@ -97,6 +97,8 @@ impl<'a> Instance<'a> {
 
     /// Writes the position of `key`, or of the table if `key` is `None` or isn't found. The table's index in the file and the values of the
     /// keys `known` follow.
+    ///
+    /// Explanations of a document's faults begin with it.
     pub fn put_place(self, said: &mut Said, known: &[&str], key: Option<&str>) {
         put_position(said, self.position(key));
         fill_with_word(

@@ -142,7 +142,7 @@ impl Shapes {
         }
     }
 
-    /// Writes the end of a text that `begin_text` began.
+    /// Writes the end of a text that `begin_text` began. `Page::end_text` and pictures of networks call it.
     pub fn end_text(&mut self) {
         self.add_piece("</text>", &[], &[]);
     }

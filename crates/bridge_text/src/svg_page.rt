@@ -123,7 +123,8 @@ impl Page {
         self.shapes.end_shape();
     }
 
-    /// Begins an element with a title, which viewers show when the pointer rests on it. `end_titled` ends it.
+    /// Begins an element with a title, which viewers show when the pointer rests on it. `end_titled` ends it. Pictures of plans and runs
+    /// call it.
     pub fn begin_titled(&mut self, style: &str, element: Element) {
         self.shapes.begin_titled(style, element);
     }
@@ -258,7 +259,8 @@ impl Page {
         self.skip_height(250);
     }
 
-    /// Returns the picture as SVG text of at most 2,000,000 octets. If shapes are omitted, a note gives their number.
+    /// Returns the picture as SVG text of at most 2,000,000 octets. If shapes are omitted, a note gives their number. Pictures of plans and
+    /// runs call it after their last shape.
     pub fn finish(self, alloc: Global, styles: &str) -> Result<String, NoMemory>
         ensures { IfOk result (λ text. length (string_bytes text) ≤ 2000000) }
     {

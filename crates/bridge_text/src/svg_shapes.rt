@@ -65,13 +65,13 @@ impl Shapes {
         self.is_full = self.text.len() > MAX_PICTURE_OCTETS - RESERVED_OCTETS;
     }
 
-    /// Draws a shape of one piece.
+    /// Draws a shape of one piece, which callers don't have to end by `end_shape`.
     pub fn put_shape(&mut self, form: &str, numbers: &[u64], words: &[&str]) {
         self.add_piece(form, numbers, words);
         self.end_shape();
     }
 
-    /// Returns the picture as SVG text of at most 2,000,000 octets: `head`, the shapes, `foot`.
+    /// Returns the picture as SVG text of at most 2,000,000 octets: `head`, the shapes, `foot`. Pictures call it after their last shape.
     pub fn finish(self, alloc: Global, head: &str, foot: &str) -> Result<String, NoMemory>
         ensures { IfOk result (λ text. length (string_bytes text) ≤ 2000000) }
     {

@@ -25,7 +25,7 @@ impl<A: Allocator> Model for TextBuilder<A> {
 }
 
 impl<A: Allocator> TextBuilder<A> {
-    /// Returns an empty text.
+    /// Returns an empty text. Callers then add pieces.
     pub fn new(alloc: A) -> TextBuilder<A>
         ensures { result ≡ Some [] }
     {
@@ -221,7 +221,7 @@ impl<A: Allocator> TextBuilder<A> {
         self.held = None;
     }
 
-    /// Returns the text, or `NoMemory` if memory ran out.
+    /// Returns the text, or `NoMemory` if memory ran out. Callers call it once, after the last piece.
     pub fn finish(self) -> Result<String<A>, NoMemory>
         ensures text { IfOk result (λ text. self ≡ Some (string_bytes text)) }
         ensures refused { IfErr result (λ fault. self ≡ None) }

@@ -49,7 +49,7 @@ impl<A: Allocator + Copy> NetworkFile<A> {
         &self.bridges
     }
 
-    /// Returns the links, in file order.
+    /// Returns the links, in file order. Runs, checks and pictures of networks need them.
     pub fn links(&self) -> &[LinkRow]
         ensures links { result.now ≡ self.now.links }
         ensures rules { rules.IsNetwork self.now }
@@ -57,7 +57,7 @@ impl<A: Allocator + Copy> NetworkFile<A> {
         &self.links
     }
 
-    /// Returns the streams, in file order.
+    /// Returns the streams, in file order. Runs, checks and pictures of networks need them.
     pub fn streams(&self) -> &[StreamRow<A>]
         ensures streams { result.now ≡ self.now.streams }
         ensures rules { rules.IsNetwork self.now }

@@ -37,7 +37,7 @@ pub enum TalkerRow {
 }
 
 impl TalkerRow {
-    /// Returns the number of the row's filter.
+    /// Returns the number of the row's filter. `queue_timings` of `net_latency` needs it.
     pub fn filter(&self) -> u32
         ensures { result ≡ spec.row_filter self.now }
     {

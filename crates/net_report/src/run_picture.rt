@@ -204,6 +204,8 @@ impl RunPicture {
 
     /// Returns the picture as SVG of at most 2,000,000 octets. Bars show waiting (yellow), transmission (blue) and windows (green); red
     /// triangles show refused frames and dropped copies.
+    ///
+    /// `draw_run` of `app_networks` calls it after the last stream.
     pub fn finish(self, alloc: Global) -> Result<String, NoMemory>
         ensures { IfOk result (λ text. length (string_bytes text) ≤ 2000000) }
     {

@@ -335,7 +335,7 @@ impl<'a, A: Allocator + Copy> BridgeRun<'a, A> {
         self.ports.len()
     }
 
-    /// Returns the number of the port with index `place`.
+    /// Returns the number of the port with index `place`. `deliver_capture` returns it if the port's input changed.
     pub(crate) fn port(&self, place: usize) -> u8
         requires { place < length self.now.ports }
         ensures { slice_get self.now.ports place ≡ Some result }

@@ -39,7 +39,7 @@ impl<A: Allocator + Copy> SharedCapture<A> {
         })
     }
 
-    /// Returns the octets of the capture.
+    /// Returns the octets of the capture. The input of the linked port is made from them.
     pub(crate) fn octets(&self) -> &[u8]
         ensures { result.now ≡ self.now.octets }
     {

@@ -56,7 +56,8 @@ struct Sharers {
 }
 
 impl Sharers {
-    /// Adds what filter `number` can send by its meter, and its longest frame.
+    /// Adds what filter `number` can send by its meter, and its longest frame. `queue_sharers` calls it for each filter that shares the
+    /// queue.
     fn add<A: Allocator + Copy>(&mut self, plan: &Plan<A>, number: u32, filter: &FilterPlan) {
         self.count = self.count.saturating_add(1);
         self.sdu = self.sdu.max(filter.max_sdu.unwrap_or(0));

@@ -141,6 +141,8 @@ impl Picture {
 
     /// Draws the parts below the head: the legend, each port's windows, frames and stream gates, and the time axis. `rows` has the shared
     /// queues of all groups, for the frames of a run.
+    ///
+    /// `draw_plan` and `draw_run` call it.
     pub(crate) fn put_ports<A: Allocator + Copy>(
         &mut self,
         plan: &Plan<A>,
