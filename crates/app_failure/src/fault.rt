@@ -31,7 +31,7 @@ pub enum TextFault {
 impl TextFault {
     ghost use Rattle.app_failure.specs.Numbering.{fault_code};
 
-    /// Returns the number of the fault, 1 to 3. Definitions name the faults by these numbers.
+    /// Returns the number of the fault, 1 to 3. Contracts compare faults by these numbers.
     pub fn number(self) -> u8
         ensures { result ≡ fault_code self }
     {

@@ -48,8 +48,9 @@ pub fn legs_are_links<A: Allocator + Copy>()
         → HasSource links hops r (length legs) i k }
 {}
 
-/// In a complete run of an accepted network, each copy's delay since the first hop has a bound. It is the sum of the bounds of its hops and
-/// the delays of its links.
+/// In a complete run of an accepted network, each copy's delay since the first hop has a bound.
+///
+/// It is the sum of the bounds of its hops and the delays of its links. docs/NETWORK_PROOF.md cites it.
 pub fn measured_in_time<A: Allocator + Copy>()
     ensures { (n : Network A) (commands : ℕ → List Input) (captures : ℕ → ℕ → List CapturedFrame) (o : ℕ → Outcome A)
         (stream : List (ℕ × ℕ)) (links : List Link) (hops : List (HopRun A)) (most : ℕ → ℕ) (r : SourceFrame)
@@ -105,7 +106,7 @@ pub fn measured_within_bound<A: Allocator + Copy>()
 {}
 
 /// No frame passes a hop twice if hops have ranks, such as their numbers. Each frame that arrives at a hop over a link must come from a hop
-/// of lower rank.
+/// of lower rank. docs/NETWORK_PROOF.md cites it.
 pub fn ranked_route_goes_once<A: Allocator + Copy>()
     ensures { (links : List Link) (hops : List (HopRun A)) (rank : ℕ
         → ℕ) (r : SourceFrame) (legs : List (ℕ × ℕ)) (i k : ℕ)
@@ -116,6 +117,8 @@ pub fn ranked_route_goes_once<A: Allocator + Copy>()
 
 /// In a complete run of one bridge over captures, each frame leaves within the tight bound of its queue. Captured octets never exceed a
 /// frame's length, so `in_time_by_octets` applies.
+///
+/// So bounds by octets hold for each run of `run`.
 pub fn read_in_time_by_octets<A: Allocator + Copy, W>()
     ensures { (p : Plan A) (ports : List ℕ) (commands : List Command) (texts : ℕ → List ℕ) (contents : W
         → Option (List ℕ))

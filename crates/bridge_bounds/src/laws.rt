@@ -94,6 +94,8 @@ pub fn seldom_in_time<X: Drop>()
 
 /// If open intervals are `w` ns apart and their limit passes `k` frames, at most `k` frames pass in any `w` ns. Each frame has at least two
 /// octets.
+///
+/// Bounds by octet limits rest on it.
 pub fn lets_seldom()
     ensures { (r : GateRules) (k w : ℕ) (es : List GateEvent)
         → LetsFew r.turn_at k w
@@ -113,6 +115,8 @@ pub fn nearly_attained<X: Drop>()
 
 /// Each sent copy of a protected filter leaves within the longest time of a full queue (`longest`) and within the queue's bound (`bound`).
 /// The recorded delay is at most the greatest bound (`delay`).
+///
+/// This is the theorem about delay bounds (docs/DELAYS.md).
 pub fn in_time<A: Allocator + Copy>()
     ensures longest { (p : Plan A) (n m d : ℕ) (f : FilterPlan) (es : List Event) (moments : ℕ → ℕ)
         (lists : ℕ → List (Copy CarriedFrame)) (q s : ℕ) (out : PortPlan A) (x : Copy CarriedFrame)
@@ -158,6 +162,8 @@ pub fn in_time<A: Allocator + Copy>()
 
 /// If a protected filter's stream gate passes at most `k` frames per interval, and its intervals are far enough apart, `k` frames bound the
 /// delay. Frames must have at least their captured octets.
+///
+/// Bounds by octet limits rest on it.
 pub fn few_in_time<A: Allocator + Copy>()
     ensures { (p : Plan A) (n m k d : ℕ) (f : FilterPlan) (es : List Event) (moments : ℕ → ℕ)
         (lists : ℕ → List (Copy CarriedFrame)) (q s : ℕ) (out : PortPlan A) (x : Copy CarriedFrame)
@@ -178,7 +184,8 @@ pub fn few_in_time<A: Allocator + Copy>()
         → s + transmission_time x.item.len out.speed ≤ x.at + (transmission_time (longest_frame m) out.speed - 1) + d }
 {}
 
-/// Each sent copy of a protected filter has left within its queue's tight bound. Frames must have at least their captured octets.
+/// Each sent copy of a protected filter has left within its queue's tight bound. Frames must have at least their captured octets. This is
+/// the theorem about tight bounds (docs/DELAYS.md).
 pub fn in_time_by_octets<A: Allocator + Copy>()
     ensures { (p : Plan A) (n b : ℕ) (es : List Event) (moments : ℕ → ℕ) (lists : ℕ
         → List (Copy CarriedFrame)) (q s : ℕ)

@@ -66,7 +66,7 @@ pub fn frames_keep_periods<A: Allocator + Copy>()
 /// Both ends of the computed phases are reached, so no narrower phases hold. Frames arrive alone at an empty queue: a shortest frame at the
 /// first phase, or a longest at the last.
 ///
-/// Each starts at its first fit.
+/// Each starts at its first fit. docs/DELAYS.md cites it.
 pub fn phases_are_reached<X: Drop>()
     ensures { (r : PortRules X) (c at start : ℕ) (item : X)
         → r.ever c (r.occ item) ≡ true

@@ -46,7 +46,8 @@ impl<A: Allocator + Copy> BufferPool<A> {
         Ok(BufferPool { alloc, kept })
     }
 
-    /// Returns an emptied buffer from the pool, or a new one. Allocates no memory.
+    /// Returns an emptied buffer from the pool, or a new one. Allocates no memory. Runs take the buffer of each frame that they read from
+    /// here.
     #[inline(always)]
     pub fn take(&mut self) -> Vec<u8, A>
         ensures fewer { self.new ≡ self.old - 1 }

@@ -77,7 +77,8 @@ pub fn without_fault_has_own_instances<A: Allocator + Copy>()
         → HasOwnInstances (police_plans p.filters p.gates p.meters) n f }
 {}
 
-/// The fault that `check` reports is in the list of all faults. If `check` reports none, the list is empty.
+/// The fault that `check` reports is in the list of all faults. If `check` reports none, the list is empty. So explanations never
+/// contradict the fault line.
 pub fn the_first_fault_is_one_of_all<A: Allocator + Copy>()
     ensures one { (p : Plan A) (e : CheckFault) → first_fault p ≡ Some e → IsMember e (all_faults p) }
     ensures none { (p : Plan A) → first_fault p ≡ None → all_faults p ≡ [] }

@@ -36,7 +36,7 @@ impl<A: Allocator + Copy> Model for Accepted<A> {
 }
 
 impl<A: Allocator + Copy> Accepted<A> {
-    /// Returns the accepted plan. Runs, bounds and networks get it from here.
+    /// Returns the accepted plan. Runs, bounds and networks call it, because they may use only accepted plans.
     pub fn plan(&self) -> &Plan<A>
         ensures plan { result.now ≡ self.now }
         ensures acceptable { IsAcceptable self.now }

@@ -14,7 +14,8 @@ use crate::cyclic_list::{LONGEST_CYCLE, MAX_ENTRIES};
 use crate::fit_search::END_OF_SEARCHES;
 use crate::timeline::END_OF_TURNS;
 
-/// For periodic open times, a transmission fits at some time exactly if it fits at a time within the first cycle.
+/// For periodic open times, a transmission fits at some time exactly if it fits at a time within the first cycle. So a search of one cycle
+/// decides whether a frame ever fits.
 pub fn some_fits_is_fits()
     ensures { (opens : ℕ → Bool) (cycle occ : ℕ)
         → 0 < cycle
@@ -22,7 +23,7 @@ pub fn some_fits_is_fits()
         → (fits_somewhere opens cycle occ ≡ true) ↔ ((t : ℕ) × Fits opens occ t) }
 {}
 
-/// For periodic open times, a transmission that fits somewhere fits within a cycle of any time.
+/// For periodic open times, a transmission that fits somewhere fits within a cycle of any time. So searches for fits end within a cycle.
 pub fn fits_near()
     ensures { (opens : ℕ → Bool) (cycle occ t from : ℕ)
         → 0 < cycle
@@ -31,12 +32,13 @@ pub fn fits_near()
         → (u : ℕ) × (from ≤ u) × (u < from + cycle) × Fits opens occ u }
 {}
 
-/// The open times of a list repeat with its cycle time.
+/// The open times of a list repeat with its cycle time. So delay bounds need to examine one cycle only.
 pub fn list_repeats()
     ensures { (l : Cyclic ℕ) (class : ℕ) → IsLawful l → IsPeriodic (λ v. turn_opens (turn_by_time l v) class) l.cycle }
 {}
 
-/// The longest run allows a transmission of `occ` ns exactly if the transmission fits at some time.
+/// The longest run allows a transmission of `occ` ns exactly if the transmission fits at some time. So the longest run decides whether a
+/// port drops a frame as `NeverFits`.
 pub fn allowed_is_fitting()
     ensures { (opens : ℕ → Bool) (run : Run)
         → IsLongestRun opens run
@@ -52,7 +54,7 @@ pub fn allowed_fits_soon()
         → FitsSoon (λ v. turn_opens (turn_by_time l v) class) run }
 {}
 
-/// Each interval of a list has the state of one of the list's entries.
+/// Each interval of a list has the state of one of the list's entries. So tests of a plan need to examine entries only.
 pub fn state_is_of_an_entry<S: Copy>()
     ensures { (l : Cyclic S) (t : ℕ) (x : Turn S)
         → turn_by_time l t ≡ Some x

@@ -12,7 +12,7 @@ pub fn own_events_suffice()
         → filter_steps p (own_filter_events p s f es) ≡ own_steps s f (filter_steps p es) }
 {}
 
-/// The filter of a frame is in the list and matches the frame's handle and priority.
+/// The filter of a frame is in the list and matches the frame's handle and priority. So only matching frames change a filter's record.
 pub fn filter_matches()
     ensures listed { (fs : List (ℕ × FilterPlan)) (c : FilterInput) (x : ℕ × FilterPlan) → frame_filter fs c ≡ Some x
         → IsMember x fs }

@@ -48,7 +48,8 @@ ghost use Rattle.bridge_groups.specs.Talkers.{IsDelivered, AdmitsTalker, IsConfo
 
 use std::alloc::Allocator;
 
-/// If frames arrive in order, a shared queue has the work curve and the count curve of its sharers' meters.
+/// If frames arrive in order, a shared queue has the work curve and the count curve of its sharers' meters. Bounds of shared queues by
+/// meters rest on it.
 pub fn queue_has_meter_curves<A: Allocator + Copy>()
     ensures { (p : Plan A) (group : ℕ) (sharers : List (ℕ × FilterPlan)) (q c sdu : ℕ) (out : PortPlan A)
         (es : List Event) (moments : ℕ → ℕ) (lists : ℕ → List (Copy CarriedFrame))
@@ -86,7 +87,8 @@ pub fn group_leaves_in_time<A: Allocator + Copy>()
         → s + transmission_time x.item.len out.speed ≤ x.at + b }
 {}
 
-/// If the capacity suffices for the meters' curves, the queue drops no copy of the group as full, whatever any talker sends.
+/// If the capacity suffices for the meters' curves, the queue drops no copy of the group as full, whatever any talker sends. The capacities
+/// of `shared_queue` rest on it.
 pub fn group_queue_is_never_full<A: Allocator + Copy>()
     ensures { (p : Plan A) (group : ℕ) (sharers : List (ℕ × FilterPlan)) (q c sdu : ℕ) (out : PortPlan A)
         (es : List Event) (moments : ℕ → ℕ) (lists : ℕ → List (Copy CarriedFrame)) (x : Copy CarriedFrame)
@@ -105,8 +107,8 @@ pub fn group_queue_is_never_full<A: Allocator + Copy>()
         → x.fate ≢ Full }
 {}
 
-/// If a filter admits a conforming talker, each of its frames leaves each egress port within the delay bound `b`, whatever all others
-/// send. The capacities are sufficient.
+/// If a filter admits a conforming talker, each of its frames leaves each egress port within the delay bound `b`, whatever all others send.
+/// The capacities are sufficient. docs/DELAYS.md cites it.
 pub fn conforming_frame_is_delivered<A: Allocator + Copy>()
     ensures { (p : Plan A) (group : ℕ) (n m most burst rate q set sdu b : ℕ) (f : FilterPlan)
         (sharers : ℕ → List (ℕ × FilterPlan)) (out : PortPlan A) (a : Arrival)
@@ -144,7 +146,7 @@ pub fn tested_filter_admits_talker<A: Allocator + Copy>()
 /// If a filter admits a conforming talker, each of its frames leaves each egress port within the bound of a shared queue. Other talkers may
 /// send anything.
 ///
-/// Each shared queue that it can reach there has enough capacity.
+/// Each shared queue that it can reach there has enough capacity. Delays of limited talkers rest on it.
 pub fn conforming_frame_leaves_shared_queue<A: Allocator + Copy>()
     ensures { (p : Plan A) (group n m most burst rate q set : ℕ) (f : FilterPlan)
         (out : PortPlan A) (a : Arrival) (newer older : List Event) (c : FilterInput)
@@ -166,7 +168,7 @@ pub fn conforming_frame_leaves_shared_queue<A: Allocator + Copy>()
         (count_filter_frames p n older + 1) (enough k reach).row.bound) × (d.copy.class ≡ k) × (a.at ≤ d.start) }
 {}
 
-/// If a filter admits a conforming talker, each of its frames has the verdict `Pass`.
+/// If a filter admits a conforming talker, each of its frames has the verdict `Pass`. Delays of limited talkers rest on it.
 pub fn conforming_frames_pass<A: Allocator + Copy>()
     ensures { (p : Plan A) (group n m most burst rate : ℕ) (f : FilterPlan) (es : List Event)
         → IsPlan p
@@ -178,7 +180,8 @@ pub fn conforming_frames_pass<A: Allocator + Copy>()
         → list_all passes (filter_verdicts n (police_steps p es)) ≡ true }
 {}
 
-/// In any `w` ns a stream gate with octet limits passes at most the octets of the intervals that overlap these `w` ns.
+/// In any `w` ns a stream gate with octet limits passes at most the octets of the intervals that overlap these `w` ns. Curves of stream
+/// gates rest on it.
 pub fn gate_limits_octets()
     ensures { (r : GateRules) (u w : ℕ) (es : List GateEvent)
         → HasOctetLimits r.turn_at
@@ -187,8 +190,10 @@ pub fn gate_limits_octets()
         → recent_passed_octets u (gate_steps r es) ≤ octet_budget r.turn_at u w }
 {}
 
-/// A filter's offers to a class have the arrival curve of its meter (`meter`). They have the curve of its stream gate if the gate has
-/// octet limits (`gate`).
+/// A filter's offers to a class have the arrival curve of its meter (`meter`). They have the curve of its stream gate if the gate has octet
+/// limits (`gate`).
+///
+/// Bounds of shared queues add these curves.
 pub fn filter_has_curve<A: Allocator + Copy>()
     ensures meter { (p : Plan A) (out : PortPlan A) (c n m : ℕ) (f : FilterPlan)
         → IsPlan p
@@ -204,7 +209,7 @@ pub fn filter_has_curve<A: Allocator + Copy>()
 {}
 
 /// If each sharer has an arrival curve by its meter or gate, copies leave in time (`done`). A sufficient capacity drops none as full
-/// (`room`).
+/// (`room`). Bounds of shared queues rest on it.
 pub fn group_leaves_in_time_by_curves<A: Allocator + Copy>()
     ensures done { (p : Plan A) (group : ℕ) (sharers : List (ℕ × FilterPlan)) (curves : ℕ → ℕ → ℕ) (q c sdu b s : ℕ)
         (out : PortPlan A) (es : List Event) (moments : ℕ → ℕ) (lists : ℕ → List (Copy CarriedFrame))
@@ -244,8 +249,10 @@ pub fn group_leaves_in_time_by_curves<A: Allocator + Copy>()
         → x.fate ≢ Full }
 {}
 
-/// Each copy that starts leaves a queue of the group within the bound by capacity, also without meters. The lesser of this bound and the bound
-/// by curves holds.
+/// Each copy that starts leaves a queue of the group within the bound by capacity, also without meters. The lesser of this bound and the
+/// bound by curves holds.
+///
+/// Bounds of shared queues rest on it.
 pub fn group_leaves_in_time_by_room<A: Allocator + Copy>()
     ensures { (p : Plan A) (group : ℕ) (sharers : List (ℕ × FilterPlan)) (q c sdu d s : ℕ) (out : PortPlan A)
         (es : List Event) (moments : ℕ → ℕ) (lists : ℕ → List (Copy CarriedFrame)) (x : Copy CarriedFrame)
@@ -265,8 +272,8 @@ pub fn group_leaves_in_time_by_room<A: Allocator + Copy>()
         ≤ x.at + (transmission_time (longest_frame sdu) out.speed - 1) + d }
 {}
 
-/// A filter with a meter has a cost curve by the greatest cost of an octet (`meter`). If the sharers have cost curves, copies leave in
-/// time (`done`).
+/// A filter with a meter has a cost curve by the greatest cost of an octet (`meter`). If the sharers have cost curves, copies leave in time
+/// (`done`). Bounds of shared queues rest on it.
 pub fn group_leaves_in_time_by_cost<A: Allocator + Copy>()
     ensures meter { (p : Plan A) (out : PortPlan A) (c n m sdu num den : ℕ) (f : FilterPlan) (cost : ℕ → ℕ)
         → IsPlan p
@@ -303,6 +310,8 @@ pub fn group_leaves_in_time_by_cost<A: Allocator + Copy>()
 
 /// If a port's lists change, copies leave a shared queue within a sum of times. It has the old list's bound `b1`, a longest frame, and the
 /// new list's bound `b2` for a shifted curve.
+///
+/// Bounds of shared queues rest on it.
 pub fn group_leaves_in_time_over_change<A: Allocator + Copy>()
     ensures { (p : Plan A) (group : ℕ) (sharers : List (ℕ × FilterPlan)) (q c sdu b1 b2 s : ℕ) (out : PortPlan A)
         (j : Joined ℕ) (es : List Event) (moments : ℕ → ℕ) (lists : ℕ → List (Copy CarriedFrame))
@@ -330,8 +339,10 @@ pub fn group_leaves_in_time_over_change<A: Allocator + Copy>()
         ≤ x.at + ((b1 + transmission_time (longest_frame sdu) out.speed) + b2) }
 {}
 
-/// Frames of a filter leave a shared queue with the meter's burst and rate. The burst grows by what the rate gives in the queue's
-/// greatest difference of delays.
+/// Frames of a filter leave a shared queue with the meter's burst and rate. The burst grows by what the rate gives in the queue's greatest
+/// difference of delays.
+///
+/// So the next hop's meters can be dimensioned.
 pub fn departures_conform<A: Allocator + Copy>()
     ensures { (p : Plan A) (group : ℕ) (sharers : List (ℕ × FilterPlan)) (q c sdu n m b : ℕ) (f : FilterPlan)
         (out : PortPlan A) (es : List Event) (moments : ℕ → ℕ) (lists : ℕ → List (Copy CarriedFrame))
@@ -410,6 +421,8 @@ pub fn frames_leave_in_time_by_gate<A: Allocator + Copy>()
 
 /// SDUs have at least two octets if no frame has more captured octets than its length (`captured`). They have at least 44 octets if each
 /// frame has at least 60 octets (`padded`).
+///
+/// Bounds by octet limits rest on it.
 pub fn frames_have_sdus()
     ensures captured { (es : List Event) → AreWithinLengths es → HaveSdus 2 es }
     ensures padded { (es : List Event) → HasNoRunts es → HaveSdus 44 es }

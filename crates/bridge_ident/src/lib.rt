@@ -164,7 +164,7 @@ impl<A: Allocator + Copy> Ident<A> {
     }
 }
 
-/// The handle of a frame comes from an entry of the table that matches the frame.
+/// The handle of a frame comes from an entry of the table that matches the frame. So a filter gets only frames that the plan names.
 pub fn handle_is_of_an_entry()
     ensures { (entries : List StreamEntry) (port vid h : ℕ) (head : Head)
         → first_handle entries port head vid ≡ Some h

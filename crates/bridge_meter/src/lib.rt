@@ -238,8 +238,10 @@ fn spend_tokens(plan: &MeterPlan, buckets: Buckets, octets: u32, dei: bool) -> (
     }
 }
 
-/// Computes later bucket levels from the levels that the newest judged frame left. The overflow since an earlier frame grows by an
-/// amount independent of that frame.
+/// Computes later bucket levels from the levels that the newest judged frame left. The overflow since an earlier frame grows by an amount
+/// independent of that frame.
+///
+/// So a meter needs to store the newest levels only.
 pub fn buckets_step()
     ensures committed { (l : bounds.Limits) (f : bounds.JudgedFrame) (fs : List bounds.JudgedFrame) (d : ℕ)
         → IsCovered l (f ∷ fs)

@@ -22,6 +22,8 @@ pub fn lawful_up_to_a_lower_moment<X: Drop>()
 {}
 
 /// A schedule that is lawful up to time `h` is lawful up to a later time `k`. From `h` to `k`, no head may fit while the link is free.
+///
+/// So a port may skip times without a start.
 pub fn lawful_up_to_a_later_moment<X: Drop>()
     ensures { (r : PortRules X) (h k : ℕ) (xs : List (Copy X))
         → h ≤ k
@@ -41,7 +43,8 @@ pub fn lawful_with_an_offer<X: Drop>()
         → IsLawful r h (x ∷ xs) }
 {}
 
-/// A schedule that is lawful up to time `h`, with the start that strict priority demands at `h`, is lawful up to 1 ns later.
+/// A schedule that is lawful up to time `h`, with the start that strict priority demands at `h`, is lawful up to 1 ns later. So a port's
+/// schedule stays lawful after each start.
 pub fn lawful_with_a_start<X: Drop>()
     ensures { (r : PortRules X) (c h i : ℕ) (item : X) (xs ys : List (Copy X))
         → IsLawful r h xs
@@ -53,7 +56,7 @@ pub fn lawful_with_a_start<X: Drop>()
         → IsLawful r (h + 1) ys }
 {}
 
-/// A class whose window no other class shares is served as if it had the link alone.
+/// A class whose window no other class shares is served as if it had the link alone. docs/ISOLATION.md cites it.
 pub fn own_windows_isolate<X: Drop>()
     ensures { (r : PortRules X) (c h : ℕ) (xs : List (Copy X))
         → ((n : X) → 0 < r.occ n)
@@ -63,7 +66,8 @@ pub fn own_windows_isolate<X: Drop>()
         → IsSolo r (class_copies c xs) }
 {}
 
-/// `can_fit` is exact: it is true exactly if the class stays open for `n` ns at some time, under each list by itself.
+/// `can_fit` is exact: it is true exactly if the class stays open for `n` ns at some time, under each list by itself. So a port drops as
+/// `NeverFits` only frames that never fit.
 pub fn can_fit_is_exact()
     ensures none { (c n : ℕ) → (can_fit Always c n ≡ true) ↔ ((t : ℕ) × Fits (opens Always c) n t) }
     ensures one { (l : Cyclic ℕ) (c n : ℕ)
@@ -75,7 +79,7 @@ pub fn can_fit_is_exact()
         ↔ (((t : ℕ) × Fits (list_opens j.old c) n t) × ((t : ℕ) × Fits (list_opens j.new c) n t)) }
 {}
 
-/// If `can_fit` is true, a fit starts within 2 s of any time, despite a schedule change.
+/// If `can_fit` is true, a fit starts within 2 s of any time, despite a schedule change. So each queued frame starts.
 pub fn can_fit_soon()
     ensures { (list : GateSchedule) (c n from : ℕ)
         → HasLawfulLists list
@@ -83,7 +87,7 @@ pub fn can_fit_soon()
         → (u : ℕ) × (from ≤ u) × (u ≤ from + 2 * LONGEST_CYCLE) × Fits (opens list c) n u }
 {}
 
-/// If a queue has the link alone, the offers to this queue determine the fate of each copy.
+/// If a queue has the link alone, the offers to this queue determine the fate of each copy. docs/ISOLATION.md cites it.
 pub fn solo_copies_follow<X: Drop>()
     ensures { (r : PortRules X) (xs ys : List (Copy X)) → HaveSameOffers xs ys → IsSolo r xs → IsSolo r ys → xs ≡ ys }
 {}

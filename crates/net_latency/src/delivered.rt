@@ -29,7 +29,8 @@ ghost use Rattle.net_latency.specs.Ways.{IsRoute, RouteHop};
 
 use std::alloc::Allocator;
 
-/// The queues of a stream's hops, as `net check` collects them from the delay bounds, include each queue that the hops can reach.
+/// The queues of a stream's hops, as `net check` collects them from the delay bounds, include each queue that the hops can reach. Delivery
+/// (`stream_is_delivered`) rests on it.
 pub fn stream_queues_are_reachable<A: Allocator + Copy>()
     ensures { (plans : List (Plan A)) (bounds : List (Vec QueueBound A)) (hops : List StreamHop)
         → AreQueueBoundsOfPlans plans bounds
@@ -96,7 +97,7 @@ pub fn stream_keeps_latency<A: Allocator + Copy>()
 {}
 
 /// If the delays of a stream have the flag `passes`, each frame of its talker is delivered along each path of bridges that forward it.
-/// Other devices may send anything.
+/// Other devices may send anything. docs/NETWORK_PROOF.md cites it.
 pub fn stream_is_delivered<A: Allocator + Copy>()
     ensures { (n : NetworkParts A) (hops : List StreamHop) (queues : List HopQueue) (t : Traffic) (r : StreamLatency)
         (first : StreamHop) (commands : ℕ → List Input) (captures : ℕ → ℕ → List CapturedFrame) (o : ℕ → Outcome A)
@@ -116,7 +117,7 @@ pub fn stream_is_delivered<A: Allocator + Copy>()
 {}
 
 /// If all stream entries of a stream compare destination addresses, the bridges forward each frame of its talker along some path. By
-/// `stream_is_delivered`, the frame is delivered along it.
+/// `stream_is_delivered`, the frame is delivered along it. docs/NETWORK_PROOF.md cites it.
 pub fn talker_frame_has_path<A: Allocator + Copy>()
     ensures { (n : NetworkParts A) (hops : List StreamHop) (queues : List HopQueue) (t : Traffic) (r : StreamLatency)
         (first : StreamHop) (commands : ℕ → List Input) (captures : ℕ → ℕ → List CapturedFrame) (o : ℕ → Outcome A)

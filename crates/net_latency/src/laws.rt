@@ -52,6 +52,8 @@ ghost use Rattle.net_latency.specs.Ways.{IsRoute, RouteHop, route_bound, hop_end
 use std::alloc::Allocator;
 
 /// A frame's delay over its route is at most the sum of the bounds of its queues and the delays of its links. Talkers may send anything.
+///
+/// This is the theorem about delays over networks (docs/DELAYS.md).
 pub fn route_in_time<A: Allocator + Copy>()
     ensures { (n : Network A) (commands : ℕ → List Input) (captures : ℕ → ℕ → List CapturedFrame) (o : ℕ → Outcome A)
         (run : IsNetworkRun n commands captures o) (leg : RouteHop A) (more : List (ℕ × RouteHop A))

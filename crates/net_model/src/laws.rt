@@ -32,7 +32,7 @@ ghost use Rattle.net_model.specs.declared.sending_port.FrameQuery.TheVariants.{S
 use std::alloc::Allocator;
 
 /// In a complete run of an accepted network, each hop of a closed stream has its record of an idle network. There, only this stream sends
-/// frames.
+/// frames. docs/NETWORK_PROOF.md cites it.
 pub fn stream_alone<A: Allocator + Copy>()
     ensures { (n : Network A) (stream : List (ℕ × ℕ)) (commands : ℕ → List Input) (captures : ℕ → ℕ
         → List CapturedFrame)
@@ -45,6 +45,7 @@ pub fn stream_alone<A: Allocator + Copy>()
 {}
 
 /// If a stream is alone on an idle network, its inputs from outside determine the records of its hops. Links may form a cycle.
+/// docs/NETWORK_PROOF.md cites it.
 pub fn stream_alone_has_one_result<A: Allocator + Copy>()
     ensures { (n : Network A) (stream : List (ℕ × ℕ)) (commands others : ℕ → List Input)
         (captures frames : ℕ → ℕ → List CapturedFrame) (tells says : Hop A → Option (View A)) (h : Hop A) (u v : View A)
@@ -58,7 +59,7 @@ pub fn stream_alone_has_one_result<A: Allocator + Copy>()
 {}
 
 /// Other traffic can't change the records of a closed stream. If two complete runs have equal inputs of the stream from outside, each hop
-/// of the stream has equal records in both.
+/// of the stream has equal records in both. docs/NETWORK_PROOF.md cites it.
 pub fn other_traffic_changes_nothing<A: Allocator + Copy>()
     ensures { (n : Network A) (stream : List (ℕ × ℕ)) (commands others : ℕ → List Input)
         (captures frames : ℕ → ℕ → List CapturedFrame) (o r : ℕ → Outcome A) (h : Hop A) (u v : View A)
@@ -76,7 +77,7 @@ pub fn other_traffic_changes_nothing<A: Allocator + Copy>()
 {}
 
 /// If `takes_only` holds for the plans at a link's ends, the hop's filter accepts over this link only frames of the stream. The sending
-/// bridge may receive anything.
+/// bridge may receive anything. docs/NETWORK_PROOF.md cites it.
 pub fn only_stream_is_taken<A: Allocator + Copy>()
     ensures { (p next : Plan A) (is_of_stream : ℕ → Bool) (q r n t : ℕ) (f : FilterPlan) (out on : PortPlan A)
         (es : List Event) (o : Offer)
@@ -102,6 +103,7 @@ pub fn tested_stream_is_closed<A: Allocator + Copy>()
 {}
 
 /// Complete runs of single bridges are a run of the network if each linked port receives exactly the frames that its other end sent.
+/// docs/NETWORK_PROOF.md cites it.
 pub fn consistent_runs_are_network_run<A: Allocator + Copy>()
     ensures { (n : Network A) (commands : ℕ → List Input) (captures : ℕ → ℕ → List CapturedFrame) (o : ℕ → Outcome A)
         → HasConsistentRuns n commands captures o
@@ -117,6 +119,8 @@ pub fn stray_exists_if_test_fails<A: Allocator + Copy>()
 
 /// If `hands_all` holds for the plans at a link's ends, filter `n` at the receiving end misses no copy. It gets each copy of filter `m`
 /// that arrives over the link and is forwarded there.
+///
+/// So no frame of a stream is lost between hops.
 pub fn each_is_handed<A: Allocator + Copy>()
     ensures { (p next : Plan A) (q r m n t set : ℕ) (f : FilterPlan) (call : FilterInput) (out on : PortPlan A)
         (es : List Event) (o : Offer)
