@@ -13,7 +13,7 @@ pub struct RunRequest<'a> {
     pub output: &'a str,
     /// Path of the commands; `None` for a run without commands.
     pub commands: &'a Option<String>,
-    /// Requested tables.
+    /// Tables that the arguments request.
     pub tables: &'a TableRequest,
     /// Requested picture, or `None`.
     pub picture: &'a Option<PictureRequest>,

@@ -13,7 +13,7 @@ pub struct Output {
     pub stdout: String,
     /// Text for standard error, printed after the text for standard output.
     pub stderr: String,
-    /// Exit status.
+    /// Exit status of the program.
     pub status: u8,
 }
 

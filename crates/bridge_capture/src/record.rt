@@ -22,7 +22,7 @@ pub const MAX_RECORDS: u32 = 1_000_000;
 /// Fields of a record's header.
 #[derive(Clone, Copy)]
 struct RecordHeader {
-    /// Time in ns.
+    /// Time stamp of the record, in ns.
     time: u64,
     /// Number of captured octets.
     captured: u32,

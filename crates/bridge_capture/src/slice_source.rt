@@ -10,7 +10,7 @@ use std::marker::Model;
 /// Source of a slice's octets, for captures in memory.
 #[derive(Drop)]
 pub struct SliceSource<'a> {
-    /// Octets that remain.
+    /// Octets of the capture that weren't read yet.
     rest: &'a [u8],
     /// Number of octets until failure; `None` means unlimited.
     allowance: Option<usize>,

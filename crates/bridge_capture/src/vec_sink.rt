@@ -12,7 +12,7 @@ use std::marker::Model;
 /// Sink that stores its octets in memory.
 #[derive(Drop)]
 pub struct VecSink<A: Allocator> {
-    /// Octets so far.
+    /// Octets of the capture that were written so far.
     octets: Vec<u8, A>,
     /// Number of octets until failure; `None` means unlimited.
     allowance: Option<usize>,

@@ -20,7 +20,7 @@ use std::io::Write;
 pub struct WriteBehind<W: Write + Drop, A: Allocator> {
     /// Writer, as a sink without a buffer.
     sink: FromWrite<W>,
-    /// Octets held back.
+    /// Octets that weren't written to the sink yet.
     held: WriteBuffer<A>,
 }
 

@@ -36,7 +36,7 @@ struct FilterCase<'a, A: Allocator + Copy> {
     catches: bool,
     /// Number of the filter.
     number: u32,
-    /// The filter.
+    /// Filter that is tested.
     filter: FilterPlan,
     /// Ports and priorities that the filter's frames can have.
     reach: Reach,

@@ -50,9 +50,9 @@ impl<A: Allocator + Copy> Accepted<A> {
 /// Refused plan, with its first fault. Callers get the plan back, to explain the fault.
 #[derive(Drop)]
 pub struct Refused<A: Allocator + Copy> {
-    /// The plan, unchanged.
+    /// The refused plan, unchanged.
     pub plan: Plan<A>,
-    /// The first fault.
+    /// Its first fault, by filter, port and class.
     pub fault: CheckFault,
 }
 

@@ -5,7 +5,7 @@ use bridge_filter::Clear;
 /// 8.6.5.1.3).
 #[derive(Clone, Copy, Debug, PartialEq, Eq)]
 pub struct Command {
-    /// Time in ns.
+    /// Time in ns at which the command clears the flag.
     pub at: u64,
     /// Flag that the command clears.
     pub clear: Clear,

@@ -106,7 +106,7 @@ pub(crate) fn has_port<A: Allocator + Copy>(ports: &[PortPlan<A>], number: u64) 
 /// Numbers of a plan's ports. Readers look up a number that must exist because a stream names it, or that must be new.
 #[derive(Clone, Copy)]
 pub(crate) struct PortNumbers<'a, A: Allocator + Copy> {
-    /// The ports.
+    /// The ports of the plan, in file order.
     pub ports: &'a [PortPlan<A>],
 }
 

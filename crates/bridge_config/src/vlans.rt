@@ -24,7 +24,7 @@ pub(crate) fn has_vlan(vlans: &[Vlan], vid: u64) -> bool
 /// Identifiers of a plan's VLANs. Readers of static entries look up their VLAN in it.
 #[derive(Clone, Copy)]
 pub(crate) struct VlanNumbers<'a> {
-    /// The VLANs.
+    /// The VLANs of the plan, in file order.
     pub vlans: &'a [Vlan],
 }
 

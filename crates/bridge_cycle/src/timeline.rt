@@ -10,7 +10,7 @@ pub const END_OF_TURNS: u64 = 9_100_000_000_000_000_000;
 /// Interval of a list, in which one state is in force.
 #[derive(Clone, Copy)]
 pub struct Turn<S> {
-    /// State in force.
+    /// State in force during the interval.
     pub state: S,
     /// Start in ns; negative if the interval started before time 0.
     pub start: i64,

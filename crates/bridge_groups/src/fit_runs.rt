@@ -13,7 +13,7 @@ use std::alloc::Allocator;
 pub(crate) struct FitRun {
     /// First fit in ns.
     pub(crate) first: u64,
-    /// Number of fits.
+    /// Number of fits of the run, one each ns.
     pub(crate) length: u64,
 }
 

@@ -23,7 +23,7 @@ use std::marker::Model;
 pub struct Port<T: Drop, A: Allocator + Copy> {
     /// Speed of the link.
     speed: Speed,
-    /// Transmission gates.
+    /// Transmission gates of the port's classes, with the hints of their searches.
     gates: TransmissionGates<A>,
     /// Queues of the classes.
     rings: Vec<HeapCircularBuffer<Item<T>, A>, A>,

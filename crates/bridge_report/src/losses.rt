@@ -53,7 +53,7 @@ pub struct Losses {
     pub yellow_dropped: u64,
     /// Copies that a full queue dropped.
     pub full: u64,
-    /// Copies that fit no window of their class.
+    /// Copies that ports dropped as `NeverFits`: they fit no window of their class.
     pub never: u64,
 }
 

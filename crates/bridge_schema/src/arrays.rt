@@ -102,9 +102,9 @@ fn value_set(items: &[Value], low: u64, high: u64) -> u16
 /// Array of integers from `low` to `high` as a set: bit `n - low` stands for `n`. At most 16 different numbers; repetitions are
 /// ignored.
 pub struct NumberSet {
-    /// Least number.
+    /// Least number that an item may have.
     pub low: u64,
-    /// Greatest number.
+    /// Greatest number that an item may have.
     pub high: u64,
     ghost order: { low ≤ high },
     ghost few: { high < low + 16 },

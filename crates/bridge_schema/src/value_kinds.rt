@@ -29,9 +29,9 @@ pub trait ValueKind {
 /// Integer from `low` to `high`.
 #[derive(Clone, Copy)]
 pub struct NumberRange {
-    /// Least number.
+    /// Least allowed number.
     pub low: u64,
-    /// Greatest number.
+    /// Greatest allowed number.
     pub high: u64,
 }
 

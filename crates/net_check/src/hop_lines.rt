@@ -24,7 +24,7 @@ const MOST_TURNS: u32 = 257;
 /// Window in which a frame is sent: its class is open without a break. Times are in ns from the start of a period.
 #[derive(Clone, Copy)]
 struct Window {
-    /// Start of the window one cycle later, so that it isn't negative.
+    /// Start of the window in ns, one cycle later, so that it isn't negative.
     later: u64,
     /// Cycle time of the list in ns.
     cycle: u64,

@@ -43,7 +43,7 @@ const NO_ROOM: &str =
 /// What the filters that share a queue can send: the sums of their meters, and their longest frame.
 #[derive(Clone, Copy)]
 struct Sharers {
-    /// Number of filters.
+    /// Number of filters that share the queue.
     count: u64,
     /// Greatest `max_sdu` in octets.
     sdu: u32,

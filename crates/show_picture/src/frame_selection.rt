@@ -72,7 +72,7 @@ pub(crate) struct FrameSelection {
     pass: Pass,
     /// Time span of the picture.
     pub span: Span,
-    /// Frames that left.
+    /// Frames that left and are drawn.
     pub left: DrawnGroup,
     /// Refused and dropped frames.
     pub marks: DrawnGroup,
