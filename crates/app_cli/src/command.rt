@@ -470,8 +470,8 @@ fn net_description() -> &'static Description
     &NET
 }
 
-/// Parses the arguments after the program's name by `clap`, for `parse_request`. Returns the command with its values. The error says
-/// whether `clap` refuses the arguments, shows help, or ran out of memory.
+/// Parses the arguments after the program's name by `clap`, for `parse_request`. Returns the command with its values. The error shows
+/// whether `clap` refuses the arguments, prints help, or ran out of memory.
 pub fn parse_arguments<'a>(alloc: Global, words: &'a [String]) -> Result<ArgMatches<'a>, Error>
     ensures taken { IfOk result (λ _. fault_of commands (map string_bytes words.entry.now) ≡ []) }
     ensures kinds { FailsBy (fault_of commands (map string_bytes words.entry.now)) result }

@@ -135,8 +135,8 @@ impl<A: Allocator + Copy> StreamGate<A> {
         self.rx = false;
     }
 
-    /// Clears the octets flag, because a command of a run says so. Octets that passed in the interval still count. `clear_octets` of
-    /// `bridge_filter` calls it.
+    /// Clears the octets flag, for a command of a run. Octets that passed in the interval still count. `clear_octets` of `bridge_filter`
+    /// calls it.
     pub fn clear_octets(&mut self)
         ensures stands { (r : GateRules) (es : List GateEvent)
             → StandsFor r self.old es

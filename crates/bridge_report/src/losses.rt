@@ -131,8 +131,8 @@ fn total(losses: &Losses) -> u128
     refused + shut + metered + dropped
 }
 
-/// Writes a comma, `place`, the reason `word` and its number `count`. `place` says where frames were lost; it is empty for one bridge.
-/// `put_reason` calls it.
+/// Writes a comma, `place`, the reason `word` and its number `count`. `place` is the hop at which frames were lost; it is empty for one
+/// bridge. `put_reason` calls it.
 fn put_counted<A: Allocator>(text: &mut TextBuilder<A>, place: &str, word: &str, count: u128)
     ensures { HasGrown text.old (spec.counted_words place.now word.now count) text.new }
 {
@@ -153,8 +153,8 @@ pub fn put_reason<A: Allocator>(text: &mut TextBuilder<A>, place: &str, word: &s
     }
 }
 
-/// Writes the reasons of all losses with their numbers; leaves out reasons without loss. The text `place` before each reason says where
-/// frames were lost.
+/// Writes the reasons of all losses with their numbers; leaves out reasons without loss. The text `place` before each reason is the hop at
+/// which frames were lost; it is empty for one bridge.
 pub fn put_losses<A: Allocator>(text: &mut TextBuilder<A>, place: &str, losses: &Losses)
     ensures { HasGrown text.old (spec.loss_words place.now losses.now) text.new }
 {

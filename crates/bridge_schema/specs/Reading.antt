@@ -19,7 +19,7 @@ abbrev pub Unless : Bool → Type 0 → Type 0
 Unless true Holds = Unit {0}
 Unless false Holds = Holds
 
--- Statement: The fault `e` of a reader is the fault of its definition `read`, unless `e` says that memory ran out.
+-- Statement: The fault `e` of a reader is the fault of its definition `read`, unless `e` means that memory ran out.
 abbrev pub Fails : {Y E : Type 0} → (E → Bool) → E → Result Y E → Type 0
 Fails is_memory e read = Unless (is_memory e) (read ≡ Err e)
 

@@ -33,8 +33,8 @@ fn find_lack(table: &Table, key: Field) -> Option<KeyConflict>
     }
 }
 
-/// Returns why a key with this presence rule isn't allowed in the table; `None` if it is allowed. `has_change` says whether the
-/// plan has a schedule change.
+/// Returns why a key with this presence rule isn't allowed in the table; `None` if it is allowed. `has_change` is true if the plan has a
+/// schedule change.
 ///
 /// `is_allowed_key`, and `first_misplaced_key` and `put_misplaced_table_key` of `show_explain` call it.
 pub fn find_conflict(presence: Presence, has_change: bool, table: &Table) -> Option<KeyConflict>
@@ -89,7 +89,7 @@ fn is_allowed_name(keys: &[KeyRule], name: &str, has_change: bool, table: &Table
     false
 }
 
-/// Whether a table has only allowed keys. `has_change` says whether the plan has a schedule change. `have_allowed_keys` and functions of
+/// Whether a table has only allowed keys. `has_change` is true if the plan has a schedule change. `have_allowed_keys` and functions of
 /// `bridge_config` call it.
 pub fn has_allowed_keys(table: &Table, keys: &[KeyRule], has_change: bool) -> bool
     ensures known { result ≡ spec.has_allowed_keys has_change keys.now (table_view table.now) }

@@ -37,10 +37,10 @@ pub trait ReaderFault {
     /// Location of a key, which faults name.
     type Place: Drop;
 
-    /// Whether the fault says that memory ran out.
+    /// Whether the fault means that memory ran out.
     ghost is_memory: { Self → Bool };
 
-    /// Fault that says that memory ran out.
+    /// Fault for memory that ran out.
     ghost memory: { Self };
 
     /// Fault of a text that is too long.

@@ -176,7 +176,7 @@ RefusesTextBy reading (fault.Network line) = (e : NetFault) × (reading ≡ Err 
 RefusesTextBy reading fault.NoMemory = Unit {0}
 RefusesTextBy reading f = ⊥
 
--- Holds if the failure says why `path` gives no network. It is a file error with this path, the fault line of a refused text, or
+-- Holds if the failure is why the file at `path` gives no network. It is a file error with this path, the fault line of a refused text, or
 -- `NoMemory`.
 abbrev pub EndsText : List ℕ → Failure → Type 0
 EndsText path (fault.File e) = string_bytes e.path ≡ path
@@ -205,7 +205,7 @@ RefusesPlanBy A name text (fault.Network line) = (e : Failure) × RefusesPlan A 
 RefusesPlanBy A name text fault.NoMemory = Unit {0}
 RefusesPlanBy A name text f = ⊥
 
--- Holds if the failure says why bridge `b` of the network file at `path` has no accepted plan. It is an error of the plan's file, a refused
+-- Holds if the failure is why bridge `b` of the network file at `path` has no accepted plan. It is an error of the plan's file, a refused
 -- plan's lines, or `NoMemory`.
 abbrev pub EndsPlanOf : (A : Type 0) → List ℕ → Bridge → Failure → Type 0
 EndsPlanOf A path b (fault.File e) = string_bytes e.path ≡ beside path b.plan
@@ -213,7 +213,7 @@ EndsPlanOf A path b (fault.Network line) = RefusesPlanOf A b (string_bytes line)
 EndsPlanOf A path b fault.NoMemory = Unit {0}
 EndsPlanOf A path b f = ⊥
 
--- Holds if failure `f` says why one of these bridges has no accepted plan. `path` is the network file's path.
+-- Holds if failure `f` is why one of these bridges has no accepted plan. `path` is the network file's path.
 abbrev pub EndsPlans : (A : Type 0) → List ℕ → List Bridge → Failure → Type 0
 EndsPlans A path bridges f = (b : Bridge) × IsMember b bridges × EndsPlanOf A path b f
 

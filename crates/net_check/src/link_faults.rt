@@ -52,7 +52,7 @@ fn bridge_plan<'a>(asked: NetworkText<'a>, end: BridgePort) -> &'a str {
     }
 }
 
-/// Returns the number, from 1, of the first link that ends at this port, or 0 if none does. `put_twice` calls it.
+/// Returns the number, from 1, of the first link that ends at port `end`; 0 if the port has no link. `put_twice` calls it.
 fn first_link_index(links: &[Link], end: BridgePort) -> u64 {
     let mut place = 0u64;
     for link in links {

@@ -199,7 +199,8 @@ fn has_earlier_hop(hops: &[StreamHop], place: usize, bridge: u16) -> bool {
     false
 }
 
-/// Appends why frames may be refused at hop `place`: the first reason that applies, in the order of the tests below. `put_refusable_stream` calls it.
+/// Appends why frames may be refused at hop `place`: the first reason that applies. Reasons of the route precede conditions of the hop's
+/// filter. `put_refusable_stream` calls it.
 fn put_hop_reason(
     said: &mut TextBuilder<Global>,
     network: &Network<Global>,

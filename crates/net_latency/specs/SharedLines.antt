@@ -12,7 +12,7 @@ is_lossy (Some room) capacity = nat_lt capacity room
 abbrev pub shared_mark : SharedQueue → List ℕ
 shared_mark s = if s.is_metered then (if is_lossy s.room s.capacity then codes " lossy" else []) else codes " unmetered"
 
--- The words for the capacity that suffices (`none` if none is known), and for the queue's own capacity.
+-- The words for the capacity that suffices (the word `none` if it is unknown), and for the queue's own capacity.
 abbrev pub room_words : Option ℕ → ℕ → List ℕ
 room_words None capacity = codes " room none of " ++ decimal capacity
 room_words (Some room) capacity = codes " room " ++ (decimal room ++ (codes " of " ++ decimal capacity))

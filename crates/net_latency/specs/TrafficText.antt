@@ -130,7 +130,7 @@ pub record PrintsRows (A : Type 0) (input words lines : List ℕ) (kept : Bool) 
   pub reads : rows_of_text words ≡ Ok rows
   pub are_lines : AreLinesOfTraffic plan rows lines kept
 
--- Holds if fault `f` is `NoMemory`, or says why the traffic text `words` gives no rows.
+-- Holds if failure `f` is `NoMemory`, or why the traffic text `words` is refused.
 abbrev pub RefusesWords : List ℕ → Failure → Type 0
 RefusesWords words f = (f ≡ fault.NoMemory) ⊎ ((e : NetFault) × (rows_of_text words ≡ Err e) × IsTrafficFailure (text.Text e) f)
 

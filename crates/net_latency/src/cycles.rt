@@ -21,7 +21,7 @@ use std::fs;
 use std::rt::Files;
 use toml::Table;
 
-/// A traffic file that was read again for an explanation, and the path of its plan. The functions below take it as `asked`.
+/// A traffic file that was read again for an explanation, and the path of its plan. Functions that explain the file take it as `asked`.
 #[derive(Clone, Copy)]
 struct TrafficText<'a> {
     /// Path of the traffic file.

@@ -166,7 +166,7 @@ fn is_handed<A: Allocator + Copy>(
 /// Returns whether each frame that leaves a queue of the stream gets the filter of the next hop. A queue whose port leads to no hop counts
 /// as true.
 ///
-/// `checked_stream_latency` calls it; if false, the stream's line says `refusable`.
+/// `checked_stream_latency` calls it; if false, the stream's line has the word `refusable`.
 fn are_received_by_next_hops<A: Allocator + Copy>(
     plans: &[Accepted<A>],
     links: &[Link],

@@ -24,8 +24,8 @@ use std::rt::Files;
 /// Octets of a frame check sequence. The lengths in traffic rows don't include it.
 const CHECK_OCTETS: u32 = 4;
 
-/// Explains why frames of a traffic file may be refused, for each queue whose line says `refusable`. Reads both files again. Returns `None`
-/// if this fails or memory runs out. `traffic_reasons` calls it.
+/// Explains why frames of a traffic file may be refused, for each queue whose line has the word `refusable`. Reads both files again.
+/// Returns `None` if this fails or memory runs out. `traffic_reasons` calls it.
 pub fn explain_refusable<H: AllocGlobal + Files>(
     rt: &H,
     plan: &str,

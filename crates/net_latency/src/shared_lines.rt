@@ -32,8 +32,8 @@ fn shared_mark(row: &SharedQueue) -> &'static str
     }
 }
 
-/// Appends `room`, the capacity that suffices for a queue, or `none` if none is known, and the queue's own capacity. `push_shared_line`
-/// calls it.
+/// Appends `room`, the capacity that suffices for a queue, or the word `none` if no such capacity is known, and the queue's own capacity.
+/// `push_shared_line` calls it.
 fn push_room<A: Allocator + Copy>(
     text: &mut String<A>,
     room: Option<u16>,

@@ -69,8 +69,8 @@ impl<'a, A: Allocator + Copy> TakingFilter<'a, A> {
         None
     }
 
-    /// Returns an example of frames with the address of `entry`, or `None`. Entries of another port or another handle than the hop's filter
-    /// have none. `first_sample` calls it.
+    /// Returns an example of frames with the address of `entry`, or `None`. Entries of another port, or with another handle than the hop's
+    /// filter, have no example. `first_sample` calls it.
     fn entry_sample(&self, entry: &StreamEntry) -> Option<StrayFrame>
         requires { IsTakingFilter self.now }
         ensures asked { IfSome result (IsSample self.now) }

@@ -107,8 +107,8 @@ impl<'a, A: Allocator + Copy> TakingFilter<'a, A> {
         self.first_or_frame_by_priority(alone, entry, entry.vid)
     }
 
-    /// Returns the first example among frames with the address of `entry`, or `None`. Entries of another port or another handle have none.
-    /// `first_taken_frame` calls it.
+    /// Returns the first example among frames with the address of `entry`, or `None`. Entries of another port or with another handle have
+    /// no example. `first_taken_frame` calls it.
     fn first_frame_of_entry(&self, entry: &StreamEntry) -> Option<FoundFrames>
         requires { IsTakingFilter self.now }
         ensures { result ≡ find_first (first_frame_with_tag self.now entry.now) (possible_tags entry.now.vid) }

@@ -40,7 +40,7 @@ abbrev pub count_frame : CopyFate → List CopyCounts → Option SourceFrame →
 count_frame f ts None = ts
 count_frame f ts (Some r) = if nat_eq r.number 0 then ts else count_at_index ts (r.number - 1) f
 
--- The fate of a copy that left: forwarded if `ways` says that its port leads to a hop, otherwise delivered.
+-- The fate of a copy that left: forwarded if its port leads to a hop (`ways`), otherwise delivered.
 abbrev pub departure_fate : List Bool → Departure → CopyFate
 departure_fate ways d = if is_onward ways d.port then fate.Forwarded else fate.Delivered
 

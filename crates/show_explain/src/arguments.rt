@@ -97,8 +97,8 @@ fn put_unknown_option(alloc: Global, said: &mut Said, name: &str) {
     }
 }
 
-/// Writes that the command `word` is unknown, or missing if `None`, and the usage of the nearest command. Writes all usages if none is
-/// near. `explain_arguments` and `put_command_refusal` call it.
+/// Writes that the command `word` is unknown, or missing if `None`, and the usage of the nearest command. Writes all usages if no command
+/// is near. `explain_arguments` and `put_command_refusal` call it.
 fn put_usages(alloc: Global, said: &mut Said, word: Option<&str>) {
     let Ok(names) = command_names(alloc) else {
         return said.discard();

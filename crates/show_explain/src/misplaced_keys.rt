@@ -22,8 +22,8 @@ pub(crate) fn find_key(keys: &'static [KeyRule], name: &str) -> Option<&'static 
     None
 }
 
-/// Writes the key in `keys` that is nearest to `word`, or all keys if none is near. `put_misplaced_entry_key` and `put_misplaced_table_key`
-/// call it.
+/// Writes the key in `keys` that is nearest to `word`, or all keys if no key is near. `put_misplaced_entry_key` and
+/// `put_misplaced_table_key` call it.
 fn put_nearest_key(alloc: Global, said: &mut Said, word: &str, keys: &'static [KeyRule]) {
     let (mut names, mut is_refused) = (Vec::new(alloc), false);
     for key in keys {

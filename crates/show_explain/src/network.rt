@@ -231,7 +231,7 @@ fn first_present(table: &Table, keys: &[NetField]) -> Option<NetField> {
     None
 }
 
-/// Writes the key in `keys` that is nearest to `word`, or all keys if none is near. `put_stray_key` calls it.
+/// Writes the key in `keys` that is nearest to `word`, or all keys if no key is near. `put_stray_key` calls it.
 fn put_nearest_key(alloc: Global, said: &mut Said, word: &str, keys: &[NetField]) {
     let (mut names, mut is_refused) = (Vec::new(alloc), false);
     for key in keys {
