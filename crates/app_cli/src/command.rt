@@ -409,7 +409,8 @@ const VERSION: &str = "1.0.0";
 /// Number of commands.
 pub const COMMANDS: usize = 6;
 
-/// Returns the command at index `place`, in the order of the help; `None` after the last.
+/// Returns the command at index `place`, in the order of the help; `None` after the last. `push_command_help`, `find_usage` and others call
+/// it.
 pub fn command_description(place: usize) -> Option<&'static Description> {
     match place {
         0 => Some(wire_description()),

@@ -371,7 +371,8 @@ pub(crate) fn optional_text(
     }
 }
 
-/// Returns the fault of arguments that `clap` refuses: `NoMemory` if memory ran out, otherwise `Words`.
+/// Returns the fault of arguments that `clap` refuses: `NoMemory` if memory ran out, otherwise `Words`. `parse_job`,
+/// `parse_picture_request` and others call it.
 pub(crate) fn argument_fault(error: &Error) -> ArgumentsFault
     ensures { result ≡ fault_of_kind (kind_of error.now) }
 {

@@ -37,7 +37,7 @@ pub(crate) struct RunLines {
 }
 
 /// Runs captures under an accepted plan between two folders, and writes report, requested tables and picture. Refuses outputs that are
-/// files in use. Returns the run's lines.
+/// files in use. Returns the run's lines. `run_accepted_captures` and `send_strictly` call it.
 #[tactic(auto, using(crate::proofs::ShownEnded::memory_ends))]
 pub(crate) fn run_with_outputs<H: AllocGlobal + Clock + Eprint + Files>(
     files: &mut CommandFiles<'_, H>,
@@ -69,7 +69,7 @@ pub(crate) fn run_with_outputs<H: AllocGlobal + Clock + Eprint + Files>(
     told
 }
 
-/// Writes the requested tables, then the requested picture of a run, and returns the run's lines.
+/// Writes the requested tables, then the requested picture of a run, and returns the run's lines. `run_with_outputs` calls it.
 fn write_outputs<H: AllocGlobal + Files>(
     files: &mut CommandFiles<'_, H>,
     accepted: &Accepted<Global>,

@@ -74,6 +74,7 @@ pub fn report_words(alloc: Global, words: &[String], fault: &Failure) -> Result<
 }
 
 /// Prints the text for standard error, and returns the exit status. If memory for the output ran out, prints `no memory` and returns 3.
+/// `main` of `tsnbridge` calls it.
 pub fn tell(rt: &impl Eprint, output: Result<Output, NoMemory>) -> ExitCode
     ensures status { IfOk output (λ o. exit_status result ≡ o.status) }
     ensures memory { IfErr output (λ _. exit_status result ≡ 3) }

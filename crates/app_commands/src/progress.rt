@@ -129,7 +129,7 @@ struct RecordCounter {
 }
 
 impl RecordCounter {
-    /// Returns the counter before the first octet of a capture.
+    /// Returns the counter before the first octet of a capture. `WatchedReader::new` calls it.
     fn new() -> RecordCounter {
         RecordCounter {
             skip: HEADER_LENGTH,

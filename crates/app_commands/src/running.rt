@@ -24,7 +24,7 @@ pub struct StoppedRun<W, A: Allocator> {
 /// Runs captures from readers, and commands, through the bridge of an accepted plan into writers, and returns the flushed writers. Readers
 /// and writers stand by rising port.
 ///
-/// Flushes every writer by rising port, even after a fault. The first failed flush replaces the run's fault.
+/// Flushes every writer by rising port, even after a fault. The first failed flush replaces the run's fault. `run_watched` calls it.
 pub fn run_captures<R: Read + Drop, W: Write + Drop, A: Allocator + Copy>(
     alloc: A,
     accepted: &Accepted<A>,

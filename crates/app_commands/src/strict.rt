@@ -54,7 +54,7 @@ impl StrictRun {
 /// Runs captures through the bridge of a plan, and writes the requested tables and picture. If warnings are errors and the plan has one,
 /// nothing runs, and only plan and commands are opened.
 ///
-/// Reads plan and commands once, so both may be pipes.
+/// Reads plan and commands once, so both may be pipes. `run_bridge` calls it.
 pub(crate) fn run_job<H: AllocGlobal + Clock + Eprint + Files>(
     files: &mut CommandFiles<'_, H>,
     job: &RunRequest<'_>,

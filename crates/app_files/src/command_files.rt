@@ -53,7 +53,7 @@ impl<'a, H: AllocGlobal + Files> CommandFiles<'a, H> {
         })
     }
 
-    /// Opens a file for reading, and adds it to the files in use.
+    /// Opens a file for reading, and adds it to the files in use. `CommandFiles::read` and `open_output` call it.
     pub fn open(&mut self, path: &str) -> Result<H::File, FileFault>
         ensures fails { IfErr result (IsOfPath path.now) }
         ensures kept { BeginWith self.old.in_use.items self.new.in_use.items }
@@ -89,18 +89,21 @@ impl<'a, H: AllocGlobal + Files> CommandFiles<'a, H> {
     }
 
     /// Adds the regular file at `path`, if it exists, to the files in use. Ignores pipes and devices: they lose nothing if written.
+    /// `note_standard_output`, and `note_captures` and `files_of_run` of `app_commands` call it.
     pub fn note_regular(&mut self, path: &str) -> Result<(), NoMemory> {
         add_file(&mut self.in_use, regular_file_id(self.rt, path))
     }
 
     /// Adds standard output's file to the files in use, if it is a regular file. Otherwise the line of counts would overwrite an output to
     /// this file.
+    ///
+    /// `run_with_outputs` of `app_commands` and `run_rounds` of `app_networks` call it.
     pub fn note_standard_output(&mut self) -> Result<(), NoMemory> {
         self.note_regular(STANDARD_OUTPUT)
     }
 
     /// Adds the regular file at `path` to the files in use. Returns false if it was in use already. Missing files, pipes and devices count
-    /// as new.
+    /// as new. `CommandFiles::note_captures` calls it.
     fn note_new(&mut self, path: &str) -> Result<bool, NoMemory> {
         let file = regular_file_id(self.rt, path);
         if has_file(&self.in_use, file) {
@@ -132,12 +135,13 @@ impl<'a, H: AllocGlobal + Files> CommandFiles<'a, H> {
         Ok(())
     }
 
-    /// Whether the file at `path` is in use.
+    /// Whether the file at `path` is in use. `picture_apart` and `check_report_is_unused` of `app_commands` call it.
     pub fn is_in_use(&self, path: &str) -> bool {
         has_file(&self.in_use, path_file_id(self.rt, path))
     }
 
     /// Refuses an output path that leads to a regular file in use, without opening it. A missing file or a pipe is accepted.
+    /// `check_path_unused` of `app_commands` calls it.
     pub fn spare(&self, path: &str) -> Result<(), FileFault>
         ensures { IfErr result (IsOfPath path.now) }
     {
@@ -147,7 +151,8 @@ impl<'a, H: AllocGlobal + Files> CommandFiles<'a, H> {
         Ok(())
     }
 
-    /// Opens a file for writing, or creates it. Its contents remain until the first write. Refuses a file in use.
+    /// Opens a file for writing, or creates it. Its contents remain until the first write. Refuses a file in use. `create_new`,
+    /// `create_captures` and functions of `app_commands` call it.
     pub fn create(&self, path: &str) -> Result<Output<H::File>, FileFault>
         ensures { IfErr result (IsOfPath path.now) }
     {
@@ -159,7 +164,8 @@ impl<'a, H: AllocGlobal + Files> CommandFiles<'a, H> {
         Ok(output)
     }
 
-    /// Opens a file for writing as `create` does, and adds it to the files in use.
+    /// Opens a file for writing as `create` does, and adds it to the files in use. `write_report_file` and `write_table` of `app_commands`,
+    /// and `open_output` of `app_networks` call it.
     pub fn create_new(&mut self, path: &str) -> Result<Output<H::File>, FileFault>
         ensures { IfErr result (IsOfPath path.now) }
     {
@@ -174,6 +180,7 @@ impl<'a, H: AllocGlobal + Files> CommandFiles<'a, H> {
     }
 
     /// Opens the captures of `ports` in a folder for writing, in list order. Fails at the first capture that can't be opened or is in use.
+    /// `create_outputs` of `app_commands` and `open_captures` of `app_networks` call it.
     pub fn create_captures(
         &self,
         folder: &str,
@@ -212,7 +219,8 @@ impl<H: AllocGlobal + Files> ReadFiles for CommandFiles<'_, H> {
     }
 }
 
-/// Opens the file at `path` for reading. Doesn't add it to files in use: commands that write no file need none.
+/// Opens the file at `path` for reading. Doesn't add it to files in use: commands that write no file need none. `open` and
+/// `read_text_file`, and `bound_traffic` of `app_networks` call it.
 pub fn open_input<H: AllocGlobal + Files>(rt: &H, path: &str) -> Result<H::File, FileFault>
     ensures { IfErr result (IsOfPath path.now) }
 {
@@ -247,6 +255,7 @@ pub fn read_open<R: Read + Drop>(
 }
 
 /// Reads at most `MOST_TEXT` octets of the file at `path`. Doesn't add it to files in use: commands that write no file need none.
+/// `bound_plan` of `app_networks` calls it.
 pub fn read_text_file<H: AllocGlobal + Files>(rt: &H, path: &str) -> Result<Vec<u8>, FileFault>
     ensures { IfErr result (IsOfPath path.now) }
 {

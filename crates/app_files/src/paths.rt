@@ -20,7 +20,7 @@ pub fn capture_path<A: Allocator + Copy>(
     Ok(format!(in alloc; "{folder}/{port}.pcap")?)
 }
 
-/// Returns the path of the report in a folder: `/report.txt` after the folder.
+/// Returns the path of the report in a folder: `/report.txt` after the folder. Functions of `app_commands` and `app_networks` call it.
 pub fn report_path<A: Allocator + Copy>(alloc: A, folder: &str) -> Result<String<A>, NoMemory>
     ensures { IfOk result (λ path. string_bytes path ≡ report_path folder.now) }
 {

@@ -40,7 +40,8 @@ fn write_all<F: Write + OpenFile + Drop>(output: Output<F>, octets: &[u8]) -> io
     output.finish()
 }
 
-/// Completes the output file at `path`, and returns it. A file without any write is empty afterwards.
+/// Completes the output file at `path`, and returns it. A file without any write is empty afterwards. `write_report_file` of `app_commands`
+/// and `write_report_file` of `app_networks` call it.
 pub fn finish_file<F: Write + OpenFile + Drop>(
     alloc: Global,
     path: &str,

@@ -112,7 +112,7 @@ fn is_warned(warnings: &BoundsWarnings) -> bool
     warnings.unprotected.is_some() || !warnings.shared.as_str().is_empty()
 }
 
-/// Appends all warnings to `text`: the plan's own, then those about shared queues.
+/// Appends all warnings to `text`: the plan's own, then those about shared queues. `bounds_output` calls it.
 fn push_warnings(text: &mut String, warnings: &BoundsWarnings) -> Result<(), AllocError>
     ensures { OnOk result (string_bytes text.new ≡ string_bytes text.old
         ++ warnings_text warnings.now.unprotected (string_bytes warnings.now.shared)) }

@@ -148,7 +148,7 @@ struct Place<'a> {
 }
 
 /// Reads the input of each bridge from its folder in `input`. Returns the first fault: by bridge, then by rising port, with the bridge's
-/// commands last.
+/// commands last. `read_bridge_inputs` calls it.
 fn read_inputs_of_plans<F: ReadFiles>(
     alloc: Global,
     files: &mut F,

@@ -79,7 +79,8 @@ fn make_folder<H: AllocGlobal + Files>(rt: &H, path: &str, read: &[FileId]) -> R
     }
 }
 
-/// Opens the file at `path` for writing. A file in use is refused; the opened file is in use afterwards.
+/// Opens the file at `path` for writing. A file in use is refused; the opened file is in use afterwards. `open_table`, `open_bridge` and
+/// `open_picture` call it.
 pub(crate) fn open_output<H: AllocGlobal + Files>(
     files: &mut CommandFiles<'_, H>,
     path: &str,

@@ -15,7 +15,7 @@ use std::alloc::Global;
 const REFUSED_COMMANDS: u8 = 1;
 
 /// Returns the command's failure for the refused commands of bridge `name`: a line with this name, then the commands' own fault line.
-/// Returns `NoMemory` if memory ran out.
+/// Returns `NoMemory` if memory ran out. `bridge_commands` calls it.
 #[tactic(auto, unfolding(crate::specs::Folders::commands_lines))]
 pub(crate) fn bridge_commands_fault(alloc: Global, name: &str, fault: PlanFault) -> Failure
     ensures { SaysCommands name.now fault result }

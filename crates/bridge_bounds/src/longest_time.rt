@@ -328,7 +328,7 @@ fn egress_longest_time<A: Allocator + Copy>(
 }
 
 /// Returns a time in ns in which `room` waiting frames always leave, each with transmission time `occ`. Without a schedule change, this is
-/// the longest time that they need.
+/// the longest time that they need. `class_bound` and `lesser_bound` call it.
 pub(crate) fn port_longest_time<A: Allocator + Copy>(
     lists: &Option<Egress<A>>,
     class: u8,

@@ -38,7 +38,7 @@ impl<A: Allocator + Copy> BufferPool<A> {
         }
     }
 
-    /// Makes an empty pool. Allocates memory once, for the list of buffers.
+    /// Makes an empty pool. Allocates memory once, for the list of buffers. `make_buffer_pool` of `bridge_core` calls it.
     pub fn new(alloc: A) -> Result<BufferPool<A>, NoMemory>
         ensures none { IfOk result (λ spares. spares ≡ 0) }
     {

@@ -21,7 +21,7 @@ pub struct ReadBuffer<A: Allocator> {
 }
 
 impl<A: Allocator> ReadBuffer<A> {
-    /// Makes an empty buffer of `width` octets. Allocates memory once.
+    /// Makes an empty buffer of `width` octets. Allocates memory once. `with_width` calls it.
     pub fn new(alloc: A, width: usize) -> Result<ReadBuffer<A>, NoMemory>
         requires { 0 < width }
         ensures start { IfOk result (λ window. window.start ≡ 0) }

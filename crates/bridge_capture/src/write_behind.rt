@@ -25,7 +25,8 @@ pub struct WriteBehind<W: Write + Drop, A: Allocator> {
 }
 
 impl<W: Write + Drop, A: Allocator> WriteBehind<W, A> {
-    /// Makes a sink with blocks of 131,072 octets. Allocates memory once. If memory runs out, the writer is dropped.
+    /// Makes a sink with blocks of 131,072 octets. Allocates memory once. If memory runs out, the writer is dropped. `wire_capture` of
+    /// `app_commands` calls it.
     pub fn new(alloc: A, writer: W) -> Result<WriteBehind<W, A>, NoMemory>
         ensures contents { IfOk result (λ sink. Keeps (W.contents writer)
             (⟦<WriteBehind<W, A> as ByteSink>⟧.contents sink)) }

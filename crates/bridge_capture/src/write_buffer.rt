@@ -31,7 +31,7 @@ impl<A: Allocator> WriteBuffer<A> {
     ghost use Rattle.std.specs.Prelude.{◌-◌, [], true, drop, IfOk};
     ghost use Rattle.bridge_capture.specs.Buffers.{held_octets};
 
-    /// Makes an empty buffer with blocks of `block` octets. Allocates memory once.
+    /// Makes an empty buffer with blocks of `block` octets. Allocates memory once. `with_block` calls it.
     pub fn new(alloc: A, block: usize) -> Result<WriteBuffer<A>, NoMemory>
         requires some { 0 < block }
         requires most { block ≤ MAX_BLOCK }
@@ -75,7 +75,7 @@ impl<A: Allocator> WriteBuffer<A> {
     }
 
     /// Whether the sink may add `more` octets before it writes a block. The buffer must contain less than a block, and `more` be at most a
-    /// record's length.
+    /// record's length. `WriteBehind::write` and `WriteBehind::write_words` call it.
     #[inline(always)]
     pub fn has_room(&self, more: usize) -> bool
         ensures { result ≡ true → more ≤ vec_len self.now.octets - self.now.count }
@@ -105,6 +105,7 @@ impl<A: Allocator> WriteBuffer<A> {
     }
 
     /// Adds `first` and `second`, each as eight little-endian octets, then `octets`. The buffer must have capacity for all.
+    /// `WriteBehind::write_words` calls it.
     #[inline(always)]
     pub fn put_record(&mut self, first: u64, second: u64, octets: &[u8])
         requires { 16 + length octets.now ≤ vec_len self.old.octets - self.old.count }

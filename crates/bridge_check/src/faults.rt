@@ -53,6 +53,8 @@ fn push_filter_faults<A: Allocator + Copy>(
 
 /// Returns every fault of `plan`, by filter, then by test. A test of queues reports only the first queue that fails. The list is empty
 /// exactly if `check` accepts the plan.
+///
+/// `explain_check` of `show_lint` calls it.
 pub fn all_faults<A: Allocator + Copy>(
     alloc: A,
     plan: &Plan<A>,

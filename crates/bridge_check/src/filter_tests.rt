@@ -42,7 +42,7 @@ struct FilterCase<'a, A: Allocator + Copy> {
     reach: Reach,
 }
 
-/// Whether another filter uses the stream gate of `filter`. Its frames could then shut the gate, so test 3 fails.
+/// Whether another filter uses the stream gate of `filter`. Its frames could then shut the gate, so test 3 fails. `run_tests` calls it.
 fn is_gate_shared(filters: &[(u32, FilterPlan)], number: u32, filter: &FilterPlan) -> bool
     ensures { result ≡ spec.is_gate_shared filters.now number filter.now }
 {
@@ -61,7 +61,7 @@ fn is_same_meter(a: Option<u32>, b: Option<u32>) -> bool
     }
 }
 
-/// Whether another filter uses the meter of `filter`. Its frames could then empty the buckets, so test 4 fails.
+/// Whether another filter uses the meter of `filter`. Its frames could then empty the buckets, so test 4 fails. `run_tests` calls it.
 fn is_meter_shared(filters: &[(u32, FilterPlan)], number: u32, filter: &FilterPlan) -> bool
     ensures { result ≡ spec.is_meter_shared filters.now number filter.now }
 {

@@ -24,7 +24,7 @@ fn is_null_kind(kind: Kind) -> bool
 }
 
 /// Whether all stream entries with handle `handle` compare the destination address. Only then are the frames' destinations, and so their
-/// egress ports, known.
+/// egress ports, known. `reached_ports` calls it.
 fn are_null_kinds(handle: u32, streams: &[StreamEntry]) -> bool
     ensures { result ≡ spec.are_null_kinds handle streams.now }
 {

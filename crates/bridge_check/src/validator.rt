@@ -129,6 +129,8 @@ fn first_fault<A: Allocator + Copy>(
 
 /// Accepts a plan that isolates each of its protected filters and groups. Otherwise refuses it with the first fault, by rising filter
 /// number, then in test order, then by rising port and class.
+///
+/// `plan_picture` of `app_commands` and `check_isolation` of `app_failure` call it.
 pub fn check<A: Allocator + Copy>(alloc: A, plan: Plan<A>) -> Result<Accepted<A>, Refused<A>>
     ensures accepted { IfOk result (λ a. (a ≡ plan) × (first_fault plan ≡ None)) }
     ensures acceptable { IfOk result IsAcceptable }

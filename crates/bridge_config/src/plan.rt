@@ -247,6 +247,7 @@ impl<A: Allocator + Copy> Model for Policing<A> {
 }
 
 /// Reads the stream gates and meters, then the filters, which name them. `change` is the time of the schedule change in ns, or `None`.
+/// `read_plan` calls it.
 #[tactic(auto, unfolding(crate::specs::Document::read_policing))]
 fn read_policing<A: Allocator + Copy>(
     alloc: A,
@@ -308,7 +309,7 @@ pub(crate) fn read_document(heap: Global, text: &[u8]) -> Result<Table, PlanFaul
 /// Order of faults: `TooLong`, `Syntax`, an unknown section, then `NotAList`, `TooMany` and `NoPorts` of the sections, then each
 /// instance key by key.
 ///
-/// Sections follow the order of `PLAN_SECTIONS`.
+/// Sections follow the order of `PLAN_SECTIONS`. Functions of `app_commands`, `app_failure` and `app_networks` call it.
 pub fn plan_of<A: Allocator + Copy>(
     alloc: A,
     heap: Global,

@@ -70,7 +70,8 @@ impl ListEntry for PortEntryReader {
     }
 }
 
-/// Whether a `[[port]]` table has only allowed keys. Some keys need a schedule change: `change` is its time, or `None`.
+/// Whether a `[[port]]` table has only allowed keys. Some keys need a schedule change: `change` is its time, or `None`. `has_port_keys`
+/// calls it.
 fn has_only_port_keys(change: Option<u64>, table: &Table) -> bool
     ensures { result ≡ has_known_keys (sections.port_keys change (table_view table.now)) (table_view table.now) }
 {
@@ -96,7 +97,7 @@ fn has_port_keys(change: Option<u64>, table: &Table) -> bool
         && has_only_port_entry_keys(Field::NextGates, table)
 }
 
-/// Whether a port has this number. Streams may name only such a port, and later ports need another number.
+/// Whether a port has this number. Streams may name only such a port, and later ports need another number. `PortNumbers::has` calls it.
 pub(crate) fn has_port<A: Allocator + Copy>(ports: &[PortPlan<A>], number: u64) -> bool
     ensures { result ≡ rules.has_port ports.now number }
 {

@@ -15,6 +15,7 @@ use std::alloc::Allocator;
 use toml::Table;
 
 /// Whether a VLAN has the identifier `vid`. Static entries may name only such a VLAN, and later VLANs need another identifier.
+/// `VlanNumbers::has` and `read_vlan` call it.
 pub(crate) fn has_vlan(vlans: &[Vlan], vid: u64) -> bool
     ensures { result ≡ rules.has_vlan vlans.now vid }
 {

@@ -35,7 +35,8 @@ impl<S, A: Allocator + Copy> Model for Joined<S, A> {
 }
 
 impl<S: Copy, A: Allocator + Copy> Joined<S, A> {
-    /// Joins `old`, which applies before time `at` in ns, and `new`, which applies from then on. Allocates no memory.
+    /// Joins `old`, which applies before time `at` in ns, and `new`, which applies from then on. Allocates no memory. `gate_schedule` and
+    /// `port_lists` of `bridge_config` call it.
     pub fn new(old: CyclicList<S, A>, new: CyclicList<S, A>, at: u64) -> Self
         requires { at < END_OF_TIME }
         ensures { result ≡ record { old = old; new = new; at = at } }

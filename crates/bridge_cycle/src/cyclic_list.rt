@@ -274,7 +274,7 @@ fn search_index(ends: &[u64], phase: u64) -> usize
     low
 }
 
-/// Returns the index of the entry in force at offset `phase`: by a guess first, then by binary search.
+/// Returns the index of the entry in force at offset `phase`: by a guess first, then by binary search. `find_interval` calls it.
 #[inline(always)]
 fn find_index(ends: &[u64], density: u64, phase: u64) -> usize
     requires some { 0 < length ends.now }

@@ -31,7 +31,7 @@ fn insert_instance<T: Drop, A: Allocator + Copy>(
     }
 }
 
-/// Makes the states of filters before their first frames. Fails only if memory runs out.
+/// Makes the states of filters before their first frames. Fails only if memory runs out. `Police::new` calls it.
 pub(crate) fn make_filters<A: Allocator + Copy>(
     alloc: A,
     plans: &[(u32, FilterPlan)],
@@ -46,7 +46,7 @@ pub(crate) fn make_filters<A: Allocator + Copy>(
     Ok(made)
 }
 
-/// Makes the stream gates before their first events. Fails only if memory runs out.
+/// Makes the stream gates before their first events. Fails only if memory runs out. `Police::new` calls it.
 pub(crate) fn make_gates<A: Allocator + Copy>(
     alloc: A,
     plans: Vec<(u32, GatePlan<A>), A>,
@@ -62,7 +62,7 @@ pub(crate) fn make_gates<A: Allocator + Copy>(
     Ok(made)
 }
 
-/// Makes the meters before their first events. Fails only if memory runs out.
+/// Makes the meters before their first events. Fails only if memory runs out. `Police::new` calls it.
 pub(crate) fn make_meters<A: Allocator + Copy>(
     alloc: A,
     plans: &[(u32, MeterPlan)],

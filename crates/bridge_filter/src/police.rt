@@ -174,8 +174,8 @@ impl<A: Allocator + Copy> Police<A> {
         )
     }
 
-    /// Judges a frame by the route that `find_route` returned. Frames and commands since then don't change the route. Allocates no
-    /// memory.
+    /// Judges a frame by the route that `find_route` returned. Frames and commands since then don't change the route. Allocates no memory.
+    /// `Police::pass` and `Relay::police_frame` of `bridge_relay` call it.
     #[inline(always)]
     pub fn pass_routed(&mut self, call: FilterInput, found: Option<Route>) -> Option<Ruling>
         requires found { IsFoundRoute self.old call.handle call.priority found }

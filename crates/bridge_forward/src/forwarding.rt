@@ -151,7 +151,7 @@ impl<A: Allocator + Copy> Forwarding<A> {
     }
 
     /// Returns the ports of the static entry for a VLAN and an address; `None` without such an entry. Tries the hinted index before the
-    /// hash.
+    /// hash. `Forwarding::forward` calls it.
     #[inline(always)]
     fn static_ports(&self, vid: u16, da: &[u8; 6]) -> Option<PortSet>
         ensures { result ≡ static_ports self.now.statics vid da.now }

@@ -68,7 +68,7 @@ impl<A: Allocator + Copy> Model for StreamGate<A> {
 }
 
 impl<A: Allocator + Copy> StreamGate<A> {
-    /// Makes a gate before its first event.
+    /// Makes a gate before its first event. `make_gates` of `bridge_filter` calls it.
     pub fn new(plan: GatePlan<A>) -> StreamGate<A>
         requires { has_valid_priorities plan.schedule ≡ true }
         ensures stands { StandsFor (gate_rules plan) result [] }
@@ -106,7 +106,8 @@ impl<A: Allocator + Copy> StreamGate<A> {
         self.answer_frame(t, turn, sdu)
     }
 
-    /// Returns the interval that contains time `t`: the kept interval, or an interval from the schedule, which the gate then keeps.
+    /// Returns the interval that contains time `t`: the kept interval, or an interval from the schedule, which the gate then keeps. `ask`
+    /// calls it.
     #[inline(always)]
     fn find_turn(&mut self, t: u64) -> Turn<GateEntry>
         requires range { t < END_OF_TIME }

@@ -123,8 +123,10 @@ fn fit_bound<A: Allocator + Copy>(
     list_delay_bound(list, class, fit, occupation(60, speed), &curve)
 }
 
-/// Returns the least delay bound in ns that the search finds by costs. Frames have SDUs of at most `sdu` octets, and need at most `long` ns.
-/// Returns `None` if the class is always open.
+/// Returns the least delay bound in ns that the search finds by costs. Frames have SDUs of at most `sdu` octets, and need at most `long`
+/// ns. Returns `None` if the class is always open.
+///
+/// `lists_cost_bound` calls it.
 fn list_cost_bound<A: Allocator + Copy>(
     plan: &Plan<A>,
     sharers: &[(u32, FilterPlan)],

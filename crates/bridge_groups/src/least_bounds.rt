@@ -11,7 +11,7 @@ use std::alloc::Allocator;
 /// Returns the lesser of two bounds of a queue in ns: `tight`, and the bound from the octets that the filter's stream gate passes.
 ///
 /// Returns `tight` if the lists of stream gate and port have no common cycle (`coarse`). The search for the other bound would then take too
-/// long.
+/// long. `least_queue_bound` and `put_tight_bound` of `net_latency` call it.
 pub fn least_bound<A: Allocator + Copy>(
     accepted: &Accepted<A>,
     number: u32,
@@ -65,7 +65,8 @@ pub fn padded_bound<A: Allocator + Copy>(
 
 /// Returns the least known bound of a queue in ns for any capture: the bound that `bounds` prints. Allocates no memory.
 ///
-/// Returns `None` exactly if the filter is missing or unprotected, or can't reach the queue.
+/// Returns `None` exactly if the filter is missing or unprotected, or can't reach the queue. Functions of `net_latency`, `show_lint`,
+/// `show_picture` and other crates call it.
 pub fn least_queue_bound<A: Allocator + Copy>(
     accepted: &Accepted<A>,
     number: u32,

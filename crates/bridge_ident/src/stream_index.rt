@@ -355,8 +355,8 @@ impl<A: Allocator + Copy> AddressIndex<A> {
         entry_handle(earlier_entry(destination, source))
     }
 
-    /// Returns the handle of the first entry for the keys `da` or `sa`; `None` if no entry has either key. Most frames need no hash, only
-    /// a mark and a hint.
+    /// Returns the handle of the first entry for the keys `da` or `sa`; `None` if no entry has either key. Most frames need no hash, only a
+    /// mark and a hint. `AddressIndex::find_handle` calls it.
     #[inline(always)]
     fn handle_by_keys(&self, da: u128, sa: u128) -> Option<u32>
         ensures { HasMarks self.now.destinations self.now.destination_marks

@@ -69,7 +69,8 @@ impl<T: Drop, A: Allocator + Copy> Port<T, A> {
     /// Makes an idle port with queue capacities for classes 0 to 7, in frames. Without a list, all classes are always open;
     /// otherwise bit c of a state opens class c.
     ///
-    /// With a schedule change (8.6.9.4), the old list applies before the change. Each item must fit under both lists.
+    /// With a schedule change (8.6.9.4), the old list applies before the change. Each item must fit under both lists. `PortState::new` of
+    /// `bridge_relay` calls it.
     pub fn new(
         alloc: A,
         speed: Speed,
@@ -279,7 +280,7 @@ impl<T: Drop, A: Allocator + Copy> Port<T, A> {
     }
 
     /// Returns the end of the last transmission in ns, gap included, or 0 before the first. The relay reads it after each start as the
-    /// frame's end of transmission.
+    /// frame's end of transmission. `PortState::start` of `bridge_relay` calls it.
     pub fn free_time(&self) -> u64
         ensures free { result ≡ self.now.free }
         ensures bounded { result ≤ time_limit self.now.started }

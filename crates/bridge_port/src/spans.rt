@@ -51,7 +51,7 @@ pub struct SearchHints {
 }
 
 impl SearchHints {
-    /// Makes hints before the first search.
+    /// Makes hints before the first search. `TransmissionGates::new` calls it.
     pub fn new() -> SearchHints {
         let last = SearchHint {
             laps: 0,
@@ -201,8 +201,8 @@ fn walk_spans(spans: &[OpenSpan], from: usize, t: u64) -> usize
     place
 }
 
-/// Returns the index of the first span that ends after `t`. The search starts at index `last` if that is near, otherwise it is a
-/// binary search.
+/// Returns the index of the first span that ends after `t`. The search starts at index `last` if that is near, otherwise it is a binary
+/// search. `fit_until_stop` calls it.
 #[inline(always)]
 fn find_index(spans: &[OpenSpan], last: usize, t: u64) -> usize
     ensures within { result ≤ length spans.now }

@@ -270,6 +270,8 @@ fn fit_in_lists<A: Allocator + Copy>(
 
 /// Returns the earliest time, `from` or later, from which `class` stays open for `occ` ns. For short lists, keeps the interval at `from`.
 /// Isn't inlined: a search in the kept interval then needs few registers.
+///
+/// `earliest_fit` calls it.
 #[inline(never)]
 fn search_fit<A: Allocator + Copy>(
     is_short: bool,

@@ -155,6 +155,8 @@ pub fn put_reason<A: Allocator>(text: &mut TextBuilder<A>, place: &str, word: &s
 
 /// Writes the reasons of all losses with their numbers; leaves out reasons without loss. The text `place` before each reason is the hop at
 /// which frames were lost; it is empty for one bridge.
+///
+/// `put_line` and `put_hop_losses` of `net_report` call it.
 pub fn put_losses<A: Allocator>(text: &mut TextBuilder<A>, place: &str, losses: &Losses)
     ensures { HasGrown text.old (spec.loss_words place.now losses.now) text.new }
 {

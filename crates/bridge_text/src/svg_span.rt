@@ -40,6 +40,7 @@ impl Span {
     }
 
     /// Returns the origin of the span's times: 0, or a round time shortly before a span that starts very late, compared with its duration.
+    /// `time_scale` calls it.
     fn origin(self) -> u64 {
         let (from, length) = (self.from, self.duration());
         let digits = (length - 1).checked_ilog10().map_or(0, |it| it + 1);
@@ -59,7 +60,7 @@ impl Span {
     }
 
     /// Returns the time between two lines of the axis in ns: one, two or five times a power of ten. The axis then has at most
-    /// `MAX_INTERVALS` whole intervals.
+    /// `MAX_INTERVALS` whole intervals. `put_axis` calls it.
     pub(crate) fn grid_step(self) -> u64
         ensures { 1 ≤ result }
     {

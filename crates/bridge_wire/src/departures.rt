@@ -74,7 +74,7 @@ fn write_record<W: ByteSink>(
     writer.put(sink, done, len, octets).is_ok()
 }
 
-/// Starts and writes all frames due before time `t` in ns. Stops at the first failed write.
+/// Starts and writes all frames due before time `t` in ns. Stops at the first failed write. `offer_frame` and `send_all` call it.
 #[inline(always)]
 pub fn send_due_frames<W: ByteSink, A: Allocator + Copy>(
     t: u64,

@@ -52,7 +52,7 @@ impl<A: Allocator + Copy> OpenQueue<A> {
     ghost use Rattle.bridge_wire.specs.OpenQueues.{ReadsPlace, place_ahead, queue_reader, queue_state};
 
     /// Makes an empty queue for `room` frames, with a frame ahead. Allocates memory once; reading later frames allocates memory for their
-    /// octets.
+    /// octets. `wire` calls it.
     pub fn new(
         alloc: A,
         speed: Speed,

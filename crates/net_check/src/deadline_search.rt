@@ -300,6 +300,8 @@ fn relieve_hop(
 
 /// Lets the talker send later by the latest frame's wait at the first hop. Undoes this if a frame may then be refused. Returns whether the
 /// change stays, or `None` if memory runs out.
+///
+/// `relieve_hop` calls it.
 fn relieve_talker(
     alloc: Global,
     route: &StreamRoute<'_>,
@@ -322,6 +324,8 @@ fn relieve_talker(
 
 /// Lets the hop's list begin earlier by the latest frame's wait. Undoes this if a frame may then be refused. Returns whether the change
 /// stays; false without a list that can shift (`cycle_of_port`).
+///
+/// `relieve_hop` calls it.
 fn relieve_list(
     alloc: Global,
     route: &StreamRoute<'_>,

@@ -141,6 +141,8 @@ pub(crate) fn hop_times(
 
 /// Appends the times of the arrival's hop to `times`, and arrivals at the next hops to `arrivals`. `sent` is the talker's first phase in
 /// ns. Returns `None` if phases are unknown or memory runs out.
+///
+/// `hop_times` calls it.
 fn put_hop_times(
     route: &StreamRoute<'_>,
     arrival: HopArrival,
@@ -162,7 +164,6 @@ fn put_hop_times(
 /// Appends the times of the queues in `rows` that belong to the hop's filter to `times`, and arrivals at the next hops to `arrivals`.
 ///
 /// `sent` is the talker's first phase in ns; `is_first` marks the first hop. Returns `None` if phases are unknown or memory runs out.
-///
 /// `put_hop_times` calls it.
 fn put_queues_of_hop(
     route: &StreamRoute<'_>,

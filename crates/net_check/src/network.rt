@@ -420,6 +420,8 @@ fn describe_network<A: Allocator + Copy>(
 
 /// Checks the network of the file at `path`, with its plans, for `net check`. Returns lines and warnings. Faults come in this order:
 /// network file, plans by bridge, tests of the network, periods of talkers.
+///
+/// `check_network` of `app_networks` calls it.
 pub fn network_job<F: ReadFiles>(
     alloc: Global,
     files: &mut F,

@@ -247,6 +247,8 @@ fn put_hop_reason(
 
 /// Appends the first condition that fails for this traffic at a hop with class `class`. If the filter passes it and delays are known
 /// (`has_figures`), the filter may refuse frames of the hop before.
+///
+/// `put_hop_reason` calls it.
 fn put_condition(
     said: &mut TextBuilder<Global>,
     plan: &Plan<Global>,

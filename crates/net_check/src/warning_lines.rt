@@ -156,7 +156,7 @@ fn is_entered_by_link<A: Allocator + Copy>(
 }
 
 /// Returns whether a filter of bridge `bridge` is protected, its frames can arrive over a link, and it is a hop of no stream. The filter is
-/// then likely a forgotten hop.
+/// then likely a forgotten hop. `push_unlisted_filter` calls it.
 fn is_unlisted<A: Allocator + Copy>(
     links: &[LinkRow],
     streams: &[StreamRow<A>],

@@ -130,7 +130,7 @@ fn check_and_report<A: Allocator + Copy>(
 }
 
 /// Returns the output of `bounds --traffic`: lines of bounds, then a line for each queue of each row. Faults: plan, then traffic file, then
-/// rows compared with the plan.
+/// rows compared with the plan. `bound_rows` of `app_networks` calls it.
 pub fn traffic_job<R: Read + Drop, S: Read + Drop, A: Allocator + Copy>(
     alloc: A,
     heap: Global,

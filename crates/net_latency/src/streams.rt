@@ -24,7 +24,7 @@ use net_model::Network;
 use std::alloc::Allocator;
 
 /// Returns for each plan the least delay bounds of its reachable queues, in the order of `plans`. `net check` computes them once for all
-/// streams.
+/// streams. Functions of `app_networks` and `net_check` call it.
 pub fn all_queue_bounds<A: Allocator + Copy>(
     alloc: A,
     plans: &[Accepted<A>],

@@ -9,6 +9,8 @@ use std::rt::Files;
 
 /// Returns the contents of a file, read again for an explanation. Returns `None` if this fails or the file is a pipe, which gives its
 /// contents only once.
+///
+/// `explain_traffic` and functions of `app_networks` and `net_check` call it.
 pub fn reread_text<H: AllocGlobal + Files>(rt: &H, path: &str) -> Option<Vec<u8>> {
     if !fs::metadata(rt, path).ok()?.is_file() {
         return None;
@@ -61,6 +63,7 @@ impl<'a> NetworkText<'a> {
 }
 
 /// Appends the first 16 numbers with commas between them, then `..` if `numbers` has more. Explanations list filters and ports by it.
+/// `put_protected` and `put_grouped`, and `put_ports` of `net_check` call it.
 pub fn put_numbers(said: &mut TextBuilder<Global>, numbers: &[u64]) {
     let mut is_first = true;
     for number in numbers.iter().take(MOST_NUMBERS) {

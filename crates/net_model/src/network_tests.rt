@@ -299,6 +299,8 @@ impl<'a, A: Allocator + Copy> TestedHop<'a, A> {
 
     /// Returns `before` if it has frames, otherwise an example of frames at port `j` + 1. The port needs an entry of the hop's handle: the
     /// hop gets no frames at other ports.
+    ///
+    /// `first_frame_by_port` calls it.
     fn first_or_frame_on_port(
         &self,
         before: Option<(u8, FoundFrames)>,

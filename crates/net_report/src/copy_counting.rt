@@ -272,6 +272,8 @@ fn count_hops<A: Allocator + Copy>(
 
 /// Returns the counts of each first-hop frame's copies over all hops. `all` has the source of each frame of each hop. The tables and the
 /// lines about lost frames use the counts.
+///
+/// `put_stream_lines` and `put_stream_rows` of `app_networks` call it.
 pub fn count_copies<A: Allocator + Copy>(
     alloc: A,
     links: &[Link],

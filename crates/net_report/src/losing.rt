@@ -159,6 +159,8 @@ fn put_late_if<A: Allocator>(
 
 /// Writes a line if the stream lost frames, and a line if a delivered copy missed the deadline. `delays` has the delivered copies' delays
 /// in ns. `net --strict` prints the lines.
+///
+/// `put_stream_lines` of `app_networks` calls it.
 pub fn put_faults<A: Allocator>(
     text: &mut TextBuilder<A>,
     stream: &str,

@@ -262,7 +262,7 @@ pub fn stream_line<A: Allocator + Copy>(
     text.finish()
 }
 
-/// Writes a number and a suffix, such as the comma after a field.
+/// Writes a number and a suffix, such as the comma after a field. `put_source_frame`, `put_line_start` and others call it.
 pub(crate) fn put_number_with_suffix<A: Allocator>(
     text: &mut TextBuilder<A>,
     number: u64,
@@ -274,7 +274,7 @@ pub(crate) fn put_number_with_suffix<A: Allocator>(
     text.put(end);
 }
 
-/// Writes a number of 128 bits and a suffix, such as the comma after a field.
+/// Writes a number of 128 bits and a suffix, such as the comma after a field. `put_statistics`, `put_hop_start` and others call it.
 pub(crate) fn put_wide_with_suffix<A: Allocator>(text: &mut TextBuilder<A>, number: u128, end: &str)
     ensures { HasGrown text.old (decimal number ++ end.now) text.new }
 {

@@ -365,6 +365,8 @@ fn assert_network<A: Allocator + Copy>(network: &Network<A>)
 
 /// Runs a network in at most `rounds` rounds, until each link delivers exactly the frames that its sender sent. `watch` gets a report
 /// before each bridge's run. `net` runs networks by it.
+///
+/// `run_network_folders` of `app_networks` calls it.
 pub fn run_network<A: Allocator + Copy, W: RoundObserver>(
     alloc: A,
     network: &Network<A>,

@@ -56,6 +56,8 @@ const TOO_LONG: &str =
 
 /// Explains why a plan isn't accepted: `fault`, then every other failed test, and what to change. Each finding begins with `path` and the
 /// filter's line, if known. `check --explain` prints it.
+///
+/// `explain_check_fault` of `app_commands` calls it.
 pub fn explain_check(
     alloc: Global,
     path: &str,
@@ -259,7 +261,7 @@ fn kind_of_number(filters: &[(u32, FilterPlan)], number: u32) -> &'static str {
 }
 
 /// Writes the sentence of `template` about filters `number` and `other`, with their kinds. `own` is the stream gate or meter that both use,
-/// or 0 for none.
+/// or 0 for none. `put_no_catch_all`, `put_shared_gate` and `put_shared_meter` call it.
 fn put_shared_part(
     said: &mut LintText,
     filters: &[(u32, FilterPlan)],

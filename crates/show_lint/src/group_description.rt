@@ -183,7 +183,7 @@ fn put_bound<A: Allocator + Copy>(
 }
 
 /// Writes whether the queue's capacity suffices to drop no frame. Writes nothing if the bound doesn't follow from the meters: then no
-/// capacity is known to suffice.
+/// capacity is known to suffice. `put_shared_queue` calls it.
 fn put_capacity(said: &mut LintText, row: &SharedQueue) {
     let capacity = u64::from(row.capacity);
     match row.room {

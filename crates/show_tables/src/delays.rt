@@ -191,7 +191,7 @@ fn put_filters<A: Allocator + Copy>(
 }
 
 /// Returns the table of `run --delays` as CSV: a header line, then rows by filter and port. A filter with frames but without departures has
-/// one row.
+/// one row. `write_delay_table` of `app_commands` calls it.
 pub fn delay_table<A: Allocator + Copy>(
     alloc: A,
     accepted: &Accepted<A>,
