@@ -79,6 +79,8 @@ pub enum Command {
 
 /// Returns the command that the arguments after the program's name request; `Text` without arguments. Fails with `Words` for all other
 /// arguments, including requests for help or the version.
+///
+/// Callers that need no options of the request call it.
 pub fn parse_job(alloc: Global, words: &[String]) -> Result<Command, ArgumentsFault>
     ensures ok { IfOk result (AsksFor (map string_bytes words.now)) }
     ensures room { IfOk result HasRoom }

@@ -59,7 +59,7 @@ pub fn read_plan<R: Read + Drop, A: Allocator + Copy>(
     }
 }
 
-/// Reads and checks a plan, and returns the line to print. A fault of the reader names `path`.
+/// Reads and checks a plan, and returns the line to print. A fault of the reader names `path`. Callers that print no warnings call it.
 pub fn check_job<R: Read + Drop, A: Allocator + Copy>(
     alloc: A,
     heap: Global,

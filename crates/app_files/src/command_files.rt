@@ -63,7 +63,8 @@ impl<'a, H: AllocGlobal + Files> CommandFiles<'a, H> {
         Ok(reader)
     }
 
-    /// Reads at most `MOST_TEXT` octets of the file at `path`, and adds it to the files in use.
+    /// Reads at most `MOST_TEXT` octets of the file at `path`, and adds it to the files in use. Commands call it for plans, commands and
+    /// networks.
     pub fn read_text(&mut self, path: &str) -> Result<Vec<u8>, FileFault>
         ensures { IfErr result (IsOfPath path.now) }
     {

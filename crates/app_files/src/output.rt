@@ -32,7 +32,8 @@ impl<F: Write + OpenFile + Drop> Output<F> {
         open_file_id(&self.file)
     }
 
-    /// Completes the output and returns the file. A file without any write is empty afterwards.
+    /// Completes the output and returns the file. A file without any write is empty afterwards. A command calls it after its last write to
+    /// the file.
     pub fn finish(self) -> io::Result<Output<F>>
         ensures { IfOk result (λ done. done.file ≡ self.file) }
     {

@@ -49,7 +49,7 @@ impl<'a> SliceSource<'a> {
         SliceSource::with_limits(octets, None, usize::MAX)
     }
 
-    /// Makes a source that fails at the next read after `count` octets.
+    /// Makes a source that fails at the next read after `count` octets. Tests of failing reads call it.
     pub fn with_allowance(octets: &'a [u8], count: usize) -> SliceSource<'a>
         ensures octets { result.octets ≡ octets.entry.now }
         ensures after { result.allowance ≡ Some count }

@@ -55,7 +55,7 @@ impl<A: Allocator> VecSink<A> {
         VecSink::with_limits(alloc, None, usize::MAX)
     }
 
-    /// Makes an empty sink that fails after `count` octets, or if memory runs out.
+    /// Makes an empty sink that fails after `count` octets, or if memory runs out. Tests of failing writes call it.
     pub fn with_allowance(alloc: A, count: usize) -> VecSink<A>
         ensures octets { result.octets ≡ [] }
         ensures after { result.allowance ≡ Some count }

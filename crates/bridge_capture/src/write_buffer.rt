@@ -125,7 +125,7 @@ impl<A: Allocator> WriteBuffer<A> {
         self.count = to;
     }
 
-    /// Drops the first `count` octets, after they were written.
+    /// Drops the first `count` octets, after they were written. `WriteBehind` calls it if the sink accepted only a part.
     pub fn skip(&mut self, count: usize)
         requires { count ≤ self.old.count }
         ensures octets { held_octets self.new ≡ drop count (held_octets self.old) }

@@ -83,7 +83,7 @@ impl CheckFault {
         }
     }
 
-    /// Returns the number of the filter that fails the test; `None` if memory ran out.
+    /// Returns the number of the filter that fails the test; `None` if memory ran out. Explanations and pictures look the filter up by it.
     pub fn filter(self) -> Option<u32>
         ensures { result ≡ fault_filter self }
     {

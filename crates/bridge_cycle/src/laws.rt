@@ -46,7 +46,7 @@ pub fn allowed_is_fitting()
         → Allows run occ ↔ ((t : ℕ) × Fits opens occ t) }
 {}
 
-/// A transmission that the longest run of a list allows fits at most 1 s after any time.
+/// A transmission that the longest run of a list allows fits at most 1 s after any time. So searches for fits end.
 pub fn allowed_fits_soon()
     ensures { (l : Cyclic ℕ) (class : ℕ) (run : Run)
         → IsLawful l
@@ -61,7 +61,8 @@ pub fn state_is_of_an_entry<S: Copy>()
         → (e : S × ℕ) × IsMember e l.entries × (e.0 ≡ x.state) }
 {}
 
-/// A joined list opens a class as the old list does before the change, and as the new list does from the change on.
+/// A joined list opens a class as the old list does before the change, and as the new list does from the change on. So each list's laws
+/// apply on its side of the change.
 pub fn changing_list_opens()
     ensures before { (j : joined.Joined ℕ) (class t : ℕ)
         → t < j.at
@@ -71,7 +72,8 @@ pub fn changing_list_opens()
         → turn_opens (joined.turn_by_time j t) class ≡ turn_opens (turn_by_time j.new t) class }
 {}
 
-/// A transmission that the longest runs of both lists allow fits the joined list at most 2 s after any time, despite the change.
+/// A transmission that the longest runs of both lists allow fits the joined list at most 2 s after any time, despite the change. So
+/// searches for fits end at a schedule change, too.
 pub fn changing_list_fits_soon()
     ensures { (j : joined.Joined ℕ) (class : ℕ) (old new : Run)
         → joined.IsLawful j

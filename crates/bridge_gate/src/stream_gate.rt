@@ -124,7 +124,8 @@ impl<A: Allocator + Copy> StreamGate<A> {
         turn
     }
 
-    /// Clears the receive flag, for a command. The gate then answers by its schedule, unless the octets flag is set.
+    /// Clears the receive flag, for a command of a run. The gate then answers by its schedule, unless the octets flag is set. `clear_rx` of
+    /// `bridge_filter` calls it.
     pub fn clear_rx(&mut self)
         ensures stands { (r : GateRules) (es : List GateEvent)
             → StandsFor r self.old es

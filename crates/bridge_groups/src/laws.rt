@@ -68,6 +68,8 @@ pub fn queue_has_meter_curves<A: Allocator + Copy>()
 
 /// Each copy that starts leaves a queue of the group at most `b` ns after its arrival, whatever any talker sends. `b` is the delay bound of
 /// the meters' curve.
+///
+/// Bounds of shared queues by meters rest on it.
 pub fn group_leaves_in_time<A: Allocator + Copy>()
     ensures { (p : Plan A) (group : ℕ) (sharers : List (ℕ × FilterPlan)) (q c sdu b s : ℕ) (out : PortPlan A)
         (es : List Event) (moments : ℕ → ℕ) (lists : ℕ → List (Copy CarriedFrame)) (x : Copy CarriedFrame)
@@ -135,7 +137,8 @@ pub fn conforming_frame_is_delivered<A: Allocator + Copy>()
         → IsDelivered out (lists q) a n (count_filter_frames p n older + 1) b }
 {}
 
-/// If the settings of a filter pass the test `admits_talker`, the filter admits each conforming talker with this burst and rate.
+/// If the settings of a filter pass the test `admits_talker`, the filter admits each conforming talker with this burst and rate. Delays of
+/// limited talkers rest on it.
 pub fn tested_filter_admits_talker<A: Allocator + Copy>()
     ensures { (p : Plan A) (f : FilterPlan) (most burst rate : ℕ)
         → IsPlan p
@@ -371,6 +374,7 @@ pub fn merged_arrivals_are_in_order()
 {}
 
 /// Each copy that starts leaves a shared queue within the bound that `shared_queue` returns, in every run, whatever any talker sends.
+/// docs/DELAYS.md cites it.
 pub fn shared_queue_leaves_in_time<A: Allocator + Copy>()
     ensures { (p : Plan A) (s : SharedQueue) (is : IsSharedQueue p s) (start : ℕ) (es : List Event) (moments : ℕ → ℕ)
         (lists : ℕ → List (Copy CarriedFrame)) (x : Copy CarriedFrame)
@@ -386,6 +390,7 @@ pub fn shared_queue_leaves_in_time<A: Allocator + Copy>()
 {}
 
 /// If the capacity of a shared queue is at least the one that `shared_queue` finds, the queue drops no copy as full in any run.
+/// docs/DELAYS.md cites it.
 pub fn shared_queue_is_never_full<A: Allocator + Copy>()
     ensures { (p : Plan A) (s : SharedQueue) (room : ℕ) (es : List Event) (moments : ℕ → ℕ)
         (lists : ℕ → List (Copy CarriedFrame)) (x : Copy CarriedFrame)
@@ -404,6 +409,8 @@ pub fn shared_queue_is_never_full<A: Allocator + Copy>()
 
 /// Each copy that a protected filter's queue sent has left within the bound that `gate_work_bound` returns. The frames of the run must have
 /// SDUs of at least `fewest` octets.
+///
+/// Bounds by the stream gate rest on it.
 pub fn frames_leave_in_time_by_gate<A: Allocator + Copy>()
     ensures { (p : Plan A) (n q c fewest b start : ℕ) (is : IsGateWorkBound p n q c fewest b) (es : List Event)
         (moments : ℕ → ℕ) (lists : ℕ → List (Copy CarriedFrame)) (x : Copy CarriedFrame)

@@ -79,6 +79,8 @@ pub fn conforming_frame_is_green()
 
 /// A delay bound needs proof for few spans only. They begin just after a run of fits (`fit`, `shut`) and last at most a cycle (`cycle`);
 /// each run has one (`run`).
+///
+/// So searches for bounds need few steps.
 pub fn few_spans_suffice()
     ensures fit { (opens : ℕ → Bool) (occ least : ℕ) (curve : ℕ → ℕ) (b u w : ℕ)
         → ((t : ℕ) → (v : ℕ) × IsFirstFit opens occ t v)

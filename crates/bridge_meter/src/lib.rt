@@ -257,7 +257,8 @@ pub fn buckets_step()
         (bounds.committed l f.at fs - f.green + l.cir * d - bounds.committed l (f.at + d) (f ∷ fs))) }
 {}
 
-/// The definitions of bucket levels are exact: if arrival times never fall, none of their subtractions stops at 0.
+/// The definitions of bucket levels are exact: if arrival times never fall, none of their subtractions stops at 0. So subtraction of
+/// natural numbers loses nothing.
 pub fn bounds_are_covered()
     ensures { (plan : MeterPlan) (events : List MeterEvent) → AreInOrder (meter_history plan events).judged
         → IsCovered (meter_limits plan) (meter_history plan events).judged }

@@ -11,7 +11,8 @@ ghost use Rattle.bridge_port.specs.Solo.{HasOwnWindow, IsSolo, IsFinished, HaveS
 use crate::queues::LARGEST_ROOM;
 use bridge_cycle::LONGEST_CYCLE;
 
-/// A schedule stays lawful up to an earlier time, if this time is after the last start and not before the last offer.
+/// A schedule stays lawful up to an earlier time, if this time is after the last start and not before the last offer. So laws about the
+/// past follow from the present schedule.
 pub fn lawful_up_to_a_lower_moment<X: Drop>()
     ensures { (r : PortRules X) (h k : ℕ) (xs : List (Copy X))
         → k ≤ h
@@ -33,7 +34,7 @@ pub fn lawful_up_to_a_later_moment<X: Drop>()
         → IsLawful r k xs }
 {}
 
-/// An offer at time `h`, answered by the rule, keeps the schedule lawful.
+/// An offer at time `h`, answered by the rule, keeps the schedule lawful. So a port's schedule stays lawful after each offer.
 pub fn lawful_with_an_offer<X: Drop>()
     ensures { (r : PortRules X) (h : ℕ) (x : Copy X) (xs : List (Copy X))
         → x.at ≡ h

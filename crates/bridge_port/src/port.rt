@@ -206,7 +206,8 @@ impl<T: Drop, A: Allocator + Copy> Port<T, A> {
         }
     }
 
-    /// Starts the next frame, and returns its item and class. Afterwards `earliest` is 1 ns after the start.
+    /// Starts the next frame, and returns its item and class. Afterwards `earliest` is 1 ns after the start. `PortState::start` of
+    /// `bridge_relay` calls it.
     #[inline(always)]
     pub fn start(&mut self) -> (Item<T>, u8)
         requires { (k : ℕ) × IsNextStartTime self.old (Some k) }

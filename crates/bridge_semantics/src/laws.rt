@@ -43,6 +43,8 @@ pub fn own_queues<A: Allocator + Copy>()
 
 /// The copies of a protected filter are exactly those that its own events give, each queue with its port to itself. The law holds in every
 /// complete run of an accepted plan.
+///
+/// The isolation theorem rests on it.
 pub fn own_queues_alone<A: Allocator + Copy>()
     ensures { (p : Plan A) (n : ℕ) (f : FilterPlan) (es : List Event) (moments : ℕ → ℕ)
         (lists : ℕ → List (Copy CarriedFrame))
@@ -56,7 +58,7 @@ pub fn own_queues_alone<A: Allocator + Copy>()
 {}
 
 /// While a port opens a reachable class of a protected filter, no copy of another class occupies the link. The law holds at any time of any
-/// lawful schedule.
+/// lawful schedule. docs/ISOLATION.md cites it.
 pub fn no_other_class_occupies<A: Allocator + Copy>()
     ensures { (p : Plan A) (n : ℕ) (f : FilterPlan) (q c h u : ℕ) (out : PortPlan A) (xs : List (Copy CarriedFrame))
         (x : Copy CarriedFrame)

@@ -129,7 +129,7 @@ impl Page {
         self.shapes.begin_titled(style, element);
     }
 
-    /// Ends an element with a title, and its shape. `element` is the element that was begun.
+    /// Ends an element with a title, and its shape. `element` is the element that was begun. Pictures of plans and runs call it.
     pub fn end_titled(&mut self, element: Element) {
         self.shapes.end_titled(element);
         self.shapes.end_shape();

@@ -34,7 +34,7 @@ impl<A: Allocator> TextBuilder<A> {
         }
     }
 
-    /// Returns the number of octets, or 0 after memory ran out.
+    /// Returns the number of octets, or 0 after memory ran out. Callers compare lengths to find out whether a text was added.
     pub fn len(&self) -> usize
         ensures { IfSome self.now (λ octets. result ≡ length octets) }
     {

@@ -43,7 +43,7 @@ pub fn read_commands_are_commands<A: Allocator + Copy>()
 {}
 
 /// If the frames at the talker's port keep the traffic, all frames that the first hop's filter receives keep it, whatever arrives at other
-/// ports.
+/// ports. Delivery (`stream_is_delivered`) rests on it.
 pub fn talker_port_keeps_traffic<A: Allocator + Copy>()
     ensures { (n : NetworkParts A) (hops : List StreamHop) (queues : List HopQueue) (first : StreamHop) (t : Traffic)
         (q : ℕ) (commands : ℕ → List Input) (captures : ℕ → ℕ → List CapturedFrame) (o : ℕ → Outcome A)
@@ -61,6 +61,8 @@ pub fn talker_port_keeps_traffic<A: Allocator + Copy>()
 
 /// On each route of a stream, each later hop's filter receives only copies from the hop before it. The hops must be a tree, and only the
 /// talker's frames may get their handles.
+///
+/// Delivery (`stream_is_delivered`) rests on it.
 pub fn stream_is_fed_in_turn<A: Allocator + Copy>()
     ensures { (n : NetworkParts A) (hops : List StreamHop) (queues : List HopQueue) (first : StreamHop)
         (commands : ℕ → List Input) (captures : ℕ → ℕ → List CapturedFrame) (o : ℕ → Outcome A)
@@ -78,7 +80,7 @@ pub fn stream_is_fed_in_turn<A: Allocator + Copy>()
 {}
 
 /// Each frame of a stream's talker keeps the printed delays and phases on each route. Only this talker must keep its traffic; other devices
-/// may send anything.
+/// may send anything. docs/NETWORK_PROOF.md cites it.
 pub fn stream_keeps_latency<A: Allocator + Copy>()
     ensures { (n : NetworkParts A) (hops : List StreamHop) (queues : List HopQueue) (t : Traffic) (r : StreamLatency)
         (commands : ℕ → List Input) (captures : ℕ → ℕ → List CapturedFrame) (o : ℕ → Outcome A)
@@ -137,7 +139,7 @@ pub fn talker_frame_has_path<A: Allocator + Copy>()
 {}
 
 /// If `net check` prints `arrives` and the talker keeps its traffic, each frame at the talker's port is delivered, whatever arrives at
-/// other ports.
+/// other ports. docs/NETWORK_PROOF.md cites it.
 pub fn printed_stream_is_delivered<A: Allocator + Copy>()
     ensures { (n : NetworkParts A) (bounds : List (Vec QueueBound A)) (hops : List StreamHop) (talker : Talker)
         (r : StreamLatency) (first : StreamHop) (q : ℕ) (commands : ℕ → List Input)

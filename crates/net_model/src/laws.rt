@@ -94,7 +94,8 @@ pub fn only_stream_is_taken<A: Allocator + Copy>()
         → (m : ℕ × FilterPlan) × IsMember m p.filters × (is_of_stream m.0 ≡ true) × (o.item.flow ≡ Some m.0) }
 {}
 
-/// A stream of an accepted network is closed if each of its hops passes the test `hop_passes`, which needs only the plans and links.
+/// A stream of an accepted network is closed if each of its hops passes the test `hop_passes`, which needs only the plans and links. The
+/// isolation of streams rests on it.
 pub fn tested_stream_is_closed<A: Allocator + Copy>()
     ensures { (n : Network A) (stream : List (ℕ × ℕ))
         → IsNetwork n
@@ -111,6 +112,7 @@ pub fn consistent_runs_are_network_run<A: Allocator + Copy>()
 {}
 
 /// The search for stray frames (`first_taken`) finds none exactly if the test `takes_only` holds for the sending port and the hop's filter.
+/// So each refusal of a stream has an example frame.
 pub fn stray_exists_if_test_fails<A: Allocator + Copy>()
     ensures { (p next : Plan A) (is_of_stream : ℕ → Bool) (q n : ℕ) (on : PortPlan A)
         → IsPlan p
