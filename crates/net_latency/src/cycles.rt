@@ -76,7 +76,12 @@ fn traffic_text<'a>(
 
 /// Appends the path of the traffic file, and the position of the key `field` in row `index`, from 1. `explain_grouped_filter`,
 /// `explain_limited_row` and others call it.
-fn put_row_position(said: &mut TextBuilder<Global>, asked: TrafficText<'_>, index: u32, field: NetField) {
+fn put_row_position(
+    said: &mut TextBuilder<Global>,
+    asked: TrafficText<'_>,
+    index: u32,
+    field: NetField,
+) {
     let row = Instance {
         document: asked.document,
         section: NetSection::Traffic.name(),

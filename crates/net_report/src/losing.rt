@@ -72,7 +72,11 @@ fn count_not_forwarded(tallies: &[CopyCounts]) -> usize
 
 /// Writes why a stream lost frames: causes at its hops, number of astray copies, and number of frames that were forwarded to no port.
 /// `put_lost` calls it.
-fn put_loss_causes<A: Allocator>(text: &mut TextBuilder<A>, tallies: &[CopyCounts], hops: &[HopLosses<A>])
+fn put_loss_causes<A: Allocator>(
+    text: &mut TextBuilder<A>,
+    tallies: &[CopyCounts],
+    hops: &[HopLosses<A>],
+)
     ensures { HasGrown text.old (spec.why_words tallies.now hops.now) text.new }
 {
     put_hops(text, hops);
