@@ -21,7 +21,7 @@ use Rattle.app_commands.specs.declared.strict.StrictRun.{StrictRun}
 abbrev pub IsTextOutput : Output → Type 0
 IsTextOutput output = (input : List ℕ) × (lines : List ℕ) × PrintsText input lines × Prints lines [] 0 output
 
--- Holds if fault `f` can end the run of a hexadecimal text.
+-- Holds if failure `f` can end the run of a hexadecimal text.
 abbrev pub FailsText : Failure → Type 0
 FailsText f = (input : List ℕ) × EndsText input f
 

@@ -37,7 +37,7 @@ abbrev pub ReportsFault : Failure → Option (String Global) → Output → Type
 ReportsFault f explanation output =
     (string_bytes output.stdout ≡ []) × HasLine (fault_line f) explanation (string_bytes output.stderr) × (output.status ≡ fault_status f)
 
--- Holds if the program reports fault `f`. If no explanation is requested, standard error receives only the fault line.
+-- Holds if the program reports failure `f`. If no explanation is requested, standard error receives only the fault line.
 abbrev pub Reports : Bool → Failure → Output → Type 0
 Reports explained f output =
     (more : List ℕ) × (explained ≡ false → more ≡ []) × Prints [] (fault_line f ++ 10 ∷ more) (fault_status f) output

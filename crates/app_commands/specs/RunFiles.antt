@@ -41,7 +41,7 @@ IsAcceptedPlan plan = (text : List ℕ) × Accepts text plan
 abbrev pub IsCheckedPlan : {A : Type 0} → Plan A → Plan A → Type 0
 IsCheckedPlan plan accepted = (accepted ≡ plan) × (first_fault plan ≡ None)
 
--- Holds if `f` is a fault of plan `p` with the commands of some text, from the file at an optional path.
+-- Holds if failure `f` can end the reading of commands for plan `p`, from the file at an optional path.
 abbrev pub EndsWithCommands : {A : Type 0} → Plan A → Option (List ℕ) → Failure → Type 0
 EndsWithCommands p commands f = (text : Option (List ℕ)) × EndsCommanded p commands text f
 

@@ -132,7 +132,7 @@ pub fn picture_apart<H: AllocGlobal + Files>(
     Ok(text)
 }
 
-/// Draws a run into the requested file, which must not be in use. A fault names the file's path. `write_run_picture` calls it.
+/// Draws a run into the requested file, which must not be in use. A failure names the file's path. `write_run_picture` calls it.
 pub(crate) fn put_run_picture<H: AllocGlobal + Files>(
     files: &CommandFiles<'_, H>,
     accepted: &Accepted<Global>,

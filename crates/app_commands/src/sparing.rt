@@ -38,8 +38,8 @@ fn files_of_run<'a, H: AllocGlobal + Files>(
     Ok(all)
 }
 
-/// Refuses an output path that leads to a regular file in use. A fault names the path. `check_table_unused` and `check_picture_unused` call
-/// it.
+/// Refuses an output path that leads to a regular file in use. The failure names the path. `check_table_unused` and `check_picture_unused`
+/// call it.
 fn check_path_unused<H: AllocGlobal + Files>(
     files: &CommandFiles<'_, H>,
     path: &str,

@@ -27,7 +27,7 @@ abbrev pub EndsCommands : {A : Type 0} → Plan A → List ℕ → List ℕ → 
 EndsCommands plan path input (fault.Commands f) = IsReadFault f (text_commands plan input)
 EndsCommands plan path input f = IsFileFault path f
 
--- Holds if `f` is a fault of reading the commands of plan `plan` or of its check. The check follows the reading.
+-- Holds if failure `f` can end the reading of the commands of plan `plan`, or its check. The check follows the reading.
 abbrev pub EndsCommanded : {A : Type 0} → Plan A → Option (List ℕ) → Option (List ℕ) → Failure → Type 0
 EndsCommanded plan path text (fault.Commands f) = (path ≢ None) × IsReadFault f (commands_for plan text)
 EndsCommanded plan path text (fault.Check f) = ((commands : List Command) × (commands_for plan text ≡ Ok commands)) × RefusesCheck plan (fault.Check f)

@@ -20,7 +20,7 @@ FailsCaptures folder ports (fault.File e) = IsCapture folder ports (string_bytes
 FailsCaptures folder ports fault.NoMemory = Unit {0}
 FailsCaptures folder ports f = ⊥
 
--- Holds if one of two folders has an empty path and the fault names the empty path, or memory ran out.
+-- Holds if one of two folders has an empty path and the failure names this path, or if memory ran out.
 abbrev pub LacksPath : List ℕ → List ℕ → Failure → Type 0
 LacksPath input output (fault.File e) = ((input ≡ []) ⊎ (output ≡ [])) × (string_bytes e.path ≡ [])
 LacksPath input output fault.NoMemory = Unit {0}

@@ -68,7 +68,7 @@ fn read_optional_commands<R: Read + Drop, A: Allocator + Copy>(
     }
 }
 
-/// Reads the commands of a plan from a reader. A fault names `path`. `read_optional_commands` calls it.
+/// Reads the commands of a plan from a reader. If the reader fails, the failure names `path`. `read_optional_commands` calls it.
 fn read_commands<R: Read + Drop, A: Allocator + Copy>(
     alloc: A,
     heap: Global,

@@ -83,8 +83,8 @@ pub fn check_job<R: Read + Drop, A: Allocator + Copy>(
     }
 }
 
-/// Returns the fault of standard input or output: the file `-` failed. `print`, and `input_fault` and `write_stdout_text` of `app_commands`
-/// call it.
+/// Returns the command's failure for standard input or output: the file `-` failed. `print`, and `input_fault` and `write_stdout_text` of
+/// `app_commands` call it.
 pub fn standard_stream_fault(alloc: Global) -> Failure
     ensures { IsStandardStreamFault result }
 {

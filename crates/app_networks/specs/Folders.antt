@@ -70,7 +70,8 @@ SaysCommands name e f = ⊥
 abbrev pub RefusesCommandsOf : {A : Type 0} → Plan A → List ℕ → List ℕ → Type 0
 RefusesCommandsOf p name lines = (text : List ℕ) × (e : PlanFault) × (text_commands p text ≡ Err e) × (lines ≡ commands_lines name (commands_fault_line e))
 
--- Holds if the fault ends the reading of a bridge's commands from its folder: the file failed, the commands are refused, or memory ran out.
+-- Holds if the failure can end the reading of a bridge's commands from its folder: the file failed, the commands are refused, or memory ran
+-- out.
 abbrev pub EndsCommands : {A : Type 0} → Plan A → List ℕ → List ℕ → Failure → Type 0
 EndsCommands p name folder (fault.File e) = string_bytes e.path ≡ commands_path folder
 EndsCommands p name folder (fault.Network lines) = RefusesCommandsOf p name (string_bytes lines)
@@ -85,7 +86,7 @@ EndsBridge links b p name folder (fault.Network lines) = RefusesCommandsOf p nam
 EndsBridge links b p name folder fault.NoMemory = Unit {0}
 EndsBridge links b p name folder f = ⊥
 
--- Holds if the fault ends the reading of a bridge's captures or commands. Each bridge has its own folder in the folder `input`.
+-- Holds if the failure can end the reading of a bridge's captures or commands. Each bridge has its own folder in the folder `input`.
 abbrev pub EndsReading : {A : Type 0} → List Link → List (Plan A) → List Bridge → List ℕ → Failure → Type 0
 EndsReading {A} links plans bridges input f =
     (b : ℕ) × (p : Plan A) × (slice_get plans b ≡ Some p) × EndsBridge links b p (bridge_name bridges b) (folder_path input (bridge_name bridges b)) f

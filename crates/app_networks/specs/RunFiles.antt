@@ -15,7 +15,7 @@ use Rattle.app_files.specs.FailedFiles.{IsCapture}
 use Rattle.app_files.specs.Paths.{capture_path, report_path}
 use Rattle.app_networks.specs.OutputFiles.{folder_path}
 
--- Holds if the fault names one of these files, or memory ran out.
+-- Holds if the failure names one of these files, or if memory ran out.
 abbrev pub NamesFile : (List ℕ → Type 0) → Failure → Type 0
 NamesFile files (fault.File e) = files (string_bytes e.path)
 NamesFile files fault.NoMemory = Unit {0}

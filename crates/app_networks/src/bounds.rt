@@ -44,7 +44,7 @@ pub(crate) fn bound_plan<H: AllocGlobal + Files>(
     bounded
 }
 
-/// Returns the output of `bounds` for the plan in `text`. A fault names the path `plan`. `bound_plan` calls it.
+/// Returns the output of `bounds` for the plan in `text`. A failure names the path `plan`. `bound_plan` calls it.
 fn bound_text(alloc: Global, plan: &str, text: &[u8], flags: Flags) -> Result<Output, Failure>
     ensures ok { IfOk result (IsBoundsOutput flags.is_strict flags.is_explained) }
     ensures fails { IfErr result (EndsChecked Global plan.now) }

@@ -75,7 +75,7 @@ fn read_captures<F: ReadFiles>(
     Ok(captures)
 }
 
-/// Returns the commands in a text, which must suit the bridge's plan. A fault has the bridge's name `name`. `read_commands` calls it.
+/// Returns the commands in a text, which must suit the bridge's plan. A failure has the bridge's name `name`. `read_commands` calls it.
 fn bridge_commands(
     alloc: Global,
     accepted: &Accepted<Global>,

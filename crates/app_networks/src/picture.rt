@@ -158,8 +158,8 @@ fn draw_run(
     picture.finish(alloc)
 }
 
-/// Writes the requested picture of a run to `output`, the file at `path`. Does nothing if no picture is requested. A fault names the path.
-/// `write_results_and_picture` calls it.
+/// Writes the requested picture of a run to `output`, the file at `path`. Does nothing if no picture is requested. A failure names the
+/// path. `write_results_and_picture` calls it.
 pub(crate) fn write_picture<F: Write + OpenFile + Drop>(
     alloc: Global,
     file: &NetworkFile<Global>,

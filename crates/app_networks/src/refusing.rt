@@ -62,8 +62,8 @@ fn unsettled_line(alloc: Global, name: &str, port: u8) -> Result<String, NoMemor
     Ok(format!(in alloc; "network not settled {name}.{port}")?)
 }
 
-/// Returns the fault of a stopped network run: `Rounds` with its fault line, or `NoMemory`. The line names a bridge and a port.
-/// `run_network_folders` calls it.
+/// Returns the command's failure after a stopped network run: `Rounds` with its fault line, or `NoMemory`. The line names a bridge and a
+/// port. `run_network_folders` calls it.
 pub(crate) fn run_failure(
     alloc: Global,
     bridges: &[BridgeRow<Global>],

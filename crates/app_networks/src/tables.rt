@@ -281,7 +281,7 @@ fn put_files<F: Write + OpenFile + Drop>(
     }
 }
 
-/// Writes the tables of streams and frames of a network run, and returns their files. A fault names the path of its table in `folder`.
+/// Writes the tables of streams and frames of a network run, and returns their files. A failure names the path of its table in `folder`.
 /// `write_results` calls it.
 pub(crate) fn put_tables<F: Write + OpenFile + Drop>(
     alloc: Global,

@@ -100,23 +100,23 @@ IsTrafficFailure e (fault.Network line) = string_bytes line ≡ traffic_line e
 IsTrafficFailure e fault.NoMemory = Unit {0}
 IsTrafficFailure e f = ⊥
 
--- Holds if fault `f` is a reason to read no rows from the file `words`: `NoMemory`, or the fault of its contents.
+-- Holds if failure `f` is why the traffic file with contents `words` gives no rows: `NoMemory`, or the fault of its contents.
 abbrev pub RefusesRows : List ℕ → Failure → Type 0
 RefusesRows words f = (f ≡ fault.NoMemory) ⊎ ((e : NetFault) × (rows_of_text (take 1048577 words) ≡ Err e) × IsTrafficFailure (text.Text e) f)
 
--- Holds if fault `f` is a reason to print no delays of these rows: `NoMemory`, or the first row that doesn't suit the plan.
+-- Holds if failure `f` is why the program prints no delays of these rows: `NoMemory`, or the first row that doesn't suit the plan.
 abbrev pub RefusesTimings : {A : Type 0} → Plan A → List TalkerRow → Failure → Type 0
 RefusesTimings p rows f = (f ≡ fault.NoMemory) ⊎ ((e : TrafficFault) × (first_row_fault p 1 rows ≡ Some e) × IsTrafficFailure e f)
 
--- Holds if fault `f` ends the command over an accepted plan. In this order: `file` can't be read, its text `words` is refused, or its rows
--- don't suit the plan.
+-- Holds if failure `f` can end `bounds --traffic` for an accepted plan. In this order: `file` can't be read, its text `words` is refused,
+-- or its rows don't suit the plan.
 abbrev pub EndsRows : {A : Type 0} → Plan A → List ℕ → List ℕ → Failure → Type 0
 EndsRows p file words f =
     IsFileFault file f
     ⊎ (RefusesRows words f
     ⊎ ((rows : List TalkerRow) × ReadsRows words rows × RefusesTimings p rows f))
 
--- Holds if fault `f` ends `bounds --traffic`: a fault of the plan file, or of the traffic file for an accepted plan.
+-- Holds if failure `f` can end `bounds --traffic`: the plan file failed or is refused, or the traffic file for an accepted plan.
 abbrev pub EndsTraffic : (A : Type 0) → List ℕ → List ℕ → List ℕ → List ℕ → Failure → Type 0
 EndsTraffic A path input file words f = EndsCheck A path input f ⊎ ((plan : Plan A) × Accepts input plan × EndsRows plan file words f)
 
@@ -134,13 +134,15 @@ pub record PrintsRows (A : Type 0) (input words lines : List ℕ) (kept : Bool) 
 abbrev pub RefusesWords : List ℕ → Failure → Type 0
 RefusesWords words f = (f ≡ fault.NoMemory) ⊎ ((e : NetFault) × (rows_of_text words ≡ Err e) × IsTrafficFailure (text.Text e) f)
 
--- Holds if fault `f` ends the command over an accepted plan. The file can't be read, its text `words` is refused, or its rows don't suit the plan.
+-- Holds if failure `f` can end `bounds --traffic` for an accepted plan. The file can't be read, its text `words` is refused, or its rows
+-- don't suit the plan.
 abbrev pub EndsWords : {A : Type 0} → Plan A → List ℕ → List ℕ → Failure → Type 0
 EndsWords p file words f =
     IsFileFault file f
     ⊎ (RefusesWords words f
     ⊎ ((rows : List TalkerRow) × (rows_of_text words ≡ Ok rows) × RefusesTimings p rows f))
 
--- Holds if fault `f` ends `bounds --traffic` over traffic text `words`: a fault of the plan file, or of the traffic for an accepted plan.
+-- Holds if failure `f` can end `bounds --traffic` over traffic text `words`: the plan file failed or is refused, or the traffic for an
+-- accepted plan.
 abbrev pub EndsTexts : (A : Type 0) → List ℕ → List ℕ → List ℕ → List ℕ → Failure → Type 0
 EndsTexts A path input file words f = EndsCheck A path input f ⊎ ((plan : Plan A) × Accepts input plan × EndsWords plan file words f)
