@@ -12,8 +12,8 @@ use bridge_config::{Plan, plan_of};
 use std::alloc::{Allocator, Global};
 use std::io::Read;
 
-/// Reads a plan from a reader, and accepts it if it isolates each of its protected filters and groups. A fault of the reader names `path`.
-/// The text's document uses `heap`, the plan `alloc`.
+/// Reads a plan from a reader, and accepts it if it isolates each of its protected filters and groups. If the reader fails, the failure
+/// names `path`. The text's document uses `heap`, the plan `alloc`.
 ///
 /// `check_job` and functions of `app_commands` and `net_latency` call it.
 pub fn read_accepted_plan<R: Read + Drop, A: Allocator + Copy>(
@@ -33,7 +33,7 @@ pub fn read_accepted_plan<R: Read + Drop, A: Allocator + Copy>(
     check_isolation(alloc, plan)
 }
 
-/// Reads a plan from a reader, without checking isolation. A fault of the reader names `path`.
+/// Reads a plan from a reader, without checking isolation. If the reader fails, the failure names `path`.
 ///
 /// Reads at most 1,048,577 octets, one more than a plan may have. Fails with `Plan` and the text's first fault. `read_accepted_plan`, and
 /// `plan_picture` and `read_plan_and_commands` of `app_commands` call it.
@@ -59,7 +59,8 @@ pub fn read_plan<R: Read + Drop, A: Allocator + Copy>(
     }
 }
 
-/// Reads and checks a plan, and returns the line to print. A fault of the reader names `path`. Callers that print no warnings call it.
+/// Reads and checks a plan, and returns the line to print. If the reader fails, the failure names `path`. Callers that print no warnings
+/// call it.
 pub fn check_job<R: Read + Drop, A: Allocator + Copy>(
     alloc: A,
     heap: Global,

@@ -146,7 +146,7 @@ impl<S: Copy, A: Allocator + Copy> CyclicList<S, A> {
         &self.entries
     }
 
-    /// Returns the base time in ns: a cycle starts at this time. `put_list` of `net_check`, and `find_long_wait` and
+    /// Returns the base time in ns: a cycle starts at this time. `put_list_shift` of `net_check`, and `find_long_wait` and
     /// `find_queue_stage_warnings` of `show_lint` call it.
     pub fn base(&self) -> u64
         ensures base { result ≡ self.now.base }

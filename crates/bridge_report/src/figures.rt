@@ -20,7 +20,8 @@ pub fn arrival_time(origins: &[StoredOrigin], own: u64) -> u64
     }
 }
 
-/// Returns the least of `delays` in ns; 2^64 - 1 if the list is empty. `delay_statistics` and `put_figures` call it.
+/// Returns the least of `delays` in ns; 2^64 - 1 if the list is empty. `delay_statistics` of `net_report` and `put_figures` of
+/// `show_tables` call it.
 pub fn least_delay(delays: &[u64]) -> u64
     ensures { result ≡ spec.least_of delays.now }
 {

@@ -143,8 +143,8 @@ fn put_counted<A: Allocator>(text: &mut TextBuilder<A>, place: &str, word: &str,
     text.put_integer(count);
 }
 
-/// Writes a comma, `place`, the reason `word` and its number `count`. Writes nothing if the number is 0. `put_losses` and `put_why` of
-/// `net_report` call it.
+/// Writes a comma, `place`, the reason `word` and its number `count`. Writes nothing if the number is 0. `put_losses` and `put_loss_causes`
+/// of `net_report` call it.
 pub fn put_reason<A: Allocator>(text: &mut TextBuilder<A>, place: &str, word: &str, count: u128)
     ensures { HasGrown text.old (spec.reason_words place.now word.now count) text.new }
 {

@@ -122,8 +122,8 @@ impl<'a> Instance<'a> {
     }
 }
 
-/// Writes that the top-level key `name` isn't an array of tables: its position, its value, and how to write the section. `put_fault` of
-/// `show_explain` calls it.
+/// Writes that the top-level key `name` isn't an array of tables: its position, its value, and how to write the section. `put_fault` and
+/// `put_net_fault` of `show_explain` call it.
 pub fn put_no_list(said: &mut Said, document: Document<'_>, name: &str) {
     put_position(said, top_level_position(document.text, name));
     let value = document.table.get(name);
@@ -132,7 +132,8 @@ pub fn put_no_list(said: &mut Said, document: Document<'_>, name: &str) {
     fill_with_word(said, advice, 0, name);
 }
 
-/// Writes the position of the first table over `limit`, and the number of tables. `put_fault` of `show_explain` calls it.
+/// Writes the position of the first table over `limit`, and the number of tables. `put_fault` and `put_net_fault` of `show_explain` call
+/// it.
 pub fn put_too_many(said: &mut Said, document: Document<'_>, section: &str, limit: usize) {
     let most = u32::try_from(limit).unwrap_or(u32::MAX);
     let first = Instance {

@@ -192,7 +192,7 @@ impl<T: Drop> From<AllocFailed<T>> for NetFault {
 }
 
 /// Returns the largest number of instances of a section; 0 for the top, which has none. More instances are the fault `TooMany`.
-/// `NetSection::limit` and `put_fault` of `show_explain` call it.
+/// `NetSection::limit`, and `put_net_fault` of `show_explain` call it.
 pub fn max_instances(section: NetSection) -> usize
     ensures { result ≡ spec.max_instances section }
 {

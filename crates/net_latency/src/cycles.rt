@@ -361,7 +361,7 @@ fn explain_row(
 }
 
 /// Explains why the period of stream `index`, from 1, isn't a multiple of each cycle time on its route. `None` without a talker or memory.
-/// `explain_plans` of net_check calls it.
+/// `explain_plans` of `net_check` calls it.
 pub fn explain_period(
     alloc: Global,
     asked: NetworkText<'_>,

@@ -25,7 +25,9 @@ use std::rt::Files;
 const CHECK_OCTETS: u32 = 4;
 
 /// Explains why frames of a traffic file may be refused, for each queue whose line has the word `refusable`. Reads both files again.
-/// Returns `None` if this fails or memory runs out. `traffic_reasons` calls it.
+/// Returns `None` if this fails or memory runs out.
+///
+/// `traffic_reasons` of `app_networks` calls it.
 pub fn explain_refusable<H: AllocGlobal + Files>(
     rt: &H,
     plan: &str,

@@ -104,7 +104,7 @@ fn first_fault<A: Allocator + Copy>(
 }
 
 /// Accepts a network that passes all tests of its links and streams. Otherwise returns the first fault and the unchanged parts. Allocates
-/// no memory. `check_network_file` calls it.
+/// no memory. `check_network_file` of `net_check` calls it.
 pub fn check_network<A: Allocator + Copy>(
     plans: Vec<Accepted<A>, A>,
     links: Vec<Link, A>,

@@ -39,7 +39,7 @@ const PART_OF_NETWORK: &str =
     ": This file describes a network. The options --from, --to and --ports are for plans: `tsnbridge picture PLAN FILE` and `tsnbridge run PLAN IN OUT --picture FILE` take them.\nWithout these options, `tsnbridge picture {a} FILE` draws the network.\n";
 
 /// Explains why `picture` refuses to draw part of a network: only plans have the options for a part. The explanation begins with `path`.
-/// `explain_picture_fault` calls it.
+/// `explain_picture_fault` of `app_networks` calls it.
 pub fn explain_part(alloc: Global, path: &str) -> Result<String, NoMemory>
     ensures { IfOk result (λ said. StartsWithName path.now (string_bytes said)) }
 {

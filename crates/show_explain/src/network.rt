@@ -21,7 +21,7 @@ use std::alloc::Global;
 use toml::{Table, Value};
 
 /// Explains why a network file is refused: position of the fault, value there, allowed values, and what to change. The explanation begins
-/// with `path`. `explain_refused_network` calls it.
+/// with `path`. `explain_refused_network` of `app_networks` calls it.
 pub fn explain_network_text(
     alloc: Global,
     path: &str,
@@ -38,7 +38,7 @@ pub fn explain_network_text(
 }
 
 /// Explains why a traffic file is refused: position of the fault, value there, allowed values, and what to change. The explanation begins
-/// with `path`. `explain_refused_traffic` calls it.
+/// with `path`. `explain_refused_traffic` of `app_networks` calls it.
 pub fn explain_traffic_text(
     alloc: Global,
     path: &str,
