@@ -3,7 +3,7 @@
 use crate::command::{Argument, COMMANDS, Description, Form, command_description};
 use std::alloc::{AllocError, Global};
 
-/// Usage of a command: what an explanation of refused arguments needs.
+/// Usage of a command, for explanations of refused arguments.
 #[derive(Clone, Copy)]
 pub struct Usage {
     /// Name of the command.

@@ -39,7 +39,7 @@ impl StrictRun {
     ghost use Rattle.std.specs.Prelude.{◌≡◌};
     ghost use Rattle.app_commands.specs.Losing.{status_of};
 
-    /// Returns the run's exit status: 1 if a warning or a loss is an error, otherwise 0. `run_bridge` calls it.
+    /// Returns the run's exit status: 1 if a warning or a loss is an error, otherwise 0. `run_output` calls it.
     pub fn status(&self) -> u8
         ensures { result ≡ status_of self.now.is_warned self.now.is_lossy }
     {

@@ -89,6 +89,6 @@ pub record IsHopBounded {A : Type 0} (n : Network A) (x : ℕ × ℕ) (most : �
   pub protected : filter.protected ≡ true
   pub bounds : (q c : ℕ) → reaches_queue plan filter q c ≡ true → (b : ℕ) × IsQueueBound plan x.1 q c b × (b ≤ most)
 
--- Holds if the bounds of each hop of a stream are at most `most i`, where `i` is the hop's index.
+-- Holds if the bounds of each hop of a stream are at most `most i`; `i` is the hop's index.
 abbrev pub AreHopsBounded : {A : Type 0} → Network A → List (ℕ × ℕ) → (ℕ → ℕ) → Type 0
 AreHopsBounded n stream most = (i : ℕ) (x : ℕ × ℕ) → slice_get stream i ≡ Some x → IsHopBounded n x (most i)

@@ -68,8 +68,8 @@ fn is_meter_shared(filters: &[(u32, FilterPlan)], number: u32, filter: &FilterPl
     filters.iter().any(|g| g.0 != number && is_same_meter(g.1.meter, filter.meter))
 }
 
-/// Whether every filter number is at most `number`. A catch-all filter must have the greatest number, to match only what is left.
-/// `has_catch_all` calls it.
+/// Whether every filter number is at most `number`. A catch-all filter must have the greatest number, so that it matches only frames that
+/// match no other filter. `has_catch_all` calls it.
 fn is_greatest_number(filters: &[(u32, FilterPlan)], number: u32) -> bool
     ensures { result ≡ spec.is_greatest_number filters.now number }
 {

@@ -13,7 +13,8 @@ use bridge_meter::{Meter, MeterPlan};
 use indexmap::IndexMap;
 use std::alloc::{AllocError, Allocator};
 
-/// Inserts the instance `thing` at `number`. Fails only if memory runs out. `make_filters`, `make_gates` and `make_meters` call it.
+/// Inserts the instance `thing` (filter, gate or meter) with the number `number`. Fails only if memory runs out. `make_filters`,
+/// `make_gates` and `make_meters` call it.
 fn insert_instance<T: Drop, A: Allocator + Copy>(
     made: &mut ByNumber<T, A>,
     number: u32,

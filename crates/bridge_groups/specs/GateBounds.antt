@@ -39,8 +39,8 @@ pub record IsScheduleBound {A : Type 0} (s : Schedule A) (out : PortPlan A) (c m
   pub limited : are_limited list.entries ≡ true
   pub is : IsIntervalBound (lists_open out.list c) (gate_opens list) (transmission_time (longest_frame m) out.speed) (transmission_time 60 out.speed) (last_opening list) (opening_work list (transmission_time 60 out.speed) k) b
 
--- Holds if `b` ns is the delay bound of protected filter `n` for class `c` at port `q`, by its stream gate. SDUs have
--- at least `k` octets, where `k` is 1 to 44.
+-- Holds if `b` ns is the delay bound of protected filter `n` for class `c` at port `q`, by its stream gate. SDUs have at least `k` octets,
+-- 1 to 44.
 pub record IsGateWorkBound {A : Type 0} (p : Plan A) (n q c k b : ℕ) : Type 0 where
   pub some : 1 ≤ k
   pub few : k ≤ 44

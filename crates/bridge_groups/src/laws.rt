@@ -342,8 +342,8 @@ pub fn group_leaves_in_time_over_change<A: Allocator + Copy>()
         ≤ x.at + ((b1 + transmission_time (longest_frame sdu) out.speed) + b2) }
 {}
 
-/// Frames of a filter leave a shared queue with the meter's burst and rate. The burst grows by what the rate gives in the queue's greatest
-/// difference of delays.
+/// Frames of a filter leave a shared queue with the meter's burst and rate. The burst grows by the octets that the rate gives in the
+/// queue's greatest difference of delays.
 ///
 /// So the next hop's meters can be dimensioned.
 pub fn departures_conform<A: Allocator + Copy>()

@@ -57,8 +57,8 @@ pub fn queue_is_never_full<X: Drop>()
         → x.fate ≢ Full }
 {}
 
-/// In any `w` ns a meter passes at most its burst and what its rate gives. Coupling of the buckets doesn't change this. Curves of meters
-/// rest on it.
+/// In any `w` ns a meter passes at most its burst and the octets that its rate gives. Coupling of the buckets doesn't change this. Curves
+/// of meters rest on it.
 pub fn meter_limits_frames()
     ensures { (p : MeterPlan) (u w : ℕ) (es : List MeterEvent)
         → AreInOrder (meter_history p es).judged
@@ -136,8 +136,8 @@ pub fn one_cycle_suffices()
         → HasFitsPerCycle opens occ cycle n }
 {}
 
-/// Frames that conform to a burst and a rate leave a hop with this rate. Their burst grows by what the rate gives between the best and the
-/// worst delay.
+/// Frames that conform to a burst and a rate leave a hop with this rate. Their burst grows by the octets that the rate gives between the
+/// best and the worst delay.
 ///
 /// So the next hop's meters can be dimensioned.
 pub fn next_hop_conforms()

@@ -51,8 +51,8 @@ pub struct SharedQueue {
     pub capacity: u16,
 }
 
-/// Returns the curve that allows in `w` ns what `curve` allows in `w` + `shift` ns. Returns `None` if its burst is above `LARGEST_CURVE`.
-/// `change_bound` needs it for the new list.
+/// Returns the curve that allows in any `w` ns the work that `curve` allows in `w` + `shift` ns. Returns `None` if its burst is above
+/// `LARGEST_CURVE`. `change_bound` needs it for the new list.
 fn shifted_curve(curve: &LinearCurve, shift: u64) -> Option<LinearCurve>
     requires curve { IsLinearCurve curve.now }
     ensures line { IfSome result IsLinearCurve }

@@ -1,4 +1,4 @@
-//! Filters of a group that share a queue, and what the bounds need to know of them.
+//! Filters of a group that share a queue: their numbers, longest SDU and meters, for delay bounds.
 ghost use Rattle.std.specs.Prelude.{◌≡◌, ◌≤◌, IfOk, Some};
 ghost use Rattle.bridge_config.specs.Rules.{find_port};
 ghost use Rattle.bridge_check.specs.ReachTables.{filter_reach};

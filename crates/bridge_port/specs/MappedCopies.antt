@@ -1,4 +1,4 @@
--- Schedules of mapped items. The relay's items become the contents of frames by such a map.
+-- Schedules of mapped items: a map turns the relay's items into the contents of frames.
 use Rattle.std.specs.Prelude.{◌≡◌, ℕ, List, [], ◌∷◌}
 use Rattle.bridge_port.specs.Schedule.{Copy, PortRules}
 

@@ -250,7 +250,7 @@ impl<G: Agenda + Drop, A: Allocator + Copy> Ports<G, A> {
         )
     }
 
-    /// Counts a frame that arrived at port `number`, which must exist, by what the bridge does with it (`came`). `count_unforwarded` and
+    /// Counts a frame that arrived at port `number`, which must exist. `came` shows how the bridge handled it. `count_unforwarded` and
     /// `police_frame` call it.
     #[inline(always)]
     pub fn count_arrival(&mut self, number: u8, came: Ingress)

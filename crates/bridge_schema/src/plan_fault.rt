@@ -1,4 +1,4 @@
-//! Faults of plans and commands, and the sections and keys where they are.
+//! Faults of plans and commands, with the sections and keys in which they are.
 ghost use Rattle.std.specs.Prelude.{◌≡◌};
 ghost use Rattle.bridge_schema.specs.declared.plan_fault.PlanFault.TheVariants.{NoMemory};
 ghost use Rattle.bridge_schema.specs.Keys.{key_name, section_name};

@@ -147,7 +147,7 @@ fn add_queue_latency<A: Allocator + Copy>(
     add_latency(gathered, told)
 }
 
-/// Returns the delays over all routes that begin at `hop`, where frames arrive as `came` describes, and have at most `depth` hops. `None`
+/// Returns the delays over all routes that begin at `hop` and have at most `depth` hops. Frames arrive at `hop` as `came` describes. `None`
 /// if they are unknown. `queue_latency` and `stream_latency` call it.
 #[cycle(hop_latency)]
 fn hop_latency<A: Allocator + Copy>(

@@ -243,7 +243,7 @@ fn arrival_word(passes: bool, course: Option<StreamLatency>) -> &'static str
     }
 }
 
-/// Writes the time between a deadline and a worst delay in ns: the margin, or what is lacking. Writes nothing without a deadline.
+/// Writes the time between a deadline and a worst delay in ns: the margin, or the missing time. Writes nothing without a deadline.
 /// `put_stream` calls it.
 fn put_margin<B: Allocator>(text: &mut TextBuilder<B>, deadline: Option<u64>, worst: u128)
     ensures { HasGrown text.old (spec.margin_words deadline worst) text.new }

@@ -25,8 +25,7 @@ add_fate t fate.Refused = record t { refused = saturating_increment t.refused }
 add_fate t fate.Forwarded = record t { sent_on = saturating_increment t.sent_on }
 add_fate t fate.Arrived = record t { taken = saturating_increment t.taken }
 
--- The list of counts with one more of fate `f` at index `k`, where `Some t` are the counts at this index; unchanged for
--- `None`.
+-- The list of counts with one more copy of fate `f` at index `k`. `Some t` are the counts at this index; for `None`, the list is unchanged.
 abbrev pub set_counts_if_any : List CopyCounts → ℕ → CopyFate → Option CopyCounts → List CopyCounts
 set_counts_if_any ts k f None = ts
 set_counts_if_any ts k f (Some t) = slice_set ts k (add_fate t f)

@@ -1,4 +1,4 @@
--- Bridges of a network between two rounds: their inputs, sent frames and results, and what a round changes.
+-- Bridges of a network between two rounds: their inputs, sent frames and results, and the changes of a round.
 use Rattle.std.specs.Prelude.{◌≡◌, ◌≢◌, ◌<◌, ℕ, All, Option, Some, None, is_some, option_map, nat_eq, List, [], ◌∷◌, length, map, slice_get, Vec, if◌then◌else◌}
 use Rattle.bridge_capture.specs.declared.capture_fault.CaptureFault.TheVariants as faults
 use Rattle.bridge_capture.specs.Grammar.{CapturedFrame, IsCapture, AtEnd}

@@ -45,7 +45,7 @@ delayed_record delay octets =
     if nat_lt (length octets) (16 + word_at octets 8) then None else
     Some (delayed_octets delay (word_at octets 8) octets, drop (16 + word_at octets 8) octets)
 
--- The found record, followed by what `more` makes of the octets after it; empty if no record was found.
+-- The found record, and after it the result of `more` for the octets after the record; empty if no record was found.
 abbrev pub record_and_more : (List ℕ → List ℕ) → Option (List ℕ × List ℕ) → List ℕ
 record_and_more more None = []
 record_and_more more (Some found) = found.0 ++ more found.1

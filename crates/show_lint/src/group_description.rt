@@ -56,8 +56,8 @@ struct Sharers {
 }
 
 impl Sharers {
-    /// Adds what filter `number` can send by its meter, and its longest frame. `queue_sharers` calls it for each filter that shares the
-    /// queue.
+    /// Adds a filter's share: the octets and the rate that its meter passes, and its longest frame. `number` is the filter's number.
+    /// `queue_sharers` calls it for each filter that shares the queue.
     fn add<A: Allocator + Copy>(&mut self, plan: &Plan<A>, number: u32, filter: &FilterPlan) {
         self.count = self.count.saturating_add(1);
         self.sdu = self.sdu.max(filter.max_sdu.unwrap_or(0));
@@ -78,7 +78,7 @@ impl Sharers {
     }
 }
 
-/// Returns what the filters that share the queue of `row` can send together. `put_shared_queue` calls it.
+/// Returns the sums of the meters of all filters that share the queue of `row`, and their longest frame. `put_shared_queue` calls it.
 fn queue_sharers<A: Allocator + Copy>(plan: &Plan<A>, row: &SharedQueue) -> Sharers
     requires from { 1 ≤ row.now.port }
     requires to { row.now.port ≤ 16 }
@@ -155,8 +155,8 @@ fn put_shared_queue<A: Allocator + Copy>(said: &mut LintText, plan: &Plan<A>, ro
     put_capacity(said, row);
 }
 
-/// Writes the delay bound of a shared queue, and what the meters pass, or why the bound doesn't follow from the meters. `put_shared_queue`
-/// calls it.
+/// Writes the delay bound of a shared queue, and the octets and the rate that the meters pass, or why the bound doesn't follow from the
+/// meters. `put_shared_queue` calls it.
 fn put_bound<A: Allocator + Copy>(
     said: &mut LintText,
     port: &PortPlan<A>,

@@ -183,7 +183,7 @@ fn find_flooded<A: Allocator + Copy>(
     push_warning(found, Warning::Flooded(Flooded { filter, place, vid }))
 }
 
-/// Adds warnings about where a forwarded stream leaves: static-entry ports that aren't members of its VLAN, and flooding.
+/// Adds warnings about the egress ports of a forwarded stream: static-entry ports that aren't members of its VLAN, and flooding.
 ///
 /// `find_stream_warnings` calls it for streams identified by destination; `place` is the stream's number in the plan, from 1.
 fn find_egress_warnings<A: Allocator + Copy>(

@@ -275,8 +275,8 @@ impl FrameSelection {
     }
 }
 
-/// Selects what a run's picture draws, for `draw_run`: the span that `part` requests, by default all frames. At most 2,400 frames that
-/// left, and 1,600 refused or dropped frames.
+/// Selects the frames that a run's picture draws: those in the span that `part` requests, by default all. It draws at most 2,400 frames
+/// that left, and 1,600 refused or dropped frames. `draw_run` calls it.
 pub(crate) fn select_frames<B: Allocator>(
     alloc: Global,
     outcome: &Outcome<B>,

@@ -1,4 +1,4 @@
-//! Legend of a picture of a plan or run: what lanes, colours and marks mean.
+//! Legend of a picture of a plan or run: meanings of lanes, colours and marks.
 use crate::lane::digit_count;
 use crate::picture::Picture;
 use bridge_text::{LegendRow, Sample};
