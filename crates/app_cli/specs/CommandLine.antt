@@ -118,7 +118,7 @@ abbrev pub fault_of_kind : ErrorKind → ArgumentsFault
 fault_of_kind kind.OutOfMemory = fault.NoMemory
 fault_of_kind _ = fault.Words
 
--- Holds if the arguments are valid, and name this command with these values.
+-- Holds if the arguments are valid, and `clap` finds the command `name` with the values `values` in them.
 pub record Names (words : List Text) (name : Text) (values : List Row) : Type 0 where
   pub faultless : fault_of commands words ≡ []
   pub named : subcommand_of commands words ≡ Some (name, values)
@@ -169,7 +169,7 @@ pub record AsksForNetworkRun (values : List Row) (network input output : Text) (
   pub output_is : first_of (codes "output") values ≡ Some output
   pub picture_is : first_of (codes "picture") values ≡ picture
 
--- Holds if the job is a command `wire` with these values.
+-- Holds if the command is `wire` with the values that `clap` found.
 abbrev pub IsWireJob : List Row → Command → Type 0
 IsWireJob values job.Text = ⊥
 IsWireJob values (job.Bounds plan traffic) = ⊥
@@ -180,7 +180,7 @@ IsWireJob values (job.Check plan) = ⊥
 IsWireJob values (job.Run plan input output file) = ⊥
 IsWireJob values (job.Wire speed room input output) = AsksForWire values speed room (string_bytes input) (string_bytes output)
 
--- Holds if the job is a command `check` with these values.
+-- Holds if the command is `check` with the values that `clap` found.
 abbrev pub IsCheckJob : List Row → Command → Type 0
 IsCheckJob values job.Text = ⊥
 IsCheckJob values (job.Bounds plan traffic) = ⊥
@@ -191,7 +191,7 @@ IsCheckJob values (job.Wire speed room input output) = ⊥
 IsCheckJob values (job.Run plan input output file) = ⊥
 IsCheckJob values (job.Check plan) = AsksForCheck values (string_bytes plan)
 
--- Holds if the job is a command `run` with these values.
+-- Holds if the command is `run` with the values that `clap` found.
 abbrev pub IsRunJob : List Row → Command → Type 0
 IsRunJob values job.Text = ⊥
 IsRunJob values (job.Bounds plan traffic) = ⊥
@@ -202,7 +202,7 @@ IsRunJob values (job.Wire speed room input output) = ⊥
 IsRunJob values (job.Check plan) = ⊥
 IsRunJob values (job.Run plan input output file) = AsksForRun values (string_bytes plan) (string_bytes input) (string_bytes output) (option_map string_bytes file)
 
--- Holds if the job is a command `picture` with these values.
+-- Holds if the command is `picture` with the values that `clap` found.
 abbrev pub IsPictureJob : List Row → Command → Type 0
 IsPictureJob values job.Text = ⊥
 IsPictureJob values (job.Bounds plan traffic) = ⊥
@@ -213,7 +213,7 @@ IsPictureJob values (job.Check plan) = ⊥
 IsPictureJob values (job.Run plan input output file) = ⊥
 IsPictureJob values (job.Picture plan file) = AsksForPicture values (string_bytes plan) (string_bytes file)
 
--- Holds if the job is a command `bounds` with these values.
+-- Holds if the command is `bounds` with the values that `clap` found.
 abbrev pub IsBoundsJob : List Row → Command → Type 0
 IsBoundsJob values job.Text = ⊥
 IsBoundsJob values (job.Wire speed room input output) = ⊥
@@ -224,7 +224,7 @@ IsBoundsJob values (job.Network network) = ⊥
 IsBoundsJob values (job.RunNetwork network input output picture) = ⊥
 IsBoundsJob values (job.Bounds plan traffic) = AsksForBounds values (string_bytes plan) (option_map string_bytes traffic)
 
--- Holds if the job is a command `net` with these values.
+-- Holds if the command is `net` with the values that `clap` found.
 abbrev pub IsNetworkJob : List Row → Command → Type 0
 IsNetworkJob values job.Text = ⊥
 IsNetworkJob values (job.Wire speed room input output) = ⊥

@@ -9,8 +9,7 @@ use Rattle.bridge_capture.specs.CaptureReaders.{FailsToBegin, FailsAtPort}
 use Rattle.bridge_core.specs.WholeRuns.{HaveSoundStarts}
 use Rattle.bridge_core.specs.Running.{IsCaptureFault, StopsInCommands}
 
--- Holds if both lists have equal length, and each device of the second list has the known contents of the device with its index in the
--- first.
+-- Holds if both lists have equal length, and devices with equal index have equal known contents.
 abbrev pub AllKept : {V W : Type 0} → (V → Option (List ℕ)) → (W → Option (List ℕ)) → List V → List W → Type 0
 AllKept f g [] [] = Unit {0}
 AllKept f g [] (w ∷ ws) = ⊥

@@ -29,11 +29,11 @@ IsOfOutputs folder ports f = FailsCaptures folder ports f ⊎ IsOfReport folder 
 abbrev pub HasReport : {A W : Type 0} → (W → Option (List ℕ)) → Outcome A → W → Type 0
 HasReport {A} {W} contents outcome report = (before : W) × Appends (contents before) (contents report) (report_text outcome.filters.items)
 
--- Holds if the plan can be read from some text.
+-- Holds if some contents of a plan file describe plan `plan`.
 abbrev pub IsPlanOfText : {A : Type 0} → Plan A → Type 0
 IsPlanOfText plan = (text : List ℕ) × (text_plan text ≡ Ok plan)
 
--- Holds if some text is this plan, and the plan isolates each of its protected filters.
+-- Holds if some contents of a plan file describe plan `plan`, and the plan isolates each of its protected filters.
 abbrev pub IsAcceptedPlan : {A : Type 0} → Plan A → Type 0
 IsAcceptedPlan plan = (text : List ℕ) × Accepts text plan
 
@@ -45,7 +45,7 @@ IsCheckedPlan plan accepted = (accepted ≡ plan) × (first_fault plan ≡ None)
 abbrev pub EndsWithCommands : {A : Type 0} → Plan A → Option (List ℕ) → Failure → Type 0
 EndsWithCommands p commands f = (text : Option (List ℕ)) × EndsCommanded p commands text f
 
--- Holds if failure `f` can end the reading of a plan and its commands: some plan text is refused, or the commands are, or a file failed.
+-- Holds if failure `f` can end the reading of a plan and its commands: one of both is refused, or a file failed.
 abbrev pub EndsReading : (A : Type 0) → List ℕ → Option (List ℕ) → Failure → Type 0
 EndsReading A plan commands f = ((text : List ℕ) × EndsPlan A plan text f) ⊎ ((p : Plan A) × IsPlanOfText p × EndsWithCommands p commands f)
 

@@ -70,7 +70,7 @@ SaysCommands name e f = ⊥
 abbrev pub RefusesCommandsOf : {A : Type 0} → Plan A → List ℕ → List ℕ → Type 0
 RefusesCommandsOf p name lines = (text : List ℕ) × (e : PlanFault) × (text_commands p text ≡ Err e) × (lines ≡ commands_lines name (commands_fault_line e))
 
--- Holds if the failure can end the reading of a bridge's commands from its folder: the file failed, the commands are refused, or memory ran
+-- Holds if the failure can end the reading of a bridge's commands from its folder. The file failed, the commands are refused, or memory ran
 -- out.
 abbrev pub EndsCommands : {A : Type 0} → Plan A → List ℕ → List ℕ → Failure → Type 0
 EndsCommands p name folder (fault.File e) = string_bytes e.path ≡ commands_path folder

@@ -128,8 +128,8 @@ IsGateBound (Fixed lets ipv) priority out c m b = IsRoomBound out c m b
 IsGateBound (Cyclic gate) priority out c m b = IsGateListBound gate out.list (fills_at out priority c gate) out c m b
 IsGateBound (Joined j) priority out c m b = IsRoomBound out c m b
 
--- Holds if `b` ns bounds the delays of protected filter `n` in its reachable queue of class `c` at port `q`, up to the end of transmission.
--- `b` follows from the queue's capacity.
+-- Holds if `b` ns bounds the delays of protected filter `n` in its reachable queue of class `c` at port `q`. A delay ends with the
+-- transmission. `b` follows from the queue's capacity.
 pub record IsQueueBound {A : Type 0} (p : Plan A) (n q c b : ℕ) : Type 0 where
   pub filter : FilterPlan
   pub max_sdu : ℕ

@@ -3,8 +3,8 @@ use Rattle.std.specs.Prelude.{◌≡◌, ℕ, Bool, ◌+◌, ◌-◌, ◌%◌, �
 use Rattle.bridge_cycle.specs.Fits.{Fits}
 use Rattle.bridge_bounds.specs.Bounds.{FramesEnd, IsEdge}
 
--- Holds if time `c` is the last fit in the window that is open at time `at`: a transmission of `occ` ns fits then, and
--- not 1 ns later.
+-- Holds if time `c` is the last fit in the window that is open at time `at`. A transmission of `occ` ns fits at `c`,
+-- and not 1 ns later.
 pub record IsWindowEnd (opens : ℕ → Bool) (occ at c : ℕ) : Type 0 where
   pub after : at ≤ c
   pub all : (v : ℕ) → at ≤ v → v ≤ c → Fits opens occ v

@@ -29,7 +29,7 @@ pub record IsCommonCycle (gate : cyclic.Cyclic GateEntry) (list : cyclic.Cyclic 
   pub list_cycles : span % list.cycle ≡ 0
   pub few : span / gate.cycle * length gate.entries + span / list.cycle * length list.entries ≤ MAX_INTERVALS
 
--- Holds if some time is a common cycle of both lists.
+-- Holds if the lists of gate and port have a common cycle: a time `span` that fulfils `IsCommonCycle`.
 abbrev pub HaveCommonCycle : cyclic.Cyclic GateEntry → cyclic.Cyclic ℕ → Type 0
 HaveCommonCycle gate list = (span : ℕ) × IsCommonCycle gate list span
 

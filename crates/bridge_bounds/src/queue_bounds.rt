@@ -18,8 +18,8 @@ use bridge_frame::occupation;
 use bridge_limits::LONGEST_FRAME;
 use std::alloc::Allocator;
 
-/// Returns the stream filter with this number; `None` if the list lacks it. `is_coarse`, `queue_bound` and functions of `bridge_groups`,
-/// `net_check`, `net_latency` and other crates call it.
+/// Returns the stream filter with number `number`; `None` if the list lacks it. `is_coarse`, `queue_bound` and functions of
+/// `bridge_groups`, `net_check`, `net_latency` and other crates call it.
 pub fn find_filter(filters: &[(u32, FilterPlan)], number: u32) -> Option<FilterPlan>
     ensures { result ≡ lookup (nat_eq number) filters.now }
 {

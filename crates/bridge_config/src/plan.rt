@@ -80,7 +80,7 @@ impl<A: Allocator + Copy> Plan<A> {
         &self.ports
     }
 
-    /// Returns the port with this number; `None` if the plan lacks it. Checks, bounds and pictures look ports up by it.
+    /// Returns the port with number `number`; `None` if the plan lacks it. Checks, bounds and pictures look ports up by it.
     pub fn port(&self, number: u8) -> Option<&PortPlan<A>>
         ensures port { option_map (λ p. p.now) result ≡ rules.find_port self.now.ports number }
         ensures rules { rules.IsPlan self.now }
@@ -182,7 +182,7 @@ impl<A: Allocator + Copy> Plan<A> {
     }
 }
 
-/// Returns the first port with this number; `None` if no port has it. `port` calls it.
+/// Returns the first port with number `number`; `None` if no port has it. `port` calls it.
 fn find_port<A: Allocator + Copy>(ports: &[PortPlan<A>], number: u8) -> Option<&PortPlan<A>>
     ensures { option_map (λ p. p.now) result ≡ rules.find_port ports.now number }
 {

@@ -156,7 +156,7 @@ impl<A: Allocator + Copy> Police<A> {
         self.pass_routed(call, found)
     }
 
-    /// Returns the route of frames with this handle and priority, for `pass_routed`. `None` if no filter matches. `pass` and
+    /// Returns the route of frames with handle `handle` and priority `priority`, for `pass_routed`. `None` if no filter matches. `pass` and
     /// `filter_number`, and `arrive` of `bridge_relay` call it.
     #[inline(always)]
     pub fn find_route(&self, handle: Option<u32>, priority: u8) -> Option<Route>
@@ -211,8 +211,8 @@ impl<A: Allocator + Copy> Police<A> {
         })
     }
 
-    /// Returns the number of the filter that judges frames with this handle and priority. `None` if no filter matches. Callers without a
-    /// bridge ask it before `pass`.
+    /// Returns the number of the filter that judges frames with handle `handle` and priority `priority`. `None` if no filter matches.
+    /// Callers without a bridge ask it before `pass`.
     pub fn filter_number(&self, handle: Option<u32>, priority: u8) -> Option<u32>
         ensures filter { (at sdu octets : ℕ) (dei : Bool)
             → result ≡ option_map (λ f. f.0) (frame_filter self.now.filters

@@ -51,7 +51,7 @@ pub record IsNextOpening (l : Cyclic GateEntry) (from : ℕ) (o : Opening) : Typ
   pub starts : IsTurnStart l o.start
   pub shut : (t : ℕ) → from ≤ t → t < o.start → gate_opens l t ≡ false
 
--- Holds if the work of the open interval at time `t` leaves by `t` + `b` ns, and at most `needed` ns after each later opening. Earlier work
+-- Holds if the work of the open interval at time `t` leaves by `t` + `b`, and at most `needed` ns after each later opening. Earlier work
 -- left `carry` ns after the interval's start.
 pub record LeavesInTime (opens : ℕ → Bool) (occ least share : ℕ) (l : Cyclic GateEntry) (carry b needed t : ℕ) : Type 0 where
   pub in_time : LeavesBy opens occ least (opening_work l least share (last_opening l t)) (max (last_opening l t + carry) t) (t + b)

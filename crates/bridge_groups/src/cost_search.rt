@@ -51,9 +51,7 @@ fn has_long_starts<A: Allocator + Copy>(
 }
 
 /// Returns the least length in ns of fits for which frames with SDUs of `sdu` octets cost no more per octet than shortest frames. For this
-/// length, the bound is mostly least.
-///
-/// `list_cost_bound` calls it.
+/// length, the bound is mostly least. `list_cost_bound` calls it.
 fn plain_fit(speed: Speed, sdu: u32) -> u64
     ensures least { transmission_time 60 speed ≤ result }
 {

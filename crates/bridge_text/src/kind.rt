@@ -73,7 +73,7 @@ pub fn file_kind(text: &[u8]) -> Option<FileKind> {
     found
 }
 
-/// Returns the sentences for a file of this kind: its contents, and the command that reads it. `{a}` is the path. `put_other_kind` calls
+/// Returns the sentences for a file of kind `kind`: its contents, and the command that reads it. `{a}` is the path. `put_other_kind` calls
 /// it.
 fn kind_sentence(kind: FileKind) -> &'static str {
     match kind {

@@ -189,7 +189,8 @@ fn is_chain(links: &[Link], hops: &[StreamHop], place: usize) -> bool {
     true
 }
 
-/// Returns whether a hop before index `place` is at this bridge. Delays are unknown if a stream crosses a bridge twice. `put_hop_reason` calls it.
+/// Returns whether a hop before index `place` is at bridge `bridge`. Delays are unknown if a stream crosses a bridge twice.
+/// `put_hop_reason` calls it.
 fn has_earlier_hop(hops: &[StreamHop], place: usize, bridge: u16) -> bool {
     for (k, hop) in hops.iter().enumerate() {
         if k < place && hop.bridge == bridge {

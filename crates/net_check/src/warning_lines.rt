@@ -233,7 +233,7 @@ fn push_unlisted_filters<A: Allocator + Copy>(
     Ok(())
 }
 
-/// Returns the limit in octets (`max_sdu`) of the filter with this number. Returns `None` if the filter is missing or has no limit.
+/// Returns the limit in octets (`max_sdu`) of the filter with number `number`. Returns `None` if the filter is missing or has no limit.
 /// `hop_sdu` calls it.
 fn filter_sdu<A: Allocator + Copy>(plan: &Plan<A>, number: u32) -> Option<u32>
     ensures { result ≡ spec.filter_sdu (Some plan.now) number }

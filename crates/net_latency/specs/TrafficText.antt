@@ -142,7 +142,7 @@ EndsWords p file words f =
     ⊎ (RefusesWords words f
     ⊎ ((rows : List TalkerRow) × (rows_of_text words ≡ Ok rows) × RefusesTimings p rows f))
 
--- Holds if failure `f` can end `bounds --traffic` over traffic text `words`: the plan file failed or is refused, or the traffic for an
+-- Holds if failure `f` can end `bounds --traffic` over traffic text `words`. The plan file failed or is refused, or the traffic for an
 -- accepted plan.
 abbrev pub EndsTexts : (A : Type 0) → List ℕ → List ℕ → List ℕ → List ℕ → Failure → Type 0
 EndsTexts A path input file words f = EndsCheck A path input f ⊎ ((plan : Plan A) × Accepts input plan × EndsWords plan file words f)

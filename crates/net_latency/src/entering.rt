@@ -18,8 +18,8 @@ use net_model::{
 };
 use std::alloc::Allocator;
 
-/// Returns whether port `on` of bridge `bridge` is open and has a stream entry with this handle. Then devices outside the network can send
-/// frames that get the handle. `is_talker_port` and `is_other_entry_port` call it.
+/// Returns whether port `on` of bridge `bridge` is open and has a stream entry with handle `handle`. Then devices outside the network can
+/// send frames that get the handle. `is_talker_port` and `is_other_entry_port` call it.
 fn enters<A: Allocator + Copy>(
     links: &[Link],
     bridge: u16,
@@ -35,8 +35,8 @@ fn enters<A: Allocator + Copy>(
     has_entry(plan, on.number, handle)
 }
 
-/// Returns whether port `port` of bridge `bridge` is the talker's port: the plan's first open port that has a stream entry with this
-/// handle. `is_other_entry_port` calls it.
+/// Returns whether port `port` of bridge `bridge` is the talker's port: the plan's first open port that has a stream entry with handle
+/// `handle`. `is_other_entry_port` calls it.
 fn is_talker_port<A: Allocator + Copy>(
     links: &[Link],
     bridge: u16,

@@ -67,8 +67,8 @@ fn filter_bound(filter: u32, rows: &[QueueBound]) -> u64
     greatest
 }
 
-/// Returns the delay bounds of the bridge with this index. Returns an empty list if the bridge is missing. `hop_bound`, `put_queues` and
-/// functions of `net_check` call it.
+/// Returns the delay bounds of the bridge with index `bridge`. Returns an empty list if the bridge is missing. `hop_bound`, `put_queues`
+/// and functions of `net_check` call it.
 pub fn bounds_of_bridge<'a, A: Allocator + Copy>(
     bounds: &'a [Vec<QueueBound, A>],
     bridge: u16,

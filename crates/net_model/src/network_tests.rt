@@ -128,7 +128,7 @@ fn has_one_speed<A: Allocator + Copy>(plans: &[Accepted<A>], link: &Link) -> boo
     }
 }
 
-/// Returns whether a plan has a protected filter with this number. `is_protected_hop` calls it.
+/// Returns whether a plan has a protected filter with number `number`. `is_protected_hop` calls it.
 fn is_protected<A: Allocator + Copy>(plan: &Plan<A>, number: u32) -> bool
     ensures { result ≡ is_protected plan.now number }
 {

@@ -295,8 +295,8 @@ impl<'a, A: Allocator + Copy> SendingPort<'a, A> {
         }
     }
 
-    /// Returns an example: the filter of frames with this handle and priority, and their ingress port `from`. Returns `None` if the search
-    /// doesn't look for frames of this filter. `first_by_handle` calls it.
+    /// Returns an example: the filter of frames with handle `handle` and priority `priority`, and their ingress port `from`. Returns `None`
+    /// if the search doesn't look for frames of this filter. `first_by_handle` calls it.
     fn find_frames(&self, from: u8, priority: u8, handle: Option<u32>) -> Option<FoundFrames>
         requires { IsSendingPort self.now }
         ensures { result ≡ frames_from_port self.now from priority handle }

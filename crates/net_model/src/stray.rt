@@ -228,7 +228,7 @@ fn first_stray_on_port_number<A: Allocator + Copy>(
 }
 
 /// Returns example frames that a hop accepts at a port over its link although they belong to no hop of the stream. Returns frames exactly
-/// if the test `Closed` finds stray frames at this port.
+/// if the test `Closed` finds stray frames at port `port`.
 ///
 /// `explain_open_stream` of `net_check` calls it.
 pub fn find_stray<A: Allocator + Copy>(

@@ -155,8 +155,8 @@ fn put_shared_queue<A: Allocator + Copy>(said: &mut LintText, plan: &Plan<A>, ro
     put_capacity(said, row);
 }
 
-/// Writes the delay bound of a shared queue, and the octets and the rate that the meters pass, or why the bound doesn't follow from the
-/// meters. `put_shared_queue` calls it.
+/// Writes the delay bound of a shared queue, and its filters' meters, or why the bound doesn't follow from meters. `put_shared_queue` calls
+/// it.
 fn put_bound<A: Allocator + Copy>(
     said: &mut LintText,
     port: &PortPlan<A>,

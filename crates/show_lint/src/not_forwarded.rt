@@ -37,7 +37,7 @@ fn static_ports(statics: &[StaticEntry], vid: u16, address: [u8; 6]) -> Option<P
     None
 }
 
-/// Returns whether no bridge forwards frames to this address: 01-80-C2-00-00-00 to 01-80-C2-00-00-0F. `not_forwarded_cause` calls it.
+/// Returns whether no bridge forwards frames to `address`: 01-80-C2-00-00-00 to 01-80-C2-00-00-0F. `not_forwarded_cause` calls it.
 fn is_reserved(address: [u8; 6]) -> bool {
     let [a, b, c, d, e, last] = address;
     [a, b, c, d, e] == RESERVED && last <= 15

@@ -73,7 +73,7 @@ fn put_unsent_row<A: Allocator>(text: &mut TextBuilder<A>, filter: u32, view: &V
     );
 }
 
-/// Writes the row of a filter at a port with delay bound `bound`, if copies of its frames left by this port (`delays` has items).
+/// Writes the row of a filter at a port with delay bound `bound`, if copies of its frames left by port `port` (`delays` has items).
 /// `put_row_of_port` calls it.
 fn put_row_if_any<A: Allocator>(
     text: &mut TextBuilder<A>,
