@@ -14,7 +14,7 @@ use std::alloc::Global;
 /// Exit status for refused commands. By it, `bridge_commands_fault` distinguishes them from memory that ran out.
 const REFUSED_COMMANDS: u8 = 1;
 
-/// Returns the command's failure for the refused commands of bridge `name`: a line with name `name`, then the commands' own fault line.
+/// Returns the command's failure for the refused commands of bridge `name`: a line with this name, then the commands' own fault line.
 /// Returns `NoMemory` if memory ran out. `bridge_commands` calls it.
 #[tactic(auto, unfolding(crate::specs::Folders::commands_lines))]
 pub(crate) fn bridge_commands_fault(alloc: Global, name: &str, fault: PlanFault) -> Failure

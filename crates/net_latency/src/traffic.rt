@@ -99,7 +99,7 @@ fn suits_port<A: Allocator + Copy>(period: u64, port: Option<&PortPlan<A>>) -> b
     }
 }
 
-/// Returns whether the filter has a reachable queue at `port`, and the period isn't a multiple of port `port`'s cycle times. `has_misfit`
+/// Returns whether the filter has a reachable queue at `port`, and the period isn't a multiple of the port's cycle times. `has_misfit`
 /// calls it.
 fn has_misfit_at_port<A: Allocator + Copy>(
     plan: &Plan<A>,
