@@ -37,7 +37,7 @@ HasSourceOverRoute links hops r (leg ∷ legs) i k = IsCopyOverRouteHop links ho
 abbrev pub route_hops : ℕ → List (ℕ × ℕ) → List ℕ
 route_hops i legs = i ∷ map (λ (leg : ℕ × ℕ). leg.0) legs
 
--- Holds if a route passes no hop twice.
+-- Holds if a route passes no hop twice: bounds of delays need this.
 abbrev pub GoesOnce : ℕ → List (ℕ × ℕ) → Type 0
 GoesOnce i legs = IsOrdered (λ a b. a ≢ b) (route_hops i legs)
 

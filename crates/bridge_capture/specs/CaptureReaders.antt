@@ -87,7 +87,7 @@ HaveTexts {R} remaining ports texts sources = (i q : ℕ) (r : R) → slice_get 
 abbrev pub HaveRests : {R : Type 0} → (R → Option (List ℕ)) → List ℕ → (ℕ → Option (List ℕ)) → List R → Type 0
 HaveRests {R} remaining ports rests sources = (i q : ℕ) (r : R) → slice_get ports i ≡ Some q → slice_get sources i ≡ Some r → remaining r ≡ rests q
 
--- Statement: No octet of any port was read.
+-- Statement: No octet of any port's capture was read: the rest of each source is its whole capture.
 abbrev pub AreUnread : (ℕ → List ℕ) → (ℕ → Option (List ℕ)) → List ℕ → Type 0
 AreUnread texts rests ports = (i q : ℕ) → slice_get ports i ≡ Some q → rests q ≡ Some (texts q)
 

@@ -84,7 +84,7 @@ AnswersNext capture remaining text given (Err fault) = StandsFor capture remaini
 abbrev pub TakesRefusedNext : CaptureState → Option (List ℕ) → Option (List ℕ) → CaptureFault → Type 0
 TakesRefusedNext capture old new fault = TakesRefusedRecord capture.form (read_position capture) old new fault
 
--- Time of the last frame, or `earliest` without frames.
+-- Time stamp in ns of the last frame; `earliest` if there is no frame. Later frames must not be earlier.
 abbrev pub last_time : ℕ → List CapturedFrame → ℕ
 last_time earliest [] = earliest
 last_time earliest (captured ∷ more) = last_time captured.time more

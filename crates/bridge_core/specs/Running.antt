@@ -197,7 +197,7 @@ DoesCommand remaining contents p texts commanded c next olds b lanes sources sin
 DoesCommand remaining contents p texts commanded c next olds b lanes sources sinks (Err fault) =
     (rests : ℕ → Option (List ℕ)) → HaveRests remaining (port_numbers lanes) rests sources → StopsUnderWay p texts rests commanded (Some (command_as_input c)) contents (port_numbers lanes) olds sinks fault
 
--- The first command as an input; `None` without commands.
+-- The first command as an input of the run; `None` if no command is left.
 abbrev pub first_command : List Command → Option Input
 first_command [] = None
 first_command (c ∷ cs) = Some (command_as_input c)

@@ -62,7 +62,7 @@ first_fault cycle es =
     else if nat_lt cycle (interval_sum es) then Some OverCycle
     else None
 
--- Numbers of the faults of a list.
+-- Numbers of the faults of a gate control list, by which contracts compare faults.
 abbrev pub fault_code : ListFault → ℕ
 fault_code Empty = 1
 fault_code ZeroInterval = 2

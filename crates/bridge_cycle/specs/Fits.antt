@@ -17,6 +17,6 @@ pub record IsFirstFit (opens : ℕ → Bool) (occ from t : ℕ) : Type 0 where
   pub fits : Fits opens occ t
   pub least : (v : ℕ) → from ≤ v → v < t → ¬ Fits opens occ v
 
--- Statement: The open times `opens` repeat every `cycle` ns.
+-- Statement: The open times `opens` of a class repeat every `cycle` ns.
 abbrev pub IsPeriodic : (ℕ → Bool) → ℕ → Type 0
 IsPeriodic opens cycle = (u : ℕ) → opens (u + cycle) ≡ opens u

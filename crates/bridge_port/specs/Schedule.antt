@@ -67,7 +67,7 @@ abbrev pub older_head : {X : Type 0} → Option (ℕ × X) → Option (ℕ × X)
 older_head None b = b
 older_head (Some a) b = Some a
 
--- True if the copy started.
+-- True if the fate of a copy is that its transmission started.
 abbrev pub is_started : Fate → Bool
 is_started Never = false
 is_started Full = false
@@ -198,6 +198,7 @@ module _ {X : Type 0} where
   queued_items c (x ∷ xs) = queued_items c xs ++ (if nat_eq x.class c && is_queued x.fate then x.item ∷ [] else [])
 
   -- True if a copy of class `c` still waits.
+-- True if a copy of class `c` still waits in its queue.
   abbrev pub has_queued : ℕ → List (Copy X) → Bool
   has_queued c [] = false
   has_queued c (x ∷ xs) = (nat_eq x.class c && is_queued x.fate) || has_queued c xs
@@ -205,6 +206,7 @@ module _ {X : Type 0} where
 -- Sums over copies.
 module _ {X : Type 0} where
   -- Number of copies that started.
+-- Number of copies whose transmission started.
   abbrev pub count_started : List (Copy X) → ℕ
   count_started [] = 0
   count_started (x ∷ xs) = (if is_started x.fate then 1 else 0) + count_started xs

@@ -53,7 +53,7 @@ count_port_items f (Some s) = count_queued f s.port
 abbrev pub count_all_items : {G A : Type 0} → (Item (QueuedFrame A) → Bool) → PortsState G A → ℕ
 count_all_items f p = sum_by (count_port_items f) p.slots
 
--- The number of queued copies of all ports.
+-- The number of copies that wait in the queues of all ports.
 abbrev pub count_waiting_copies : {G A : Type 0} → RelayState G A → ℕ
 count_waiting_copies b = count_all_items (λ x. true) b.ports
 

@@ -32,7 +32,7 @@ abbrev pub counter_lines : Counters → List ℕ
 counter_lines c = matching_line c.matching ++ (test_line (codes "sdu") c.sdu_passed c.sdu_refused
     ++ (test_line (codes "gate") c.gate_passed c.gate_refused ++ red_line c.red))
 
--- A flag's name and its value, as text.
+-- A flag in a report line: a space, the flag's name, and its word `yes` or `no`.
 abbrev pub named_flag : List ℕ → Bool → List ℕ
 named_flag name flag = codes " " ++ (name ++ (codes " " ++ flag_word flag))
 

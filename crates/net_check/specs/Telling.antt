@@ -22,7 +22,7 @@ abbrev pub vlan_text : Option ℕ → List ℕ
 vlan_text None = codes "none"
 vlan_text (Some vid) = decimal vid
 
--- Octet `n` as two hexadecimal digits.
+-- Octet `n` of an address, as two hexadecimal digits.
 abbrev pub octet_text : ℕ → List ℕ
 octet_text n = padded_integral (format_spec 32 0 4 2 (2 ^ 64 - 1)) false [] (digits 16 true n)
 

@@ -38,6 +38,6 @@ refusal_line kind (fault.Unresolved place) = located_refusal kind (codes "Unreso
 refusal_line kind (fault.TooMany section) = located_refusal kind (codes "TooMany") (section_name section)
 refusal_line kind fault.NoMemory = codes "no memory"
 
--- The fault line of a network file.
+-- The fault line of a network file with fault `e`, without line feed.
 abbrev pub fault_line : NetFault → List ℕ
 fault_line e = refusal_line (codes "network") e

@@ -10,11 +10,11 @@ use Rattle.net_file.specs.declared.talker.Talker.{Talker}
 use Rattle.net_file.specs.Model.{Bridge, Stream, Network}
 use Rattle.net_file.specs.Names.{is_valid_name}
 
--- True if one of these bridges has the name.
+-- True if one of these bridges has the name `name`: names must differ, and links may use only such names.
 abbrev pub has_bridge : List Bridge → List ℕ → Bool
 has_bridge bridges name = list_any (λ b. bytes_eq b.name name) bridges
 
--- True if one of these streams has the name.
+-- True if one of these streams has the name `name`: names must differ.
 abbrev pub has_stream : List Stream → List ℕ → Bool
 has_stream streams name = list_any (λ s. bytes_eq s.name name) streams
 

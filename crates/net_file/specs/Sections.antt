@@ -96,7 +96,7 @@ hops_value place bridges (Some _) = Err (fault.WrongKind place)
 abbrev pub talker_keys : List NetField
 talker_keys = field.Period ∷ field.From ∷ field.To ∷ field.Least ∷ field.Longest ∷ []
 
--- Keys that a stream's table may have.
+-- Keys that a stream's table in a network file may have.
 abbrev pub stream_keys : List NetField
 stream_keys = field.Name ∷ field.Hops ∷ field.Period ∷ field.From ∷ field.To ∷ field.Least ∷ field.Longest ∷ field.Deadline ∷ []
 

@@ -67,7 +67,7 @@ filter_queues rows h = map (hop_queue h) (filter (is_queue_of_hop h) rows)
 abbrev pub queues_of_hop : {A : Type 0} → List (Vec QueueBound A) → StreamHop → List HopQueue
 queues_of_hop bounds h = filter_queues (bounds_if_any (slice_get bounds h.bridge)) h
 
--- The reachable queues of all hops, hop by hop.
+-- The reachable queues of all hops of a stream, hop by hop.
 abbrev pub hop_queues : {A : Type 0} → List (Vec QueueBound A) → List StreamHop → List HopQueue
 hop_queues bounds hops = flat_map (queues_of_hop bounds) hops
 

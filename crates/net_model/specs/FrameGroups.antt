@@ -31,7 +31,7 @@ is_same_group a b = is_same_vlan a.vlan b.vlan && is_same_destination a.destinat
 abbrev pub Differ : FrameGroup → FrameGroup → Type 0
 Differ g h = g ≢ h
 
--- True if `groups` contains group `g`.
+-- True if group `g` is already in the list `groups`, so that it isn't searched twice.
 abbrev pub has_group : List FrameGroup → FrameGroup → Bool
 has_group groups g = list_any (λ (h : FrameGroup). is_same_group h g) groups
 

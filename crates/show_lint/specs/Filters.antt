@@ -29,7 +29,7 @@ abbrev pub is_meter : ℕ → Option ℕ → Bool
 is_meter m None = false
 is_meter m (Some own) = nat_eq own m
 
--- True if filter `f` uses meter `m`.
+-- True if filter `f` uses flow meter `m`.
 abbrev pub has_meter : ℕ → FilterPlan → Bool
 has_meter m f = is_meter m f.meter
 

@@ -13,7 +13,7 @@ use Rattle.show_tables.specs.declared.frame_rows.FilterFrame.{FilterFrame}
 abbrev pub field : ℕ → List ℕ
 field n = decimal n ++ codes ","
 
--- The header line of the table of frames.
+-- The header line of the table that `run --frames` writes.
 abbrev pub frames_header : List ℕ
 frames_header = codes "filter,frame,ingress,arrival,verdict,port,start,done,delay,refusal\n"
 
