@@ -16,7 +16,7 @@ AllKept f g [] (w ∷ ws) = ⊥
 AllKept f g (v ∷ vs) [] = ⊥
 AllKept f g (v ∷ vs) (w ∷ ws) = Keeps (f v) (g w) × AllKept f g vs ws
 
--- Holds if no device in the list has failed, so that all outputs are complete.
+-- Holds if no output device in the list has failed.
 abbrev pub NoneFailed : {V : Type 0} → (V → Bool) → List V → Type 0
 NoneFailed has_failed [] = Unit {0}
 NoneFailed has_failed (v ∷ vs) = (has_failed v ≡ false) × NoneFailed has_failed vs

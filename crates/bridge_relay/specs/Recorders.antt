@@ -47,7 +47,7 @@ with_drop t d = record t { drops = t.drops ++ d ∷ []; owed = t.owed - 1 }
 abbrev pub with_verdict : RecorderState → Verdict → Origin → RecorderState
 with_verdict t v o = record t { verdicts = t.verdicts ++ v ∷ []; origins = t.origins ++ o ∷ []; is_open = false }
 
--- The recorder after `copies` reserved copies were released, because ports dropped them.
+-- The recorder after the reservation of `copies` copies was released, because the filter refused their frame.
 abbrev pub without_room : RecorderState → ℕ → RecorderState
 without_room t copies = record t { owed = t.owed - copies }
 

@@ -3,7 +3,7 @@ use Rattle.std.specs.Prelude.{ℕ, ◌-◌, ◌/◌, Option, Some, None, List, [
 use Rattle.bridge_report.specs.Figures.{greatest_of, least_of}
 use Rattle.net_report.specs.declared.statistics.DelayStatistics.{DelayStatistics}
 
--- Least, greatest and mean of the delays, for a row of the table; `None` if there is no delay.
+-- Least, mean and greatest delay, and jitter, for a row of the table; `None` if there is no delay.
 abbrev pub delay_statistics : List ℕ → Option DelayStatistics
 delay_statistics [] = None
 delay_statistics (d ∷ ds) = Some (record {
