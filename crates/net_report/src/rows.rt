@@ -157,8 +157,8 @@ fn put_refused<A: Allocator>(picture: &mut RunPicture, view: &View<A>, y: u64) {
     }
 }
 
-/// Draws a triangle for each copy that a port of a hop dropped: at the frame's arrival time, in the row `y` pixels below the top.
-/// `put_hop_row` calls it.
+/// Draws a triangle for each copy that a port of a hop dropped, in the row `y` pixels from the top. The triangle is at the frame's arrival
+/// time. `put_hop_row` calls it.
 fn put_dropped<A: Allocator>(picture: &mut RunPicture, view: &View<A>, y: u64) {
     for stored in &view.drops {
         let dropped = stored.dropped_copy();
