@@ -197,7 +197,6 @@ module _ {X : Type 0} where
   queued_items c [] = []
   queued_items c (x ∷ xs) = queued_items c xs ++ (if nat_eq x.class c && is_queued x.fate then x.item ∷ [] else [])
 
-  -- True if a copy of class `c` still waits.
   -- True if a copy of class `c` still waits in its queue.
   abbrev pub has_queued : ℕ → List (Copy X) → Bool
   has_queued c [] = false
@@ -205,7 +204,6 @@ module _ {X : Type 0} where
 
 -- Sums over copies.
 module _ {X : Type 0} where
-  -- Number of copies that started.
   -- Number of copies whose transmission started.
   abbrev pub count_started : List (Copy X) → ℕ
   count_started [] = 0
