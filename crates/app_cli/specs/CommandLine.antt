@@ -18,7 +18,7 @@ use Rattle.app_cli.specs.declared.job.Command.{Command}
 use Rattle.app_cli.specs.declared.job.Command.TheVariants as job
 use Rattle.app_cli.specs.Numbers.{IsRoom, IsSpeed}
 
--- The rule of a required argument with this name.
+-- The rule by which `clap` reads a required argument with the name `name`.
 abbrev pub word_named : Text → Rule
 word_named name = record (new_rule name) { required = true; value_names = 1 }
 
@@ -73,27 +73,27 @@ net_command = with_rule (with_rule (with_rule (with_rule (with_rule (with_rule (
 abbrev pub program : App
 program = on_top (λ s. record s { no_binary_name = true; has_version = true; propagate_version = true }) (new_app (codes "tsnbridge"))
 
--- The program with the command `wire`.
+-- The `clap` program with the command `wire`; `commands` adds the others, one after another.
 abbrev pub wiring : App
 wiring = with_subcommand program wire_command.top
 
--- The program with `wire` and `check`.
+-- The `clap` program with the commands `wire` and `check`.
 abbrev pub plain_jobs : App
 plain_jobs = with_subcommand wiring check_command.top
 
--- The program with `wire`, `check` and `run`.
+-- The `clap` program with the commands `wire`, `check` and `run`.
 abbrev pub jobs : App
 jobs = with_subcommand plain_jobs run_command.top
 
--- The program with `wire`, `check`, `run` and `picture`.
+-- The `clap` program with the commands `wire`, `check`, `run` and `picture`.
 abbrev pub drawing_jobs : App
 drawing_jobs = with_subcommand jobs picture_command.top
 
--- The program with the commands for one bridge.
+-- The `clap` program with the commands for one bridge: all except `net`.
 abbrev pub bridge_jobs : App
 bridge_jobs = with_subcommand drawing_jobs bounds_command.top
 
--- The program with all commands.
+-- The `clap` program with all commands, by which the arguments are read.
 abbrev pub commands : App
 commands = with_subcommand bridge_jobs net_command.top
 
@@ -104,7 +104,7 @@ rule_in form.Extra name = extra_named name
 rule_in form.Choice name = option_named name
 rule_in form.Flag name = flag_named name
 
--- The command with the rule of one more argument.
+-- The `clap` command `command` with the rule of argument `word` added.
 abbrev pub with_word : App → Argument → App
 with_word command word = with_rule command (rule_in word.form word.id.now)
 
@@ -112,12 +112,13 @@ with_word command word = with_rule command (rule_in word.form word.id.now)
 abbrev pub described : Description → App
 described d = fold with_word (new_app d.name.now) d.words.now
 
--- The program's fault of arguments that `clap` refuses, by the kind of its error.
+-- The fault of arguments that `clap` refuses with an error of kind `kind`: `NoMemory` if memory ran out, otherwise
+-- `Words`.
 abbrev pub fault_of_kind : ErrorKind → ArgumentsFault
 fault_of_kind kind.OutOfMemory = fault.NoMemory
 fault_of_kind _ = fault.Words
 
--- Holds if the arguments are valid, and name this command with these values.
+-- Holds if the arguments are valid, and `clap` finds the command `name` with the values `values` in them.
 pub record Names (words : List Text) (name : Text) (values : List Row) : Type 0 where
   pub faultless : fault_of commands words ≡ []
   pub named : subcommand_of commands words ≡ Some (name, values)
@@ -134,7 +135,7 @@ pub record AsksForWire (values : List Row) (speed : Speed) (room : ℕ) (input o
   pub input_is : first_of (codes "input") values ≡ Some input
   pub output_is : first_of (codes "output") values ≡ Some output
 
--- Holds if the value of `check` is this path.
+-- Holds if the values that `clap` found give `plan` as the path of the plan for `check`.
 abbrev pub AsksForCheck : List Row → Text → Type 0
 AsksForCheck values plan = first_of (codes "plan") values ≡ Some plan
 
@@ -168,7 +169,7 @@ pub record AsksForNetworkRun (values : List Row) (network input output : Text) (
   pub output_is : first_of (codes "output") values ≡ Some output
   pub picture_is : first_of (codes "picture") values ≡ picture
 
--- Holds if the job is a command `wire` with these values.
+-- Holds if the command is `wire` with the values that `clap` found.
 abbrev pub IsWireJob : List Row → Command → Type 0
 IsWireJob values job.Text = ⊥
 IsWireJob values (job.Bounds plan traffic) = ⊥
@@ -179,7 +180,7 @@ IsWireJob values (job.Check plan) = ⊥
 IsWireJob values (job.Run plan input output file) = ⊥
 IsWireJob values (job.Wire speed room input output) = AsksForWire values speed room (string_bytes input) (string_bytes output)
 
--- Holds if the job is a command `check` with these values.
+-- Holds if the command is `check` with the values that `clap` found.
 abbrev pub IsCheckJob : List Row → Command → Type 0
 IsCheckJob values job.Text = ⊥
 IsCheckJob values (job.Bounds plan traffic) = ⊥
@@ -190,7 +191,7 @@ IsCheckJob values (job.Wire speed room input output) = ⊥
 IsCheckJob values (job.Run plan input output file) = ⊥
 IsCheckJob values (job.Check plan) = AsksForCheck values (string_bytes plan)
 
--- Holds if the job is a command `run` with these values.
+-- Holds if the command is `run` with the values that `clap` found.
 abbrev pub IsRunJob : List Row → Command → Type 0
 IsRunJob values job.Text = ⊥
 IsRunJob values (job.Bounds plan traffic) = ⊥
@@ -201,7 +202,7 @@ IsRunJob values (job.Wire speed room input output) = ⊥
 IsRunJob values (job.Check plan) = ⊥
 IsRunJob values (job.Run plan input output file) = AsksForRun values (string_bytes plan) (string_bytes input) (string_bytes output) (option_map string_bytes file)
 
--- Holds if the job is a command `picture` with these values.
+-- Holds if the command is `picture` with the values that `clap` found.
 abbrev pub IsPictureJob : List Row → Command → Type 0
 IsPictureJob values job.Text = ⊥
 IsPictureJob values (job.Bounds plan traffic) = ⊥
@@ -212,7 +213,7 @@ IsPictureJob values (job.Check plan) = ⊥
 IsPictureJob values (job.Run plan input output file) = ⊥
 IsPictureJob values (job.Picture plan file) = AsksForPicture values (string_bytes plan) (string_bytes file)
 
--- Holds if the job is a command `bounds` with these values.
+-- Holds if the command is `bounds` with the values that `clap` found.
 abbrev pub IsBoundsJob : List Row → Command → Type 0
 IsBoundsJob values job.Text = ⊥
 IsBoundsJob values (job.Wire speed room input output) = ⊥
@@ -223,7 +224,7 @@ IsBoundsJob values (job.Network network) = ⊥
 IsBoundsJob values (job.RunNetwork network input output picture) = ⊥
 IsBoundsJob values (job.Bounds plan traffic) = AsksForBounds values (string_bytes plan) (option_map string_bytes traffic)
 
--- Holds if the job is a command `net` with these values.
+-- Holds if the command is `net` with the values that `clap` found.
 abbrev pub IsNetworkJob : List Row → Command → Type 0
 IsNetworkJob values job.Text = ⊥
 IsNetworkJob values (job.Wire speed room input output) = ⊥

@@ -1,4 +1,4 @@
--- Computed examples of arguments.
+-- Computed examples of arguments that `clap` accepts or refuses.
 use Rattle.std.specs.Prelude.{◌≡◌, [], ◌∷◌, List, None, Some, codes, false, option_map, refl, true}
 use Rattle.clap.specs.Words.{Text, fault_of, first_of, subcommand_of}
 use Rattle.clap.specs.declared.error.kind.ErrorKind.TheVariants.{ArgumentConflict, DisplayHelp, DisplayVersion, MissingRequiredArgument, UnknownArgument}

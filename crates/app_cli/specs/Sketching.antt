@@ -1,4 +1,4 @@
--- The picture that the arguments request.
+-- The picture of a run or of a plan that the arguments request.
 use Rattle.std.specs.Prelude.{◌≡◌, ◌<◌, ◌⊎◌, ℕ, List, Option, Some, None, codes, option_map, string_bytes}
 use Rattle.std.specs.Str.Parse.{digits_value}
 use Rattle.clap.specs.Words.{Row, Text, first_of, subcommand_of}

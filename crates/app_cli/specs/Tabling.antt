@@ -1,4 +1,4 @@
--- The tables that the arguments request.
+-- The tables of a run that the arguments request.
 use Rattle.std.specs.Prelude.{◌≡◌, List, codes, option_map, string_bytes}
 use Rattle.clap.specs.Words.{Row, first_of}
 use Rattle.app_cli.specs.declared.table_request.TableRequest.{TableRequest}

@@ -11,9 +11,9 @@ use std::alloc::{AllocError, Global};
 /// How an argument of a command is written.
 #[derive(Clone, Copy)]
 pub enum Form {
-    /// Required, by its position.
+    /// Required, identified by its place among the arguments.
     Place,
-    /// Optional, by its position after the required arguments.
+    /// Optional, identified by its place after the required arguments.
     Extra,
     /// Optional, as the value after an option's name.
     Choice,
@@ -409,7 +409,8 @@ const VERSION: &str = "1.0.0";
 /// Number of commands.
 pub const COMMANDS: usize = 6;
 
-/// Returns the command at index `place`, in the order of the help; `None` after the last.
+/// Returns the command at index `place`, in the order of the help; `None` after the last. `push_command_help`, `find_usage` and others call
+/// it.
 pub fn command_description(place: usize) -> Option<&'static Description> {
     match place {
         0 => Some(wire_description()),
@@ -470,8 +471,8 @@ fn net_description() -> &'static Description
     &NET
 }
 
-/// Parses the arguments after the program's name by `clap`, for `parse_request`. Returns the command with its values. The error says
-/// whether `clap` refuses the arguments, shows help, or ran out of memory.
+/// Parses the arguments after the program's name by `clap`, for `parse_request`. Returns the command with its values. The error shows
+/// whether `clap` refuses the arguments, prints help, or ran out of memory.
 pub fn parse_arguments<'a>(alloc: Global, words: &'a [String]) -> Result<ArgMatches<'a>, Error>
     ensures taken { IfOk result (λ _. fault_of commands (map string_bytes words.entry.now) ≡ []) }
     ensures kinds { FailsBy (fault_of commands (map string_bytes words.entry.now)) result }
@@ -484,7 +485,8 @@ pub fn parse_arguments<'a>(alloc: Global, words: &'a [String]) -> Result<ArgMatc
     command.try_get_matches_from(words)
 }
 
-/// Builds the `clap` program with its commands, in the order of the help. The definition `commands` states the result.
+/// Builds the `clap` program with its commands, in the order of the help. The definition `commands` states the result. `parse_arguments`
+/// calls it.
 fn commands_of<'a>(alloc: Global) -> Result<Command<'a>, AllocError>
     ensures { IfOk result (λ c. app_of c ≡ commands) }
 {

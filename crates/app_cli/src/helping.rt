@@ -1,4 +1,4 @@
-//! Finds requests for help or the version.
+//! Finds out whether the arguments request help or the version.
 ghost use Rattle.std.specs.Prelude.{◌≡◌, Ok, Err, None, IfOk, IfErr, IfSome, map, string_bytes, false, true};
 ghost use Rattle.std.specs.List.{list_any};
 ghost use Rattle.clap.specs.Words.{fault_of, kind_of};
@@ -35,7 +35,7 @@ pub fn requested_help(alloc: Global, words: &[String]) -> Result<Option<String>,
     }
 }
 
-/// Whether one of the arguments may request help or the version. If none does, `clap` needn't parse the arguments for it. `requested_help`
+/// Whether one of the arguments may request help or the version. Otherwise `clap` needn't parse the arguments for help. `requested_help`
 /// calls it.
 fn has_help_word(words: &[String]) -> bool
     ensures { result ≡ list_any is_help_word (map string_bytes words.now) }

@@ -79,6 +79,8 @@ pub enum Command {
 
 /// Returns the command that the arguments after the program's name request; `Text` without arguments. Fails with `Words` for all other
 /// arguments, including requests for help or the version.
+///
+/// Callers that need no options of the request call it.
 pub fn parse_job(alloc: Global, words: &[String]) -> Result<Command, ArgumentsFault>
     ensures ok { IfOk result (AsksFor (map string_bytes words.now)) }
     ensures room { IfOk result HasRoom }
@@ -113,7 +115,8 @@ pub(crate) fn job_by_matches(
     }
 }
 
-/// Returns the requested command, by its name and its values. `job_by_matches` calls it.
+/// Returns the requested command with the values `values` that `clap` found; `name` is the command's name in the arguments.
+/// `job_by_matches` calls it.
 fn job_by_command(
     alloc: Global,
     words: &[String],
@@ -139,7 +142,8 @@ fn job_by_command(
     }
 }
 
-/// Returns the command `wire` with the values that `clap` found. Fails with `Words` for a wrong speed or capacity.
+/// Returns the command `wire` with the values that `clap` found. Fails with `Words` for a wrong speed or capacity. `job_by_command` calls
+/// it.
 fn wire_job(alloc: Global, values: &ArgMatches) -> Result<Command, ArgumentsFault>
     ensures ok { IfOk result (IsWireJob (rows_of (found_of values.now))) }
     ensures room { IfOk result HasRoom }
@@ -174,7 +178,7 @@ fn wire_job(alloc: Global, values: &ArgMatches) -> Result<Command, ArgumentsFaul
     })
 }
 
-/// Returns the command `check` with the values that `clap` found.
+/// Returns the command `check` with the values that `clap` found. `job_by_command` calls it.
 fn check_job(alloc: Global, values: &ArgMatches) -> Result<Command, ArgumentsFault>
     ensures ok { IfOk result (IsCheckJob (rows_of (found_of values.now))) }
     ensures room { IfOk result HasRoom }
@@ -187,7 +191,7 @@ fn check_job(alloc: Global, values: &ArgMatches) -> Result<Command, ArgumentsFau
     }
 }
 
-/// Returns the command `run` with the values that `clap` found.
+/// Returns the command `run` with the values that `clap` found. `job_by_command` calls it.
 fn run_job(alloc: Global, values: &ArgMatches) -> Result<Command, ArgumentsFault>
     ensures ok { IfOk result (IsRunJob (rows_of (found_of values.now))) }
     ensures room { IfOk result HasRoom }
@@ -236,7 +240,7 @@ fn picture_job(alloc: Global, values: &ArgMatches) -> Result<Command, ArgumentsF
     Ok(Command::Picture { plan, file })
 }
 
-/// Returns the command `bounds` with the values that `clap` found.
+/// Returns the command `bounds` with the values that `clap` found. `job_by_command` calls it.
 fn bounds_job(alloc: Global, values: &ArgMatches) -> Result<Command, ArgumentsFault>
     ensures ok { IfOk result (IsBoundsJob (rows_of (found_of values.now))) }
     ensures room { IfOk result HasRoom }
@@ -255,6 +259,7 @@ fn bounds_job(alloc: Global, values: &ArgMatches) -> Result<Command, ArgumentsFa
 }
 
 /// Returns the command `net` with the values that `clap` found: a network run if there are three arguments, otherwise a check.
+/// `job_by_command` calls it.
 fn network_job(alloc: Global, values: &ArgMatches) -> Result<Command, ArgumentsFault>
     ensures ok { IfOk result (IsNetworkJob (rows_of (found_of values.now))) }
     ensures room { IfOk result HasRoom }
@@ -269,8 +274,8 @@ fn network_job(alloc: Global, values: &ArgMatches) -> Result<Command, ArgumentsF
     }
 }
 
-/// Returns the command `net check` with these values, which lack an output folder. Fails with `Words` if the first argument isn't `check`,
-/// or for a picture. `network_job` calls it.
+/// Returns the command `net check` with the values that `clap` found, which lack an output folder. Fails with `Words` if the first argument
+/// isn't `check`, or for a picture. `network_job` calls it.
 fn network_check_job(alloc: Global, values: &ArgMatches) -> Result<Command, ArgumentsFault>
     requires { first_of (codes "output") (rows_of (found_of values.now)) ≡ None }
     ensures ok { IfOk result (IsNetworkJob (rows_of (found_of values.now))) }
@@ -293,7 +298,7 @@ fn network_check_job(alloc: Global, values: &ArgMatches) -> Result<Command, Argu
     }
 }
 
-/// Returns the command `net` with these values: a network run into the folder `to_folder`. `network_job` calls it.
+/// Returns the command `net` with the values that `clap` found: a network run into the folder `to_folder`. `network_job` calls it.
 fn network_run_job(
     alloc: Global,
     values: &ArgMatches,
@@ -328,14 +333,15 @@ fn network_run_job(
     })
 }
 
-/// Returns the value that `clap` found for argument or option `name`, or `None` if it is absent.
+/// Returns the value that `clap` found for argument or option `name`, or `None` if it is absent. `wire_job`, `network_job` and others call
+/// it.
 pub(crate) fn argument_value<'a>(values: &ArgMatches<'a>, name: &str) -> Option<&'a str>
     ensures { option_map (λ s. s.now) result ≡ first_of name.now (rows_of (found_of values.now)) }
 {
     values.get_str(name)
 }
 
-/// Copies the value of argument `name`. Fails with `Words` if it is missing.
+/// Copies the value of argument `name`. Fails with `Words` if it is missing. `wire_job`, `check_job` and others call it.
 fn required_text(alloc: Global, values: &ArgMatches, name: &str) -> Result<String, ArgumentsFault>
     ensures value { IfOk result (λ t. first_of name.now (rows_of (found_of values.now)) ≡ Some (string_bytes t)) }
     ensures none { result ≡ Err ArgumentsFault.Words → first_of name.now (rows_of (found_of values.now)) ≡ None }
@@ -349,7 +355,7 @@ fn required_text(alloc: Global, values: &ArgMatches, name: &str) -> Result<Strin
     }
 }
 
-/// Copies the value of argument `name`. Returns `None` if it is absent.
+/// Copies the value of argument `name`. Returns `None` if it is absent. `run_job`, `bounds_job` and others call it.
 pub(crate) fn optional_text(
     alloc: Global,
     values: &ArgMatches,
@@ -367,7 +373,8 @@ pub(crate) fn optional_text(
     }
 }
 
-/// Returns the fault of arguments that `clap` refuses: `NoMemory` if memory ran out, otherwise `Words`.
+/// Returns the fault of arguments that `clap` refuses: `NoMemory` if memory ran out, otherwise `Words`. `parse_job`,
+/// `parse_picture_request` and others call it.
 pub(crate) fn argument_fault(error: &Error) -> ArgumentsFault
     ensures { result ≡ fault_of_kind (kind_of error.now) }
 {

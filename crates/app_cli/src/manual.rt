@@ -6,7 +6,7 @@ use crate::helping::requested_help;
 use crate::words_fault::ArgumentsFault;
 use std::alloc::{AllocError, Global};
 
-/// Returns the help of the program and of each command, each after the line that requests it.
+/// Returns the help of the program and of each command, each after the line that requests it. Tests and the page Commands are made from it.
 pub fn help_text(alloc: Global) -> Result<String, ArgumentsFault>
     ensures { IfErr result (λ fault. fault ≡ ArgumentsFault.NoMemory) }
 {

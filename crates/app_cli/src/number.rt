@@ -1,4 +1,4 @@
-//! Reads numbers from arguments.
+//! Reads numbers and lists of numbers from arguments.
 ghost use Rattle.std.specs.Prelude.{◌<◌, ◌^◌, MatchOption};
 ghost use Rattle.std.specs.Option.{SomeIff};
 ghost use Rattle.std.specs.Str.Parse.{IsNumeral, digits_value};
@@ -11,6 +11,7 @@ use bridge_port::LARGEST_ROOM;
 use std::alloc::{AllocError, Global};
 
 /// Reads a number below 2^32 from one or more decimal digits. Returns `None` for a sign, other characters, or a larger number.
+/// `parse_room`, `parse_speed` and others call it.
 fn parse_number(word: &str) -> Option<u32>
     ensures { SomeIff result (IsNumeral 10 word.now × (digits_value 10 word.now < 2 ^ 32)) (digits_value 10 word.now) }
 {
@@ -37,7 +38,7 @@ pub fn parse_room(word: &str) -> Option<u16>
     Some(number as u16)
 }
 
-/// Reads a link speed from decimal digits: 10, 100, 1000, 2500 or 10000 Mb/s. Returns `None` for other arguments.
+/// Reads a link speed from decimal digits: 10, 100, 1000, 2500 or 10000 Mb/s. Returns `None` for other arguments. `wire_job` calls it.
 pub fn parse_speed(word: &str) -> Option<Speed>
     ensures { MatchOption result ((speed : Speed) → ¬ IsSpeed word.now speed) (IsSpeed word.now) }
 {

@@ -29,7 +29,7 @@ pub struct PictureRequest {
 
 /// Returns the picture that the arguments request with a run, or the requested part of a plan's picture; `None` for other commands.
 ///
-/// Fails with `Words` for an invalid time, list or order of times.
+/// Fails with `Words` for an invalid time, list or order of times. Callers that need no other part of the request call it.
 pub fn parse_picture_request(
     alloc: Global,
     words: &[String],
@@ -106,7 +106,7 @@ fn run_picture(alloc: Global, values: &ArgMatches) -> Result<Option<PictureReque
     }
 }
 
-/// Returns the requested part of a plan's picture, or `None` for the whole plan.
+/// Returns the requested part of a plan's picture, or `None` for the whole plan. `picture_by_matches` calls it.
 fn plan_picture(
     alloc: Global,
     values: &ArgMatches,

@@ -21,7 +21,7 @@ use std::rt::Env;
 /// Everything that the arguments request.
 #[derive(Drop)]
 pub struct Request {
-    /// Requested command.
+    /// Command that the arguments request.
     pub job: Command,
     /// Requested picture of a run, or of part of a plan; otherwise `None`.
     pub picture: Option<PictureRequest>,

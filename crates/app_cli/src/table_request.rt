@@ -22,7 +22,7 @@ pub struct TableRequest {
 
 /// Returns the tables that the arguments request with a run, by `--delays FILE` and `--frames FILE`; no tables for other commands.
 ///
-/// Fails with `Words` for arguments that `clap` refuses.
+/// Fails with `Words` for arguments that `clap` refuses. Callers that need no other part of the request call it.
 pub fn parse_table_request(alloc: Global, words: &[String]) -> Result<TableRequest, ArgumentsFault>
     ensures ok { IfOk result (λ tables. (values : List Row)
         → subcommand_of commands (map string_bytes words.now) ≡ Some (codes "run", values)

@@ -3,7 +3,7 @@
 use crate::command::{Argument, COMMANDS, Description, Form, command_description};
 use std::alloc::{AllocError, Global};
 
-/// Usage of a command: what an explanation of refused arguments needs.
+/// Usage of a command, for explanations of refused arguments.
 #[derive(Clone, Copy)]
 pub struct Usage {
     /// Name of the command.
@@ -16,7 +16,7 @@ pub struct Usage {
     pub reason: &'static str,
 }
 
-/// Returns the number of required arguments in `words`. Users give them by position, without an option's name.
+/// Returns the number of required arguments in `words`. Users give them by position, without an option's name. `usage_of_command` calls it.
 fn count_operands(words: &[Argument]) -> usize {
     let mut count = 0usize;
     for word in words {
@@ -37,7 +37,7 @@ fn usage_of_command(command: &'static Description) -> Usage {
     }
 }
 
-/// Returns the usage of the command with this name, or `None` if there is no such command. `put_usage` and `put_command_refusal` of
+/// Returns the usage of the command with name `name`, or `None` if there is no such command. `put_usage` and `put_command_refusal` of
 /// `show_explain` call it.
 pub fn find_usage(name: &str) -> Option<Usage> {
     for place in 0..COMMANDS {
@@ -67,7 +67,7 @@ fn is_option(word: &Argument) -> bool {
     matches!(word.form, Form::Choice | Form::Flag)
 }
 
-/// Whether an argument is the option with this name. `find_option` calls it.
+/// Whether an argument is the option with name `name`. `find_option` calls it.
 fn is_option_named(word: &Argument, name: &str) -> bool {
     is_option(word) & (word.id == name)
 }

@@ -21,13 +21,14 @@ use Rattle.app_commands.specs.declared.strict.StrictRun.{StrictRun}
 abbrev pub IsTextOutput : Output → Type 0
 IsTextOutput output = (input : List ℕ) × (lines : List ℕ) × PrintsText input lines × Prints lines [] 0 output
 
--- Holds if fault `f` can end the run of a hexadecimal text.
+-- Holds if failure `f` can end the run of a hexadecimal text.
 abbrev pub FailsText : Failure → Type 0
 FailsText f = (input : List ℕ) × EndsText input f
 
 -- WIRE
 
--- Holds if the program prints the counts of a run through one queue to standard output, or to standard error if the capture goes to standard output.
+-- Holds if the program prints the counts of a run through one queue to standard output. If the capture goes to standard output, the counts
+-- go to standard error.
 abbrev pub IsWireOutput : List ℕ → Output → Type 0
 IsWireOutput path output =
     (line : List ℕ) × IsCountsLine line × (((¬ IsStandard path) × Prints line [] 0 output) ⊎ (IsStandard path × Prints [] line 0 output))

@@ -1,4 +1,4 @@
--- Outputs that were flushed after a run.
+-- Output captures that are flushed after a run.
 use Rattle.std.specs.Prelude.{◌≡◌, ℕ, Bool, false, ◌⊎◌, Option, List, [], ◌∷◌}
 use Rattle.std.specs.Io.KnownBytes.{Keeps}
 use Rattle.bridge_config.specs.declared.command.Command.{Command}
@@ -9,15 +9,14 @@ use Rattle.bridge_capture.specs.CaptureReaders.{FailsToBegin, FailsAtPort}
 use Rattle.bridge_core.specs.WholeRuns.{HaveSoundStarts}
 use Rattle.bridge_core.specs.Running.{IsCaptureFault, StopsInCommands}
 
--- Holds if both lists have equal length, and each device of the second list keeps the known contents of the first
--- list's device at its index.
+-- Holds if both lists have equal length, and devices with equal index have equal known contents.
 abbrev pub AllKept : {V W : Type 0} → (V → Option (List ℕ)) → (W → Option (List ℕ)) → List V → List W → Type 0
 AllKept f g [] [] = Unit {0}
 AllKept f g [] (w ∷ ws) = ⊥
 AllKept f g (v ∷ vs) [] = ⊥
 AllKept f g (v ∷ vs) (w ∷ ws) = Keeps (f v) (g w) × AllKept f g vs ws
 
--- Holds if no device in the list has failed.
+-- Holds if no output device in the list has failed.
 abbrev pub NoneFailed : {V : Type 0} → (V → Bool) → List V → Type 0
 NoneFailed has_failed [] = Unit {0}
 NoneFailed has_failed (v ∷ vs) = (has_failed v ≡ false) × NoneFailed has_failed vs

@@ -26,7 +26,7 @@ RefusesText input text.NotHex = spelled_octets input ≡ Err hex.NotHex
 RefusesText input text.TooLong = spelled_octets input ≡ Err hex.TooLong
 RefusesText input (text.Run f) = (f ≡ run.NoMemory) ⊎ ((octets : List ℕ) × (spelled_octets input ≡ Ok octets) × StopsText octets f)
 
--- Holds if the fault ends the job over this text of standard input.
+-- Holds if the failure can end the run of this hexadecimal text on standard input.
 abbrev pub EndsText : List ℕ → Failure → Type 0
 EndsText input (fault.Text f) = RefusesText input f
 EndsText input f = IsStandardStreamFault f
@@ -41,14 +41,15 @@ PrintsCounts speed room input old new line = (count : WireCount) × WiresText sp
 abbrev pub IsCountsLine : List ℕ → Type 0
 IsCountsLine line = (count : WireCount) × (count.malformed + count.sent + count.full ≡ count.frames) × (line ≡ counts_line count)
 
--- Holds if the fault ends a run over the text of a capture: its own fault, or a failed writer.
+-- Holds if the failure can end a run over a capture with these contents: the capture is refused, a device failed, or
+-- memory ran out.
 abbrev pub EndsWire : List ℕ → Failure → Type 0
 EndsWire input (fault.Run (run.Write port)) = port ≡ 1
 EndsWire input (fault.Run f) = StopsText input f
 EndsWire input fault.NoMemory = Unit {0}
 EndsWire input f = ⊥
 
--- Holds if the fault concerns the only input or output capture, named as port 1, or memory ran out.
+-- Holds if the failure concerns the only input or output capture, which is named as port 1, or if memory ran out.
 abbrev pub IsOfRun : Failure → Type 0
 IsOfRun (fault.Run f) = NamesPortOne f
 IsOfRun fault.NoMemory = Unit {0}

@@ -12,6 +12,6 @@ AreNotes strict true notes warned = Unit {0}
 AreNotes true false notes warned = warned ≡ has_text notes
 AreNotes false false notes warned = (notes ≡ []) × (warned ≡ false)
 
--- Holds if a warning is present exactly if no filter in the list is protected, and none has a group.
+-- Holds if a warning is present exactly if the list has no protected and no grouped filter.
 abbrev pub WarnsOfNone : List (ℕ × FilterPlan) → Option (String Global) → Type 0
 WarnsOfNone filters warning = is_some warning ≡ (nat_eq (count_protected filters) 0 && nat_eq (count_grouped filters) 0)

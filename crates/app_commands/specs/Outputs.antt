@@ -9,7 +9,7 @@ use Rattle.app_failure.specs.Lines.{fault_line}
 use Rattle.app_failure.specs.Status.{fault_status}
 use Rattle.app_commands.specs.declared.output.Output.{Output}
 
--- The program's fault for refused arguments, or for memory that ran out while they were read.
+-- The command's failure for refused arguments, or for memory that ran out while they were read.
 abbrev pub of_words_fault : ArgumentsFault → Failure
 of_words_fault words.Words = fault.Words
 of_words_fault words.NoMemory = fault.NoMemory
@@ -22,7 +22,7 @@ Prints stdout stderr status output = (string_bytes output.stdout ≡ stdout) × 
 abbrev pub status_if : Bool → ℕ
 status_if well = if well then 0 else 1
 
--- True if a text isn't empty.
+-- True if the text `text` isn't empty, so that the program prints it.
 abbrev pub has_text : List ℕ → Bool
 has_text text = not (nat_eq (length text) 0)
 
@@ -31,12 +31,13 @@ abbrev pub HasLine : List ℕ → Option (String Global) → List ℕ → Type 0
 HasLine line None text = text ≡ line ++ 10 ∷ []
 HasLine line (Some explanation) text = (more : List ℕ) × (text ≡ line ++ 10 ∷ more)
 
--- Holds if the program prints the fault line of `f` to standard error, nothing to standard output, and ends with the status of `f`.
+-- Holds if the program prints the fault line of failure `f` to standard error, and nothing to standard output. The exit status is the one
+-- that `fault_status` defines for `f`.
 abbrev pub ReportsFault : Failure → Option (String Global) → Output → Type 0
 ReportsFault f explanation output =
     (string_bytes output.stdout ≡ []) × HasLine (fault_line f) explanation (string_bytes output.stderr) × (output.status ≡ fault_status f)
 
--- Holds if the program reports fault `f`. If no explanation is requested, standard error receives only the fault line.
+-- Holds if the program reports failure `f`. If no explanation is requested, standard error receives only the fault line.
 abbrev pub Reports : Bool → Failure → Output → Type 0
 Reports explained f output =
     (more : List ℕ) × (explained ≡ false → more ≡ []) × Prints [] (fault_line f ++ 10 ∷ more) (fault_status f) output

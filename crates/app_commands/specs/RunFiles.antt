@@ -29,11 +29,11 @@ IsOfOutputs folder ports f = FailsCaptures folder ports f ⊎ IsOfReport folder 
 abbrev pub HasReport : {A W : Type 0} → (W → Option (List ℕ)) → Outcome A → W → Type 0
 HasReport {A} {W} contents outcome report = (before : W) × Appends (contents before) (contents report) (report_text outcome.filters.items)
 
--- Holds if the plan can be read from some text.
+-- Holds if some contents of a plan file describe plan `plan`.
 abbrev pub IsPlanOfText : {A : Type 0} → Plan A → Type 0
 IsPlanOfText plan = (text : List ℕ) × (text_plan text ≡ Ok plan)
 
--- Holds if some text is this plan, and the plan isolates each of its protected filters.
+-- Holds if some contents of a plan file describe plan `plan`, and the plan isolates each of its protected filters.
 abbrev pub IsAcceptedPlan : {A : Type 0} → Plan A → Type 0
 IsAcceptedPlan plan = (text : List ℕ) × Accepts text plan
 
@@ -41,11 +41,11 @@ IsAcceptedPlan plan = (text : List ℕ) × Accepts text plan
 abbrev pub IsCheckedPlan : {A : Type 0} → Plan A → Plan A → Type 0
 IsCheckedPlan plan accepted = (accepted ≡ plan) × (first_fault plan ≡ None)
 
--- Holds if `f` is a fault of plan `p` with the commands of some text, from the file at an optional path.
+-- Holds if failure `f` can end the reading of commands for plan `p`, from the file at an optional path.
 abbrev pub EndsWithCommands : {A : Type 0} → Plan A → Option (List ℕ) → Failure → Type 0
 EndsWithCommands p commands f = (text : Option (List ℕ)) × EndsCommanded p commands text f
 
--- Holds if `f` ends the reading of a plan and its commands: a fault of some plan text, or of a plan with its commands.
+-- Holds if failure `f` can end the reading of a plan and its commands: one of both is refused, or a file failed.
 abbrev pub EndsReading : (A : Type 0) → List ℕ → Option (List ℕ) → Failure → Type 0
 EndsReading A plan commands f = ((text : List ℕ) × EndsPlan A plan text f) ⊎ ((p : Plan A) × IsPlanOfText p × EndsWithCommands p commands f)
 
@@ -58,7 +58,7 @@ IsCaptureOfRun p input output path = (ports : List ℕ) × ArePortNumbers p port
 abbrev pub IsFileOfRun : {A : Type 0} → Plan A → List ℕ → List ℕ → List ℕ → Type 0
 IsFileOfRun p input output path = IsCaptureOfRun p input output path ⊎ ((path ≡ output) ⊎ (path ≡ report_path output))
 
--- Holds if `f` ends a run under a plan between two folders: a fault of an empty path, of a file of the run, or of the run.
+-- Holds if failure `f` can end a run under a plan between two folders. An empty path, a file of the run, or the run itself failed.
 abbrev pub EndsSending : {A : Type 0} → Plan A → List ℕ → List ℕ → Failure → Type 0
 EndsSending p input output (fault.File e) =
     LacksPath input output (fault.File e) ⊎ (HavePaths input output × IsFileOfRun p input output (string_bytes e.path))
@@ -66,10 +66,10 @@ EndsSending p input output fault.NoMemory = Unit {0}
 EndsSending p input output (fault.Run f) = Unit {0}
 EndsSending p input output f = ⊥
 
--- Holds if `f` ends a run over files: a fault of reading, or of a run under some accepted plan.
+-- Holds if failure `f` can end a run over files: reading failed, or the run under some accepted plan.
 abbrev pub EndsRun : (A : Type 0) → List ℕ → Option (List ℕ) → List ℕ → List ℕ → Failure → Type 0
 EndsRun A plan commands input output f = EndsReading A plan commands f ⊎ ((p : Plan A) × IsAcceptedPlan p × EndsSending p input output f)
 
--- Holds if `line` has the counts of some run.
+-- Holds if `line` is the line of counts of some run that `run` prints.
 abbrev pub PrintsRun : (A : Type 0) → List ℕ → Type 0
 PrintsRun A line = (outcome : Outcome A) × (line ≡ summary_text outcome.ports.items)

@@ -1,4 +1,4 @@
--- Tables and pictures that fail.
+-- Failures of the tables and pictures that a run writes.
 use Rattle.std.specs.Prelude.{◌≡◌, ◌⊎◌, ℕ, List, Option, None, Some, String}
 use Rattle.std.specs.declared.alloc.Global.{Global}
 use Rattle.std.specs.Io.KnownBytes.{Appends}
@@ -15,7 +15,7 @@ use Rattle.app_commands.specs.RunFiles.{EndsRun, EndsSending}
 abbrev pub IsOfPicture : List ℕ → Failure → Type 0
 IsOfPicture file f = IsFileFault file f
 
--- Holds if `f` ends the picture of a plan: a fault of some plan text, or of the picture.
+-- Holds if failure `f` can end the picture of a plan: some plan text is refused, or a file failed.
 abbrev pub EndsPicture : (A : Type 0) → List ℕ → List ℕ → Failure → Type 0
 EndsPicture A plan file f = ((text : List ℕ) × EndsPlan A plan text f) ⊎ IsOfPicture file f
 
@@ -24,12 +24,12 @@ abbrev pub IsOfShowing : Option (List ℕ) → Failure → Type 0
 IsOfShowing None f = f ≡ fault.NoMemory
 IsOfShowing (Some file) f = IsOfPicture file f
 
--- Holds if `f` ends a run under a plan, with an optional picture.
+-- Holds if failure `f` can end a run under plan `p`, with an optional picture.
 abbrev pub EndsShown : {A : Type 0} → Plan A → List ℕ → List ℕ → Option (List ℕ) → Failure → Type 0
 EndsShown p input output None f = EndsSending p input output f
 EndsShown p input output (Some file) f = EndsSending p input output f ⊎ IsOfPicture file f
 
--- Holds if `f` ends a run over files, with an optional picture.
+-- Holds if failure `f` can end a run over files, with an optional picture.
 abbrev pub EndsDrawn : (A : Type 0) → List ℕ → Option (List ℕ) → List ℕ → List ℕ → Option (List ℕ) → Failure → Type 0
 EndsDrawn A plan commands input output None f = EndsRun A plan commands input output f
 EndsDrawn A plan commands input output (Some file) f = EndsRun A plan commands input output f ⊎ IsOfPicture file f
@@ -43,11 +43,11 @@ IsOfTable (Some file) f = IsFileFault file f
 abbrev pub IsOfTables : Option (List ℕ) → Option (List ℕ) → Failure → Type 0
 IsOfTables delays frames f = IsOfTable delays f ⊎ IsOfTable frames f
 
--- Holds if `f` ends a run under a plan, with optional tables and picture. The picture follows the tables.
+-- Holds if failure `f` can end a run under plan `p`, with optional tables and picture. The picture follows the tables.
 abbrev pub EndsTabled : {A : Type 0} → Plan A → List ℕ → List ℕ → Option (List ℕ) → Option (List ℕ) → Option (List ℕ) → Failure → Type 0
 EndsTabled p input output delays frames picture f = EndsShown p input output picture f ⊎ IsOfTables delays frames f
 
--- Holds if `f` ends a run over files, with optional tables and picture.
+-- Holds if failure `f` can end a run over files, with optional tables and picture.
 abbrev pub EndsTold : (A : Type 0) → List ℕ → Option (List ℕ) → List ℕ → List ℕ → Option (List ℕ) → Option (List ℕ) → Option (List ℕ) → Failure → Type 0
 EndsTold A plan commands input output delays frames picture f = EndsDrawn A plan commands input output picture f ⊎ IsOfTables delays frames f
 

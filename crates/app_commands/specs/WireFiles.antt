@@ -15,7 +15,7 @@ abbrev pub SaysCounts : List ℕ → Said → Type 0
 SaysCounts output (said.Printed line) = (¬ IsStandard output) × IsCountsLine (string_bytes line)
 SaysCounts output (said.Noted line) = IsStandard output × IsCountsLine (string_bytes line)
 
--- Holds if the fault ends a run over a capture's text into the writer of a path: the text's own fault, or a failed writer.
+-- Holds if the failure can end a run over a capture into the writer of a path: the capture is refused, or the writer failed.
 abbrev pub EndsOver : List ℕ → List ℕ → Failure → Type 0
 EndsOver output input (fault.File e) = IsStandard output × (string_bytes e.path ≡ output)
 EndsOver output input fault.NoMemory = Unit {0}
@@ -23,7 +23,7 @@ EndsOver output input (fault.Run (run.Write port)) = (¬ IsStandard output) × (
 EndsOver output input (fault.Run f) = StopsText input f
 EndsOver output input f = ⊥
 
--- Holds if the fault ends a run into the file at a path: a fault of the file, or of the one capture.
+-- Holds if the failure can end a run into the file at a path: the file failed, or the only capture.
 abbrev pub EndsInto : List ℕ → Failure → Type 0
 EndsInto output (fault.File e) = string_bytes e.path ≡ output
 EndsInto output fault.NoMemory = Unit {0}
@@ -31,7 +31,7 @@ EndsInto output (fault.Run (run.Write port)) = (¬ IsStandard output) × (port �
 EndsInto output (fault.Run f) = NamesPortOne f
 EndsInto output f = ⊥
 
--- Holds if the fault ends a run from one file into another.
+-- Holds if the failure can end a run of `wire` from one file into another.
 abbrev pub EndsWiring : List ℕ → List ℕ → Failure → Type 0
 EndsWiring input output (fault.File e) = (string_bytes e.path ≡ input) ⊎ (string_bytes e.path ≡ output)
 EndsWiring input output f = EndsInto output f

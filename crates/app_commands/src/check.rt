@@ -105,7 +105,7 @@ fn check_of_accepted(
     })
 }
 
-/// Returns the exit status of a command that has done its work: 0 if `is_well` is true, 1 if a warning or a loss is an error.
+/// Returns the exit status of a command that has done its work. It is 0 if `is_well` is true, and 1 if a warning or a loss is an error.
 ///
 /// `check_plan`, and `bounds_output` and `output_of_check` of `app_networks` call it.
 pub fn status_if(is_well: bool) -> u8

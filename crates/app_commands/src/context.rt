@@ -1,4 +1,4 @@
-//! Arguments of the command `run`.
+//! What the commands receive: arguments of `run`, options, and the texts that they read.
 use app_cli::{PictureRequest, TableRequest};
 use std::alloc::Global;
 
@@ -13,7 +13,7 @@ pub struct RunRequest<'a> {
     pub output: &'a str,
     /// Path of the commands; `None` for a run without commands.
     pub commands: &'a Option<String>,
-    /// Requested tables.
+    /// Tables that the arguments request.
     pub tables: &'a TableRequest,
     /// Requested picture, or `None`.
     pub picture: &'a Option<PictureRequest>,
@@ -40,7 +40,7 @@ pub struct Texts {
 }
 
 impl Texts {
-    /// Returns the texts of a command that hasn't read any.
+    /// Returns the texts of a command that hasn't read any. `request_output` of `app_networks` calls it.
     pub fn new(alloc: Global) -> Texts {
         Texts {
             plan: Vec::new(alloc),

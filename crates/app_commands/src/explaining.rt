@@ -31,7 +31,10 @@ pub fn explain_words_fault(alloc: Global, words: &[String], fault: &Failure) -> 
     }
 }
 
-/// Explains why a file failed, by its path and cause. Returns `None` for other faults, or if memory runs out.
+/// Explains why a file failed, if `fault` is such a failure: it has the path and the cause. Returns `None` for other failures, or if memory
+/// runs out.
+///
+/// `explain_words_fault`, `explain_plan_fault` and functions of `app_networks` call it.
 pub fn explain_file_fault(alloc: Global, fault: &Failure) -> Option<String> {
     match fault {
         Failure::File(FileError { path, cause }) => explain_file_cause(
@@ -50,8 +53,8 @@ pub fn explain_file_cause(alloc: Global, path: &str, cause: Cause) -> Option<Str
     explain_file(alloc, shown.as_str(), cause).ok()
 }
 
-/// Explains why a plan is refused, by its path and its text, or why its file failed. Returns `None` for other faults, or if memory runs
-/// out.
+/// Explains why the plan at `path` with the contents `text` is refused, or why its file failed. Returns `None` for other failures, or if
+/// memory runs out. `explain_run_fault` and functions of `app_networks` call it.
 pub fn explain_plan_fault(
     alloc: Global,
     path: &str,
@@ -81,8 +84,8 @@ fn explain_check_fault(
     said.ok()
 }
 
-/// Explains why the command `run` failed, by the texts that it has read. Returns `None` if memory runs out or a capture can't be read
-/// again. `explain_failure` of `app_networks` calls it.
+/// Explains why the command `run` failed; `texts` has the plan and the commands that it read. Returns `None` if memory runs out or a
+/// capture can't be read again. `explain_failure` of `app_networks` calls it.
 pub fn explain_run_fault(
     rt: &(impl AllocGlobal + Files),
     job: &RunRequest<'_>,
@@ -103,7 +106,8 @@ pub fn explain_run_fault(
     }
 }
 
-/// Explains why a run stopped, by the paths of the input and output capture of the port at fault. Without a port, port 1 serves as example.
+/// Explains why a run stopped. The explanation names the input or the output capture of the port at fault; without a port, port 1 serves as
+/// example. `explain_run_fault` calls it.
 fn explain_stopped_run(
     rt: &(impl AllocGlobal + Files),
     job: &RunRequest<'_>,
@@ -118,7 +122,10 @@ fn explain_stopped_run(
     explain_captures(rt, read.as_str(), written.as_str(), fault)
 }
 
-/// Explains why the command `wire` failed, by the paths of its captures. `explain_failure` of `app_networks` calls it.
+/// Explains why the command `wire` failed; `read` and `written` are the paths of its input and its output.
+///
+/// Returns `None` if memory runs out, the input can't be read again, or the failure is of another kind. `explain_failure` of `app_networks`
+/// calls it.
 pub fn explain_wire_fault(
     rt: &(impl AllocGlobal + Files),
     read: &str,
@@ -132,8 +139,8 @@ pub fn explain_wire_fault(
     }
 }
 
-/// Explains why a run stopped, by the path of an input or an output capture. The fault decides which of the two the explanation names.
-/// `explain_stopped_run` and `explain_wire_fault` call it.
+/// Explains why a run stopped; `read` and `written` are the paths of an input and an output capture. The fault decides which of the two the
+/// explanation names. `explain_stopped_run` and `explain_wire_fault` call it.
 fn explain_captures(
     rt: &(impl AllocGlobal + Files),
     read: &str,
@@ -147,15 +154,17 @@ fn explain_captures(
     }
 }
 
-/// Explains why the capture at `path` is refused, by reading it again. Returns `None` if this reading finds no fault, or if the path leads
-/// to no regular file. `explain_refused_capture` of `app_networks` calls it.
+/// Explains why the capture at `path` is refused: reads it again. Returns `None` if this reading finds no fault, or if the path leads to no
+/// regular file. `explain_refused_capture` of `app_networks` calls it.
 pub fn explain_capture_file(rt: &(impl AllocGlobal + Files), path: &str) -> Option<String> {
     let fault = capture_fault(rt, path)?;
     explain_capture(rt, path, &RunFault::Capture { port: 1, fault })
 }
 
-/// Returns the fault of the capture at `path`, found by reading it whole. Returns `None` if it has none, isn't a regular file, or can't be
-/// read. `explain_capture_file` calls it.
+/// Returns the fault of the capture at `path`, found by reading it whole. Returns `None` if the capture has no fault, or the path leads to
+/// no regular file, or can't be opened.
+///
+/// `explain_capture_file` calls it.
 fn capture_fault<H: AllocGlobal + Files>(rt: &H, path: &str) -> Option<CaptureFault> {
     if !fs::metadata(rt, path).ok()?.is_file() {
         return None;
@@ -177,7 +186,8 @@ fn capture_fault<H: AllocGlobal + Files>(rt: &H, path: &str) -> Option<CaptureFa
     None
 }
 
-/// Explains a refused or unreadable capture, by its first octets. Returns `None` if they can't be read again.
+/// Explains why the capture at `path` is refused or can't be read; reads its first octets again. Returns `None` if they can't be read
+/// again. `explain_captures` and `explain_capture_file` call it.
 fn explain_capture(
     rt: &(impl AllocGlobal + Files),
     path: &str,
@@ -222,7 +232,7 @@ pub(crate) fn warnings_of_run<H: AllocGlobal + Files>(
     said.finish().ok()
 }
 
-/// Writes a warning if the folder has a capture for `port`, which the plan lacks: the run doesn't read it.
+/// Writes a warning if the folder has a capture for `port`, which the plan lacks: the run doesn't read it. `warnings_of_run` calls it.
 fn warn_if_capture_unread<H: AllocGlobal + Files>(
     rt: &H,
     said: &mut TextBuilder<Global>,

@@ -138,7 +138,7 @@ fn summary_output(line: String, output: &str) -> Said
     }
 }
 
-/// Returns the program's fault after a run. A failed write to standard output becomes a fault of the file `-`, because it has no port.
+/// Returns the command's failure after a run. A failed write to standard output becomes a fault of the file `-`, because it has no port.
 /// `wire_streams` calls it.
 fn output_fault(alloc: Global, fault: Failure, output: &str) -> Failure
     ensures over { (input : List ℕ) → EndsWire input fault → EndsOver output.now input result }

@@ -37,7 +37,7 @@ pub(crate) struct RunLines {
 }
 
 /// Runs captures under an accepted plan between two folders, and writes report, requested tables and picture. Refuses outputs that are
-/// files in use. Returns the run's lines.
+/// files in use. Returns the run's lines. `run_accepted_captures` and `send_strictly` call it.
 #[tactic(auto, using(crate::proofs::ShownEnded::memory_ends))]
 pub(crate) fn run_with_outputs<H: AllocGlobal + Clock + Eprint + Files>(
     files: &mut CommandFiles<'_, H>,
@@ -69,7 +69,7 @@ pub(crate) fn run_with_outputs<H: AllocGlobal + Clock + Eprint + Files>(
     told
 }
 
-/// Writes the requested tables, then the requested picture of a run, and returns the run's lines.
+/// Writes the requested tables, then the requested picture of a run, and returns the run's lines. `run_with_outputs` calls it.
 fn write_outputs<H: AllocGlobal + Files>(
     files: &mut CommandFiles<'_, H>,
     accepted: &Accepted<Global>,
@@ -132,6 +132,7 @@ fn write_run_picture<H: AllocGlobal + Files>(
 }
 
 /// Returns one line for each protected filter that lost a frame or a copy, if losses are errors; otherwise the empty text.
+/// `write_run_picture` calls it.
 fn lost_if(alloc: Global, outcome: &Outcome<Global>, is_strict: bool) -> Result<String, NoMemory>
     ensures { IfOk result (λ lost. string_bytes lost ≡ lost_if is_strict outcome.now.filters.items) }
 {

@@ -36,6 +36,7 @@ pub fn text_job<R: Read + Drop>(alloc: Global, reader: R) -> Result<String, Fail
 }
 
 /// Sends a reader's capture through one queue of `room` frames (1 to 4,096) into a writer. Returns the line of counts and the writer.
+/// `wire_streams` calls it.
 pub fn wire_job<R: Read + Drop, W: Write + Drop>(
     alloc: Global,
     speed: Speed,

@@ -51,6 +51,7 @@ pub(crate) fn last_frame(outcome: &Outcome<Global>) -> Option<Last> {
 }
 
 /// Writes a warning for the schedule change and each command after the last frame: they affect no frame, which is likely a mistake.
+/// `warnings_of_run` calls it.
 pub(crate) fn put_late(
     said: &mut TextBuilder<Global>,
     plan: &Plan<Global>,

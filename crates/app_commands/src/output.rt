@@ -13,7 +13,7 @@ pub struct Output {
     pub stdout: String,
     /// Text for standard error, printed after the text for standard output.
     pub stderr: String,
-    /// Exit status.
+    /// Exit status of the program.
     pub status: u8,
 }
 
@@ -52,7 +52,8 @@ fn with_explanation(line: String, explanation: Option<String>) -> Result<String,
     Ok(text)
 }
 
-/// Returns an output with this text for standard output and nothing for standard error.
+/// Returns an output with this text for standard output and nothing for standard error. `send_text`, `draw_plan` and functions of
+/// `app_networks` call it.
 pub fn print_text(alloc: Global, text: String, status: u8) -> Output
     ensures text { result.stdout ≡ text }
     ensures none { string_bytes result.stderr ≡ [] }

@@ -1,4 +1,4 @@
-//! The command `picture` for a plan.
+//! The command `picture` for a plan: draws the plan, or the requested part of it.
 ghost use Rattle.std.specs.Prelude.{IfErr, IfOk};
 ghost use Rattle.std.specs.declared.alloc.Global.{Global};
 ghost use Rattle.app_commands.specs.ShownFiles.{EndsPicture};
@@ -13,7 +13,7 @@ use app_files::{CommandFiles, is_standard};
 use std::rt::Files;
 
 /// Draws a plan, or a requested part of it, into `file`, or to standard output for `-`. Refuses the plan's own file as output. Returns the
-/// output of `picture`.
+/// output of `picture`. `draw` of `app_networks` calls it.
 pub fn draw_plan<H: AllocGlobal + Files>(
     files: &mut CommandFiles<'_, H>,
     plan: &str,

@@ -1,4 +1,4 @@
-//! Draws pictures, and writes them to files.
+//! Draws pictures of plans and runs, and writes them to files.
 ghost use Rattle.std.specs.Prelude.{ℕ, IfErr, IfOk, List, codes, string_bytes};
 ghost use Rattle.std.specs.declared.alloc.Global.{Global};
 ghost use Rattle.app_commands.specs.ShownFiles.{EndsPicture, IsOfPicture, IsWritten};
@@ -18,7 +18,7 @@ use std::rt::Files;
 const STANDARD_OUTPUT: &str = "/dev/stdout";
 
 /// Returns the picture of a plan, or of a requested part, whether or not the plan isolates its protected filters. Adds the plan to the
-/// files in use.
+/// files in use. `draw_plan` calls it.
 pub(crate) fn plan_picture<H: AllocGlobal + Files>(
     files: &mut CommandFiles<'_, H>,
     plan: &str,
@@ -118,7 +118,8 @@ fn parse_numbers(alloc: Global, list: &Option<String>) -> Result<Vec<u32>, NoMem
     }
 }
 
-/// Returns a picture's text unchanged, to be printed. Fails for the file `-` if standard output goes to a file in use.
+/// Returns a picture's text unchanged, to be printed. Fails for the file `-` if standard output goes to a file in use. `draw_plan` and
+/// `draw_network` of `app_networks` call it.
 pub fn picture_apart<H: AllocGlobal + Files>(
     files: &CommandFiles<'_, H>,
     text: String,
@@ -131,7 +132,7 @@ pub fn picture_apart<H: AllocGlobal + Files>(
     Ok(text)
 }
 
-/// Draws a run into the requested file, which must not be in use. A fault names the file's path.
+/// Draws a run into the requested file, which must not be in use. A failure names the file's path. `write_run_picture` calls it.
 pub(crate) fn put_run_picture<H: AllocGlobal + Files>(
     files: &CommandFiles<'_, H>,
     accepted: &Accepted<Global>,
@@ -149,7 +150,8 @@ pub(crate) fn put_run_picture<H: AllocGlobal + Files>(
     }
 }
 
-/// Writes a picture to the file at `path`, which must not be in use, and returns the file.
+/// Writes a picture to the file at `path`, which must not be in use, and returns the file. `draw_plan` and `put_run_picture`, and
+/// `draw_network` of `app_networks` call it.
 pub fn write_picture_file<H: AllocGlobal + Files>(
     files: &CommandFiles<'_, H>,
     path: &str,

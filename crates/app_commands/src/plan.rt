@@ -28,7 +28,7 @@ pub fn read_plan_text<H: Input + AllocGlobal + Files>(
     }
 }
 
-/// Returns the program's fault for standard input that can't be read. `text_job` and `read_plan_text` call it.
+/// Returns the command's failure for standard input that can't be read. `text_job` and `read_plan_text` call it.
 pub(crate) fn input_fault(alloc: Global, fault: ReadFault) -> Failure
     ensures { IsFileFault (codes "-") result }
 {

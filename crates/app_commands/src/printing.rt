@@ -1,4 +1,4 @@
-//! Prints to standard output.
+//! Prints outputs, fault lines and explanations to standard output and standard error.
 ghost use Rattle.std.specs.Prelude.{◌≡◌, ◌⊎◌, IfOk, map, string_bytes, IfErr};
 ghost use Rattle.app_cli.specs.Helping.{explains};
 ghost use Rattle.std.specs.Io.KnownBytes.{Appends};
@@ -74,6 +74,7 @@ pub fn report_words(alloc: Global, words: &[String], fault: &Failure) -> Result<
 }
 
 /// Prints the text for standard error, and returns the exit status. If memory for the output ran out, prints `no memory` and returns 3.
+/// `main` of `tsnbridge` calls it.
 pub fn tell(rt: &impl Eprint, output: Result<Output, NoMemory>) -> ExitCode
     ensures status { IfOk output (λ o. exit_status result ≡ o.status) }
     ensures memory { IfErr output (λ _. exit_status result ≡ 3) }
@@ -90,7 +91,7 @@ pub fn tell(rt: &impl Eprint, output: Result<Output, NoMemory>) -> ExitCode
     }
 }
 
-/// Returns the program's fault for refused arguments, or for memory that ran out while they were read. `perform` and `perform_request` of
+/// Returns the command's failure for refused arguments, or for memory that ran out while they were read. `perform` and `perform_request` of
 /// `app_networks`, and `main` of `tsnbridge` call it.
 pub fn words_failure(fault: ArgumentsFault) -> Failure
     ensures { result ≡ of_words_fault fault }

@@ -25,12 +25,13 @@ const BIG_ENDIAN: u8 = 0xa1;
 /// Length of a record's header in octets.
 const RECORD_HEADER_LENGTH: usize = 16;
 
-/// Writes a line over the line before it on standard error. If that fails, the run goes on without the line.
+/// Writes a line over the line before it on standard error. If that fails, the run goes on without the line. `Progress` and
+/// `ProgressPrinter` of `app_networks` call it.
 pub fn show_line(rt: &impl Eprint, line: &str) {
     let _ = eprint!(rt; "\r{line}\x1b[K");
 }
 
-/// Removes the line that `show_line` wrote.
+/// Removes the line that `show_line` wrote. `Progress::clear` and `ProgressPrinter::clear` of `app_networks` call it.
 pub fn clear_line(rt: &impl Eprint) {
     let _ = eprint!(rt; "\r\x1b[K");
 }
@@ -53,7 +54,8 @@ pub(crate) struct Progress<'a, H> {
 }
 
 impl<'a, H: Clock + Eprint> Progress<'a, H> {
-    /// Returns the progress of a run that hasn't read any octet of `total`. Shows nothing unless `is_watched` is true and the input is long.
+    /// Returns the progress of a run that hasn't read any octet of `total`. Shows nothing unless `is_watched` is true and the input is
+    /// long. `wire_files` and `run_watched` call it.
     pub(crate) fn new(rt: &'a H, total: u64, is_watched: bool) -> Progress<'a, H> {
         let is_wanted = is_watched && (total >= LONG_INPUT || total == 0);
         let start = if is_wanted {
@@ -71,7 +73,7 @@ impl<'a, H: Clock + Eprint> Progress<'a, H> {
         }
     }
 
-    /// Adds read octets and records, and writes the line after each `STEP` octets.
+    /// Adds read octets and records, and writes the line after each `STEP` octets. `WatchedReader` calls it for each read.
     fn add(&self, start: Instant, octets: u64, frames: u64) {
         let read = self.octets.get().saturating_add(octets);
         self.octets.set(read);
@@ -82,7 +84,7 @@ impl<'a, H: Clock + Eprint> Progress<'a, H> {
         }
     }
 
-    /// Writes the line: frames, and the share of the input and the time left if the input's length is known.
+    /// Writes the line: frames, and the share of the input and the time left if the input's length is known. `Progress::add` calls it.
     fn show(&self, start: Instant, read: u64) {
         let frames = self.frames.get();
         if self.total == 0 {
@@ -106,7 +108,7 @@ impl<'a, H: Clock + Eprint> Progress<'a, H> {
         seconds.saturating_mul(self.total.saturating_sub(read)) / read
     }
 
-    /// Removes the line, if one was written.
+    /// Removes the line, if one was written. Its owner calls it before other lines appear on standard error.
     pub(crate) fn clear(&self) {
         if self.start.is_some() && self.octets.get() >= STEP {
             clear_line(self.rt);
@@ -128,7 +130,7 @@ struct RecordCounter {
 }
 
 impl RecordCounter {
-    /// Returns the counter before the first octet of a capture.
+    /// Returns the counter before the first octet of a capture. `WatchedReader::new` calls it.
     fn new() -> RecordCounter {
         RecordCounter {
             skip: HEADER_LENGTH,
@@ -180,7 +182,7 @@ impl RecordCounter {
         true
     }
 
-    /// Returns the number of record headers that end in the next octets of the capture.
+    /// Returns the number of record headers that end in the next octets of the capture. `WatchedReader::read` calls it.
     fn count(&mut self, octets: &[u8]) -> u64 {
         if self.is_big.is_none() && !octets.is_empty() {
             self.is_big = Some(octets[0] == BIG_ENDIAN);

@@ -13,6 +13,8 @@ use std::rt::{Clock, Files};
 
 /// Runs captures through a plan's bridge, and returns the output of `run`. Nothing runs if warnings are errors and the plan has one. A
 /// warning or loss that is an error gives status 1.
+///
+/// `run_request` of `app_networks` calls it.
 pub fn run_bridge<H: AllocGlobal + Clock + Eprint + Files>(
     files: &mut CommandFiles<'_, H>,
     job: &RunRequest<'_>,

@@ -1,4 +1,4 @@
-//! Runs a folder of captures.
+//! Runs a bridge over a folder of captures, and writes captures and report.
 ghost use Rattle.std.specs.Prelude.{◌≡◌, IfOk, IfErr, length, option_map, string_bytes};
 ghost use Rattle.bridge_config.specs.Commands.{AreCommands};
 ghost use Rattle.app_files.specs.Folders.{HavePaths};
@@ -33,6 +33,8 @@ pub struct Sent<F: Write + OpenFile + Drop> {
 
 /// Runs captures under an accepted plan between the folders of `job`, and writes the report. Refuses outputs that are files in use, and an
 /// empty folder path. Inputs and outputs are in use afterwards.
+///
+/// `run_with_outputs` calls it.
 pub fn run_folder<H: AllocGlobal + Clock + Eprint + Files>(
     files: &mut CommandFiles<'_, H>,
     accepted: &Accepted<Global>,
@@ -52,6 +54,7 @@ pub fn run_folder<H: AllocGlobal + Clock + Eprint + Files>(
 }
 
 /// Runs captures under an accepted plan between two folders with nonempty paths: opens all files, runs, then writes the report.
+/// `run_folder` calls it.
 fn send_named<H: AllocGlobal + Clock + Eprint + Files>(
     files: &mut CommandFiles<'_, H>,
     accepted: &Accepted<Global>,
@@ -124,6 +127,8 @@ fn run_watched<H: AllocGlobal + Clock + Eprint + Files>(
 
 /// Opens the output captures of `ports` in a folder. Refuses captures and a report that are files in use, and two captures that are one
 /// file. Readers and outputs are in use afterwards.
+///
+/// `send_named` calls it.
 fn create_outputs<H: AllocGlobal + Files>(
     files: &mut CommandFiles<'_, H>,
     folder: &str,
@@ -151,7 +156,7 @@ fn create_outputs<H: AllocGlobal + Files>(
     Ok(outputs)
 }
 
-/// Refuses a folder whose report is a file in use, before the run: the report is opened only after it.
+/// Refuses a folder whose report is a file in use, before the run: the report is opened only after it. `create_outputs` calls it.
 fn check_report_is_unused<H: AllocGlobal + Files>(
     files: &CommandFiles<'_, H>,
     folder: &str,
@@ -168,7 +173,7 @@ fn check_report_is_unused<H: AllocGlobal + Files>(
 }
 
 /// Reads a run's plan and commands, and accepts the plan. Both files are in use afterwards, and `texts` keeps their contents for
-/// explanations.
+/// explanations. `run_job` calls it.
 pub fn read_plan_and_commands<H: AllocGlobal + Files>(
     files: &mut CommandFiles<'_, H>,
     job: &RunRequest<'_>,
@@ -192,6 +197,7 @@ pub fn read_plan_and_commands<H: AllocGlobal + Files>(
 }
 
 /// Reads a plan's commands from the file at an optional path, then checks the plan. Without a path there are no commands.
+/// `read_plan_and_commands` calls it.
 fn read_commands<H: AllocGlobal + Files>(
     files: &mut CommandFiles<'_, H>,
     plan: Plan<Global>,
@@ -221,7 +227,7 @@ fn read_commands<H: AllocGlobal + Files>(
     read_commands_and_check(alloc, alloc, plan, Some((copy, texts.commands.as_slice())))
 }
 
-/// Writes a run's report to a folder, and returns its file, which is then in use.
+/// Writes a run's report to a folder, and returns its file, which is then in use. `send_named` calls it.
 fn write_report_file<H: AllocGlobal + Files>(
     files: &mut CommandFiles<'_, H>,
     outcome: &Outcome<Global>,

@@ -24,7 +24,7 @@ pub struct StoppedRun<W, A: Allocator> {
 /// Runs captures from readers, and commands, through the bridge of an accepted plan into writers, and returns the flushed writers. Readers
 /// and writers stand by rising port.
 ///
-/// Flushes every writer by rising port, even after a fault. The first failed flush replaces the run's fault.
+/// Flushes every writer by rising port, even after a fault. The first failed flush replaces the run's fault. `run_watched` calls it.
 pub fn run_captures<R: Read + Drop, W: Write + Drop, A: Allocator + Copy>(
     alloc: A,
     accepted: &Accepted<A>,
@@ -92,7 +92,8 @@ pub fn run_captures<R: Read + Drop, W: Write + Drop, A: Allocator + Copy>(
     }
 }
 
-/// Returns the port whose writer failed: writers before index `count` were flushed. Returns `None` if none failed. `run_captures` calls it.
+/// Returns the port of the writer with index `count`, whose flush failed; the writers before it were flushed. Returns `None` if all writers
+/// were flushed. `run_captures` calls it.
 fn failed_port(ports: &[u8], count: usize) -> Option<u8>
     ensures { result ≡ slice_get ports.now count }
 {

@@ -10,7 +10,7 @@ use bridge_check::Accepted;
 use std::alloc::Global;
 use std::rt::Files;
 
-/// Adds a folder's existing captures at the plan's ports to the files in use. Missing files and pipes are ignored.
+/// Adds a folder's existing captures at the plan's ports to the files in use. Missing files and pipes are ignored. `files_of_run` calls it.
 fn note_captures<H: AllocGlobal + Files>(
     files: &mut CommandFiles<'_, H>,
     accepted: &Accepted<Global>,
@@ -24,6 +24,7 @@ fn note_captures<H: AllocGlobal + Files>(
 }
 
 /// Returns the files in use together with the run's existing captures and report. The run opens these later, so they aren't in use yet.
+/// `check_run_outputs_unused` calls it.
 fn files_of_run<'a, H: AllocGlobal + Files>(
     files: &CommandFiles<'a, H>,
     accepted: &Accepted<Global>,
@@ -37,7 +38,8 @@ fn files_of_run<'a, H: AllocGlobal + Files>(
     Ok(all)
 }
 
-/// Refuses an output path that leads to a regular file in use. A fault names the path.
+/// Refuses an output path that leads to a regular file in use. The failure names the path. `check_table_unused` and `check_picture_unused`
+/// call it.
 fn check_path_unused<H: AllocGlobal + Files>(
     files: &CommandFiles<'_, H>,
     path: &str,
@@ -50,7 +52,7 @@ fn check_path_unused<H: AllocGlobal + Files>(
     }
 }
 
-/// Refuses a requested table that is a file in use. Accepts a table that isn't requested (`None`).
+/// Refuses a requested table that is a file in use. Accepts a table that isn't requested (`None`). `check_outputs_unused` calls it.
 fn check_table_unused<H: AllocGlobal + Files>(
     files: &CommandFiles<'_, H>,
     path: &Option<String>,
@@ -63,7 +65,7 @@ fn check_table_unused<H: AllocGlobal + Files>(
     }
 }
 
-/// Refuses a requested picture that is a file in use. Accepts a picture that isn't requested (`None`).
+/// Refuses a requested picture that is a file in use. Accepts a picture that isn't requested (`None`). `check_outputs_unused` calls it.
 fn check_picture_unused<H: AllocGlobal + Files>(
     files: &CommandFiles<'_, H>,
     picture: &Option<PictureRequest>,
@@ -76,7 +78,7 @@ fn check_picture_unused<H: AllocGlobal + Files>(
     }
 }
 
-/// Refuses the first requested table, or otherwise the picture, that is a file in use.
+/// Refuses the first requested table, or otherwise the picture, that is a file in use. `check_run_outputs_unused` calls it.
 fn check_outputs_unused<H: AllocGlobal + Files>(
     files: &CommandFiles<'_, H>,
     job: &RunRequest<'_>,
@@ -94,7 +96,8 @@ fn check_outputs_unused<H: AllocGlobal + Files>(
     check_picture_unused(files, job.picture)
 }
 
-/// Refuses the first requested table, or otherwise the picture, that is a file in use or an existing file of the run.
+/// Refuses the first requested table, or otherwise the picture, that is a file in use or an existing file of the run. `run_with_outputs`
+/// calls it.
 pub(crate) fn check_run_outputs_unused<H: AllocGlobal + Files>(
     files: &CommandFiles<'_, H>,
     accepted: &Accepted<Global>,

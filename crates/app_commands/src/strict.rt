@@ -39,7 +39,7 @@ impl StrictRun {
     ghost use Rattle.std.specs.Prelude.{◌≡◌};
     ghost use Rattle.app_commands.specs.Losing.{status_of};
 
-    /// Returns the run's exit status: 1 if a warning or a loss is an error, otherwise 0.
+    /// Returns the run's exit status: 1 if a warning or a loss is an error, otherwise 0. `run_output` calls it.
     pub fn status(&self) -> u8
         ensures { result ≡ status_of self.now.is_warned self.now.is_lossy }
     {
@@ -54,7 +54,7 @@ impl StrictRun {
 /// Runs captures through the bridge of a plan, and writes the requested tables and picture. If warnings are errors and the plan has one,
 /// nothing runs, and only plan and commands are opened.
 ///
-/// Reads plan and commands once, so both may be pipes.
+/// Reads plan and commands once, so both may be pipes. `run_bridge` calls it.
 pub(crate) fn run_job<H: AllocGlobal + Clock + Eprint + Files>(
     files: &mut CommandFiles<'_, H>,
     job: &RunRequest<'_>,

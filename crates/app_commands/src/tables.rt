@@ -1,4 +1,4 @@
-//! Writes tables of a run to files.
+//! Writes the tables that `run` makes of delays and frames to their files.
 ghost use Rattle.std.specs.Prelude.{IfErr, IfOk, Some, option_map, string_bytes};
 ghost use Rattle.show_tables.specs.DelayTable.{IsDelayTable};
 ghost use Rattle.app_commands.specs.ShownFiles.{IsFrameTable, IsOfTable, IsOfTables, IsTableWritten, IsWritten};
@@ -24,7 +24,7 @@ pub(crate) struct TableFiles<F: Write + OpenFile + Drop> {
 }
 
 /// Writes the requested tables of a run: delays, then frames, and returns their files. Each file must not be in use, and is in use
-/// afterwards.
+/// afterwards. `write_outputs` calls it.
 pub(crate) fn write_tables<H: AllocGlobal + Files>(
     files: &mut CommandFiles<'_, H>,
     accepted: &Accepted<Global>,
@@ -98,8 +98,8 @@ fn write_frame_table<H: AllocGlobal + Files>(
     }
 }
 
-/// Writes `text` to the file at `path` in place of any earlier contents, and returns the file. Fails if the file is in use; afterwards it is
-/// in use.
+/// Writes `text` to the file at `path` in place of any earlier contents, and returns the file. Fails if the file is in use; afterwards it
+/// is in use. `write_delay_table` and `write_frame_table` call it.
 pub(crate) fn write_table<H: AllocGlobal + Files>(
     files: &mut CommandFiles<'_, H>,
     path: &str,

@@ -1,4 +1,4 @@
-//! Buffers for readers and writers.
+//! Buffers for the readers and writers of captures, and their flush after a run.
 ghost use Rattle.std.specs.Prelude.{◌≡◌, ◌<◌, ◌≤◌, [], length, map, take, vec_capacity, IfOk};
 ghost use Rattle.app_commands.specs.Flushed.{AllKept, NoneFailed};
 

@@ -1,8 +1,8 @@
--- The line for an accepted plan.
+-- The line that `check` prints for an accepted plan.
 use Rattle.std.specs.Prelude.{ℕ, List, ◌++◌, count_by, is_some, length, nat_eq, codes, decimal, if◌then◌else◌}
 use Rattle.bridge_filter.specs.declared.FilterPlan.{FilterPlan}
 
--- The number of protected filters in the list.
+-- The number of protected filters among `filters`, for the line of an accepted plan.
 abbrev pub count_protected : List (ℕ × FilterPlan) → ℕ
 count_protected filters = count_by (λ f. f.1.protected) filters
 

@@ -1,4 +1,4 @@
--- A plan with the commands of its run.
+-- A plan with the commands of its run, and the failures of reading both.
 use Rattle.std.specs.Prelude.{◌≡◌, ◌≢◌, ℕ, List, [], Option, None, Some, Result, Ok, string_bytes}
 use Rattle.bridge_schema.specs.declared.plan_fault.PlanFault.{PlanFault}
 use Rattle.bridge_schema.specs.Readers.{IsReadFault}
@@ -22,12 +22,12 @@ TellsText remaining (Some file) (Some text) = remaining file.1 ≡ Some text
 TellsText remaining None (Some text) = ⊥
 TellsText remaining (Some file) None = ⊥
 
--- Holds if `f` is a fault that ends the reading of commands from the file at `path`.
+-- Holds if failure `f` can end the reading of commands from the file at `path`.
 abbrev pub EndsCommands : {A : Type 0} → Plan A → List ℕ → List ℕ → Failure → Type 0
 EndsCommands plan path input (fault.Commands f) = IsReadFault f (text_commands plan input)
 EndsCommands plan path input f = IsFileFault path f
 
--- Holds if `f` is a fault of reading the commands of plan `plan` or of its check. The check follows the reading.
+-- Holds if failure `f` can end the reading of the commands of plan `plan`, or its check. The check follows the reading.
 abbrev pub EndsCommanded : {A : Type 0} → Plan A → Option (List ℕ) → Option (List ℕ) → Failure → Type 0
 EndsCommanded plan path text (fault.Commands f) = (path ≢ None) × IsReadFault f (commands_for plan text)
 EndsCommanded plan path text (fault.Check f) = ((commands : List Command) × (commands_for plan text ≡ Ok commands)) × RefusesCheck plan (fault.Check f)

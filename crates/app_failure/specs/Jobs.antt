@@ -14,18 +14,18 @@ use Rattle.app_failure.specs.Reading.{IsFileFault}
 abbrev pub Accepts : {A : Type 0} → List ℕ → Plan A → Type 0
 Accepts input plan = (text_plan input ≡ Ok plan) × (first_fault plan ≡ None)
 
--- Holds if `f` is the fault of the plan's check: out of memory, or its first fault.
+-- Holds if failure `f` is why `check` refuses the plan: memory ran out, or its first fault.
 abbrev pub RefusesCheck : {A : Type 0} → Plan A → Failure → Type 0
 RefusesCheck plan (fault.Check f) = (f ≡ check.NoMemory) ⊎ (first_fault plan ≡ Some f)
 RefusesCheck plan f = ⊥
 
--- Holds if `f` is a fault of the plan's text, or of the check of its plan.
+-- Holds if failure `f` is why a plan's text, or the plan in it, is refused.
 abbrev pub RefusesPlan : (A : Type 0) → List ℕ → Failure → Type 0
 RefusesPlan A input (fault.Plan f) = IsReadFault f (text_plan {A = A} input)
 RefusesPlan A input (fault.Check f) = (plan : Plan A) × (text_plan input ≡ Ok plan) × ((f ≡ check.NoMemory) ⊎ (first_fault plan ≡ Some f))
 RefusesPlan A input f = ⊥
 
--- Holds if `f` is a fault that ends the reading of a plan from the file at `path`.
+-- Holds if failure `f` can end the reading of a plan from the file at `path`.
 abbrev pub EndsPlan : (A : Type 0) → List ℕ → List ℕ → Failure → Type 0
 EndsPlan A path input (fault.Plan f) = IsReadFault f (text_plan {A = A} input)
 EndsPlan A path input f = IsFileFault path f
@@ -34,7 +34,7 @@ EndsPlan A path input f = IsFileFault path f
 abbrev pub PrintsAccepted : (A : Type 0) → List ℕ → List ℕ → Type 0
 PrintsAccepted A input line = (plan : Plan A) × Accepts input plan × (line ≡ accepted_line plan.filters)
 
--- Holds if `f` is a fault that ends the check of a plan from the file at `path`.
+-- Holds if failure `f` can end the check of a plan from the file at `path`.
 abbrev pub EndsCheck : (A : Type 0) → List ℕ → List ℕ → Failure → Type 0
 EndsCheck A path input (fault.Plan f) = RefusesPlan A input (fault.Plan f)
 EndsCheck A path input (fault.Check f) = RefusesPlan A input (fault.Check f)

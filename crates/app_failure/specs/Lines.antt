@@ -1,4 +1,4 @@
--- Fault lines, without a line feed.
+-- Fault lines of commands that failed, without line feed.
 use Rattle.std.specs.Prelude.{ℕ, List, ◌++◌, codes, decimal, string_bytes}
 use Rattle.bridge_capture.specs.declared.capture_fault.CaptureFault.{CaptureFault}
 use Rattle.bridge_capture.specs.declared.capture_fault.CaptureFault.TheVariants as capture
@@ -45,7 +45,7 @@ capture_fault_line port capture.Read = not_read port
 capture_fault_line port capture.Write = not_written port
 capture_fault_line port capture.NoMemory = codes "no memory"
 
--- The fault line of a stopped run.
+-- The fault line of a run that stopped: at a capture, a failed write, or without memory.
 abbrev pub run_fault_line : RunFault → List ℕ
 run_fault_line (run.Capture port f) = capture_fault_line port f
 run_fault_line (run.Write port) = not_written port
@@ -61,7 +61,7 @@ text_fault_line (text.Run f) = run_fault_line f
 abbrev pub file_fault_line : List ℕ → List ℕ
 file_fault_line path = codes "file " ++ escaped path
 
--- The fault line of a fault, by its kind.
+-- The fault line of a command's failure, without line feed. A network's failure has its line already.
 abbrev pub fault_line : Failure → List ℕ
 fault_line (fault.Text f) = text_fault_line f
 fault_line (fault.Run f) = run_fault_line f

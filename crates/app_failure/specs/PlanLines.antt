@@ -1,4 +1,4 @@
--- Fault lines of refused plans.
+-- Fault lines of plans that are refused.
 use Rattle.std.specs.Prelude.{ℕ, List, ◌++◌, ◌==◌, if◌then◌else◌, codes, decimal}
 use Rattle.bridge_cycle.specs.declared.cyclic_list.ListFault.{ListFault}
 use Rattle.bridge_cycle.specs.declared.cyclic_list.ListFault.TheVariants as list
@@ -28,7 +28,7 @@ plan_refused_section name place = codes "plan refused: " ++ (name ++ (codes " " 
 abbrev pub list_refused : Section → ℕ → List ℕ → List ℕ
 list_refused section index name = plan_refused_section (codes "BadList") (instance_text section index ++ (codes " " ++ name))
 
--- The fault line of a refused list of an instance, by the fault.
+-- The fault line of instance `index` of a section with a list that has the given fault.
 abbrev pub list_fault_line : Section → ℕ → ListFault → List ℕ
 list_fault_line section index list.Empty = list_refused section index (codes "Empty")
 list_fault_line section index list.ZeroInterval = list_refused section index (codes "ZeroInterval")
@@ -37,7 +37,7 @@ list_fault_line section index list.CycleOutOfRange = list_refused section index 
 list_fault_line section index list.TooManyEntries = list_refused section index (codes "TooManyEntries")
 list_fault_line section index list.NoMemory = codes "no memory"
 
--- The fault line of a refused plan.
+-- The fault line of a plan with the given fault, without line feed.
 abbrev pub plan_fault_line : PlanFault → List ℕ
 plan_fault_line plan.Syntax = plan_refused (codes "Syntax")
 plan_fault_line plan.TooLong = plan_refused (codes "TooLong")

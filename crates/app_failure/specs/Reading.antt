@@ -1,4 +1,4 @@
--- Faults of files.
+-- Failures of commands because of a file, or of standard input or output.
 use Rattle.std.specs.Prelude.{◌≡◌, ◌⊎◌, ℕ, List, [], codes, string_bytes}
 use Rattle.app_files.specs.FailedFiles.{IsCapture}
 use Rattle.app_failure.specs.declared.fault.Failure.{Failure}
@@ -20,13 +20,13 @@ FailsCaptures folder ports (fault.File e) = IsCapture folder ports (string_bytes
 FailsCaptures folder ports fault.NoMemory = Unit {0}
 FailsCaptures folder ports f = ⊥
 
--- Holds if one of two folders has an empty path and the fault names the empty path, or memory ran out.
+-- Holds if one of two folders has an empty path and the failure names this path, or if memory ran out.
 abbrev pub LacksPath : List ℕ → List ℕ → Failure → Type 0
 LacksPath input output (fault.File e) = ((input ≡ []) ⊎ (output ≡ [])) × (string_bytes e.path ≡ [])
 LacksPath input output fault.NoMemory = Unit {0}
 LacksPath input output f = ⊥
 
--- Holds if a file failed, or memory ran out.
+-- Holds if the command's failure is a failed file or `NoMemory`.
 abbrev pub EndsFiles : Failure → Type 0
 EndsFiles (fault.File e) = Unit {0}
 EndsFiles fault.NoMemory = Unit {0}

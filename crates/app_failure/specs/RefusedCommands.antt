@@ -1,4 +1,4 @@
--- The fault line of refused commands.
+-- The fault line of commands that are refused.
 use Rattle.std.specs.Prelude.{List, ℕ, ◌++◌, codes, drop, length}
 use Rattle.bridge_cycle.specs.declared.cyclic_list.ListFault.TheVariants as list
 use Rattle.bridge_schema.specs.declared.plan_fault.PlanFault.{PlanFault}

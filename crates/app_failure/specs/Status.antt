@@ -1,4 +1,4 @@
--- Exit statuses of faults.
+-- Exit statuses of commands that failed.
 use Rattle.std.specs.Prelude.{ℕ}
 use Rattle.bridge_capture.specs.declared.capture_fault.CaptureFault.{CaptureFault}
 use Rattle.bridge_capture.specs.declared.capture_fault.CaptureFault.TheVariants as capture
@@ -22,7 +22,7 @@ capture_fault_status capture.Write = 3
 capture_fault_status capture.NoMemory = 3
 capture_fault_status f = 2
 
--- The exit status after a stopped run.
+-- The exit status after a run that stopped: 2 for a refused capture, 3 for devices and memory.
 abbrev pub run_fault_status : RunFault → ℕ
 run_fault_status (run.Capture port f) = capture_fault_status f
 run_fault_status (run.Write port) = 3
@@ -50,7 +50,8 @@ abbrev pub check_fault_status : CheckFault → ℕ
 check_fault_status check.NoMemory = 3
 check_fault_status f = 1
 
--- The exit status after a fault: 1 for plans, commands and networks; 2 for texts, captures and network runs; 3 for files and memory; 4 for arguments.
+-- The exit status of a failed command. It is 1 for plans, commands and networks, 2 for texts, captures and network runs, 3 for files and
+-- memory, and 4 for arguments.
 abbrev pub fault_status : Failure → ℕ
 fault_status (fault.Text f) = text_fault_status f
 fault_status (fault.Run f) = run_fault_status f

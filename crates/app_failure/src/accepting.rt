@@ -13,7 +13,8 @@ use std::alloc::{Allocator, Global};
 
 /// Returns the plan of a text, if it isolates each of its protected filters and groups.
 ///
-/// Fails with `Plan` and the text's first fault, or with `Check` and the plan's first fault.
+/// Fails with `Plan` and the text's first fault, or with `Check` and the plan's first fault. `text_warnings` and `explain_bridge_plan` of
+/// `app_networks`, and `check_bridge_plan` of `net_check` call it.
 pub fn accepted_plan<A: Allocator + Copy>(
     alloc: A,
     heap: Global,
@@ -73,8 +74,10 @@ fn counts_line<A: Allocator + Copy>(
     )?)
 }
 
-/// Returns the line for an accepted plan, with its line feed: numbers of protected filters, of grouped filters if there are any, and of all
-/// filters. `check_job` and `check_of_accepted` of `app_commands` call it.
+/// Returns the line for an accepted plan, with its line feed. It has the numbers of protected filters, of grouped filters if there are any,
+/// and of all filters.
+///
+/// `check_job` and `check_of_accepted` of `app_commands` call it.
 pub fn check_line<A: Allocator + Copy>(
     alloc: A,
     accepted: &Accepted<A>,

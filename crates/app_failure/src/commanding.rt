@@ -1,4 +1,4 @@
-//! Reads the commands of a run.
+//! Reads the commands of a run for an accepted plan.
 ghost use Rattle.std.specs.Prelude.{◌≡◌, ℕ, List, Option, None, Some, Ok, IfOk, IfErr, option_map, string_bytes};
 ghost use Rattle.bridge_check.specs.Faults.{first_fault};
 ghost use Rattle.bridge_config.specs.Commands.{AreCommands};
@@ -68,7 +68,7 @@ fn read_optional_commands<R: Read + Drop, A: Allocator + Copy>(
     }
 }
 
-/// Reads the commands of a plan from a reader. A fault names `path`.
+/// Reads the commands of a plan from a reader. If the reader fails, the failure names `path`. `read_optional_commands` calls it.
 fn read_commands<R: Read + Drop, A: Allocator + Copy>(
     alloc: A,
     heap: Global,

@@ -1,4 +1,4 @@
-//! Faults that end the program.
+//! Failures that end a command of the program without result.
 ghost use Rattle.std.specs.Prelude.{◌≡◌, ℕ, List};
 ghost use Rattle.app_failure.specs.Faults.{of_file_fault};
 ghost use Rattle.app_failure.specs.declared.fault.Failure.TheVariants.{NoMemory as no_memory};
@@ -31,7 +31,7 @@ pub enum TextFault {
 impl TextFault {
     ghost use Rattle.app_failure.specs.Numbering.{fault_code};
 
-    /// Returns the number of the fault, 1 to 3. Definitions name the faults by these numbers.
+    /// Returns the number of the fault, 1 to 3. Contracts compare faults by these numbers.
     pub fn number(self) -> u8
         ensures { result ≡ fault_code self }
     {
@@ -43,7 +43,7 @@ impl TextFault {
     }
 }
 
-/// Why the program ends without result. Fault line, exit status and explanation are made from it.
+/// Failure: why a command of the program ends without result. Fault line, exit status and explanation are made from it.
 #[derive(Debug, Drop)]
 pub enum Failure {
     /// The arguments are refused.
@@ -95,7 +95,8 @@ impl From<FileFault> for Failure {
     }
 }
 
-/// Returns a fault of `app_files` as a fault of the program.
+/// Returns the command's failure for file fault `fault`: the failed file with its cause, or `NoMemory`. Functions of `app_commands`,
+/// `app_networks` and `net_check` call it.
 pub fn file_failure(fault: FileFault) -> Failure
     ensures same { result ≡ of_file_fault fault }
     ensures ends { EndsFiles result }

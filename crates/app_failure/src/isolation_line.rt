@@ -72,7 +72,7 @@ fn put_queue_fault<A: Allocator>(
     text.put_number(u64::from(class));
 }
 
-/// Writes the fault line `QueueShared`: the filter, its queue, and the other filter that can reach the queue.
+/// Writes the fault line `QueueShared`: the filter, its queue, and the other filter that can reach the queue. `put_check_fault` calls it.
 fn put_shared_queue<A: Allocator>(
     text: &mut TextBuilder<A>,
     filter: u32,
@@ -93,6 +93,7 @@ fn put_shared_queue<A: Allocator>(
 }
 
 /// Writes the fault line `WindowShared`: the filter, its queue, and the offset `at` in ns from which another class is open too.
+/// `put_check_fault` calls it.
 fn put_shared_window<A: Allocator>(
     text: &mut TextBuilder<A>,
     filter: u32,

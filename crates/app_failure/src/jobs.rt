@@ -12,8 +12,10 @@ use bridge_config::{Plan, plan_of};
 use std::alloc::{Allocator, Global};
 use std::io::Read;
 
-/// Reads a plan from a reader, and accepts it if it isolates each of its protected filters and groups. A fault of the reader names `path`.
-/// The text's document uses `heap`, the plan `alloc`.
+/// Reads a plan from a reader, and accepts it if it isolates each of its protected filters and groups. If the reader fails, the failure
+/// names `path`. The text's document uses `heap`, the plan `alloc`.
+///
+/// `check_job` and functions of `app_commands` and `net_latency` call it.
 pub fn read_accepted_plan<R: Read + Drop, A: Allocator + Copy>(
     alloc: A,
     heap: Global,
@@ -31,9 +33,10 @@ pub fn read_accepted_plan<R: Read + Drop, A: Allocator + Copy>(
     check_isolation(alloc, plan)
 }
 
-/// Reads a plan from a reader, without checking isolation. A fault of the reader names `path`.
+/// Reads a plan from a reader, without checking isolation. If the reader fails, the failure names `path`.
 ///
-/// Reads at most 1,048,577 octets, one more than a plan may have. Fails with `Plan` and the text's first fault.
+/// Reads at most 1,048,577 octets, one more than a plan may have. Fails with `Plan` and the text's first fault. `read_accepted_plan`, and
+/// `plan_picture` and `read_plan_and_commands` of `app_commands` call it.
 pub fn read_plan<R: Read + Drop, A: Allocator + Copy>(
     alloc: A,
     heap: Global,
@@ -56,7 +59,8 @@ pub fn read_plan<R: Read + Drop, A: Allocator + Copy>(
     }
 }
 
-/// Reads and checks a plan, and returns the line to print. A fault of the reader names `path`.
+/// Reads and checks a plan, and returns the line to print. If the reader fails, the failure names `path`. Callers that print no warnings
+/// call it.
 pub fn check_job<R: Read + Drop, A: Allocator + Copy>(
     alloc: A,
     heap: Global,
@@ -80,16 +84,16 @@ pub fn check_job<R: Read + Drop, A: Allocator + Copy>(
     }
 }
 
-/// Returns the fault of standard input or output: the file `-` failed. `print`, and `input_fault` and `write_stdout_text` of `app_commands`
-/// call it.
+/// Returns the command's failure for standard input or output: the file `-` failed. `print`, and `input_fault` and `write_stdout_text` of
+/// `app_commands` call it.
 pub fn standard_stream_fault(alloc: Global) -> Failure
     ensures { IsStandardStreamFault result }
 {
     failed_file(alloc, "-", Cause::Standard)
 }
 
-/// Returns the fault of the file at `path`, by the fault of its reader. `read_commands` and `read_plan`, and `read_rows` of `net_latency`
-/// call it.
+/// Returns the command's failure for the file at `path`, from which its reader can't read (`Broken`), or for lack of memory.
+/// `read_commands` and `read_plan`, and `read_rows` of `net_latency` call it.
 pub fn read_failure(alloc: Global, path: &str, fault: ReadFault) -> Failure
     ensures { IsFileFault path.now result }
 {
@@ -99,8 +103,8 @@ pub fn read_failure(alloc: Global, path: &str, fault: ReadFault) -> Failure
     }
 }
 
-/// Returns the program's fault of the file at `path`. If memory for the path runs out, returns `NoMemory` instead. `standard_stream_fault`
-/// and `read_failure` call it.
+/// Returns the command's failure for the failed file at `path`; `NoMemory` if memory for the path runs out. `standard_stream_fault` and
+/// `read_failure` call it.
 fn failed_file(alloc: Global, path: &str, cause: Cause) -> Failure
     ensures { IsFileFault path.now result }
 {

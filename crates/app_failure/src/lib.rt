@@ -1,5 +1,6 @@
 #![tactic(auto)]
-//! Defines the program's faults, their fault lines and exit statuses. Reads and checks plans and commands from readers.
+//! Defines why a command fails (`Failure`), with the fault line and the exit status of each failure. Reads and checks plans and commands
+//! from readers.
 
 mod accepting;
 mod commanding;

@@ -1,4 +1,4 @@
-//! Writes the fault line of each fault.
+//! Writes the fault line of a command's failure.
 ghost use Rattle.std.specs.Prelude.{◌≡◌, IfOk, string_bytes, ◌⊎◌, IfErr};
 ghost use Rattle.bridge_text.specs.Growth.{HasGrown};
 ghost use Rattle.app_failure.specs.Lines.{fault_line, capture_fault_line, run_fault_line, text_fault_line, not_read, not_written, file_fault_line, refused_capture, refused_record};
@@ -18,7 +18,8 @@ use bridge_text::TextBuilder;
 use std::alloc::Allocator;
 use std::process::ExitCode;
 
-/// Returns the fault line, without its line feed, and the exit status, 1 to 4.
+/// Returns the fault line, without its line feed, and the exit status, 1 to 4. `print_fault` and functions of `app_commands` and
+/// `app_networks` call it.
 pub fn fault_line<A: Allocator + Copy>(
     alloc: A,
     fault: &Failure,
@@ -34,7 +35,7 @@ pub fn fault_line<A: Allocator + Copy>(
     }
 }
 
-/// Writes the fault line of a fault by the function for its kind. A fault of a network has its line already.
+/// Writes the fault line of a fault by the function for its kind. A fault of a network has its line already. `fault_line` calls it.
 fn put_fault<A: Allocator + Copy>(alloc: A, text: &mut TextBuilder<A>, fault: &Failure)
     ensures { HasGrown text.old (fault_line fault.now) text.new }
 {

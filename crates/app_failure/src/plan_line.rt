@@ -1,4 +1,4 @@
-//! Writes the fault line of a refused plan.
+//! Writes the fault line of a plan that is refused.
 ghost use Rattle.bridge_text.specs.Growth.{HasGrown};
 ghost use Rattle.app_failure.specs.PlanLines.{instance_text, key_text, list_fault_line, plan_fault_line, list_refused, plan_refused, plan_refused_section};
 
@@ -49,7 +49,7 @@ fn put_list_fault<A: Allocator>(
     }
 }
 
-/// Writes the start of the fault line: `plan refused: NAME`.
+/// Writes the start of the fault line: `plan refused: NAME`. `put_plan_fault`, `put_refused_section` and others call it.
 fn put_refused_plan<A: Allocator>(text: &mut TextBuilder<A>, name: &str)
     ensures { HasGrown text.old (plan_refused name.now) text.new }
 {
@@ -75,7 +75,7 @@ fn put_instance<A: Allocator>(text: &mut TextBuilder<A>, name: &str, section: Se
     put_section_instance(text, section, index);
 }
 
-/// Writes the fault line of a key: `plan refused: NAME SECTION NUMBER KEY`.
+/// Writes the fault line of a key: `plan refused: NAME SECTION NUMBER KEY`. `put_plan_fault` calls it.
 fn put_key<A: Allocator>(text: &mut TextBuilder<A>, name: &str, place: &KeyLocation)
     ensures { HasGrown text.old (plan_refused_section name.now (key_text place.now)) text.new }
 {
@@ -86,7 +86,7 @@ fn put_key<A: Allocator>(text: &mut TextBuilder<A>, name: &str, place: &KeyLocat
     text.put(place.field.key());
 }
 
-/// Writes the fault line of a list: `plan refused: BadList SECTION NUMBER NAME`.
+/// Writes the fault line of a list: `plan refused: BadList SECTION NUMBER NAME`. `put_list_fault` calls it.
 fn put_list<A: Allocator>(text: &mut TextBuilder<A>, section: Section, index: u32, name: &str)
     ensures { HasGrown text.old (list_refused section index name.now) text.new }
 {

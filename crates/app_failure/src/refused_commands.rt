@@ -1,4 +1,4 @@
-//! Writes the fault line of refused commands.
+//! Writes the fault line of commands that are refused.
 ghost use Rattle.std.specs.Prelude.{◌≡◌, IfOk, string_bytes};
 ghost use Rattle.bridge_text.specs.Growth.{HasGrown};
 ghost use Rattle.app_failure.specs.PlanLines.{plan_fault_line};

@@ -1,4 +1,4 @@
-//! Exit statuses of faults.
+//! Exit statuses of commands that failed.
 ghost use Rattle.std.specs.Prelude.{◌≡◌};
 ghost use Rattle.app_failure.specs.Status.{fault_status, capture_fault_status, check_fault_status, list_fault_status, plan_fault_status, run_fault_status, text_fault_status};
 
@@ -20,7 +20,7 @@ const FAILED: u8 = 3;
 /// Status after refused arguments.
 const WORDS: u8 = 4;
 
-/// Returns the exit status after a fault, 1 to 4, by the kind of the fault. `fault_line` calls it.
+/// Returns the exit status of a command with failure `fault`, 1 to 4. `fault_line` calls it.
 pub fn fault_status(fault: &Failure) -> u8
     ensures { result ≡ fault_status fault.now }
 {
@@ -37,7 +37,8 @@ pub fn fault_status(fault: &Failure) -> u8
     }
 }
 
-/// Returns the exit status after a refused hexadecimal text or its stopped run. `fault_status` calls it.
+/// Returns the exit status after a refused hexadecimal text (2), or after its stopped run: 2 for a refused capture, 3 for devices and
+/// memory. `fault_status` calls it.
 fn text_fault_status(fault: &TextFault) -> u8
     ensures { result ≡ text_fault_status fault.now }
 {

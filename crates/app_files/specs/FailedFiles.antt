@@ -1,4 +1,4 @@
--- Faults of files.
+-- Faults of files, with the path of the failed file.
 use Rattle.std.specs.Prelude.{◌≡◌, ℕ, List, string_bytes}
 use Rattle.bridge_limits.specs.Members.{IsMember}
 use Rattle.app_files.specs.declared.failed_file.FileFault.{FileFault}

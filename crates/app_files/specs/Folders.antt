@@ -3,7 +3,7 @@ use Rattle.std.specs.Prelude.{◌≡◌, ◌≢◌, ◌⊎◌, ℕ, List, [], st
 use Rattle.app_files.specs.declared.failed_file.FileFault.{FileFault}
 use Rattle.app_files.specs.declared.failed_file.FileFault.TheVariants as fault
 
--- Holds if neither path is empty.
+-- Holds if the paths of the input and output folder aren't empty.
 abbrev pub HavePaths : List ℕ → List ℕ → Type 0
 HavePaths input output = (input ≢ []) × (output ≢ [])
 

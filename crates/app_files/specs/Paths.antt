@@ -1,12 +1,12 @@
--- Paths of the files of a run.
+-- Paths of the captures and the report of a run.
 use Rattle.std.specs.Prelude.{ℕ, List, ◌++◌, Option, codes, decimal, option_map}
 use Rattle.std.specs.Path.{rsplit_once}
 
--- The path of a port's capture in a folder.
+-- The path of the capture of port `port` in the folder `folder`: `FOLDER/PORT.pcap`.
 abbrev pub capture_path : List ℕ → ℕ → List ℕ
 capture_path folder port = folder ++ (codes "/" ++ (decimal port ++ codes ".pcap"))
 
--- The path of the report in a folder.
+-- The path of a run's report in the folder `folder`: `FOLDER/report.txt`.
 abbrev pub report_path : List ℕ → List ℕ
 report_path folder = folder ++ codes "/report.txt"
 

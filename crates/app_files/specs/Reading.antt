@@ -1,4 +1,4 @@
--- Faults of readers.
+-- Faults of the readers of files.
 use Rattle.std.specs.declared.io.ErrorKind.{ErrorKind}
 use Rattle.std.specs.declared.io.ErrorKind.TheVariants as kind
 use Rattle.app_files.specs.declared.reading.ReadFault.{ReadFault}

@@ -7,7 +7,7 @@ use Rattle.app_files.specs.declared.output.Said.TheVariants as said
 abbrev pub IsStandard : List ℕ → Type 0
 IsStandard word = word ≡ codes "-"
 
--- The line of counts, for either output.
+-- The line of counts of a run, whether it goes to standard output or to standard error.
 abbrev pub line_of : Said → List ℕ
 line_of (said.Printed line) = string_bytes line
 line_of (said.Noted line) = string_bytes line

@@ -50,8 +50,8 @@ fn has_folder(rt: &impl Files, path: &str) -> bool {
     }
 }
 
-/// Returns the cause that an error's kind alone shows, for reading and for writing. Returns `Unknown` for other kinds: `read_cause` and
-/// `write_cause` then look further.
+/// Returns the cause that an error's kind shows by itself, for reading and for writing; `Unknown` for other kinds. `read_cause` and
+/// `write_cause` call it for the kinds that they don't handle themselves.
 fn kind_cause(kind: ErrorKind) -> Cause {
     match kind {
         ErrorKind::IsADirectory => Cause::Folder,
@@ -60,7 +60,10 @@ fn kind_cause(kind: ErrorKind) -> Cause {
     }
 }
 
-/// Returns why a file can't be opened or read, by the error and the folder. Returns `Unknown` if neither shows the cause.
+/// Returns why the file at `path` can't be opened or read, after the error `error`. For a missing file, examines whether its folder exists.
+/// `Unknown` for other errors.
+///
+/// `capture_cause`, `open_input` and functions of `app_networks` call it.
 pub fn read_cause(rt: &impl Files, path: &str, error: &Error) -> Cause {
     match error.kind() {
         ErrorKind::NotFound => {
@@ -75,8 +78,10 @@ pub fn read_cause(rt: &impl Files, path: &str, error: &Error) -> Cause {
     }
 }
 
-/// Returns why a file can't be opened or created for writing, by the error and the folder. Returns `Unknown` if neither shows the cause.
-/// `create_output` and `make_folder` of `app_networks` call it.
+/// Returns why the file at `path` can't be opened or created for writing, after the error `error`. For a missing file, examines whether its
+/// folder exists. `Unknown` for other errors.
+///
+/// `create_output`, and `make_folder` of `app_networks` call it.
 pub fn write_cause(rt: &impl Files, path: &str, error: &Error) -> Cause {
     match error.kind() {
         ErrorKind::NotFound => {
@@ -124,8 +129,9 @@ fn has_file_with_suffix(rt: &(impl AllocGlobal + Files), path: &str, ending: &st
     }
 }
 
-/// Whether the path leads to a regular file. `has_file_with_suffix`, and `warn_if_capture_unread` and `is_network` of `app_commands` call
-/// it.
+/// Whether `path` leads to a regular file; false for pipes, folders, and paths whose metadata can't be read.
+///
+/// Callers ask before they read a file that will be read again (`is_network`), or name a file in a warning or a cause.
 pub fn is_file(rt: &impl Files, path: &str) -> bool {
     match fs::metadata(rt, path) {
         Ok(data) => data.is_file(),

@@ -31,7 +31,8 @@ pub struct CommandFiles<'a, H> {
 }
 
 impl<'a, H: AllocGlobal + Files> CommandFiles<'a, H> {
-    /// Returns the files of a command that hasn't opened any file.
+    /// Returns the files of a command that hasn't opened any file. Functions of `app_networks` and `net_check` call it. Each command needs
+    /// its own.
     pub fn new(rt: &'a H) -> CommandFiles<'a, H> {
         CommandFiles {
             rt,
@@ -39,7 +40,7 @@ impl<'a, H: AllocGlobal + Files> CommandFiles<'a, H> {
         }
     }
 
-    /// Returns the allocator of the command.
+    /// Returns the allocator of the command. Commands allocate their texts and lists with it.
     pub fn alloc(&self) -> Global {
         self.rt.alloc()
     }
@@ -52,7 +53,7 @@ impl<'a, H: AllocGlobal + Files> CommandFiles<'a, H> {
         })
     }
 
-    /// Opens a file for reading, and adds it to the files in use.
+    /// Opens a file for reading, and adds it to the files in use. `CommandFiles::read` and `open_output` call it.
     pub fn open(&mut self, path: &str) -> Result<H::File, FileFault>
         ensures fails { IfErr result (IsOfPath path.now) }
         ensures kept { BeginWith self.old.in_use.items self.new.in_use.items }
@@ -62,7 +63,8 @@ impl<'a, H: AllocGlobal + Files> CommandFiles<'a, H> {
         Ok(reader)
     }
 
-    /// Reads at most `MOST_TEXT` octets of the file at `path`, and adds it to the files in use.
+    /// Reads at most `MOST_TEXT` octets of the file at `path`, and adds it to the files in use. Commands call it for plans, commands and
+    /// networks.
     pub fn read_text(&mut self, path: &str) -> Result<Vec<u8>, FileFault>
         ensures { IfErr result (IsOfPath path.now) }
     {
@@ -88,18 +90,21 @@ impl<'a, H: AllocGlobal + Files> CommandFiles<'a, H> {
     }
 
     /// Adds the regular file at `path`, if it exists, to the files in use. Ignores pipes and devices: they lose nothing if written.
+    /// `note_standard_output`, and `note_captures` and `files_of_run` of `app_commands` call it.
     pub fn note_regular(&mut self, path: &str) -> Result<(), NoMemory> {
         add_file(&mut self.in_use, regular_file_id(self.rt, path))
     }
 
     /// Adds standard output's file to the files in use, if it is a regular file. Otherwise the line of counts would overwrite an output to
     /// this file.
+    ///
+    /// `run_with_outputs` of `app_commands` and `run_rounds` of `app_networks` call it.
     pub fn note_standard_output(&mut self) -> Result<(), NoMemory> {
         self.note_regular(STANDARD_OUTPUT)
     }
 
     /// Adds the regular file at `path` to the files in use. Returns false if it was in use already. Missing files, pipes and devices count
-    /// as new.
+    /// as new. `CommandFiles::note_captures` calls it.
     fn note_new(&mut self, path: &str) -> Result<bool, NoMemory> {
         let file = regular_file_id(self.rt, path);
         if has_file(&self.in_use, file) {
@@ -131,12 +136,13 @@ impl<'a, H: AllocGlobal + Files> CommandFiles<'a, H> {
         Ok(())
     }
 
-    /// Whether the file at `path` is in use.
+    /// Whether the file at `path` is in use. `picture_apart` and `check_report_is_unused` of `app_commands` call it.
     pub fn is_in_use(&self, path: &str) -> bool {
         has_file(&self.in_use, path_file_id(self.rt, path))
     }
 
     /// Refuses an output path that leads to a regular file in use, without opening it. A missing file or a pipe is accepted.
+    /// `check_path_unused` of `app_commands` calls it.
     pub fn spare(&self, path: &str) -> Result<(), FileFault>
         ensures { IfErr result (IsOfPath path.now) }
     {
@@ -146,7 +152,8 @@ impl<'a, H: AllocGlobal + Files> CommandFiles<'a, H> {
         Ok(())
     }
 
-    /// Opens a file for writing, or creates it. Its contents remain until the first write. Refuses a file in use.
+    /// Opens a file for writing, or creates it. Its contents remain until the first write. Refuses a file in use. `create_new`,
+    /// `create_captures` and functions of `app_commands` call it.
     pub fn create(&self, path: &str) -> Result<Output<H::File>, FileFault>
         ensures { IfErr result (IsOfPath path.now) }
     {
@@ -158,7 +165,8 @@ impl<'a, H: AllocGlobal + Files> CommandFiles<'a, H> {
         Ok(output)
     }
 
-    /// Opens a file for writing as `create` does, and adds it to the files in use.
+    /// Opens a file for writing as `create` does, and adds it to the files in use. `write_report_file` and `write_table` of `app_commands`,
+    /// and `open_output` of `app_networks` call it.
     pub fn create_new(&mut self, path: &str) -> Result<Output<H::File>, FileFault>
         ensures { IfErr result (IsOfPath path.now) }
     {
@@ -173,6 +181,7 @@ impl<'a, H: AllocGlobal + Files> CommandFiles<'a, H> {
     }
 
     /// Opens the captures of `ports` in a folder for writing, in list order. Fails at the first capture that can't be opened or is in use.
+    /// `create_outputs` of `app_commands` and `open_captures` of `app_networks` call it.
     pub fn create_captures(
         &self,
         folder: &str,
@@ -211,7 +220,8 @@ impl<H: AllocGlobal + Files> ReadFiles for CommandFiles<'_, H> {
     }
 }
 
-/// Opens the file at `path` for reading. Doesn't add it to files in use: commands that write no file need none.
+/// Opens the file at `path` for reading. Doesn't add it to files in use: commands that write no file need none. `open` and
+/// `read_text_file`, and `bound_traffic` of `app_networks` call it.
 pub fn open_input<H: AllocGlobal + Files>(rt: &H, path: &str) -> Result<H::File, FileFault>
     ensures { IfErr result (IsOfPath path.now) }
 {
@@ -246,6 +256,7 @@ pub fn read_open<R: Read + Drop>(
 }
 
 /// Reads at most `MOST_TEXT` octets of the file at `path`. Doesn't add it to files in use: commands that write no file need none.
+/// `bound_plan` of `app_networks` calls it.
 pub fn read_text_file<H: AllocGlobal + Files>(rt: &H, path: &str) -> Result<Vec<u8>, FileFault>
     ensures { IfErr result (IsOfPath path.now) }
 {
@@ -253,7 +264,8 @@ pub fn read_text_file<H: AllocGlobal + Files>(rt: &H, path: &str) -> Result<Vec<
     read_open(rt, path, reader, MOST_TEXT)
 }
 
-/// Opens the captures of `ports` in a folder for reading, in list order. Fails at the first capture that can't be opened.
+/// Opens the captures of `ports` in a folder for reading, in list order. Fails at the first capture that can't be opened. `send_named` of
+/// `app_commands` calls it.
 pub fn open_captures<H: AllocGlobal + Files>(
     rt: &H,
     folder: &str,
@@ -278,7 +290,8 @@ pub fn open_captures<H: AllocGlobal + Files>(
     Ok(files)
 }
 
-/// Opens a capture for reading. If it doesn't exist and no file next to it explains that, the cause is `missing`.
+/// Opens a capture for reading. If it doesn't exist and no file next to it explains that, the cause is `missing`. `open_captures` and
+/// `wire_files` of `app_commands` call it.
 pub fn open_capture<H: AllocGlobal + Files>(
     rt: &H,
     path: &str,
@@ -327,14 +340,15 @@ pub trait ReadFiles {
     /// Octets of the file at a path, if they are known.
     ghost octets_at: { Self → List ℕ → Option (List ℕ) };
 
-    /// Reads at most `most` octets of the file at `path`.
+    /// Reads at most `most` octets of the file at `path`. `read_file` of `app_networks`, and `read_network` and `read_plan` of `net_check`
+    /// call it.
     fn read(&mut self, path: &str, most: u64) -> Result<Vec<u8>, FileFault>
         ensures octets { (octets : List ℕ) → octets_at self.old path.now ≡ Some octets
             → IfOk result (λ text. text.items ≡ take most octets) }
         ensures fails { IfErr result (IsOfPath path.now) }
         ensures same { (path : List ℕ) → octets_at self.new path ≡ octets_at self.old path };
 
-    /// Whether a file exists at `path`.
+    /// Whether a file exists at `path`. `read_commands` of `app_networks` asks, because a bridge's commands are optional.
     fn is_there(&self, path: &str) -> bool
         ensures { (octets : List ℕ) → octets_at self.now path.now ≡ Some octets → IsTrue result };
 }

@@ -41,7 +41,8 @@ impl From<AllocError> for FileFault {
     }
 }
 
-/// Returns the fault of the file at `path`. If memory for the path runs out, returns `NoMemory` instead.
+/// Returns the fault of the file at `path`. If memory for the path runs out, returns `NoMemory` instead. `spare`, `create` and functions of
+/// `app_commands` and `app_networks` call it.
 pub fn file_fault(alloc: Global, path: &str, cause: Cause) -> FileFault
     ensures { IsOfPath path.now result }
 {

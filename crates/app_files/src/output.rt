@@ -32,7 +32,8 @@ impl<F: Write + OpenFile + Drop> Output<F> {
         open_file_id(&self.file)
     }
 
-    /// Completes the output and returns the file. A file without any write is empty afterwards.
+    /// Completes the output and returns the file. A file without any write is empty afterwards. A command calls it after its last write to
+    /// the file.
     pub fn finish(self) -> io::Result<Output<F>>
         ensures { IfOk result (λ done. done.file ≡ self.file) }
     {
@@ -72,7 +73,7 @@ impl<F: Write + OpenFile + Drop> Write for Output<F> {
     }
 }
 
-/// Opens the file at `path` for writing, or creates it. Its contents remain until the first write.
+/// Opens the file at `path` for writing, or creates it. Its contents remain until the first write. `create_output` calls it.
 pub fn open_output<H: Files>(rt: &H, path: &str) -> io::Result<Output<H::File>> {
     let file = OpenOptions::new().write(true).create(true).open(rt, path)?;
     Ok(Output {
@@ -81,7 +82,8 @@ pub fn open_output<H: Files>(rt: &H, path: &str) -> io::Result<Output<H::File>> 
     })
 }
 
-/// Returns the identity of an open file, or `None` if the system doesn't provide it.
+/// Returns the identity of an open file, or `None` if the system doesn't provide it. `open`, `note_files` and functions of `app_commands`
+/// call it.
 pub fn open_file_id(file: &impl OpenFile) -> Option<FileId> {
     match file.metadata() {
         Ok(metadata) => Some(metadata_file_id(&metadata)),
@@ -89,7 +91,8 @@ pub fn open_file_id(file: &impl OpenFile) -> Option<FileId> {
     }
 }
 
-/// Returns the identity of the file at `path`, or `None` if the file doesn't exist or the system provides no identity.
+/// Returns the identity of the file at `path`, or `None` if the file doesn't exist or the system provides no identity. `note_paths`,
+/// `is_in_use` and functions of `app_commands` and `app_networks` call it.
 pub fn path_file_id(rt: &impl Files, path: &str) -> Option<FileId> {
     match fs::metadata(rt, path) {
         Ok(metadata) => Some(metadata_file_id(&metadata)),
@@ -116,7 +119,8 @@ pub fn is_same_file(one: Option<FileId>, other: Option<FileId>) -> bool
     }
 }
 
-/// Adds a file to the list; does nothing for an unknown file (`None`). If memory runs out, the list is unchanged.
+/// Adds a file to the list; does nothing for an unknown file (`None`). If memory runs out, the list is unchanged. `open`, `note_files` and
+/// others call it.
 pub fn add_file(files: &mut Vec<FileId>, file: Option<FileId>) -> Result<(), NoMemory>
     ensures added { OnOk result (files.new.items ≡ with_known files.old.items file) }
     ensures same { OnErr result (files.new.items ≡ files.old.items) }
@@ -130,7 +134,7 @@ pub fn add_file(files: &mut Vec<FileId>, file: Option<FileId>) -> Result<(), NoM
     }
 }
 
-/// Whether the file is in the list. Returns false for an unknown file (`None`).
+/// Whether the file is in the list. Returns false for an unknown file (`None`). `note_new`, `is_in_use` and others call it.
 pub fn has_file(files: &[FileId], file: Option<FileId>) -> bool
     ensures { IsTrue result ↔ HasFile files.now file }
 {
@@ -149,7 +153,7 @@ pub enum Said {
     Noted(String),
 }
 
-/// Whether an argument stands for standard input or output.
+/// Whether an argument stands for standard input or output. Functions of `app_commands` and `app_networks` call it.
 pub fn is_standard(word: &str) -> bool
     ensures { IsTrue result ↔ IsStandard word.now }
 {

@@ -1,4 +1,4 @@
-//! Paths of the files of a run.
+//! Paths of the files of a run: captures, report and folders.
 ghost use Rattle.std.specs.Prelude.{◌≡◌, IfOk, string_bytes, IfErr, OnOk, option_map};
 ghost use Rattle.app_files.specs.Paths.{capture_path, folder_of, report_path};
 ghost use Rattle.app_files.specs.Folders.{HavePaths, LackPath};
@@ -8,7 +8,8 @@ use crate::failed_file::{FileFault, file_fault};
 use bridge_limits::NoMemory;
 use std::alloc::{Allocator, Global};
 
-/// Returns the path of a port's capture: the folder, `/`, the port number in decimal, `.pcap`.
+/// Returns the path of a port's capture: the folder, `/`, the port number in decimal, `.pcap`. `CommandFiles::note_captures`,
+/// `create_captures` and functions of `app_commands` and `app_networks` call it.
 pub fn capture_path<A: Allocator + Copy>(
     alloc: A,
     folder: &str,
@@ -19,7 +20,7 @@ pub fn capture_path<A: Allocator + Copy>(
     Ok(format!(in alloc; "{folder}/{port}.pcap")?)
 }
 
-/// Returns the path of the report in a folder: `/report.txt` after the folder.
+/// Returns the path of the report in a folder: `/report.txt` after the folder. Functions of `app_commands` and `app_networks` call it.
 pub fn report_path<A: Allocator + Copy>(alloc: A, folder: &str) -> Result<String<A>, NoMemory>
     ensures { IfOk result (λ path. string_bytes path ≡ report_path folder.now) }
 {

@@ -1,4 +1,4 @@
-//! Reads files and standard input whole.
+//! Reads whole files and the whole standard input, up to a limit.
 ghost use Rattle.std.specs.Prelude.{◌≡◌, List, ℕ, Some, IfOk, take};
 ghost use Rattle.std.specs.IoError.{error_kind};
 ghost use Rattle.app_files.specs.Reading.{read_fault};
@@ -36,7 +36,8 @@ pub fn read_at_most<R: Read + Drop, A: Allocator>(
     }
 }
 
-/// Reads at most `MOST_TEXT` octets of a reader: a plan, commands, traffic or a network.
+/// Reads at most `MOST_TEXT` octets of a reader: a plan, commands, traffic or a network. Functions of `app_commands`, `app_failure` and
+/// `net_latency` call it.
 pub fn read_text<R: Read + Drop, A: Allocator>(alloc: A, reader: R) -> Result<Vec<u8, A>, ReadFault>
     ensures { (octets : List ℕ) → R.remaining reader ≡ Some octets
         → IfOk result (λ text. text.items ≡ take MOST_TEXT octets) }

@@ -1,4 +1,4 @@
-//! Writes files whole.
+//! Writes the whole contents of an output file.
 ghost use Rattle.std.specs.Prelude.{◌≡◌, IfErr, IfOk};
 ghost use Rattle.std.specs.Io.KnownBytes.{Appends};
 ghost use Rattle.app_files.specs.FailedFiles.{IsOfPath};
@@ -29,7 +29,7 @@ pub fn write_file<F: Write + OpenFile + Drop>(
     }
 }
 
-/// Writes `octets` to an output file, flushes and completes it, and returns the file.
+/// Writes `octets` to an output file, flushes and completes it, and returns the file. `write_file` calls it.
 fn write_all<F: Write + OpenFile + Drop>(output: Output<F>, octets: &[u8]) -> io::Result<Output<F>>
     ensures { IfOk result (λ done. Appends (⟦<Output<F> as Write>⟧.contents output)
         (⟦<Output<F> as Write>⟧.contents done) octets.now) }
@@ -40,7 +40,8 @@ fn write_all<F: Write + OpenFile + Drop>(output: Output<F>, octets: &[u8]) -> io
     output.finish()
 }
 
-/// Completes the output file at `path`, and returns it. A file without any write is empty afterwards.
+/// Completes the output file at `path`, and returns it. A file without any write is empty afterwards. `write_report_file` of `app_commands`
+/// and `write_report_file` of `app_networks` call it.
 pub fn finish_file<F: Write + OpenFile + Drop>(
     alloc: Global,
     path: &str,

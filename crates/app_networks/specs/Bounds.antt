@@ -12,8 +12,8 @@ use Rattle.net_latency.specs.Printing.{PrintsBounds}
 use Rattle.net_latency.specs.SharedWarnings.{AreSharedWarnings}
 use Rattle.net_latency.specs.TrafficText.{EndsTexts, PrintsRows}
 
--- Holds if a plan has these warnings: `unprotected` exactly if no filter is protected or grouped, and one warning in
--- `shared` for each shared queue with a mark.
+-- Holds if a plan has these warnings. It has `unprotected` exactly if no filter is protected or grouped, and `shared` has one warning for
+-- each shared queue with a mark.
 abbrev pub WarnsOfPlan : Plan Global → Option (String Global) → List ℕ → Type 0
 WarnsOfPlan plan unprotected shared = WarnsOfNone plan.filters unprotected × AreSharedWarnings plan shared
 
@@ -56,6 +56,6 @@ IsTrafficOutput strict explained output =
     × PrintsRows Global input words lines kept × WarnsBy strict explained input unprotected shared × (explained && not kept ≡ false → reasons ≡ [])
     × Prints lines (reasons ++ warnings_text unprotected shared) (status_by kept strict (is_warned unprotected shared)) output
 
--- Holds if fault `f` can end the bounds of a plan with traffic: an unreadable file, out of memory, or a fault of plan or traffic.
+-- Holds if failure `f` can end the bounds of a plan with traffic. A file can't be read, memory ran out, or plan or traffic is refused.
 abbrev pub FailsTraffic : List ℕ → List ℕ → Failure → Type 0
 FailsTraffic plan file f = ((input : List ℕ) × (words : List ℕ) × EndsTexts Global plan input file words f) ⊎ (IsFileFault plan f ⊎ IsFileFault file f)

@@ -34,7 +34,7 @@ pub record IsStreamCount {A : Type 0} (links : List Link) (settled : List (Bridg
 abbrev pub saturating_add : ℕ → ℕ → ℕ
 saturating_add n m = min (n + m) (2 ^ 64 - 1)
 
--- Holds if the counts of all streams in the list, added to `n` and `m`, are `frames` and `delivered`.
+-- Holds if the counts of all streams in the list, added to the earlier counts `n` and `m`, are `frames` and `delivered`.
 abbrev pub AreTotals : {A : Type 0} → List Link → List (BridgeResult A) → List Stream → ℕ → ℕ → ℕ → ℕ → Type 0
 AreTotals links settled [] n m frames delivered = (frames ≡ n) × (delivered ≡ m)
 AreTotals links settled (s ∷ ss) n m frames delivered =

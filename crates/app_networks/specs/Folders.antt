@@ -50,7 +50,7 @@ IsStoppedLine bridges (rounds.Bridge b e) line = IsCaptureLine (bridge_name brid
 IsStoppedLine bridges (rounds.NotSettled b port) line = line ≡ unsettled_line (bridge_name bridges b) port
 IsStoppedLine bridges rounds.NoMemory line = ⊥
 
--- Holds if a fault of the program reports this fault of a network run, or memory ran out.
+-- Holds if the command's failure has the fault line of `e`, why a network run stopped, or is `NoMemory`.
 abbrev pub IsStoppedRunFault : List Bridge → RoundsFault → Failure → Type 0
 IsStoppedRunFault bridges e (fault.Rounds line) = IsStoppedLine bridges e (string_bytes line)
 IsStoppedRunFault bridges e fault.NoMemory = Unit {0}
@@ -60,31 +60,33 @@ IsStoppedRunFault bridges e f = ⊥
 unfoldable pub commands_lines : List ℕ → List ℕ → List ℕ
 commands_lines name line = codes "network refused: Commands " ++ (name ++ (codes "\n" ++ line))
 
--- Holds if a fault of the program has the lines of bridge `name`'s commands, refused by fault `e`, or memory ran out.
+-- Holds if the command's failure has the fault lines of bridge `name`'s commands, which fault `e` refuses, or is `NoMemory`.
 abbrev pub SaysCommands : List ℕ → PlanFault → Failure → Type 0
 SaysCommands name e (fault.Network line) = (fault_status (fault.Commands e) ≡ 1) × (string_bytes line ≡ commands_lines name (commands_fault_line e))
 SaysCommands name e fault.NoMemory = Unit {0}
 SaysCommands name e f = ⊥
 
--- Holds if `lines` are the fault lines of some commands for a bridge with plan `p`, by the fault of their text.
+-- Holds if `lines` are fault lines of bridge `name`, which has plan `p`: some text of commands is refused with the fault in these lines.
 abbrev pub RefusesCommandsOf : {A : Type 0} → Plan A → List ℕ → List ℕ → Type 0
 RefusesCommandsOf p name lines = (text : List ℕ) × (e : PlanFault) × (text_commands p text ≡ Err e) × (lines ≡ commands_lines name (commands_fault_line e))
 
--- Holds if the fault ends the reading of a bridge's commands from its folder: the file failed, the commands are refused, or memory ran out.
+-- Holds if the failure can end the reading of a bridge's commands from its folder. The file failed, the commands are refused, or memory ran
+-- out.
 abbrev pub EndsCommands : {A : Type 0} → Plan A → List ℕ → List ℕ → Failure → Type 0
 EndsCommands p name folder (fault.File e) = string_bytes e.path ≡ commands_path folder
 EndsCommands p name folder (fault.Network lines) = RefusesCommandsOf p name (string_bytes lines)
 EndsCommands p name folder fault.NoMemory = Unit {0}
 EndsCommands p name folder f = ⊥
 
--- Holds if the fault ends the reading of the input of the bridge with index `b` from its folder: an input failed, its commands are refused, or memory ran out.
+-- Holds if the failure can end the reading of the input of the bridge with index `b` from its folder. An input failed, its commands are
+-- refused, or memory ran out.
 abbrev pub EndsBridge : {A : Type 0} → List Link → ℕ → Plan A → List ℕ → List ℕ → Failure → Type 0
 EndsBridge links b p name folder (fault.File e) = IsBridgeInputFile links b p folder (string_bytes e.path)
 EndsBridge links b p name folder (fault.Network lines) = RefusesCommandsOf p name (string_bytes lines)
 EndsBridge links b p name folder fault.NoMemory = Unit {0}
 EndsBridge links b p name folder f = ⊥
 
--- Holds if the fault ends the reading of a bridge's captures or commands. Each bridge has its own folder in the folder `input`.
+-- Holds if the failure can end the reading of a bridge's captures or commands. Each bridge has its own folder in the folder `input`.
 abbrev pub EndsReading : {A : Type 0} → List Link → List (Plan A) → List Bridge → List ℕ → Failure → Type 0
 EndsReading {A} links plans bridges input f =
     (b : ℕ) × (p : Plan A) × (slice_get plans b ≡ Some p) × EndsBridge links b p (bridge_name bridges b) (folder_path input (bridge_name bridges b)) f
@@ -103,8 +105,8 @@ abbrev pub StopsRun : {A : Type 0} → NetworkParts A → List Bridge → List �
 StopsRun {A} n bridges line =
     (came : List (BridgeInput A)) × (rounds : ℕ) × (e : RoundsFault) × AreBridgeInputs n.plans came × IsMostRounds n rounds × StopsNetworkRun n came rounds e × IsStoppedLine bridges e line
 
--- Holds if fault `f` ends a run of accepted network `n` between two folders: a file of the run failed, commands are refused, the run stopped, or memory ran
--- out.
+-- Holds if failure `f` can end a run of accepted network `n` between two folders. A file of the run failed, commands are refused, the run
+-- stopped, or memory ran out.
 abbrev pub EndsRun : {A : Type 0} → NetworkParts A → List Bridge → List ℕ → List ℕ → Option (List ℕ) → Failure → Type 0
 EndsRun n bridges input output picture (fault.File e) = FailsRunFiles n bridges input output picture (fault.File e)
 EndsRun n bridges input output picture (fault.Network lines) = EndsReading n.links n.plans bridges input (fault.Network lines)
@@ -112,7 +114,7 @@ EndsRun n bridges input output picture (fault.Rounds line) = StopsRun n bridges 
 EndsRun n bridges input output picture fault.NoMemory = Unit {0}
 EndsRun n bridges input output picture f = ⊥
 
--- Holds if fault `f` ends the run of the network file at `path` between two folders: a fault of its check, or of the accepted network's run.
+-- Holds if failure `f` can end the run of the network file at `path` between two folders. Its check failed, or the accepted network's run.
 abbrev pub EndsRounds : (A : Type 0) → List ℕ → List ℕ → List ℕ → Option (List ℕ) → Failure → Type 0
 EndsRounds A path input output picture f =
     EndsNetwork A path f
@@ -128,14 +130,14 @@ pub record IsAccepted {A : Type 0} (n : NetworkParts A) (f : file.Network) : Typ
 unfoldable pub network_words : file.Network → List ℕ
 network_words f = codes "bridges " ++ (decimal (length f.bridges) ++ (codes " links " ++ (decimal (length f.links) ++ (codes " streams " ++ (decimal (length f.streams) ++ codes " ")))))
 
--- The line that `net` prints: how many bridges, links and streams the network has, how many frames arrived at first
--- hops, and how many of these were delivered and lost.
+-- The line that `net` prints. It has the numbers of bridges, links and streams, of frames that arrived at first hops, and of delivered and
+-- lost frames.
 unfoldable pub rounds_line : file.Network → ℕ → ℕ → List ℕ
 rounds_line f frames delivered = network_words f ++ (codes "frames " ++ (decimal frames ++ (codes " delivered " ++ (decimal delivered
     ++ (codes " lost " ++ (decimal (frames - delivered) ++ codes "\n"))))))
 
--- Holds if `line` is the line of a run with the results `settled`: its numbers are the frames of all streams, and the
--- delivered and lost ones.
+-- Holds if `line` is the line of a run with the results `settled`. Its numbers are the frames of all streams, and the delivered and lost
+-- ones.
 abbrev pub IsLine : {A : Type 0} → List Link → List (BridgeResult A) → file.Network → List ℕ → Type 0
 IsLine links settled f line = (frames : ℕ) × (delivered : ℕ) × AreTotals links settled f.streams 0 0 frames delivered × (line ≡ rounds_line f frames delivered)
 

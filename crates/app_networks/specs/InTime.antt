@@ -20,8 +20,8 @@ use Rattle.net_report.specs.SourceFrames.{ArrivedOverLink, IsCopyOfKnownFrame, I
 
 -- THE ROUTE OF A FRAME
 
--- Holds if frame `k`, counted from 0, of the hop at index `i` arrived over a link as a copy of another hop's frame for which `Known` holds.
--- The leg has the index of that hop and the delay of the link.
+-- Holds if frame `k` (from 0) of hop `i` arrived over a link: as a copy of another hop's frame, for which `Known` holds. The leg has the
+-- index of that hop and the delay of the link.
 pub record IsCopyOverRouteHop {A : Type 0} (links : List Link) (hops : List (HopRun A)) (leg : ℕ × ℕ) (Known : ℕ → ℕ → Type 0) (i k : ℕ) : Type 0 where
   pub behind : IsCopyOfKnownFrame links hops Known i k
   pub place : behind.place ≡ leg.0
@@ -33,11 +33,11 @@ abbrev pub HasSourceOverRoute : {A : Type 0} → List Link → List (HopRun A) �
 HasSourceOverRoute links hops r [] i k = IsFirstHopFrame hops i k r
 HasSourceOverRoute links hops r (leg ∷ legs) i k = IsCopyOverRouteHop links hops leg (HasSourceOverRoute links hops r legs) i k
 
--- The indices of the hops on a route.
+-- The indices of the hops on a route, in the order in which a frame passes them.
 abbrev pub route_hops : ℕ → List (ℕ × ℕ) → List ℕ
 route_hops i legs = i ∷ map (λ (leg : ℕ × ℕ). leg.0) legs
 
--- Holds if a route passes no hop twice.
+-- Holds if a route passes no hop twice: bounds of delays need this.
 abbrev pub GoesOnce : ℕ → List (ℕ × ℕ) → Type 0
 GoesOnce i legs = IsOrdered (λ a b. a ≢ b) (route_hops i legs)
 
@@ -89,6 +89,6 @@ pub record IsHopBounded {A : Type 0} (n : Network A) (x : ℕ × ℕ) (most : �
   pub protected : filter.protected ≡ true
   pub bounds : (q c : ℕ) → reaches_queue plan filter q c ≡ true → (b : ℕ) × IsQueueBound plan x.1 q c b × (b ≤ most)
 
--- Holds if the bounds of each hop of a stream are at most `most i`, where `i` is the hop's index.
+-- Holds if the bounds of each hop of a stream are at most `most i`; `i` is the hop's index.
 abbrev pub AreHopsBounded : {A : Type 0} → Network A → List (ℕ × ℕ) → (ℕ → ℕ) → Type 0
 AreHopsBounded n stream most = (i : ℕ) (x : ℕ × ℕ) → slice_get stream i ≡ Some x → IsHopBounded n x (most i)

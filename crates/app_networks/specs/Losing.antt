@@ -27,7 +27,7 @@ use Rattle.app_networks.specs.Folders.{IsLine, IsIsolatedRun}
 abbrev pub has_lines : List ℕ → Bool
 has_lines text = not (nat_eq (length text) 0)
 
--- The name of a hop, followed by a space.
+-- The name of a hop (bridge and filter), followed by a space, as lines about losses begin.
 abbrev pub place_words : List Bridge → ℕ × ℕ → List ℕ
 place_words bridges hop = bridge_name bridges hop.0 ++ (codes "." ++ (decimal hop.1 ++ codes " "))
 

@@ -59,6 +59,6 @@ IsNetworkRunOutput strict explained output = IsDoneRun strict explained output �
 
 -- PICTURE
 
--- Holds if fault `f` can end the picture of a network: a fault of its check, or of the picture's file.
+-- Holds if failure `f` can end the picture of a network: its check failed, or the picture's file.
 abbrev pub FailsNetworkPicture : List ℕ → List ℕ → Failure → Type 0
 FailsNetworkPicture path file f = EndsNetwork Global path f ⊎ IsOfPicture file f

@@ -1,4 +1,4 @@
--- The output files of a network run.
+-- Files that a network run writes: captures and reports of its bridges.
 use Rattle.std.specs.Prelude.{ℕ, List, [], ◌∷◌, ◌++◌, Option, codes}
 use Rattle.std.specs.Io.KnownBytes.{Appends}
 use Rattle.bridge_capture.specs.Memory.{MemoryDevice}

@@ -41,8 +41,8 @@ pub record IsRequest (words : List Text) (r : Request) : Type 0 where
 abbrev pub MissesHelp : List Text → Type 0
 MissesHelp words = list_any is_help_word words ≡ true → ¬ AsksForHelp (fault_of commands words)
 
--- Holds if fault `f` refuses the arguments, or memory ran out. Refused arguments request neither help nor a command, except that they may name a part of a run
--- or plan.
+-- Holds if failure `f` means that the arguments are refused, or that memory ran out. Refused arguments request neither help nor a command,
+-- except that they may name a part of a run or plan.
 abbrev pub RefusesWords : List Text → Failure → Type 0
 RefusesWords words fault.Words = MissesHelp words × ((job : Command) → AsksFor words job → NamesPart words)
 RefusesWords words fault.NoMemory = Unit {0}
@@ -72,16 +72,16 @@ PerformsRequest r output = PerformsJob r.job r.is_strict r.is_explained output
 
 -- A FAILED COMMAND
 
--- Holds if fault `f` can end the picture of the file at `path`, a plan or a network. A part of a network is refused.
+-- Holds if failure `f` can end the picture of the file at `path`, a plan or a network. A part of a network is refused.
 abbrev pub FailsPicture : List ℕ → List ℕ → Bool → Failure → Type 0
 FailsPicture path file part f = EndsPicture Global path file f ⊎ (FailsNetworkPicture path file f ⊎ ((part ≡ true) × (f ≡ fault.Words)))
 
--- Holds if fault `f` can end `bounds`, by the paths of the plan and the optional traffic.
+-- Holds if failure `f` can end `bounds` for the plan at path `plan` and, if given, the traffic at path `file`.
 abbrev pub FailsBounds : List ℕ → Option (List ℕ) → Failure → Type 0
 FailsBounds plan None f = EndsChecked Global plan f
 FailsBounds plan (Some file) f = FailsTraffic plan file f
 
--- Holds if fault `f` can end the command of a request.
+-- Holds if failure `f` can end the command of request `r`.
 abbrev pub FailsJob : Command → Request → Failure → Type 0
 FailsJob job.Text r f = FailsText f
 FailsJob (job.Wire speed room input file) r f = EndsWiring (string_bytes input) (string_bytes file) f

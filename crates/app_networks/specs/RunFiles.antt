@@ -15,7 +15,7 @@ use Rattle.app_files.specs.FailedFiles.{IsCapture}
 use Rattle.app_files.specs.Paths.{capture_path, report_path}
 use Rattle.app_networks.specs.OutputFiles.{folder_path}
 
--- Holds if the fault names one of these files, or memory ran out.
+-- Holds if the failure names one of these files, or if memory ran out.
 abbrev pub NamesFile : (List ℕ → Type 0) → Failure → Type 0
 NamesFile files (fault.File e) = files (string_bytes e.path)
 NamesFile files fault.NoMemory = Unit {0}
@@ -23,7 +23,7 @@ NamesFile files f = ⊥
 
 -- INPUTS
 
--- The path of the commands in a bridge's folder.
+-- The path of the file of commands in a bridge's folder `folder`.
 abbrev pub commands_path : List ℕ → List ℕ
 commands_path folder = folder ++ codes "/commands.toml"
 
@@ -32,7 +32,8 @@ abbrev pub IsOpenCapture : List Link → ℕ → List ℕ → List ℕ → List 
 IsOpenCapture links b ports folder path =
     (port : ℕ) × IsMember port ports × (is_some (sender (map link_value links) b port) ≡ false) × (path ≡ capture_path folder port)
 
--- Holds if `path` is an input of the bridge with index `b` and plan `p`: the capture of an open port, or the commands, in the bridge's folder.
+-- Holds if `path` is an input of the bridge with index `b` and plan `p`. The inputs are the captures of open ports and the commands, in the
+-- bridge's folder.
 abbrev pub IsBridgeInputFile : {A : Type 0} → List Link → ℕ → Plan A → List ℕ → List ℕ → Type 0
 IsBridgeInputFile links b p folder path = ((ports : List ℕ) × ArePortNumbers p ports × IsOpenCapture links b ports folder path) ⊎ (path ≡ commands_path folder)
 
@@ -52,7 +53,7 @@ abbrev pub IsOutputOfBridges : {A : Type 0} → List (Plan A) → List Bridge �
 IsOutputOfBridges {A} plans bridges output path =
     (b : ℕ) × (p : Plan A) × (slice_get plans b ≡ Some p) × IsBridgeOutputFile p (folder_path output (bridge_name bridges b)) path
 
--- The path of a table in the output folder.
+-- The path of the table `name` in the output folder `folder`: `FOLDER/NAME.csv`.
 abbrev pub table_path : List ℕ → List ℕ → List ℕ
 table_path folder name = folder ++ (codes "/" ++ (name ++ codes ".csv"))
 
@@ -75,7 +76,8 @@ IsWrittenFile plans bridges output picture path = IsOutputFile plans bridges out
 
 -- THE RUN
 
--- Holds if a fault of a file can end the run of a network between two folders: one folder has an empty path, or an input, an output or the picture failed.
+-- Holds if a file fault can end the run of a network between two folders. One folder has an empty path, or an input, an output or the
+-- picture failed.
 abbrev pub FailsRunFiles : {A : Type 0} → NetworkParts A → List Bridge → List ℕ → List ℕ → Option (List ℕ) → Failure → Type 0
 FailsRunFiles n bridges input output picture f =
     LacksPath input output f ⊎ (NamesFile (IsInputFile n.links n.plans bridges input) f ⊎ NamesFile (IsWrittenFile n.plans bridges output picture) f)

@@ -44,7 +44,7 @@ pub(crate) fn bound_plan<H: AllocGlobal + Files>(
     bounded
 }
 
-/// Returns the output of `bounds` for the plan in `text`. A fault names the path `plan`. `bound_plan` calls it.
+/// Returns the output of `bounds` for the plan in `text`. A failure names the path `plan`. `bound_plan` calls it.
 fn bound_text(alloc: Global, plan: &str, text: &[u8], flags: Flags) -> Result<Output, Failure>
     ensures ok { IfOk result (IsBoundsOutput flags.is_strict flags.is_explained) }
     ensures fails { IfErr result (EndsChecked Global plan.now) }
@@ -112,7 +112,7 @@ fn is_warned(warnings: &BoundsWarnings) -> bool
     warnings.unprotected.is_some() || !warnings.shared.as_str().is_empty()
 }
 
-/// Appends all warnings to `text`: the plan's own, then those about shared queues.
+/// Appends all warnings to `text`: the plan's own, then those about shared queues. `bounds_output` calls it.
 fn push_warnings(text: &mut String, warnings: &BoundsWarnings) -> Result<(), AllocError>
     ensures { OnOk result (string_bytes text.new ≡ string_bytes text.old
         ++ warnings_text warnings.now.unprotected (string_bytes warnings.now.shared)) }

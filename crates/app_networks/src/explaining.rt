@@ -40,10 +40,10 @@ fn name_after_prefix<'a>(text: &'a str, front: &str) -> Option<&'a str> {
     Some(name)
 }
 
-/// Explains why the network at `path` is refused, by its fault line `line`: a plan, commands in folder `input`, its text, or a test.
-/// Returns `None` if a file can't be read again.
+/// Explains why the network at `path` is refused. Its fault line `line` shows the cause: a plan, commands in folder `input`, the network's
+/// text, or a test.
 ///
-/// `explain_network_fault` calls it.
+/// Returns `None` if a file can't be read again. `explain_network_fault` calls it.
 pub(crate) fn explain_refused_network(
     rt: &(impl AllocGlobal + Files),
     path: &str,
@@ -80,8 +80,8 @@ fn plan_path(rt: &(impl AllocGlobal + Files), path: &str, name: &str) -> Option<
     None
 }
 
-/// Explains why the plan of bridge `name` is refused, by its text or its tests. Returns `None` if the plan can't be read again or is
-/// accepted now. `explain_refused_network` calls it.
+/// Explains why the plan of bridge `name` is refused: reads its file again and checks it. Returns `None` if the plan can't be read again or
+/// is accepted now. `explain_refused_network` calls it.
 fn explain_bridge_plan(rt: &(impl AllocGlobal + Files), path: &str, name: &str) -> Option<String> {
     let alloc = rt.alloc();
     let place = plan_path(rt, path, name)?;
@@ -119,8 +119,8 @@ fn explain_bridge_commands(
     }
 }
 
-/// Explains a stopped network run, by its fault line `line`: why a capture is refused, or which loops let inputs change forever. Returns
-/// `None` if a file can't be read again.
+/// Explains a stopped network run. Its fault line `line` shows the cause: a capture is refused, or loops let inputs change forever. Returns
+/// `None` if a file can't be read again. `explain_network_fault` calls it.
 pub(crate) fn explain_stopped_run(
     rt: &(impl AllocGlobal + Files),
     path: &str,

@@ -22,8 +22,8 @@ use std::alloc::Global;
 /// Largest number of octets read from a capture: 1,000,001 records of the greatest length, one more than a capture may have.
 const MOST_CAPTURE: u64 = 65_552_065_576;
 
-/// Reads at most `most` octets of the file at `path`. Converts a file fault to the program's fault. `read_capture` and `read_commands` call
-/// it.
+/// Reads at most `most` octets of the file at `path`. Converts a file fault to the command's failure. `read_capture` and `read_commands`
+/// call it.
 fn read_file<F: ReadFiles>(files: &mut F, path: &str, most: u64) -> Result<Vec<u8>, Failure>
     ensures { IfErr result (IsFileFault path.now) }
 {
@@ -75,7 +75,7 @@ fn read_captures<F: ReadFiles>(
     Ok(captures)
 }
 
-/// Returns the commands in a text, which must suit the bridge's plan. A fault has the bridge's name `name`.
+/// Returns the commands in a text, which must suit the bridge's plan. A failure has the bridge's name `name`. `read_commands` calls it.
 fn bridge_commands(
     alloc: Global,
     accepted: &Accepted<Global>,
@@ -91,7 +91,8 @@ fn bridge_commands(
     }
 }
 
-/// Reads the commands in a bridge's folder. Returns none if the folder has no file of commands.
+/// Reads the commands in `folder`, the input folder of the bridge with name `name`. Returns an empty list if the folder has no file
+/// `commands.toml`. `read_bridge_input` calls it.
 fn read_commands<F: ReadFiles>(
     alloc: Global,
     files: &mut F,
@@ -147,7 +148,7 @@ struct Place<'a> {
 }
 
 /// Reads the input of each bridge from its folder in `input`. Returns the first fault: by bridge, then by rising port, with the bridge's
-/// commands last.
+/// commands last. `read_bridge_inputs` calls it.
 fn read_inputs_of_plans<F: ReadFiles>(
     alloc: Global,
     files: &mut F,

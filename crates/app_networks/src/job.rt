@@ -93,7 +93,8 @@ struct RunLines {
     lost: String,
 }
 
-/// Returns the lines of streams with lost frames or missed deadlines, if losses are errors; otherwise the empty text.
+/// Returns the lines of streams with lost frames or missed deadlines, if losses are errors; otherwise the empty text. `write_results` calls
+/// it.
 fn lost_if(
     alloc: Global,
     file: &NetworkFile<Global>,
@@ -346,7 +347,7 @@ impl NetworkRunResult {
     ghost use Rattle.std.specs.Prelude.{◌≡◌};
     ghost use Rattle.app_networks.specs.Losing.{status_of};
 
-    /// Returns the exit status: 1 if a warning or a loss is an error, otherwise 0.
+    /// Returns the exit status: 1 if a warning or a loss is an error, otherwise 0. `output_of_run` needs it.
     pub fn status(&self) -> u8
         ensures { result ≡ status_of self.now.is_warned self.now.is_lossy }
     {
@@ -358,7 +359,7 @@ impl NetworkRunResult {
     }
 }
 
-/// Returns the warnings of `net check`, if warnings are errors; otherwise the empty text.
+/// Returns the warnings of `net check`, if warnings are errors; otherwise the empty text. `run_accepted` calls it.
 fn warnings_if(
     alloc: Global,
     file: &NetworkFile<Global>,
@@ -375,7 +376,7 @@ fn warnings_if(
     all_warnings(alloc, alloc, file, network, &bounds)
 }
 
-/// Runs an accepted network. If warnings are errors and the network has one, runs nothing and opens no file.
+/// Runs an accepted network. If warnings are errors and the network has one, runs nothing and opens no file. `run_rounds` calls it.
 fn run_accepted<H: AllocGlobal + Eprint + Files>(
     files: &mut CommandFiles<'_, H>,
     file: &NetworkFile<Global>,

@@ -39,6 +39,8 @@ use std::alloc::Allocator;
 
 /// A frame has a source over `n` links exactly if it has this source over a route of `n` legs. A leg is an earlier hop and the delay of the
 /// link after it.
+///
+/// Laws about the delays of routes rest on it.
 pub fn legs_are_links<A: Allocator + Copy>()
     ensures there { (links : List Link) (hops : List (HopRun A)) (r : SourceFrame) (n i k : ℕ)
         → HasSource links hops r n i k
@@ -48,8 +50,9 @@ pub fn legs_are_links<A: Allocator + Copy>()
         → HasSource links hops r (length legs) i k }
 {}
 
-/// In a complete run of an accepted network, each copy's delay since the first hop is at most the sum of the bounds of its hops and the
-/// delays of its links.
+/// In a complete run of an accepted network, each copy's delay since the first hop has a bound.
+///
+/// It is the sum of the bounds of its hops and the delays of its links. docs/NETWORK_PROOF.md cites it.
 pub fn measured_in_time<A: Allocator + Copy>()
     ensures { (n : Network A) (commands : ℕ → List Input) (captures : ℕ → ℕ → List CapturedFrame) (o : ℕ → Outcome A)
         (stream : List (ℕ × ℕ)) (links : List Link) (hops : List (HopRun A)) (most : ℕ → ℕ) (r : SourceFrame)
@@ -64,8 +67,9 @@ pub fn measured_in_time<A: Allocator + Copy>()
         → d.done ≤ r.came + route_time most i legs }
 {}
 
-/// In a complete run of an accepted network, a frame that passed no hop twice keeps its stream's bound (`copy`). If this holds for a hop's
-/// frames, its delays are within the bound (`delays`).
+/// In a complete run of an accepted network, a frame that passed no hop twice keeps its stream's bound (`copy`).
+///
+/// If this holds for a hop's frames, its delays are within the bound (`delays`). docs/NETWORK_PROOF.md cites it.
 pub fn measured_within_bound<A: Allocator + Copy>()
     ensures copy { (f : file.Network) (plans : List (Plan A)) (n : NetworkParts A) (came : List (BridgeInput A))
         (settled : List (BridgeResult A)) (o : ℕ → Outcome A) (bounds : List (Vec QueueBound A)) (s : Stream)
@@ -104,8 +108,8 @@ pub fn measured_within_bound<A: Allocator + Copy>()
         → delay ≤ stream_bound bounds f.links s.hops }
 {}
 
-/// No frame passes a hop twice if hops have ranks, and each frame that arrives at a hop over a link comes from a hop of lower rank, such as
-/// an earlier hop.
+/// No frame passes a hop twice if hops have ranks, such as their numbers. Each frame that arrives at a hop over a link must come from a hop
+/// of lower rank. docs/NETWORK_PROOF.md cites it.
 pub fn ranked_route_goes_once<A: Allocator + Copy>()
     ensures { (links : List Link) (hops : List (HopRun A)) (rank : ℕ
         → ℕ) (r : SourceFrame) (legs : List (ℕ × ℕ)) (i k : ℕ)
@@ -116,6 +120,8 @@ pub fn ranked_route_goes_once<A: Allocator + Copy>()
 
 /// In a complete run of one bridge over captures, each frame leaves within the tight bound of its queue. Captured octets never exceed a
 /// frame's length, so `in_time_by_octets` applies.
+///
+/// So bounds by octets hold for each run of `run`.
 pub fn read_in_time_by_octets<A: Allocator + Copy, W>()
     ensures { (p : Plan A) (ports : List ℕ) (commands : List Command) (texts : ℕ → List ℕ) (contents : W
         → Option (List ℕ))
@@ -133,7 +139,8 @@ pub fn read_in_time_by_octets<A: Allocator + Copy, W>()
 
 /// In a complete run of one bridge over captures, each frame leaves within its queue's printed bound (`bound`).
 ///
-/// If all frames have at least 60 octets, they leave within the bound after the word `padded` (`padded`).
+/// If all frames have at least 60 octets, they leave within the bound after the word `padded` (`padded`). So bounds that `bounds` prints
+/// hold for each run of `run`.
 pub fn read_in_printed_time<A: Allocator + Copy, W>()
     ensures bound { (p : Plan A) (ports : List ℕ) (commands : List Command) (texts : ℕ → List ℕ) (contents : W
         → Option (List ℕ))

@@ -45,7 +45,7 @@ fn hop_loss(
     Ok(HopLosses { place, counts })
 }
 
-/// Returns the losses of each hop of a stream, in the order of `hops`. `runs` has the records of these hops. `put_stream` calls it.
+/// Returns the losses of each hop of a stream, in the order of `hops`. `runs` has the records of these hops. `put_stream_lines` calls it.
 fn stream_losses(
     alloc: Global,
     bridges: &[BridgeRow<Global>],
@@ -67,8 +67,9 @@ fn stream_losses(
     Ok(all)
 }
 
-/// Writes the lines about a stream that lost frames or missed its deadline. Traces the stream's frames to find them.
-fn put_stream(
+/// Writes the lines about a stream that lost frames or missed its deadline. Traces the stream's frames to find them. `fault_lines` calls
+/// it.
+fn put_stream_lines(
     alloc: Global,
     text: &mut TextBuilder<Global>,
     bridges: &[BridgeRow<Global>],
@@ -110,7 +111,7 @@ pub(crate) fn fault_lines(
 {
     let mut text = TextBuilder::new(alloc);
     for stream in file.streams() {
-        put_stream(alloc, &mut text, file.bridges(), links, settled, stream)?;
+        put_stream_lines(alloc, &mut text, file.bridges(), links, settled, stream)?;
     }
     text.finish()
 }

@@ -18,7 +18,8 @@ use net_check::{NetworkOutput, explain_streams, network_job};
 use std::alloc::Global;
 use std::rt::Files;
 
-/// Returns the output of `net check`. The status is 1 if a stream is refusable or late, or if a warning is an error.
+/// Returns the output of `net check`. The status is 1 if a stream is refusable or late, or if a warning is an error. `run_request` calls
+/// it.
 pub(crate) fn check_network<H: AllocGlobal + Files>(
     files: &mut CommandFiles<'_, H>,
     path: &str,
@@ -73,7 +74,7 @@ fn output_of_check(said: NetworkOutput, reasons: String, flags: Flags) -> Result
 }
 
 /// Runs a network and returns the output of `net`. The status is 1 if a warning or a loss is an error. After such a warning, the network
-/// doesn't run.
+/// doesn't run. `run_network_request` calls it.
 pub(crate) fn run_network<H: AllocGlobal + Eprint + Files>(
     files: &mut CommandFiles<'_, H>,
     job: &NetworkRunRequest<'_>,
@@ -112,8 +113,8 @@ fn output_of_run(alloc: Global, said: NetworkRunResult, flags: Flags) -> Output
     }
 }
 
-/// Returns the text `told`, followed by the number of rounds if `is_explained`. If memory runs out, the number is left out. `output_of_run`
-/// calls it.
+/// Returns the text `told`, and if `is_explained`, the number of rounds after it. If memory runs out, the number is left out.
+/// `output_of_run` calls it.
 fn with_rounds(alloc: Global, told: String, rounds: u32, is_explained: bool) -> String
     ensures { IsWithRounds (string_bytes told) is_explained (string_bytes result) }
 {
@@ -132,7 +133,7 @@ fn rounds_line(alloc: Global, rounds: u32) -> String {
     }
 }
 
-/// Draws a network into `file`, or to standard output for `-`, and returns the output of `picture`.
+/// Draws a network into `file`, or to standard output for `-`, and returns the output of `picture`. `draw` calls it.
 pub(crate) fn draw_network<H: AllocGlobal + Files>(
     files: &mut CommandFiles<'_, H>,
     path: &str,

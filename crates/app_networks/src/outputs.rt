@@ -17,7 +17,8 @@ use std::fs::OpenFile;
 use std::io::Write;
 use std::rt::Files;
 
-/// Returns the path of a bridge's folder: the folder `name` in the input or output folder `folder`.
+/// Returns the path of a bridge's folder: the folder `name` in the input or output folder `folder`. `read_inputs_of_plans`, `input_folders`
+/// and others call it.
 pub(crate) fn bridge_folder(alloc: Global, folder: &str, name: &str) -> Result<String, NoMemory>
     ensures { IfOk result (λ path. string_bytes path ≡ folder_path folder.now name.now) }
 {
@@ -78,7 +79,8 @@ fn make_folder<H: AllocGlobal + Files>(rt: &H, path: &str, read: &[FileId]) -> R
     }
 }
 
-/// Opens the file at `path` for writing. A file in use is refused; the opened file is in use afterwards.
+/// Opens the file at `path` for writing. A file in use is refused; the opened file is in use afterwards. `open_table`, `open_bridge` and
+/// `open_picture` call it.
 pub(crate) fn open_output<H: AllocGlobal + Files>(
     files: &mut CommandFiles<'_, H>,
     path: &str,
@@ -105,7 +107,8 @@ fn open_table<H: AllocGlobal + Files>(
     }
 }
 
-/// Opens the captures of `ports` in a bridge's folder for writing, by rising port. Refuses two captures that are one file.
+/// Opens the captures of `ports` in a bridge's folder for writing, by rising port. Refuses two captures that are one file. `open_bridge`
+/// calls it.
 fn open_captures<H: AllocGlobal + Files>(
     files: &mut CommandFiles<'_, H>,
     folder: &str,

@@ -134,7 +134,7 @@ fn put_all_streams(
     Ok(())
 }
 
-/// Returns the picture of a network run as SVG text.
+/// Returns the picture of a network run as SVG text. `write_picture` calls it.
 fn draw_run(
     alloc: Global,
     file: &NetworkFile<Global>,
@@ -158,8 +158,8 @@ fn draw_run(
     picture.finish(alloc)
 }
 
-/// Writes the requested picture of a run to `output`, the file at `path`. Does nothing if no picture is requested. A fault names the path.
-/// `write_results_and_picture` calls it.
+/// Writes the requested picture of a run to `output`, the file at `path`. Does nothing if no picture is requested. A failure names the
+/// path. `write_results_and_picture` calls it.
 pub(crate) fn write_picture<F: Write + OpenFile + Drop>(
     alloc: Global,
     file: &NetworkFile<Global>,

@@ -127,7 +127,8 @@ pub(crate) fn requested_run<'a>(
     }
 }
 
-/// Carries out the command of a request by the command's function. Keeps in `texts` what it reads. `request_output` calls it.
+/// Carries out the command of a request by the command's function. Keeps the texts that it reads in `texts`, for explanations.
+/// `request_output` calls it.
 fn run_request<H: Input + AllocGlobal + Clock + Print + Eprint + Files>(
     rt: &H,
     request: &Request,
@@ -215,7 +216,7 @@ fn run_network_request<H: AllocGlobal + Eprint + Files>(
 }
 
 /// Draws the file at `path`: a network, a plan, or the requested part of a plan. Returns the output of `picture`. A part of a network is
-/// refused.
+/// refused. `run_request` calls it.
 fn draw<H: AllocGlobal + Files>(
     files: &mut CommandFiles<'_, H>,
     path: &String,

@@ -14,8 +14,8 @@ use std::alloc::Global;
 /// Exit status for refused commands. By it, `bridge_commands_fault` distinguishes them from memory that ran out.
 const REFUSED_COMMANDS: u8 = 1;
 
-/// Returns the program's fault for the refused commands of bridge `name`: a line with this name, then the commands' own fault line. Returns
-/// `NoMemory` if memory ran out.
+/// Returns the command's failure for the refused commands of bridge `name`: a line with this name, then the commands' own fault line.
+/// Returns `NoMemory` if memory ran out. `bridge_commands` calls it.
 #[tactic(auto, unfolding(crate::specs::Folders::commands_lines))]
 pub(crate) fn bridge_commands_fault(alloc: Global, name: &str, fault: PlanFault) -> Failure
     ensures { SaysCommands name.now fault result }
@@ -32,7 +32,7 @@ pub(crate) fn bridge_commands_fault(alloc: Global, name: &str, fault: PlanFault)
     }
 }
 
-/// Returns the name of the bridge with index `bridge`, or an empty text.
+/// Returns the name of the bridge with index `bridge`, or an empty text. `read_inputs_of_plans`, `hop_prefix` and others call it.
 pub(crate) fn bridge_name(bridges: &[BridgeRow<Global>], bridge: usize) -> &str
     ensures { result.now ≡ bridge_name bridges.now bridge }
 {
@@ -62,8 +62,8 @@ fn unsettled_line(alloc: Global, name: &str, port: u8) -> Result<String, NoMemor
     Ok(format!(in alloc; "network not settled {name}.{port}")?)
 }
 
-/// Returns the fault of a stopped network run: `Rounds` with its fault line, or `NoMemory`. The line names a bridge and a port.
-/// `run_network_folders` calls it.
+/// Returns the command's failure after a stopped network run: `Rounds` with its fault line, or `NoMemory`. The line names a bridge and a
+/// port. `run_network_folders` calls it.
 pub(crate) fn run_failure(
     alloc: Global,
     bridges: &[BridgeRow<Global>],

@@ -51,7 +51,7 @@ fn hop_run<'a>(settled: &'a [BridgeResult<Global>], hop: (u16, u32)) -> HopRun<'
     }
 }
 
-/// Returns the records of a stream's hops, in file order. `put_stream`, `include_streams` and `put_all_streams` call it.
+/// Returns the records of a stream's hops, in file order. `put_stream_rows`, `include_streams` and `put_all_streams` call it.
 pub(crate) fn hop_runs<'a>(
     alloc: Global,
     settled: &'a [BridgeResult<Global>],
@@ -82,7 +82,7 @@ pub(crate) fn hop_name(
     Ok(format!(in alloc; "{name}.{filter}")?)
 }
 
-/// Returns the names of these hops as in the network's file, for the tables. `put_stream` calls it.
+/// Returns the names of these hops as in the network's file, for the tables. `put_stream_rows` calls it.
 fn hop_names(
     alloc: Global,
     bridges: &[BridgeRow<Global>],
@@ -97,8 +97,8 @@ fn hop_names(
     Ok(names)
 }
 
-/// Writes the rows of a stream to both tables, and returns the totals with its frames added.
-fn put_stream<V: Write, W: Write>(
+/// Writes the rows of a stream to both tables, and returns the totals with its frames added. `write_both_tables` calls it.
+fn put_stream_rows<V: Write, W: Write>(
     alloc: Global,
     file: &NetworkFile<Global>,
     links: &[Link],
@@ -156,7 +156,7 @@ fn write_both_tables<V: Write, W: Write>(
         delivered: 0,
     };
     for (place, stream) in file.streams().iter().enumerate() {
-        let more = put_stream(
+        let more = put_stream_rows(
             alloc,
             file,
             links,
@@ -174,7 +174,7 @@ fn write_both_tables<V: Write, W: Write>(
     Ok(totals)
 }
 
-/// Writes both tables: each begins with its header, followed by the rows of all streams in file order.
+/// Writes both tables: each begins with its header, followed by the rows of all streams in file order. `put_files` calls it.
 pub(crate) fn write_tables<V: Write, W: Write>(
     alloc: Global,
     file: &NetworkFile<Global>,
@@ -217,7 +217,7 @@ pub(crate) struct WrittenTables<F: Write + OpenFile + Drop> {
     pub frames: Output<F>,
 }
 
-/// Returns the program's fault for the table `name` in `folder`, which wasn't written. `folder_fault` calls it.
+/// Returns the command's failure for the table `name` in `folder`, which wasn't written. `folder_fault` calls it.
 fn table_fault(alloc: Global, folder: &str, name: &str) -> Failure
     ensures { IsFileFault (table_path folder.now name.now) result }
 {
@@ -227,7 +227,7 @@ fn table_fault(alloc: Global, folder: &str, name: &str) -> Failure
     }
 }
 
-/// Returns the program's fault for a table that wasn't written, with the table's path in `folder`. `put_tables` calls it.
+/// Returns the command's failure for a table that wasn't written, with the table's path in `folder`. `put_tables` calls it.
 fn folder_fault(alloc: Global, folder: &str, fault: TableFault) -> Failure
     ensures { NamesFile (IsTableFile folder.now) result }
 {
@@ -281,7 +281,8 @@ fn put_files<F: Write + OpenFile + Drop>(
     }
 }
 
-/// Writes the tables of streams and frames of a network run, and returns their files. A fault names the path of its table in `folder`.
+/// Writes the tables of streams and frames of a network run, and returns their files. A failure names the path of its table in `folder`.
+/// `write_results` calls it.
 pub(crate) fn put_tables<F: Write + OpenFile + Drop>(
     alloc: Global,
     file: &NetworkFile<Global>,

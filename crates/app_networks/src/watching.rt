@@ -26,7 +26,8 @@ impl<H: Eprint> RoundObserver for ProgressPrinter<'_, H> {
 }
 
 impl<'a, H: Eprint> ProgressPrinter<'a, H> {
-    /// Makes the observer of a run with these inputs. It shows lines if the user watches and the inputs are long.
+    /// Makes the observer of a run with these inputs. It shows lines if the user watches and the inputs are long. `run_network_folders`
+    /// calls it.
     pub(crate) fn new(
         rt: &'a H,
         bridges: &'a [BridgeRow<Global>],
@@ -40,7 +41,8 @@ impl<'a, H: Eprint> ProgressPrinter<'a, H> {
         }
     }
 
-    /// Removes the progress line from standard error, if the observer shows one.
+    /// Removes the progress line from standard error, if the observer shows one. Lines that follow on standard error then begin at the
+    /// left.
     pub(crate) fn clear(&self) {
         if self.is_wanted {
             clear_line(self.rt);

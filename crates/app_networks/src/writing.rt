@@ -21,7 +21,7 @@ use std::alloc::Global;
 use std::fs::OpenFile;
 use std::io::Write;
 
-/// Writes the capture of a bridge's port to the open file `output`, and returns the file. A fault names the file's path in the bridge's
+/// Writes the capture of a bridge's port to the open file `output`, and returns the file. A failure names the file's path in the bridge's
 /// folder. `write_captures` calls it.
 fn put_tap<F: Write + OpenFile + Drop>(
     alloc: Global,
@@ -74,7 +74,7 @@ fn write_captures<F: Write + OpenFile + Drop>(
     Ok(done)
 }
 
-/// Writes the report of a bridge to its file, and returns the file. A fault names its path.
+/// Writes the report of a bridge to its file, and returns the file. A failure names its path. `write_bridge` calls it.
 fn write_report_file<F: Write + OpenFile + Drop>(
     alloc: Global,
     folder: &str,

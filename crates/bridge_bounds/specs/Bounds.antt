@@ -100,22 +100,22 @@ pub record IsFramesBound {A : Type 0} (out : PortPlan A) (c m k b : ℕ) : Type 
 abbrev pub IsRoomBound : {A : Type 0} → PortPlan A → ℕ → ℕ → ℕ → Type 0
 IsRoomBound out c m b = IsFramesBound out c m ((egress_rules out).room c) b
 
--- Holds if `b` ns is the delay bound by capacity of the class-`c` queue at port `out`, for frames that arrive while
--- `lets` is true: the longest time in which a full queue leaves, plus one transmission time, minus 1 ns.
+-- Holds if `b` ns is the capacity bound of the class-`c` queue at port `out`, for frames that arrive while `lets` is true. It is a full
+-- queue's longest time, plus one transmission time, minus 1 ns.
 pub record IsOpeningsBound {A : Type 0} (lets : ℕ → Bool) (out : PortPlan A) (c m b : ℕ) : Type 0 where
   pub longest : ℕ
   pub is : IsOpeningsTime lets (lists_open out.list c) (transmission_time (longest_frame m) out.speed) ((egress_rules out).room c) longest
   pub bound : b ≡ (transmission_time (longest_frame m) out.speed - 1) + longest
 
--- Holds if `b` ns is the bound under one list of the stream gate and one list of the port. With a common cycle, only
--- times at which `lets` is true count. Otherwise, or if `lets` is never true, all times count.
+-- Holds if `b` ns is the delay bound under one list of the stream gate and one list of the port. With a common cycle, only times at which
+-- `lets` is true count. Otherwise, or if `lets` is never true, all times count.
 abbrev pub IsListBound : {A : Type 0} → cyclic.Cyclic GateEntry → cyclic.Cyclic ℕ → (ℕ → Bool) → PortPlan A → ℕ → ℕ → ℕ → Type 0
 IsListBound gate list lets out c m b =
     (HaveCommonCycle gate list × (IsOpeningsBound lets out c m b ⊎ (((u : ℕ) → lets u ≡ false) × IsRoomBound out c m b)))
     ⊎ ((¬ HaveCommonCycle gate list) × IsRoomBound out c m b)
 
--- Holds if `b` ns is the bound under one list of the stream gate. If the port has no list, or its list changes, all
--- arrival times count.
+-- Holds if `b` ns is the delay bound under one list of the stream gate. If the port has no list, or its list changes, all arrival times
+-- count.
 abbrev pub IsGateListBound : {A : Type 0} → cyclic.Cyclic GateEntry → Option (Egress A) → (ℕ → Bool) → PortPlan A → ℕ → ℕ → ℕ → Type 0
 IsGateListBound gate None lets out c m b = IsRoomBound out c m b
 IsGateListBound gate (Some (egress.Cyclic list)) lets out c m b = IsListBound gate list lets out c m b
@@ -128,8 +128,8 @@ IsGateBound (Fixed lets ipv) priority out c m b = IsRoomBound out c m b
 IsGateBound (Cyclic gate) priority out c m b = IsGateListBound gate out.list (fills_at out priority c gate) out c m b
 IsGateBound (Joined j) priority out c m b = IsRoomBound out c m b
 
--- Holds if `b` ns bounds the delays of protected filter `n` in its reachable queue of class `c` at port `q`, from
--- arrival to the end of transmission. `b` follows from the queue's capacity.
+-- Holds if `b` ns bounds the delays of protected filter `n` in its reachable queue of class `c` at port `q`. A delay ends with the
+-- transmission. `b` follows from the queue's capacity.
 pub record IsQueueBound {A : Type 0} (p : Plan A) (n q c b : ℕ) : Type 0 where
   pub filter : FilterPlan
   pub max_sdu : ℕ
@@ -151,8 +151,8 @@ LackCommonCycle (Cyclic gate) (Some (egress.Cyclic list)) = ¬ HaveCommonCycle g
 LackCommonCycle (Cyclic gate) (Some (egress.Joined j)) = ⊥
 LackCommonCycle (Joined j) lists = ⊥
 
--- Holds if the bounds of filter `n` at port `q` count all arrival times because its stream gate's list and the port's
--- list have no common cycle.
+-- Holds if the bounds of filter `n` at port `q` count all arrival times. The reason is that its stream gate's list and the port's list have
+-- no common cycle.
 pub record IsCoarse {A : Type 0} (p : Plan A) (n q : ℕ) : Type 0 where
   pub filter : FilterPlan
   pub gate : GatePlan A
@@ -167,8 +167,8 @@ pub record IsCoarse {A : Type 0} (p : Plan A) (n q : ℕ) : Type 0 where
 abbrev pub HasNoBound : {A : Type 0} → Plan A → ℕ → ℕ → ℕ → Type 0
 HasNoBound p n q c = (f : FilterPlan) → lookup (nat_eq n) p.filters ≡ Some f → f.protected ≡ true → reaches_queue p f q c ≡ false
 
--- Holds if `b` is the lesser of `a` and the bound for `k` frames. If open intervals aren't apart by the longest time of
--- `k` frames, `b` is `a`.
+-- Holds if `b` ns is the lesser of bound `a` and the bound for `k` frames. If open intervals aren't apart by the longest time of `k`
+-- frames, `b` is `a`.
 pub record IsLesserBound {A : Type 0} (l : cyclic.Cyclic GateEntry) (out : PortPlan A) (c m k a b : ℕ) : Type 0 where
   pub few : ℕ
   pub is : IsFramesBound out c m k few

@@ -1,4 +1,4 @@
--- Examples of the definitions, computed.
+-- Computed examples of delay bounds and of their definitions.
 use Rattle.std.specs.Prelude.{◌≡◌, true, false, None, Some, [], ◌∷◌, refl}
 use Rattle.std.proofs.Common.{lit<, lit≤}
 use Rattle.bridge_cycle.specs.Cyclic.{Cyclic, turn_by_time}
@@ -60,6 +60,6 @@ passes_at_last = refl
 pub passes_no_more : turn_passes (λ e. e.lets) (turn_by_time open_gate 1550000) ≡ false
 passes_no_more = refl
 
--- This gate and a port's list with a cycle of 400,000 ns share a cycle of 2,000,000 ns, with 2 × 2 + 5 × 1 intervals.
+-- This gate and a port's list with a cycle of 400,000 ns share a cycle of 2,000,000 ns. It has 2 × 2 + 5 × 1 intervals.
 pub shared_cycle : IsCommonCycle open_gate (record { base = 0; cycle = 400000; entries = (128, 100000) ∷ [] }) 2000000
 shared_cycle = record { some = lit< tt; gate_cycles = refl; list_cycles = refl; few = lit≤ tt }

@@ -17,7 +17,7 @@ abbrev pub AreSeldom : ℕ → ℕ → List ℕ → Type 0
 AreSeldom w n [] = Unit {0}
 AreSeldom w n (t ∷ ts) = (count_recent w t ts < n) × AreSeldom w n ts
 
--- The offer times of the copies that started.
+-- The offer times in ns of the copies that started, in list order.
 abbrev pub offer_times : {X : Type 0} → List (Copy X) → List ℕ
 offer_times [] = []
 offer_times (x ∷ xs) = if is_started x.fate then x.at ∷ offer_times xs else offer_times xs
@@ -45,7 +45,8 @@ abbrev pub AreTurnsApart : (ℕ → Option (Turn GateEntry)) → ℕ → Type 0
 AreTurnsApart turn_at w =
     (t u : ℕ) (x y : Turn GateEntry) → t < u → turn_at t ≡ Some x → turn_at u ≡ Some y → x.state.lets ≡ true → y.state.lets ≡ true → ¬ (x.start ≡ y.start) → t + w ≤ u
 
--- Holds if each open interval has an octet limit that passes at most `k` frames, and open intervals are `w` ns apart.
+-- Holds if each open interval has an octet limit that passes at most `k` frames, and open intervals are separated by at
+-- least `w` ns.
 pub record LetsFew (turn_at : ℕ → Option (Turn GateEntry)) (k w : ℕ) : Type 0 where
   pub few : (t : ℕ) (x : Turn GateEntry) → turn_at t ≡ Some x → x.state.lets ≡ true → IsFrameLimit x.state.octets k
   pub apart : AreTurnsApart turn_at w

@@ -3,14 +3,15 @@ use Rattle.std.specs.Prelude.{◌≡◌, ℕ, Bool, ◌+◌, ◌-◌, ◌%◌, �
 use Rattle.bridge_cycle.specs.Fits.{Fits}
 use Rattle.bridge_bounds.specs.Bounds.{FramesEnd, IsEdge}
 
--- Holds if `c` is the last time at which a transmission of `occ` ns fits in the window that is open at `at`.
+-- Holds if time `c` is the last fit in the window that is open at time `at`. A transmission of `occ` ns fits at `c`,
+-- and not 1 ns later.
 pub record IsWindowEnd (opens : ℕ → Bool) (occ at c : ℕ) : Type 0 where
   pub after : at ≤ c
   pub all : (v : ℕ) → at ≤ v → v ≤ c → Fits opens occ v
   pub edge : IsEdge opens occ c
 
--- Holds if `start` is the later of `from` and this time: frames sent from it one after another miss the last fit of the
--- window at `to` by 1 ns. If the window never ends, any `start` will do.
+-- Holds if `start` is the later of `from` and the time from which frames, one after another, miss the window's last fit
+-- by 1 ns. The window contains `to`; if it never ends, any `start` will do.
 abbrev pub IsLatestStart : (ℕ → Bool) → ℕ → ℕ → ℕ → ℕ → Type 0
 IsLatestStart opens occ from to start =
     Fits opens occ to → ((v : ℕ) → to ≤ v → Fits opens occ v) ⊎ ((c : ℕ) × IsWindowEnd opens occ to c × (start ≡ max from (to + 1 + (c - to) % occ - occ)))

@@ -29,11 +29,11 @@ pub record IsCommonCycle (gate : cyclic.Cyclic GateEntry) (list : cyclic.Cyclic 
   pub list_cycles : span % list.cycle ≡ 0
   pub few : span / gate.cycle * length gate.entries + span / list.cycle * length list.entries ≤ MAX_INTERVALS
 
--- Holds if some time is a common cycle of both lists.
+-- Holds if the lists of gate and port have a common cycle: a time `span` that fulfils `IsCommonCycle`.
 abbrev pub HaveCommonCycle : cyclic.Cyclic GateEntry → cyclic.Cyclic ℕ → Type 0
 HaveCommonCycle gate list = (span : ℕ) × IsCommonCycle gate list span
 
--- Holds if `n` is the least number, from 1 to `most`, of cycles of `cycle` ns that are whole cycles of `other` ns.
+-- Holds if `n`, from 1 to `most`, is the least number of cycles of `cycle` ns that make whole cycles of `other` ns.
 pub record AreLeastCycles (cycle other most n : ℕ) : Type 0 where
   pub some : 1 ≤ n
   pub within : n ≤ most

@@ -45,8 +45,8 @@ abbrev pub HaveNoPhases : GateSchedule → ℕ → ℕ → Traffic → Type 0
 HaveNoPhases o c long t =
     has_period t.period o ≡ true → (last : ℕ) → IsFirstFit (opens o c) long t.to last → t.from + t.period < last + long
 
--- Holds if the delays of `x` follow from the phases `done`, the waits and `bound`. The worst delay is the least of `bound`, `done.to` - `t.from`, and the
--- longest wait plus a longest frame.
+-- Holds if timing `x` follows from the phases `done`, the waits and `bound`. The worst delay is the least of `bound`, `done.to` - `t.from`,
+-- and the longest wait plus a longest frame.
 pub record IsTimingWithPhases (o : GateSchedule) (c short long bound : ℕ) (t : Traffic) (x : Timing) (done : Phases) : Type 0 where
   pub phases : ArePhases o c short long t done
   pub longest : ℕ
@@ -56,14 +56,14 @@ pub record IsTimingWithPhases (o : GateSchedule) (c short long bound : ℕ) (t :
   pub worst : x.worst ≡ min bound (min (done.to - t.from) (longest + long))
   pub best : x.best ≡ shortest + short
 
--- Holds if the ends of transmission have no phases, and `x` has worst delay `bound` and best delay `short`, in ns.
+-- Holds if the ends of transmission have no phases, and timing `x` has the worst delay `bound` and the best delay `short`, in ns.
 pub record IsTimingWithoutPhases (o : GateSchedule) (c short long bound : ℕ) (t : Traffic) (x : Timing) : Type 0 where
   pub phases : HaveNoPhases o c long t
   pub worst : x.worst ≡ bound
   pub best : x.best ≡ short
 
--- Holds if `x` has the worst and the best delay in ns of traffic `t` in class `c` at port `out`: by
--- `IsTimingWithPhases` if `x` has phases, otherwise by `IsTimingWithoutPhases`.
+-- Holds if `x` has the worst and the best delay in ns of traffic `t` in class `c` at port `out`. If `x` has phases, `IsTimingWithPhases`
+-- defines the delays, otherwise `IsTimingWithoutPhases`.
 abbrev pub IsPortTiming : {A : Type 0} → PortPlan A → ℕ → ℕ → ℕ → Traffic → Timing → Type 0
 IsPortTiming out c m bound t x =
     MatchOption x.phases (IsTimingWithoutPhases (gate_schedule out.list) c (shortest_link_time out m t) (longest_link_time out m t) bound t x)

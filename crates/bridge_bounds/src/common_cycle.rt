@@ -29,7 +29,8 @@ fn least_cycles(cycle: u64, other: u64, most: u64) -> Option<u64>
     None
 }
 
-/// Returns the least common cycle of both lists in ns. Returns `None` if it contains more than `MAX_INTERVALS` intervals.
+/// Returns the least common cycle of both lists in ns. Returns `None` if this cycle contains more than `MAX_INTERVALS` intervals.
+/// `lack_common_cycle` and `list_bound` call it.
 pub(crate) fn common_cycle<A: Allocator + Copy>(
     gate: &CyclicList<GateEntry, A>,
     list: &CyclicList<u8, A>,

@@ -80,10 +80,10 @@ fn is_shut_after_turn<A: Allocator + Copy>(
     is_shut(list, turn.end, (turn.end + apart).saturating_sub(1))
 }
 
-/// Whether the stream gate's open intervals are at least `apart` ns apart. If so, the frames of one interval have left before the next
-/// opens. Examines one cycle, and `apart` ns after each open interval.
+/// Whether the stream gate's open intervals are separated by at least `apart` ns. If so, the frames of one interval have left before the
+/// next opens.
 ///
-/// `lesser_bound` calls it.
+/// Examines one cycle, and `apart` ns after each open interval. `lesser_bound` calls it.
 pub(crate) fn are_apart<A: Allocator + Copy>(list: &CyclicList<GateEntry, A>, apart: u64) -> bool
     requires apart { apart ≤ 1_000_000_000_000_000_000 }
     requires lawful { IsLawful list.now }

@@ -9,8 +9,8 @@ use crate::longest_time::{frames_duration, last_fit, list_first_fit, longest_tim
 use bridge_cycle::{CyclicList, LONGEST_CYCLE};
 use std::alloc::Allocator;
 
-/// Returns the latest time in ns, from `from` to `to`, from which frames, one after another, miss the last fit of the window at `to` by 1
-/// ns.
+/// Returns the latest time in ns, from `from` to `to`, from which frames miss the last fit of the window at `to` by 1 ns. The frames are
+/// sent one after another.
 ///
 /// Returns `from` without such a time. `interval_longest_time` calls it.
 fn latest_start<A: Allocator + Copy>(

@@ -22,6 +22,8 @@ use std::alloc::Allocator;
 
 /// If a protected filter's frames keep a gap of the longest wait plus one frame, no frame waits for another. Each frame starts at its first
 /// fit, at most the longest wait after its arrival.
+///
+/// Delays of periodic talkers rest on it.
 pub fn starts_in_time<A: Allocator + Copy>()
     ensures { (p : Plan A) (n : ℕ) (f : FilterPlan) (es : List Event) (v : View A) (q c occ wait : ℕ) (out : PortPlan A)
         (x : Copy CarriedFrame)
@@ -36,6 +38,8 @@ pub fn starts_in_time<A: Allocator + Copy>()
 
 /// If a class's offers arrive once a period, between two phases, the frames start once a period. The first fits of the shortest and the
 /// longest frame limit the start.
+///
+/// Delays of periodic talkers rest on it.
 pub fn keeps_phase<A: Allocator + Copy>()
     ensures { (p : Plan A) (n : ℕ) (f : FilterPlan) (es : List Event) (v : View A) (q base c period : ℕ)
         (from upto least most first last next : ℕ) (out : PortPlan A)
@@ -52,7 +56,8 @@ pub fn keeps_phase<A: Allocator + Copy>()
         → StartInPeriods base (lists_open out.list c) (link_time out) period first last next (alone.lists q c) }
 {}
 
-/// If inputs arrive once a period, their offers in a class of a port arrive once a period, between the same phases.
+/// If inputs arrive once a period, their offers in a class of a port arrive once a period, between the same phases. Delays of periodic
+/// talkers rest on it.
 pub fn offers_in_periods<A: Allocator + Copy>()
     ensures { (p : Plan A) (out : PortPlan A) (base c period from upto least most next : ℕ) (xs : List Input)
         → AreTimed xs

@@ -26,6 +26,8 @@ use std::alloc::Allocator;
 
 /// Frames that wait from one time have one end of transmission (`once`), at most the longest time later (`bounds`). A time that frames need
 /// from some time is at most each longest time (`least`).
+///
+/// Searches for longest times rest on it.
 pub fn longest_bounds()
     ensures once { (opens : ℕ → Bool) (occ k u v w : ℕ)
         → FramesEnd opens occ k u v
@@ -41,7 +43,8 @@ pub fn longest_bounds()
         → e ≤ d }
 {}
 
-/// If a class is always open, `k` frames leave one after another: they take `k` transmission times, and this time is attained.
+/// If a class is always open, `k` frames leave one after another: they take `k` transmission times, and this time is attained. So the bound
+/// of an open class is a number of transmission times.
 pub fn one_after_another()
     ensures longest { (opens : ℕ → Bool) (occ k : ℕ) → ((u : ℕ) → opens u ≡ true)
         → IsLongestTime opens occ k (k * occ) }
@@ -51,6 +54,8 @@ pub fn one_after_another()
 
 /// In a queue alone on its link, each sent copy leaves at most `occ - 1 + d` ns after its offer. Here `d` is a full queue's longest time;
 /// transmissions take at most `occ`.
+///
+/// Delay bounds by capacity rest on it.
 pub fn solo_in_time<X: Drop>()
     ensures { (r : PortRules X) (c occ d s : ℕ) (x : Copy X) (older : List (Copy X))
         → IsSolo r (x ∷ older)
@@ -62,8 +67,9 @@ pub fn solo_in_time<X: Drop>()
         → s + r.occ x.item ≤ x.at + (occ - 1) + d }
 {}
 
-/// In a queue alone on its link, each sent copy leaves at most `occ - 1 + d` ns after its offer if `lets` is true at each offer. Here `d` is a
-/// full queue's longest time from such times.
+/// If a queue has its link to itself, each sent copy leaves at most `occ - 1 + d` ns after its offer. `lets` must be true at each offer.
+///
+/// Here `d` is a full queue's longest time from such times. Delay bounds by capacity rest on it.
 pub fn solo_from_openings<X: Drop>()
     ensures { (r : PortRules X) (lets : ℕ → Bool) (c occ d s h : ℕ) (x : Copy X) (xs : List (Copy X))
         → IsSolo r xs
@@ -79,6 +85,8 @@ pub fn solo_from_openings<X: Drop>()
 
 /// If at most `n` sent copies are offered in any `d` ns, each leaves at most `occ - 1 + d` ns after its offer. Here `d` is the longest time
 /// of `n` frames.
+///
+/// Bounds by octet limits rest on it.
 pub fn seldom_in_time<X: Drop>()
     ensures { (r : PortRules X) (c occ n d s : ℕ) (x : Copy X) (older : List (Copy X))
         → IsSolo r (x ∷ older)
@@ -93,6 +101,8 @@ pub fn seldom_in_time<X: Drop>()
 
 /// If open intervals are `w` ns apart and their limit passes `k` frames, at most `k` frames pass in any `w` ns. Each frame has at least two
 /// octets.
+///
+/// Bounds by octet limits rest on it.
 pub fn lets_seldom()
     ensures { (r : GateRules) (k w : ℕ) (es : List GateEvent)
         → LetsFew r.turn_at k w
@@ -102,6 +112,8 @@ pub fn lets_seldom()
 
 /// A queue's bound exceeds a possible delay by at most `occ - 1` ns. If `room` frames can need `d` ns, a burst that fills the empty queue
 /// has a copy delayed by `d` ns.
+///
+/// So no much smaller bound is true.
 pub fn nearly_attained<X: Drop>()
     ensures { (r : PortRules X) (c d : ℕ) (item : X)
         → r.ever c (r.occ item) ≡ true
@@ -112,6 +124,8 @@ pub fn nearly_attained<X: Drop>()
 
 /// Each sent copy of a protected filter leaves within the longest time of a full queue (`longest`) and within the queue's bound (`bound`).
 /// The recorded delay is at most the greatest bound (`delay`).
+///
+/// This is the theorem about delay bounds (docs/DELAYS.md).
 pub fn in_time<A: Allocator + Copy>()
     ensures longest { (p : Plan A) (n m d : ℕ) (f : FilterPlan) (es : List Event) (moments : ℕ → ℕ)
         (lists : ℕ → List (Copy CarriedFrame)) (q s : ℕ) (out : PortPlan A) (x : Copy CarriedFrame)
@@ -157,6 +171,8 @@ pub fn in_time<A: Allocator + Copy>()
 
 /// If a protected filter's stream gate passes at most `k` frames per interval, and its intervals are far enough apart, `k` frames bound the
 /// delay. Frames must have at least their captured octets.
+///
+/// Bounds by octet limits rest on it.
 pub fn few_in_time<A: Allocator + Copy>()
     ensures { (p : Plan A) (n m k d : ℕ) (f : FilterPlan) (es : List Event) (moments : ℕ → ℕ)
         (lists : ℕ → List (Copy CarriedFrame)) (q s : ℕ) (out : PortPlan A) (x : Copy CarriedFrame)
@@ -177,7 +193,8 @@ pub fn few_in_time<A: Allocator + Copy>()
         → s + transmission_time x.item.len out.speed ≤ x.at + (transmission_time (longest_frame m) out.speed - 1) + d }
 {}
 
-/// Each sent copy of a protected filter has left within its queue's tight bound. Frames must have at least their captured octets.
+/// Each sent copy of a protected filter has left within its queue's tight bound. Frames must have at least their captured octets. This is
+/// the theorem about tight bounds (docs/DELAYS.md).
 pub fn in_time_by_octets<A: Allocator + Copy>()
     ensures { (p : Plan A) (n b : ℕ) (es : List Event) (moments : ℕ → ℕ) (lists : ℕ
         → List (Copy CarriedFrame)) (q s : ℕ)

@@ -10,7 +10,7 @@ use bridge_cycle::{CyclicList, Egress, LONGEST_CYCLE, Timeline, first_fit, is_op
 use std::alloc::Allocator;
 
 /// Returns the first time in ns, from `from` on, at which a frame with transmission time `occ` ns fits. Wraps `first_fit`, and bounds the
-/// wait by `LONGEST_CYCLE`.
+/// wait by `LONGEST_CYCLE`. `latest_start`, `frames_end` and others call it.
 pub(crate) fn list_first_fit<A: Allocator + Copy>(
     list: &CyclicList<u8, A>,
     class: u8,
@@ -241,8 +241,10 @@ fn is_edge<A: Allocator + Copy>(list: &CyclicList<u8, A>, class: u8, occ: u64, m
         && list_first_fit(list, class, occ, moment + 1) != moment + 1
 }
 
-/// Returns the longest time in ns in which `room` frames leave. They begin to wait at `from`, or 1 ns after a window's last fit between
-/// `from` and `to`. `interval_longest_time` and `list_longest_time` call it.
+/// Returns the longest time in ns until `room` frames of `occ` ns have left. All begin to wait at `from`, or 1 ns after a window's last
+/// fit, at `to` or before.
+///
+/// `list_longest_time` and `interval_longest_time` call it: frames that just miss a window wait longest.
 pub(crate) fn longest_time_after_edges<A: Allocator + Copy>(
     list: &CyclicList<u8, A>,
     class: u8,
@@ -326,7 +328,7 @@ fn egress_longest_time<A: Allocator + Copy>(
 }
 
 /// Returns a time in ns in which `room` waiting frames always leave, each with transmission time `occ`. Without a schedule change, this is
-/// the longest time that they need.
+/// the longest time that they need. `class_bound` and `lesser_bound` call it.
 pub(crate) fn port_longest_time<A: Allocator + Copy>(
     lists: &Option<Egress<A>>,
     class: u8,

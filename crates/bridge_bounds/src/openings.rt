@@ -19,7 +19,7 @@ use bridge_gate::{GateEntry, Schedule};
 use bridge_limits::LONGEST_FRAME;
 use std::alloc::Allocator;
 
-/// Whether `entry` is open and can give priority `k` to a frame of a filter with optional priority `priority`.
+/// Whether `entry` is open and can give priority `k` to a frame of a filter with optional priority `priority`. `fills_class` calls it.
 fn gives_priority(entry: &GateEntry, priority: Option<u8>, k: u8) -> bool
     ensures { result ≡ reached.gives_priority entry.now priority k }
 {

@@ -38,7 +38,8 @@ fn are_all_tagged(handle: u32, streams: &[StreamEntry]) -> bool
         .all(|e| e.handle != handle || takes_only_tagged(e.tag))
 }
 
-/// Returns the largest possible SDU in octets of a frame with this handle and captured length. Without a handle, frames may be untagged.
+/// Returns the largest possible SDU in octets of a frame with handle `handle` and captured length. Without a handle, frames may be
+/// untagged. `passes` and functions of `net_latency` call it.
 pub fn longest_sdu<A: Allocator + Copy>(plan: &Plan<A>, handle: Option<u32>, len: u32) -> u32
     ensures { result ≡ spec.longest_sdu plan.now handle len }
 {

@@ -25,7 +25,9 @@ ghost use Rattle.bridge_bounds.specs.Traffic.{IsTraffic, KeepsTraffic};
 use std::alloc::Allocator;
 
 /// If a protected filter's own frames keep their traffic, each copy in a queue with phases ends between these phases. Each sent copy has a
-/// delay between best and worst. Other traffic doesn't matter.
+/// delay between best and worst.
+///
+/// Other traffic doesn't matter. docs/DELAYS.md cites it.
 pub fn frames_keep_periods<A: Allocator + Copy>()
     ensures phases { (p : Plan A) (n : ℕ) (f : FilterPlan) (es : List Event) (moments : ℕ → ℕ)
         (lists : ℕ → List (Copy CarriedFrame))
@@ -63,8 +65,10 @@ pub fn frames_keep_periods<A: Allocator + Copy>()
         → IsDelayInBounds out x y start }
 {}
 
-/// Both ends of the computed phases are reached, so no narrower phases hold: a shortest frame that arrives at the first phase, or a longest
-/// at the last, starts at its first fit if it arrives alone at an empty queue.
+/// Both ends of the computed phases are reached, so no narrower phases hold. Frames arrive alone at an empty queue: a shortest frame at the
+/// first phase, or a longest at the last.
+///
+/// Each starts at its first fit. docs/DELAYS.md cites it.
 pub fn phases_are_reached<X: Drop>()
     ensures { (r : PortRules X) (c at start : ℕ) (item : X)
         → r.ever c (r.occ item) ≡ true
@@ -74,7 +78,7 @@ pub fn phases_are_reached<X: Drop>()
 {}
 
 /// If a protected filter's own frames keep a traffic that `passes` accepts, each frame has the verdict `Pass`. This holds for every
-/// complete run of an accepted plan.
+/// complete run of an accepted plan. docs/DELAYS.md cites it.
 pub fn each_frame_passes<A: Allocator + Copy>()
     ensures { (p : Plan A) (n : ℕ) (f : FilterPlan) (es : List Event) (lists : ℕ
         → List (Copy CarriedFrame)) (o : Outcome A)

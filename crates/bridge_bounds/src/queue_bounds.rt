@@ -18,7 +18,8 @@ use bridge_frame::occupation;
 use bridge_limits::LONGEST_FRAME;
 use std::alloc::Allocator;
 
-/// Returns the stream filter with this number; `None` if the list lacks it.
+/// Returns the stream filter with number `number`; `None` if the list lacks it. `is_coarse`, `queue_bound` and functions of
+/// `bridge_groups`, `net_check`, `net_latency` and other crates call it.
 pub fn find_filter(filters: &[(u32, FilterPlan)], number: u32) -> Option<FilterPlan>
     ensures { result ≡ lookup (nat_eq number) filters.now }
 {
@@ -30,7 +31,8 @@ pub fn find_filter(filters: &[(u32, FilterPlan)], number: u32) -> Option<FilterP
     None
 }
 
-/// Returns the delay bound in ns of a queue by its capacity, for frames with a service data unit of at most `sdu` octets.
+/// Returns the delay bound in ns of a queue by its capacity, for frames with a service data unit of at most `sdu` octets. `list_bound`,
+/// `gate_list_bound` and functions of `bridge_groups` call it.
 pub fn class_bound<A: Allocator + Copy>(port: &PortPlan<A>, class: u8, sdu: u32) -> u64
     requires class { class < 8 }
     requires sdu { sdu ≤ 65535 }

@@ -23,18 +23,18 @@ use std::alloc::Allocator;
 /// Earliest and latest end of a transmission, in ns from the start of a period; the latest may lie in the next period.
 #[derive(Clone, Copy, Debug, PartialEq, Eq)]
 pub struct Phases {
-    /// Earliest end of transmission.
+    /// Earliest end of transmission, in ns from the start of a period.
     pub from: u64,
-    /// Latest end of transmission.
+    /// Latest end of transmission, in ns from the start of a period.
     pub to: u64,
 }
 
 /// Delays of a periodic talker's frames in one queue, in ns, from arrival to the end of transmission.
 #[derive(Clone, Copy, Debug, PartialEq, Eq)]
 pub struct Timing {
-    /// Worst delay.
+    /// Worst delay in ns, from arrival to the end of transmission.
     pub worst: u64,
-    /// Best delay.
+    /// Best delay in ns, from arrival to the end of transmission.
     pub best: u64,
     /// Phases of the ends of transmission. `None` if the lists don't repeat with the period, or a frame may still wait when the next one
     /// arrives.
@@ -93,7 +93,7 @@ fn timing_by_lists<A: Allocator + Copy>(
 }
 
 /// Returns the delays of traffic in a class of a port. `bound` is the queue's delay bound in ns; the filter's maximum SDU `sdu` limits the
-/// transmission times.
+/// transmission times. `filter_timing` calls it.
 fn port_timing<A: Allocator + Copy>(
     port: &PortPlan<A>,
     class: u8,

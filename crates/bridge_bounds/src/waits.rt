@@ -14,15 +14,16 @@ use std::alloc::Allocator;
 /// First fits and longest wait of frames that arrive between two phases, in ns.
 #[derive(Clone, Copy)]
 pub(crate) struct Waits {
-    /// First fit of the shortest frame from the first phase on.
+    /// First fit in ns of the shortest frame, from the traffic's first phase on.
     pub first: u64,
-    /// First fit of the longest frame from the last phase on.
+    /// First fit in ns of the longest frame, from the traffic's last phase on.
     pub last: u64,
-    /// Longest wait of the longest frame that arrives between the phases.
+    /// Longest wait in ns of a longest frame that arrives between the two phases.
     pub longest: u64,
 }
 
 /// Returns the first time in ns, from `from` on, at which a frame with transmission time `occ` ns fits. The list must have a window for it.
+/// `longest_wait` and `list_waits` call it.
 fn first_fit_time<A: Allocator + Copy>(
     list: &CyclicList<u8, A>,
     class: u8,

@@ -6,7 +6,7 @@ use Rattle.bridge_capture.specs.declared.read_ahead.ReadAhead.{ReadAhead}
 use Rattle.bridge_capture.specs.declared.write_buffer.WriteBuffer.{WriteBuffer}
 use Rattle.bridge_capture.specs.declared.write_behind.WriteBehind.{WriteBehind}
 
--- Octets that were read ahead and aren't used yet.
+-- Octets that a source read ahead from its reader and that no caller has used yet.
 abbrev pub unread_octets : {A : Type 0} → ReadBuffer A → List ℕ
 unread_octets w = slice_range w.octets.items w.start w.end
 
@@ -18,7 +18,7 @@ lendable_octets s = if s.source.is_broken then [] else unread_octets s.window
 abbrev pub read_ahead_remaining : {R A : Type 0} → (R → Option (List ℕ)) → ReadAhead R A → Option (List ℕ)
 read_ahead_remaining remaining s = prepend_known (unread_octets s.window) (remaining s.source.reader)
 
--- Octets held back from the writer.
+-- Octets that a sink holds back from its writer until a block is full.
 abbrev pub held_octets : {A : Type 0} → WriteBuffer A → List ℕ
 held_octets h = take h.count h.octets.items
 

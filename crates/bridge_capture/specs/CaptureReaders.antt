@@ -1,4 +1,4 @@
--- Captures that are read one record ahead.
+-- Captures of a bridge's ports, which a run reads one record ahead.
 use Rattle.std.specs.Prelude.{◌≡◌, ℕ, ◌+◌, ◌<◌, ◌≤◌, ◌⊎◌, length, Option, Some, None, is_some, List, [], ◌∷◌, ◌++◌, slice_get, sum_by, Result, Ok, Err, if◌then◌else◌}
 use Rattle.bridge_limits.specs.declared.TheConstants.{END_OF_TIME, MAX_CAPTURED_OCTETS}
 use Rattle.bridge_capture.specs.declared.fault.RunFault.{RunFault}
@@ -12,7 +12,7 @@ use Rattle.bridge_capture.specs.StandsFor.{StandsFor, IsRefusal, HasReadFrames, 
 use Rattle.bridge_capture.specs.TakenOctets.{TakesFewer}
 use Rattle.bridge_capture.specs.declared.capture_reader.CaptureReader.{CaptureReader}
 
--- Statement: Guarantees for the frame ahead, for any source.
+-- Statement: Guarantees for the frame that a reader of a capture has read ahead, whatever the source contains.
 pub record IsFrameAhead {A : Type 0} (lane : CaptureReader A) (p : Packet A) : Type 0 where
   pub reading : IsReading lane.capture
   pub latest : lane.capture.latest ≡ p.time
@@ -32,7 +32,7 @@ frames_left lane = if is_some lane.ahead then records_left lane.capture + 1 else
 abbrev pub total_frames_left : {A : Type 0} → List (CaptureReader A) → ℕ
 total_frames_left lanes = sum_by frames_left lanes
 
--- Port numbers in the order of the readers.
+-- Port numbers of the readers of captures, in list order.
 abbrev pub port_numbers : {A : Type 0} → List (CaptureReader A) → List ℕ
 port_numbers [] = []
 port_numbers (lane ∷ more) = lane.number ∷ port_numbers more
@@ -87,7 +87,7 @@ HaveTexts {R} remaining ports texts sources = (i q : ℕ) (r : R) → slice_get 
 abbrev pub HaveRests : {R : Type 0} → (R → Option (List ℕ)) → List ℕ → (ℕ → Option (List ℕ)) → List R → Type 0
 HaveRests {R} remaining ports rests sources = (i q : ℕ) (r : R) → slice_get ports i ≡ Some q → slice_get sources i ≡ Some r → remaining r ≡ rests q
 
--- Statement: No octet of any port was read.
+-- Statement: No octet of any port's capture was read: the rest of each source is its whole capture.
 abbrev pub AreUnread : (ℕ → List ℕ) → (ℕ → Option (List ℕ)) → List ℕ → Type 0
 AreUnread texts rests ports = (i q : ℕ) → slice_get ports i ≡ Some q → rests q ≡ Some (texts q)
 

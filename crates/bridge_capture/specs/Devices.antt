@@ -6,6 +6,6 @@ use Rattle.bridge_limits.specs.Members.{IsMember}
 abbrev pub HasFailed : {W : Type 0} → (W → Bool) → List ℕ → ℕ → List W → Type 0
 HasFailed {W} has_failed ports port devices = (i : ℕ) (w : W) → slice_get ports i ≡ Some port → slice_get devices i ≡ Some w → has_failed w ≡ true
 
--- Statement: None of these sources or sinks can fail.
+-- Statement: None of the sources or sinks in the list can fail.
 abbrev pub AreUnfailing : {W : Type 0} → (W → Bool) → List W → Type 0
 AreUnfailing {W} never_fails devices = (w : W) → IsMember w devices → never_fails w ≡ true

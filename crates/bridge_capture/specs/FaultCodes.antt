@@ -1,4 +1,4 @@
--- Numbers of the faults of a capture.
+-- Numbers of the faults of a capture, by which contracts compare faults.
 use Rattle.std.specs.Prelude.{ℕ}
 use Rattle.bridge_capture.specs.declared.capture_fault.CaptureFault.{CaptureFault}
 use Rattle.bridge_capture.specs.declared.capture_fault.CaptureFault.TheVariants.{BadMagic, BadVersion, BadLinkType, HeaderCut, RecordCut, LengthsCross, RecordTooLarge, TimeBack, TimeTooLate, TooManyRecords, Read, Write, NoMemory}

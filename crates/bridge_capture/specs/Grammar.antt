@@ -1,4 +1,4 @@
--- Format of classic capture files.
+-- Format of classic capture files (pcap): header, records, and their faults.
 use Rattle.std.specs.Prelude.{◌≡◌, ℕ, ◌+◌, ◌*◌, ◌^◌, List, [], ◌∷◌, length, take, drop, Option, Some, None, Result, Ok, Err, nat_lt, nat_le, ◌==◌, if◌then◌else◌}
 use Rattle.std.specs.Int.{w16, w32, from_be_bytes, from_le_bytes}
 use Rattle.bridge_limits.specs.declared.TheConstants.{END_OF_TIME, MAX_CAPTURED_OCTETS}
@@ -43,8 +43,8 @@ format_by_magic magic =
     else if magic == 0xD4C3B2A1 then Some (record { order = Big; unit = Micro })
     else None
 
--- Format of a capture from its header, or the header's first fault: unknown magic number (`None`), version other than
--- 2.4, link type other than 1 (Ethernet).
+-- Format of a capture from its header, or the header's first fault. Faults are an unknown magic number (`None`), a version other than 2.4,
+-- and a link type other than 1 (Ethernet).
 abbrev pub format_after_magic : Option CaptureFormat → List ℕ → Result CaptureFormat CaptureFault
 format_after_magic None octets = Err BadMagic
 format_after_magic (Some form) octets =

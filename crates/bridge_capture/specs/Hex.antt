@@ -1,4 +1,4 @@
--- Octets of a hexadecimal text.
+-- Octets that a hexadecimal text on standard input stands for.
 use Rattle.std.specs.Prelude.{ℕ, ◌+◌, ◌-◌, ◌*◌, ◌==◌, ◌&&◌, ◌||◌, nat_lt, Bool, if◌then◌else◌, List, [], ◌∷◌, length, Option, Some, None, Result, Ok, Err}
 use Rattle.std.specs.Char.{digit_value, is_digit}
 use Rattle.bridge_capture.specs.declared.hex_fault.HexFault.{HexFault}
@@ -12,7 +12,7 @@ is_blank c = c == 32 || c == 9 || c == 13 || c == 10
 abbrev pub digits_octet : ℕ → ℕ → Option ℕ
 digits_octet high low = if is_digit high 16 && is_digit low 16 then Some (16 * digit_value high + digit_value low) else None
 
--- Prepends an octet to the result for the rest.
+-- Prepends an octet to the octets of the remaining digits; a fault of these digits stays.
 abbrev pub with_octet : ℕ → Result (List ℕ) HexFault → Result (List ℕ) HexFault
 with_octet octet (Ok octets) = Ok (octet ∷ octets)
 with_octet octet (Err fault) = Err fault

@@ -1,4 +1,5 @@
--- Laws of the format.
+-- Laws of the capture format: a written capture is read as its frames, and file contents are a capture in exactly one
+-- way.
 use Rattle.std.specs.Prelude.{◌≡◌, ℕ, List}
 use Rattle.bridge_capture.specs.Grammar.{CapturedFrame, CaptureEnding, AtEnd, IsCapture}
 use Rattle.bridge_capture.specs.WrittenCapture.{written_text, AreWritable}

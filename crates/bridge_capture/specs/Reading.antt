@@ -1,4 +1,4 @@
--- Result of reading one record.
+-- Result of reading one record of a capture: a frame, the end, or a fault.
 use Rattle.std.specs.Prelude.{◌≡◌, ◌≢◌, ◌<◌, ◌≤◌, ℕ, Bool, true, ⊤, List, length, Option, Some, None, Result, Ok, Err, Vec}
 use Rattle.std.specs.Io.KnownBytes.{Consumes, IsAtEnd}
 use Rattle.bridge_limits.specs.declared.TheConstants.{END_OF_TIME, MAX_CAPTURED_OCTETS}
@@ -27,7 +27,7 @@ IfPacket (Ok (Some packet)) P = P packet
 IfPacket (Ok None) P = Unit {0}
 IfPacket (Err fault) P = Unit {0}
 
--- Statement: The fault is the fault at the front of the octets, or says that the source failed or memory ran out.
+-- Statement: The fault is the one at the front of the octets, or means that the source failed or memory ran out.
 abbrev pub IsFaultOfFront : CaptureFault → FrontItem → Type 0
 IsFaultOfFront faults.Read front = Unit {0}
 IsFaultOfFront faults.NoMemory front = Unit {0}

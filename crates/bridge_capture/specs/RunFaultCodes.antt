@@ -1,4 +1,4 @@
--- Numbers of the faults of a run.
+-- Numbers of the faults of a run, by which contracts compare faults.
 use Rattle.std.specs.Prelude.{ℕ}
 use Rattle.bridge_capture.specs.declared.fault.RunFault.{RunFault}
 use Rattle.bridge_capture.specs.declared.fault.RunFault.TheVariants.{Capture, Write, NoMemory}

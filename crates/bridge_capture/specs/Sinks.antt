@@ -1,4 +1,4 @@
--- Contents of a sink after a failed write.
+-- Contents of a capture's sink after a failed write.
 use Rattle.std.specs.Prelude.{ℕ, ◌≤◌, Option, List, length, take}
 use Rattle.std.specs.Io.KnownBytes.{Appends}
 

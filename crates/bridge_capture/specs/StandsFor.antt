@@ -34,11 +34,11 @@ IsReading capture = capture.progress ≡ Reading
 abbrev pub HasEnded : CaptureState → Type 0
 HasEnded capture = capture.progress ≡ Ended
 
--- Statement: The capture was refused with this fault.
+-- Statement: The reading of the capture has stopped, because the capture was refused with the given fault.
 abbrev pub HasRefused : CaptureState → CaptureFault → Type 0
 HasRefused capture fault = capture.progress ≡ Refused fault
 
--- Statement: The file contents begin with these frames.
+-- Statement: The capture `text` begins with the frames that were read so far.
 abbrev pub HasReadFrames : List ℕ → List CapturedFrame → Type 0
 HasReadFrames text given = (form : CaptureFormat) × (next : RecordPosition) × (rest : List ℕ) × (header_format text ≡ Ok form) × ReadsPrefix form first_position (drop 24 text) given next rest
 
@@ -84,7 +84,7 @@ AnswersNext capture remaining text given (Err fault) = StandsFor capture remaini
 abbrev pub TakesRefusedNext : CaptureState → Option (List ℕ) → Option (List ℕ) → CaptureFault → Type 0
 TakesRefusedNext capture old new fault = TakesRefusedRecord capture.form (read_position capture) old new fault
 
--- Time of the last frame, or `earliest` without frames.
+-- Time stamp in ns of the last frame; `earliest` if there is no frame. Later frames must not be earlier.
 abbrev pub last_time : ℕ → List CapturedFrame → ℕ
 last_time earliest [] = earliest
 last_time earliest (captured ∷ more) = last_time captured.time more

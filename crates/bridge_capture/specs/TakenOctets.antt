@@ -21,7 +21,7 @@ TakesRefusedHeader old new faults.Read = TakesFewer 24 old new
 TakesRefusedHeader old new faults.HeaderCut = TakesFewer 24 old new
 TakesRefusedHeader old new fault = TakesExactly 24 old new
 
--- Statement: The record header has no fault.
+-- Statement: The record at this position of a capture has a header without fault.
 abbrev pub HasSoundHeader : CaptureFormat → RecordPosition → List ℕ → Type 0
 HasSoundHeader form place octets = record_header_fault place (record_time form octets) (captured_length form octets) (original_length form octets) ≡ None
 

@@ -38,7 +38,7 @@ impl<A: Allocator + Copy> BufferPool<A> {
         }
     }
 
-    /// Makes an empty pool. Allocates memory once, for the list of buffers.
+    /// Makes an empty pool. Allocates memory once, for the list of buffers. `make_buffer_pool` of `bridge_core` calls it.
     pub fn new(alloc: A) -> Result<BufferPool<A>, NoMemory>
         ensures none { IfOk result (λ spares. spares ≡ 0) }
     {
@@ -46,7 +46,8 @@ impl<A: Allocator + Copy> BufferPool<A> {
         Ok(BufferPool { alloc, kept })
     }
 
-    /// Returns an emptied buffer from the pool, or a new one. Allocates no memory.
+    /// Returns an emptied buffer from the pool, or a new one. Allocates no memory. Runs take the buffer of each frame that they read from
+    /// here.
     #[inline(always)]
     pub fn take(&mut self) -> Vec<u8, A>
         ensures fewer { self.new ≡ self.old - 1 }

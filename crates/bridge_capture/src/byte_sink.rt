@@ -1,4 +1,4 @@
-//! Sinks of octets.
+//! Defines `ByteSink`: the interface by which captures are written, to a writer or to memory.
 ghost use Rattle.std.specs.Prelude.{◌≡◌, ◌≤◌, ◌<◌, ◌++◌, ℕ, List, Option, Bool, true, false, length, IsErr, IfOk, OnOk, OnErr};
 ghost use Rattle.std.specs.Int.{w64, to_le_bytes};
 ghost use Rattle.std.specs.Io.KnownBytes.{WriteAppends, Appends};
@@ -19,7 +19,8 @@ pub trait ByteSink {
     /// Whether memory for the sink ran out.
     ghost ran_out: { Self → Bool };
 
-    /// Writes a prefix of `octets`, and returns its length: at least 1 unless `octets` is empty.
+    /// Writes a prefix of `octets`, and returns its length: at least 1 unless `octets` is empty. `write_all` calls it until all octets are
+    /// written.
     fn write(&mut self, octets: &[u8]) -> Result<usize, Broken>
         ensures count { IfOk result (λ n. n ≤ length octets.now) }
         ensures some { IfOk result (λ n. 0 < length octets.now → 0 < n) }
@@ -41,7 +42,7 @@ pub trait ByteSink {
         ensures lasts { never_fails self.old ≡ true → never_fails self.new ≡ true }
         ensures untouched { result ≡ false → self.new ≡ self.old };
 
-    /// Whether the sink has failed.
+    /// Whether the sink has failed. Buffers of captures then stop writing to it.
     fn failed(&self) -> bool
         ensures { result ≡ has_failed self.now };
 }

@@ -1,4 +1,4 @@
-//! Sources of octets.
+//! Defines `ByteSource`: the interface by which captures are read, from a reader or from memory.
 ghost use Rattle.std.specs.Prelude.{◌≡◌, ◌≤◌, ◌<◌, ℕ, List, Option, Bool, true, false, length, take, drop, IsErr, IsOk, IfOk, OnOk, OnErr};
 ghost use Rattle.std.specs.Io.KnownBytes.{ReadConsumes, Consumes};
 
@@ -23,7 +23,8 @@ pub trait ByteSource {
     /// Next octets that the source lends without reading.
     ghost at_hand: { Self → List ℕ };
 
-    /// Reads the next octets to the front of `buf`, and returns their number. 0 means the end, unless `buf` is empty.
+    /// Reads the next octets to the front of `buf`, and returns their number. 0 means the end, unless `buf` is empty. `fill_buffer` calls
+    /// it until `buf` is full.
     fn read(&mut self, buf: &mut [u8]) -> Result<usize, Broken>
         ensures count { IfOk result (λ n. n ≤ length buf.new) }
         ensures bytes { ReadConsumes (remaining self.old) (remaining self.new) result buf.new }
@@ -33,7 +34,7 @@ pub trait ByteSource {
         ensures lasts { never_fails self.old ≡ true → never_fails self.new ≡ true }
         ensures stays { has_failed self.old ≡ true → IsErr result };
 
-    /// Whether the source has failed.
+    /// Whether the source has failed. Buffers of captures then stop reading from it.
     fn failed(&self) -> bool
         ensures { result ≡ has_failed self.now };
 

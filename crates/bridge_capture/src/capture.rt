@@ -1,4 +1,4 @@
-//! Capture that is being read.
+//! Capture whose records are being read, one after another.
 use crate::byte_source::ByteSource;
 use crate::capture_fault::CaptureFault;
 use crate::format::CaptureFormat;
@@ -45,7 +45,7 @@ impl Capture {
     ghost use Rattle.bridge_capture.specs.StandsFor.{StandsFor, BeginsCapture, AnswersNext, IsReading, HasEnded, HasRefused, records_left, TakesRefusedNext};
     ghost use Rattle.bridge_capture.specs.TakenOctets.{TakesRefusedHeader};
 
-    /// Reads the header of a capture. Allocates no memory.
+    /// Reads the header of a capture. Allocates no memory. `CaptureReader::begin` and `capture_fault` of `app_commands` call it.
     pub fn begin<R: ByteSource>(source: &mut R) -> Result<Capture, CaptureFault>
         ensures stands { (text : List ℕ) → R.remaining source.old ≡ Some text
             → BeginsCapture text (R.remaining source.new) result }

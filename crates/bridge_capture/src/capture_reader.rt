@@ -1,4 +1,4 @@
-//! Captures that are read one record ahead.
+//! Reads the capture of a bridge's port one record ahead.
 ghost use Rattle.std.specs.Prelude.{◌≡◌, ◌≢◌, ℕ, ◌<◌, ◌≤◌, List, Option, [], None, Some, length, Err, true, IfOk, IfErr, OnOk};
 ghost use Rattle.bridge_limits.specs.Members.{IsOrdered};
 ghost use Rattle.bridge_limits.specs.declared.TheConstants.{MAX_ARRIVALS};
@@ -27,7 +27,7 @@ pub struct CaptureReader<A: Allocator + Copy> {
 }
 
 impl<A: Allocator + Copy> CaptureReader<A> {
-    /// Reads the header and the first record of a capture, or returns the first fault.
+    /// Reads the header and the first record of a capture, or returns the first fault. `begin_readers` and `wire` of `bridge_wire` call it.
     pub fn begin<R: ByteSource>(
         alloc: A,
         number: u8,
@@ -54,6 +54,8 @@ impl<A: Allocator + Copy> CaptureReader<A> {
 
     /// Reads the next frame into `ahead`, with `spare` as the buffer of its octets. At the capture's end or at a fault, `ahead` becomes
     /// `None`.
+    ///
+    /// `read_next_ahead` of `bridge_core` calls it after the frame ahead was taken.
     #[inline(always)]
     pub fn read_ahead<R: ByteSource>(
         &mut self,
@@ -97,7 +99,8 @@ impl<A: Allocator + Copy> CaptureReader<A> {
     }
 }
 
-/// Returns the run's fault for a capture fault of `port`. Lack of memory becomes `NoMemory` of the run.
+/// Returns the run's fault for a capture fault of `port`. Lack of memory becomes `NoMemory` of the run. `begin_readers` and functions of
+/// `bridge_core` and `bridge_wire` call it.
 pub fn run_fault(port: u8, fault: CaptureFault) -> RunFault
     ensures { result ≡ run_fault port fault }
 {

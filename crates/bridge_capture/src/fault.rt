@@ -1,4 +1,4 @@
-//! Reasons why a run stops.
+//! Reasons why a run of a bridge or of one queue stops.
 ghost use Rattle.std.specs.Prelude.{◌≡◌};
 
 use crate::capture_fault::CaptureFault;
@@ -21,7 +21,7 @@ pub enum RunFault {
 impl RunFault {
     ghost use Rattle.bridge_capture.specs.RunFaultCodes.{fault_code};
 
-    /// Returns the number of the fault, 1 to 3.
+    /// Returns the number of the fault, 1 to 3. Contracts compare faults by it.
     pub fn number(self) -> u8
         ensures { result ≡ fault_code self }
     {

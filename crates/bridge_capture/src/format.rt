@@ -1,4 +1,4 @@
-//! Format of a capture, from its magic number.
+//! Byte order and time unit of a capture, which its magic number shows.
 
 /// Byte order of the numbers in a capture: little-endian or big-endian.
 #[derive(Clone, Copy, Debug, PartialEq, Eq)]

@@ -1,4 +1,4 @@
-//! Readers of the standard library as sources.
+//! Makes a source of captures from a reader of the standard library.
 ghost use Rattle.std.specs.Prelude.{◌≡◌, [], false};
 
 use crate::byte_source::{Broken, ByteSource};
@@ -14,7 +14,7 @@ pub struct FromRead<R: Read> {
 }
 
 impl<R: Read> FromRead<R> {
-    /// Makes a source of a reader that hasn't failed.
+    /// Makes a source of a reader that hasn't failed. `with_width` calls it.
     pub fn new(reader: R) -> FromRead<R>
         ensures remaining { ⟦<FromRead<R> as ByteSource>⟧.remaining result ≡ R.remaining reader }
         ensures sound { ⟦<FromRead<R> as ByteSource>⟧.has_failed result ≡ false }
@@ -25,7 +25,8 @@ impl<R: Read> FromRead<R> {
         }
     }
 
-    /// Returns the reader, which has the remaining octets. The information whether the source has failed is lost.
+    /// Returns the reader, which has the remaining octets. The information whether the source has failed is lost. A caller that used the
+    /// source for a while gets its reader back.
     pub fn into_inner(self) -> R
         ensures { R.remaining result ≡ ⟦<FromRead<R> as ByteSource>⟧.remaining self }
     {

@@ -1,4 +1,4 @@
-//! Writers of the standard library as sinks.
+//! Makes a sink for captures from a writer of the standard library.
 ghost use Rattle.std.specs.Prelude.{◌≡◌, false};
 
 use crate::byte_sink::ByteSink;
@@ -15,7 +15,7 @@ pub struct FromWrite<W: Write> {
 }
 
 impl<W: Write> FromWrite<W> {
-    /// Makes a sink of a writer that hasn't failed.
+    /// Makes a sink of a writer that hasn't failed. `with_block` calls it.
     pub fn new(writer: W) -> FromWrite<W>
         ensures contents { ⟦<FromWrite<W> as ByteSink>⟧.contents result ≡ W.contents writer }
         ensures sound { ⟦<FromWrite<W> as ByteSink>⟧.has_failed result ≡ false }
@@ -26,7 +26,8 @@ impl<W: Write> FromWrite<W> {
         }
     }
 
-    /// Returns the writer, which has accepted the octets. The information whether the sink has failed is lost.
+    /// Returns the writer, which has accepted the octets. The information whether the sink has failed is lost. `WriteBehind::finish` calls
+    /// it, and then flushes the writer.
     pub fn into_inner(self) -> W
         ensures { W.contents result ≡ ⟦<FromWrite<W> as ByteSink>⟧.contents self }
     {

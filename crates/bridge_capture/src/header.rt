@@ -1,4 +1,4 @@
-//! Header of a capture.
+//! Reads the header of a capture: its magic number, version and link type.
 ghost use Rattle.std.specs.Prelude.{◌≡◌, length, take, IfErr};
 ghost use Rattle.std.specs.Int.{w32, from_le_bytes};
 ghost use Rattle.bridge_capture.specs.Grammar.{format_by_magic, format_after_magic, word16, word32};
@@ -10,7 +10,7 @@ use crate::format::{ByteOrder, CaptureFormat, FractionUnit};
 /// Length of a header in octets.
 pub const HEADER_LEN: usize = 24;
 
-/// Reads a 32-bit number from the first four octets.
+/// Reads a 32-bit number from the first four octets. `parse_header` and `parse_words` call it.
 pub fn read_word(order: ByteOrder, octets: &[u8]) -> u32
     requires { length octets.now ≡ 4 }
     ensures { result ≡ word32 order octets.now }

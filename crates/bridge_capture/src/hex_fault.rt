@@ -1,4 +1,4 @@
-//! Reasons why a text isn't hexadecimal.
+//! Reasons why the hexadecimal text on standard input is refused.
 ghost use Rattle.std.specs.Prelude.{◌≡◌};
 ghost use Rattle.bridge_capture.specs.declared.hex_fault.HexFault.TheVariants.{NoMemory};
 

@@ -1,4 +1,4 @@
-//! Parses hexadecimal text.
+//! Parses hexadecimal text into octets, for the program without arguments.
 ghost use Rattle.std.specs.Prelude.{◌≡◌, Ok, Err, IfOk};
 ghost use Rattle.bridge_capture.specs.Hex.{is_blank, digits_octet, spelled_octets};
 
@@ -27,8 +27,8 @@ fn parse_octet(high: u8, low: u8) -> Option<u8>
     Some((16 * high + low) as u8)
 }
 
-/// Parses pairs of hexadecimal digits of either case, with blanks between pairs. Returns the first fault from the left. Allocates
-/// memory at most once.
+/// Parses pairs of hexadecimal digits of either case, with blanks between pairs. Returns the first fault from the left. Allocates memory at
+/// most once. `wire_text` of `app_commands` calls it.
 pub fn parse_octets<A: Allocator>(alloc: A, text: &[u8]) -> Result<Vec<u8, A>, HexFault>
     ensures ok { IfOk result (λ octets. spelled_octets text.now ≡ Ok octets.items) }
     ensures not_hex { result ≡ Err HexFault.NotHex → spelled_octets text.now ≡ Err HexFault.NotHex }

@@ -1,4 +1,4 @@
-//! Hexadecimal text of a written capture.
+//! Writes captured frames as hexadecimal text, for the program without arguments.
 ghost use Rattle.std.specs.Prelude.{◌≡◌, ◌≤◌, ◌<◌, ◌+◌, ◌^◌, ◌++◌, List, length, All, IfOk, OnOk};
 ghost use Rattle.std.specs.String.{string_bytes};
 ghost use Rattle.std.specs.Char.{digit_char};

@@ -3,13 +3,15 @@ ghost use Rattle.std.specs.Prelude.{◌≡◌, ℕ, List};
 ghost use Rattle.bridge_capture.specs.declared.record.TheConstants.{MAX_RECORDS, SNAP_LENGTH};
 ghost use Rattle.bridge_capture.specs.Laws.{WrittenIsRead, ReadsOneWay};
 
-/// A written capture is read again: at most 1,000,000 frames whose times never fall and are below `END_OF_TIME`. Captured octets
-/// are at most 65,535 and the frame's length.
+/// A written capture is read again: at most 1,000,000 frames whose times never fall and are below `END_OF_TIME`. Captured octets are at
+/// most 65,535 and the frame's length.
+///
+/// So a run can read captures that another run wrote.
 pub fn written_is_read()
     ensures { WrittenIsRead }
 {}
 
-/// File contents are a capture in exactly one way: one list of frames and one ending.
+/// File contents are a capture in exactly one way: one list of frames and one ending. So contracts may speak of the frames of a capture.
 pub fn each_text_reads_one_way()
     ensures { (text : List ℕ) → ReadsOneWay text }
 {}

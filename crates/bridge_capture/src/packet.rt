@@ -1,4 +1,4 @@
-//! Frames read from a capture.
+//! Frames that were read from a capture, with their arrival times.
 use std::alloc::Allocator;
 
 /// Frame of a capture.

@@ -1,4 +1,4 @@
-//! Progress of reading a capture.
+//! State of a capture that is being read: more records can follow, it has ended, or it was refused.
 use crate::capture_fault::CaptureFault;
 
 /// Whether more records of a capture can follow.

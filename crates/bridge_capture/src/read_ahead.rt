@@ -24,7 +24,8 @@ pub struct ReadAhead<R: Read, A: Allocator> {
 }
 
 impl<R: Read + Drop, A: Allocator> ReadAhead<R, A> {
-    /// Makes a source of a reader. Allocates memory once. If memory runs out, the reader is dropped.
+    /// Makes a source of a reader. Allocates memory once. If memory runs out, the reader is dropped. `wire_capture` and `capture_fault` of
+    /// `app_commands` call it.
     pub fn new(alloc: A, reader: R) -> Result<ReadAhead<R, A>, NoMemory>
         ensures remaining { IfOk result (λ source. ⟦<ReadAhead<R, A> as ByteSource>⟧.remaining source
             ≡ R.remaining reader) }

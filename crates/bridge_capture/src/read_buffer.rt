@@ -1,4 +1,4 @@
-//! Octets that were read ahead.
+//! Buffer of octets that were read ahead from a capture.
 ghost use Rattle.std.specs.Prelude.{◌≡◌, ◌≤◌, ◌<◌, ◌-◌, ◌++◌, length, take, slice_range, vec_len, true, false, IfOk, OnOk, OnErr};
 ghost use Rattle.std.specs.Io.KnownBytes.{Consumes, IsAtEnd, Keeps, prepend_known};
 
@@ -21,7 +21,7 @@ pub struct ReadBuffer<A: Allocator> {
 }
 
 impl<A: Allocator> ReadBuffer<A> {
-    /// Makes an empty buffer of `width` octets. Allocates memory once.
+    /// Makes an empty buffer of `width` octets. Allocates memory once. `with_width` calls it.
     pub fn new(alloc: A, width: usize) -> Result<ReadBuffer<A>, NoMemory>
         requires { 0 < width }
         ensures start { IfOk result (λ window. window.start ≡ 0) }
@@ -44,7 +44,7 @@ impl<A: Allocator> ReadBuffer<A> {
         self.octets.len()
     }
 
-    /// Returns the number of octets in the buffer.
+    /// Returns the number of octets in the buffer. `ReadAhead` reads from its source if the buffer has too few.
     #[inline(always)]
     pub fn len(&self) -> usize
         ensures { result ≡ self.now.end - self.now.start }
@@ -66,7 +66,7 @@ impl<A: Allocator> ReadBuffer<A> {
         self.start = to;
     }
 
-    /// Returns the octets in the buffer.
+    /// Returns the octets in the buffer. `ReadAhead` hands them to the reader of a capture.
     #[inline(always)]
     pub fn octets(&self) -> &[u8]
         ensures { result.now ≡ slice_range self.now.octets.items self.now.start self.now.end }
@@ -74,7 +74,7 @@ impl<A: Allocator> ReadBuffer<A> {
         &self.octets[self.start..self.end]
     }
 
-    /// Drops the first `count` octets, which must be in the buffer.
+    /// Drops the first `count` octets, which must be in the buffer. `ReadAhead` calls it after a record was used.
     #[inline(always)]
     pub fn skip(&mut self, count: usize)
         requires { count ≤ self.old.end - self.old.start }

@@ -1,4 +1,4 @@
-//! Record of a capture.
+//! Reads the records of a capture: header and captured octets of each frame.
 ghost use Rattle.std.specs.Prelude.{◌≡◌, ◌≢◌, ◌≤◌, ◌<◌, ◌+◌, ◌*◌, Some, None, Err, true, length, take, IfSome, IfErr, MatchResult};
 ghost use Rattle.bridge_capture.specs.Grammar.{record_time, captured_length, original_length, record_header_fault, front_item};
 ghost use Rattle.bridge_capture.specs.Reading.{TakesFront, TakesOctets, AgreesWithSource, IfPacket, IsInBounds, IsRecordHeaderFault, packet_result};
@@ -22,7 +22,7 @@ pub const MAX_RECORDS: u32 = 1_000_000;
 /// Fields of a record's header.
 #[derive(Clone, Copy)]
 struct RecordHeader {
-    /// Time in ns.
+    /// Time stamp of the record, in ns.
     time: u64,
     /// Number of captured octets.
     captured: u32,
@@ -103,7 +103,8 @@ fn check_record_header(number: u32, earliest: u64, head: RecordHeader) -> Result
     Ok(())
 }
 
-/// Reads the `captured` octets of record `number` into the vector `octets`, which loses its old contents.
+/// Reads the `captured` octets of record `number` into the vector `octets`, which loses its old contents. `read_unbuffered_record` calls
+/// it.
 #[inline(always)]
 fn read_octets<R: ByteSource, A: Allocator>(
     number: u32,

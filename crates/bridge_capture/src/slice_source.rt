@@ -10,7 +10,7 @@ use std::marker::Model;
 /// Source of a slice's octets, for captures in memory.
 #[derive(Drop)]
 pub struct SliceSource<'a> {
-    /// Octets that remain.
+    /// Octets of the capture that weren't read yet.
     rest: &'a [u8],
     /// Number of octets until failure; `None` means unlimited.
     allowance: Option<usize>,
@@ -40,7 +40,7 @@ impl<'a> Model for SliceSource<'a> {
 impl<'a> SliceSource<'a> {
     ghost use Rattle.std.specs.Prelude.{◌≡◌, ◌<◌, Some, None, false};
 
-    /// Makes a source that never fails.
+    /// Makes a source that never fails. `wire_text` of `app_commands` and `capture_sources` of `net_run` call it.
     pub fn new(octets: &'a [u8]) -> SliceSource<'a>
         ensures octets { result.octets ≡ octets.entry.now }
         ensures never { result.allowance ≡ None }
@@ -49,7 +49,7 @@ impl<'a> SliceSource<'a> {
         SliceSource::with_limits(octets, None, usize::MAX)
     }
 
-    /// Makes a source that fails at the next read after `count` octets.
+    /// Makes a source that fails at the next read after `count` octets. Tests of failing reads call it.
     pub fn with_allowance(octets: &'a [u8], count: usize) -> SliceSource<'a>
         ensures octets { result.octets ≡ octets.entry.now }
         ensures after { result.allowance ≡ Some count }

@@ -61,7 +61,8 @@ fn fill_by_many_reads<R: ByteSource>(source: &mut R, buf: &mut [u8]) -> Result<u
     Ok(at)
 }
 
-/// Writes all octets by as many writes as needed. If the sink fails, it has accepted a prefix of `octets`.
+/// Writes all octets by as many writes as needed. If the sink fails, it has accepted a prefix of `octets`. `Writer::begin` and
+/// `write_parts` call it.
 #[inline(always)]
 pub fn write_all<W: ByteSink>(sink: &mut W, octets: &[u8]) -> Result<(), Broken>
     ensures all { OnOk result (Appends (W.contents sink.old) (W.contents sink.new) octets.now) }

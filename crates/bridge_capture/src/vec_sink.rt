@@ -12,7 +12,7 @@ use std::marker::Model;
 /// Sink that stores its octets in memory.
 #[derive(Drop)]
 pub struct VecSink<A: Allocator> {
-    /// Octets so far.
+    /// Octets of the capture that were written so far.
     octets: Vec<u8, A>,
     /// Number of octets until failure; `None` means unlimited.
     allowance: Option<usize>,
@@ -44,7 +44,8 @@ impl<A: Allocator> Model for VecSink<A> {
 impl<A: Allocator> VecSink<A> {
     ghost use Rattle.std.specs.Prelude.{◌≡◌, ◌<◌, [], Some, None, false};
 
-    /// Makes an empty sink that fails only if memory runs out.
+    /// Makes an empty sink that fails only if memory runs out. `wire_text` of `app_commands`, and `empty_sinks` and `copy_sink` of
+    /// `net_run` call it.
     pub fn new(alloc: A) -> VecSink<A>
         ensures octets { result.octets ≡ [] }
         ensures never { result.allowance ≡ None }
@@ -54,7 +55,7 @@ impl<A: Allocator> VecSink<A> {
         VecSink::with_limits(alloc, None, usize::MAX)
     }
 
-    /// Makes an empty sink that fails after `count` octets, or if memory runs out.
+    /// Makes an empty sink that fails after `count` octets, or if memory runs out. Tests of failing writes call it.
     pub fn with_allowance(alloc: A, count: usize) -> VecSink<A>
         ensures octets { result.octets ≡ [] }
         ensures after { result.allowance ≡ Some count }
@@ -95,7 +96,7 @@ impl<A: Allocator> VecSink<A> {
         }
     }
 
-    /// Returns the octets in the sink.
+    /// Returns the octets in the sink. The program prints them without arguments, and network runs pass them on.
     pub fn octets(&self) -> &[u8]
         ensures { result.now ≡ self.now.octets }
     {

@@ -20,12 +20,13 @@ use std::io::Write;
 pub struct WriteBehind<W: Write + Drop, A: Allocator> {
     /// Writer, as a sink without a buffer.
     sink: FromWrite<W>,
-    /// Octets held back.
+    /// Octets that weren't written to the sink yet.
     held: WriteBuffer<A>,
 }
 
 impl<W: Write + Drop, A: Allocator> WriteBehind<W, A> {
-    /// Makes a sink with blocks of 131,072 octets. Allocates memory once. If memory runs out, the writer is dropped.
+    /// Makes a sink with blocks of 131,072 octets. Allocates memory once. If memory runs out, the writer is dropped. `wire_capture` of
+    /// `app_commands` calls it.
     pub fn new(alloc: A, writer: W) -> Result<WriteBehind<W, A>, NoMemory>
         ensures contents { IfOk result (λ sink. Keeps (W.contents writer)
             (⟦<WriteBehind<W, A> as ByteSink>⟧.contents sink)) }
@@ -52,7 +53,7 @@ impl<W: Write + Drop, A: Allocator> WriteBehind<W, A> {
         }
     }
 
-    /// Writes the octets held back, and returns the writer. A failed writer is never called again.
+    /// Writes the octets held back, and returns the writer. A failed writer is never called again. A run calls it after its last frame.
     pub fn finish(mut self) -> Result<W, Broken>
         ensures contents { IfOk result (λ writer. Keeps (⟦<WriteBehind<W, A> as ByteSink>⟧.contents self)
             (W.contents writer)) }
@@ -72,6 +73,7 @@ impl<W: Write + Drop, A: Allocator> WriteBehind<W, A> {
     }
 
     /// Writes the first `count` octets held back. Octets that the writer doesn't accept stay. A failure is permanent.
+    /// `WriteBehind::finish`, `write_with_flush` and `drop` call it.
     fn flush_octets(&mut self, count: usize) -> Result<(), Broken>
         requires { count ≤ self.old.held.count }
         ensures kept { Keeps (write_behind_contents W.contents self.old) (write_behind_contents W.contents self.new) }

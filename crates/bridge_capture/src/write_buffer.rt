@@ -1,4 +1,4 @@
-//! Octets held back from a writer.
+//! Buffer of octets that a sink holds back until a block is full.
 ghost use Rattle.std.specs.Prelude.{◌≡◌, ◌≤◌, ◌<◌, ◌+◌, ◌++◌, length, vec_len};
 ghost use Rattle.std.specs.Int.{w64, to_le_bytes};
 ghost use Rattle.bridge_capture.specs.declared.write_buffer.TheConstants.{MAX_BLOCK, MAX_RECORD_OCTETS};
@@ -31,7 +31,7 @@ impl<A: Allocator> WriteBuffer<A> {
     ghost use Rattle.std.specs.Prelude.{◌-◌, [], true, drop, IfOk};
     ghost use Rattle.bridge_capture.specs.Buffers.{held_octets};
 
-    /// Makes an empty buffer with blocks of `block` octets. Allocates memory once.
+    /// Makes an empty buffer with blocks of `block` octets. Allocates memory once. `with_block` calls it.
     pub fn new(alloc: A, block: usize) -> Result<WriteBuffer<A>, NoMemory>
         requires some { 0 < block }
         requires most { block ≤ MAX_BLOCK }
@@ -57,7 +57,7 @@ impl<A: Allocator> WriteBuffer<A> {
         self.block
     }
 
-    /// Returns the number of octets held back.
+    /// Returns the number of octets held back. `WriteBehind` writes them when a block is full.
     #[inline(always)]
     pub fn len(&self) -> usize
         ensures count { result ≡ self.now.count }
@@ -74,8 +74,8 @@ impl<A: Allocator> WriteBuffer<A> {
         self.octets.len() - self.count
     }
 
-    /// Whether the sink may add `more` octets before it writes a block: the buffer contains less than a block, and `more` is at most a
-    /// record's length.
+    /// Whether the sink may add `more` octets before it writes a block. The buffer must contain less than a block, and `more` be at most a
+    /// record's length. `WriteBehind::write` and `WriteBehind::write_words` call it.
     #[inline(always)]
     pub fn has_room(&self, more: usize) -> bool
         ensures { result ≡ true → more ≤ vec_len self.now.octets - self.now.count }
@@ -83,14 +83,14 @@ impl<A: Allocator> WriteBuffer<A> {
         self.count < self.block && more <= MAX_RECORD_OCTETS
     }
 
-    /// Returns the octets held back.
+    /// Returns the octets held back. `WriteBehind` writes them to its sink.
     pub fn octets(&self) -> &[u8]
         ensures { result.now ≡ held_octets self.now }
     {
         &self.octets[..self.count]
     }
 
-    /// Adds octets, for which the buffer must have capacity.
+    /// Adds octets, for which the buffer must have capacity. `WriteBehind` calls it after it has made room.
     #[inline(always)]
     pub fn put(&mut self, octets: &[u8])
         requires { length octets.now ≤ vec_len self.old.octets - self.old.count }
@@ -105,6 +105,7 @@ impl<A: Allocator> WriteBuffer<A> {
     }
 
     /// Adds `first` and `second`, each as eight little-endian octets, then `octets`. The buffer must have capacity for all.
+    /// `WriteBehind::write_words` calls it.
     #[inline(always)]
     pub fn put_record(&mut self, first: u64, second: u64, octets: &[u8])
         requires { 16 + length octets.now ≤ vec_len self.old.octets - self.old.count }
@@ -124,7 +125,7 @@ impl<A: Allocator> WriteBuffer<A> {
         self.count = to;
     }
 
-    /// Drops the first `count` octets, after they were written.
+    /// Drops the first `count` octets, after they were written. `WriteBehind` calls it if the sink accepted only a part.
     pub fn skip(&mut self, count: usize)
         requires { count ≤ self.old.count }
         ensures octets { held_octets self.new ≡ drop count (held_octets self.old) }

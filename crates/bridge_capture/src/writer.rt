@@ -1,4 +1,4 @@
-//! Writes captures.
+//! Writes a capture: its header, then one record for each frame.
 ghost use Rattle.std.specs.Prelude.{◌≡◌, ◌≤◌, ◌<◌, ◌*◌, ◌^◌, ◌++◌, length, true, Err, OnOk, OnErr};
 ghost use Rattle.std.specs.Int.{w64, to_le_bytes};
 ghost use Rattle.std.specs.Io.KnownBytes.{Appends};
@@ -19,7 +19,8 @@ pub struct Writer {
 }
 
 impl Writer {
-    /// Writes the header. Allocates no memory. If the sink fails, it has a prefix of the header.
+    /// Writes the header. Allocates no memory. If the sink fails, it has a prefix of the header. `begin_writers` of `bridge_core` and
+    /// `wire` of `bridge_wire` call it.
     pub fn begin<W: ByteSink>(sink: &mut W) -> Result<Writer, CaptureFault>
         ensures ok { OnOk result (Appends (W.contents sink.old) (W.contents sink.new) written_header) }
         ensures err { OnErr result (AppendsPrefix (W.contents sink.old) (W.contents sink.new) written_header) }
@@ -39,8 +40,10 @@ impl Writer {
         }
     }
 
-    /// Writes a record: the end of transmission `done` in ns, the length `len` on the link, and the octets. Allocates no memory. If
-    /// the sink fails, it has a prefix of the record.
+    /// Writes a record: the end of transmission `done` in ns, the length `len` on the link, and the octets. Allocates no memory. If the
+    /// sink fails, it has a prefix of the record.
+    ///
+    /// `write_frame` of `bridge_core` and `write_record` of `bridge_wire` call it for each frame that leaves.
     #[inline(always)]
     pub fn put<W: ByteSink>(
         &mut self,

@@ -94,13 +94,12 @@ wildcard_fault n f = fault_unless (is_some f.handle) (fault.ProtectedWildcard n)
 abbrev pub max_sdu_fault : ℕ → FilterPlan → Option CheckFault
 max_sdu_fault n f = fault_unless (is_some f.max_sdu) (fault.NoMaxSdu n)
 
--- Test 3 returns the fault GateShared if a filter with another number than `n` uses the stream gate of `f`; otherwise
--- `None`.
+-- Test 3 returns the fault GateShared if a filter with another number than `n` uses the stream gate of filter `f`; otherwise `None`.
 abbrev pub gate_fault : {A : Type 0} → Plan A → ℕ → FilterPlan → Option CheckFault
 gate_fault p n f = fault_unless (not (is_gate_shared p.filters n f)) (fault.GateShared n)
 
--- Test 4 returns the fault MeterShared if a filter with another number than `n` uses the flow meter of `f`; otherwise
--- `None`. A filter without a meter passes.
+-- Test 4 returns the fault MeterShared if a filter with another number than `n` uses the flow meter of filter `f`; otherwise `None`. A
+-- filter without a meter passes.
 abbrev pub meter_fault : {A : Type 0} → Plan A → ℕ → FilterPlan → Option CheckFault
 meter_fault p n f = fault_unless (not (is_meter_shared p.filters n f)) (fault.MeterShared n)
 
@@ -142,15 +141,14 @@ filter_tests p n f =
     ∷ size_fault p n f
     ∷ []
 
--- The fault of the first of eight tests that filter `f` with number `n` fails in plan `p`; `None` if it passes all
--- eight.
+-- The fault of the first of eight tests that filter `f` with number `n` fails in plan `p`; `None` if it passes these tests.
 abbrev pub filter_fault : {A : Type 0} → Plan A → ℕ → FilterPlan → Option CheckFault
 filter_fault p n f = first_test_fault (filter_tests p n f)
 
 -- GROUPED FILTERS
 
--- Test 6 of a grouped filter returns QueueShared for the first reachable queue of filter `f` that is also reachable for
--- a filter outside group `k`; otherwise `None`.
+-- Test 6 of a grouped filter returns QueueShared for the first queue that filter `f` and a filter outside group `k` can reach. Otherwise it
+-- returns `None`.
 abbrev pub outsider_fault : {A : Type 0} → Plan A → ℕ → ℕ → FilterPlan → Option CheckFault
 outsider_fault p k n f = first_fault_in_reach p f (λ q c. option_map (fault.QueueShared n q c) (outsider_in_queue p p.filters k q c))
 
@@ -168,8 +166,7 @@ member_tests p k n f =
     ∷ size_fault p n f
     ∷ []
 
--- The fault of the first of eight tests that filter `f` with number `n` in group `k` fails; `None` if it passes all
--- eight.
+-- The fault of the first of eight tests that filter `f` with number `n` in group `k` fails; `None` if it passes these tests.
 abbrev pub member_fault : {A : Type 0} → Plan A → ℕ → ℕ → FilterPlan → Option CheckFault
 member_fault p k n f = first_test_fault (member_tests p k n f)
 
@@ -189,7 +186,7 @@ abbrev pub tests_in_group : {A : Type 0} → Plan A → Option ℕ → ℕ → F
 tests_in_group p None n f = filter_tests p n f
 tests_in_group p (Some k) n f = member_tests p k n f
 
--- The test results for filter `f` with number `n`, by its kind: protected or grouped.
+-- The test results for filter `f` with number `n`: results of protected filters, or if `f` is grouped, of grouped filters.
 abbrev pub kind_tests : {A : Type 0} → Plan A → ℕ → FilterPlan → List (Option CheckFault)
 kind_tests p n f = tests_in_group p (queue_group f) n f
 
@@ -205,8 +202,7 @@ filter_failures p f = if is_tested f.1 then failed_tests (kind_tests p f.0 f.1) 
 abbrev pub all_faults : {A : Type 0} → Plan A → List CheckFault
 all_faults p = flat_map (filter_failures p) p.filters
 
--- The one of two optional pairs (filter number, fault) with the lower number, the first if equal; `None` if both are
--- absent.
+-- The optional pair (filter number, fault) with the lower number; the first of both if the numbers are equal. `None` if both are absent.
 abbrev pub lesser_fault : Option (ℕ × CheckFault) → Option (ℕ × CheckFault) → Option (ℕ × CheckFault)
 lesser_fault None b = b
 lesser_fault (Some a) None = Some a

@@ -55,8 +55,8 @@ optional_entries (Some g) = schedule_entries g.schedule
 abbrev pub gate_entries : {A : Type 0} → List (ℕ × GatePlan A) → ℕ → List GateEntry
 gate_entries gates n = optional_entries (lookup (nat_eq n) gates)
 
--- True if `k` equals the internal priority value `ipv`, or, without it, the filter's `priority`; true for every `k` if
--- both are absent.
+-- True if priority `k` equals the internal priority value `ipv`, or, if that is absent, the filter's `priority`. True
+-- for every `k` if both are absent.
 abbrev pub has_priority_value : Option ℕ → Option ℕ → ℕ → Bool
 has_priority_value (Some ipv) priority k = nat_eq ipv k
 has_priority_value None (Some n) k = nat_eq n k

@@ -36,20 +36,20 @@ has_queue r q classes c = slice_index_or r.ports (q - 1) false && has_class r.pr
 abbrev pub all_reaches : {A : Type 0} → Plan A → List (ℕ × FilterPlan) → List FilterReach
 all_reaches p filters = map (λ f. record { number = f.0; group = f.1.group; reach = filter_reach p f.1 }) filters
 
--- True if filter `r` may not share a queue with filter `n`: with a group, if `r` is outside the group; without a group,
--- if `r` is another filter than `n`.
+-- True if filter `r` may not share a queue with filter `n`. If filter `n` has a group, `r` is outside this group; otherwise `r` is another
+-- filter than `n`.
 abbrev pub is_outsider : Option ℕ → ℕ → FilterReach → Bool
 is_outsider None n r = not (nat_eq r.number n)
 is_outsider (Some k) n r = not (is_in_group k r.group)
 
--- The lowest number of a listed filter that can reach class `c` at port `q` and may not share this queue with filter
--- `n`; `None` if there is none.
+-- The lowest number of a listed filter that can reach class `c` at port `q` but may not share this queue with filter `n`. `None` if no
+-- listed filter does.
 abbrev pub least_outsider : List FilterReach → Option ℕ → ℕ → ℕ → List ℕ → ℕ → Option ℕ
 least_outsider [] group n q classes c = None
 least_outsider (r ∷ rs) group n q classes c = if is_outsider group n r && has_queue r.reach q classes c then lesser_number (Some r.number) (least_outsider rs group n q classes c) else least_outsider rs group n q classes c
 
--- The lowest number of a filter that can reach class `c` at port `q`, or `None`: of a filter outside the group, or
--- without a group, of any filter other than `n`.
+-- The lowest number of a filter that can reach class `c` at port `q`, or `None`. With a group, only filters outside the group count;
+-- otherwise all filters other than `n`.
 abbrev pub other_or_outsider : {A : Type 0} → Plan A → Option ℕ → ℕ → ℕ → ℕ → Option ℕ
 other_or_outsider p None n q c = other_in_queue p p.filters n q c
 other_or_outsider p (Some k) n q c = outsider_in_queue p p.filters k q c

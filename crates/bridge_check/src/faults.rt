@@ -1,4 +1,4 @@
-//! Lists every test that a plan fails.
+//! Lists every test of `check` that a plan fails, for explanations.
 ghost use Rattle.std.specs.Prelude.{◌≡◌, ◌≤◌, ◌++◌, IfOk, OnOk};
 ghost use Rattle.std.specs.Option.{ForSome};
 ghost use Rattle.bridge_check.specs.Faults.{all_faults, failed_tests, filter_failures, has_catch_all};
@@ -53,6 +53,8 @@ fn push_filter_faults<A: Allocator + Copy>(
 
 /// Returns every fault of `plan`, by filter, then by test. A test of queues reports only the first queue that fails. The list is empty
 /// exactly if `check` accepts the plan.
+///
+/// `explain_check` of `show_lint` calls it.
 pub fn all_faults<A: Allocator + Copy>(
     alloc: A,
     plan: &Plan<A>,

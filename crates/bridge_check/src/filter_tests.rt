@@ -36,13 +36,13 @@ struct FilterCase<'a, A: Allocator + Copy> {
     catches: bool,
     /// Number of the filter.
     number: u32,
-    /// The filter.
+    /// Filter that is tested.
     filter: FilterPlan,
     /// Ports and priorities that the filter's frames can have.
     reach: Reach,
 }
 
-/// Whether another filter uses the stream gate of `filter`. Its frames could then shut the gate, so test 3 fails.
+/// Whether another filter uses the stream gate of `filter`. Its frames could then shut the gate, so test 3 fails. `run_tests` calls it.
 fn is_gate_shared(filters: &[(u32, FilterPlan)], number: u32, filter: &FilterPlan) -> bool
     ensures { result ≡ spec.is_gate_shared filters.now number filter.now }
 {
@@ -61,15 +61,15 @@ fn is_same_meter(a: Option<u32>, b: Option<u32>) -> bool
     }
 }
 
-/// Whether another filter uses the meter of `filter`. Its frames could then empty the buckets, so test 4 fails.
+/// Whether another filter uses the meter of `filter`. Its frames could then empty the buckets, so test 4 fails. `run_tests` calls it.
 fn is_meter_shared(filters: &[(u32, FilterPlan)], number: u32, filter: &FilterPlan) -> bool
     ensures { result ≡ spec.is_meter_shared filters.now number filter.now }
 {
     filters.iter().any(|g| g.0 != number && is_same_meter(g.1.meter, filter.meter))
 }
 
-/// Whether every filter number is at most `number`. A catch-all filter must have the greatest number, to match only what is left.
-/// `has_catch_all` calls it.
+/// Whether every filter number is at most `number`. A catch-all filter must have the greatest number, so that it matches only frames that
+/// match no other filter. `has_catch_all` calls it.
 fn is_greatest_number(filters: &[(u32, FilterPlan)], number: u32) -> bool
     ensures { result ≡ spec.is_greatest_number filters.now number }
 {
@@ -100,8 +100,8 @@ fn queue_group(filter: &FilterPlan) -> Option<u32>
 }
 
 impl<'a, A: Allocator + Copy> FilterCase<'a, A> {
-    /// Returns the lowest number of a filter that can reach class `class` at `port`, which has number `q`, but may not share this queue;
-    /// `None` if no such filter can. `queue_test_fault` calls it.
+    /// Returns the lowest number of a filter that can reach class `class` at `port` (number `q`), but may not share this queue. `None` if
+    /// no such filter can reach the class. `queue_test_fault` calls it.
     fn other_filter_in_queue(&self, port: &PortPlan<A>, q: u8, class: u8) -> Option<u32>
         requires port { find_port self.now.plan.now.ports q ≡ Some port.now }
         requires from { 1 ≤ q }

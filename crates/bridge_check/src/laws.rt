@@ -23,7 +23,7 @@ ghost use Rattle.bridge_check.specs.Faults.{all_faults, filter_fault, first_faul
 use std::alloc::Allocator;
 
 /// A filter that fails no test has its stream gate, meter, queues and windows for itself. Its longest frame fits, and every forwarded frame
-/// matches some filter.
+/// matches some filter. The isolation theorem rests on it.
 pub fn without_fault_is_isolated<A: Allocator + Copy>()
     ensures { (p : Plan A) (n : ℕ) (f : FilterPlan)
         → IsPlan p
@@ -34,6 +34,8 @@ pub fn without_fault_is_isolated<A: Allocator + Copy>()
 
 /// A grouped filter that fails no test has its stream gate, meter and windows for itself, and shares its queues only with its group. Its
 /// longest frame fits, and every forwarded frame matches some filter.
+///
+/// The isolation theorem for groups rests on it.
 pub fn without_fault_is_isolated_member<A: Allocator + Copy>()
     ensures { (p : Plan A) (k n : ℕ) (f : FilterPlan)
         → IsPlan p
@@ -58,7 +60,7 @@ pub fn reach_is_sound<A: Allocator + Copy>()
         → reaches_queue p f out.number (frame_class out ipv (frame_priority port head.tag)) ≡ true }
 {}
 
-/// Every frame matches a filter, if some protected filter fails no test.
+/// Every frame matches a filter, if some protected filter fails no test. The isolation theorem rests on it.
 pub fn every_frame_has_a_filter<A: Allocator + Copy>()
     ensures { (p : Plan A) (n : ℕ) (f : FilterPlan) (c : FilterInput)
         → IsPlan p
@@ -68,7 +70,7 @@ pub fn every_frame_has_a_filter<A: Allocator + Copy>()
 {}
 
 /// A filter that fails no test has one plan entry, and no other filter uses its stream gate or meter. Its own events alone determine its
-/// verdicts.
+/// verdicts. The isolation theorem rests on it.
 pub fn without_fault_has_own_instances<A: Allocator + Copy>()
     ensures { (p : Plan A) (n : ℕ) (f : FilterPlan)
         → IsPlan p
@@ -77,7 +79,8 @@ pub fn without_fault_has_own_instances<A: Allocator + Copy>()
         → HasOwnInstances (police_plans p.filters p.gates p.meters) n f }
 {}
 
-/// The fault that `check` reports is in the list of all faults. If `check` reports none, the list is empty.
+/// The fault that `check` reports is in the list of all faults. If `check` reports none, the list is empty. So explanations never
+/// contradict the fault line.
 pub fn the_first_fault_is_one_of_all<A: Allocator + Copy>()
     ensures one { (p : Plan A) (e : CheckFault) → first_fault p ≡ Some e → IsMember e (all_faults p) }
     ensures none { (p : Plan A) → first_fault p ≡ None → all_faults p ≡ [] }

@@ -24,7 +24,7 @@ fn is_null_kind(kind: Kind) -> bool
 }
 
 /// Whether all stream entries with handle `handle` compare the destination address. Only then are the frames' destinations, and so their
-/// egress ports, known.
+/// egress ports, known. `reached_ports` calls it.
 fn are_null_kinds(handle: u32, streams: &[StreamEntry]) -> bool
     ensures { result ≡ spec.are_null_kinds handle streams.now }
 {
@@ -60,6 +60,8 @@ fn destination_ports<A: Allocator + Copy>(plan: &Plan<A>, handle: u32) -> [bool;
 
 /// Whether `entry` is open and can give a frame priority `k`: by its internal priority value, or without one by the filter's `priority`. If
 /// both are missing, it can give each.
+///
+/// `entries_give_priority` and `lets` call it.
 fn gives_priority(entry: &GateEntry, priority: Option<u8>, k: u8) -> bool
     ensures { result ≡ spec.gives_priority entry.now priority k }
 {
@@ -120,7 +122,8 @@ fn given_priorities<A: Allocator + Copy>(schedule: &Schedule<A>, priority: Optio
     priorities
 }
 
-/// Returns the stream gate with number `number`; `None` if the list lacks it.
+/// Returns the stream gate with number `number`; `None` if the list lacks it. `reached_priorities` and functions of `bridge_bounds`,
+/// `bridge_groups`, `net_latency` and other crates call it.
 pub fn find_gate<A: Allocator + Copy>(
     gates: &[(u32, GatePlan<A>)],
     number: u32,
@@ -165,7 +168,8 @@ fn reached_priorities<A: Allocator + Copy>(plan: &Plan<A>, filter: &FilterPlan) 
     }
 }
 
-/// Returns the reach of `filter`, in one pass through the plan's streams.
+/// Returns the reach of `filter`, in one pass through the plan's streams. `test_filter`, `can_wait` and functions of `bridge_groups`,
+/// `net_check`, `net_latency` and other crates call it.
 pub fn filter_reach<A: Allocator + Copy>(plan: &Plan<A>, filter: &FilterPlan) -> Reach
     ensures { result ≡ reached.filter_reach plan.now filter.now }
 {
@@ -175,7 +179,8 @@ pub fn filter_reach<A: Allocator + Copy>(plan: &Plan<A>, filter: &FilterPlan) ->
     }
 }
 
-/// Whether the frames of `filter` can enter the queue of class `class` at port `port`, 1 to 16.
+/// Whether the frames of `filter` can enter the queue of class `class` at port `port`, 1 to 16. Functions of `bridge_bounds`,
+/// `bridge_groups`, `show_lint` and other crates call it.
 #[tactic(auto, using(crate::proofs::Told::unreached, crate::proofs::Told::in_reach))]
 pub fn can_wait<A: Allocator + Copy>(
     plan: &Plan<A>,

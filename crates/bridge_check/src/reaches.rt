@@ -53,7 +53,7 @@ fn lesser_number(least: Option<u32>, number: u32) -> u32
     }
 }
 
-/// Whether a filter's group `own` is `group`. A filter without a group is in none.
+/// Whether a filter's group `own` is `group`. A filter without a group is in none. `is_outsider` calls it.
 fn is_in_group(group: u32, own: Option<u32>) -> bool
     ensures { result ≡ is_in_group group own }
 {
@@ -74,8 +74,10 @@ fn is_outsider(group: Option<u32>, number: u32, other: &FilterReach) -> bool
     }
 }
 
-/// Returns the lowest number of an outsider that can reach class `class` at port `port`; `None` if none can. Filter `number` shares queues
-/// with `group`; `classes` gives the class of each priority. `other_filter_in_queue` calls it.
+/// Returns the lowest number of an outsider that can reach class `class` at port `port`; `None` if no outsider can reach it. Filter
+/// `number` shares queues with `group`; `classes` gives the class of each priority.
+///
+/// `other_filter_in_queue` calls it.
 pub(crate) fn least_outsider(
     reaches: &[FilterReach],
     group: Option<u32>,

@@ -36,7 +36,7 @@ impl<A: Allocator + Copy> Model for Accepted<A> {
 }
 
 impl<A: Allocator + Copy> Accepted<A> {
-    /// Returns the accepted plan. Runs, bounds and networks get it from here.
+    /// Returns the accepted plan. Runs, bounds and networks call it, because they may use only accepted plans.
     pub fn plan(&self) -> &Plan<A>
         ensures plan { result.now ≡ self.now }
         ensures acceptable { IsAcceptable self.now }
@@ -50,9 +50,9 @@ impl<A: Allocator + Copy> Accepted<A> {
 /// Refused plan, with its first fault. Callers get the plan back, to explain the fault.
 #[derive(Drop)]
 pub struct Refused<A: Allocator + Copy> {
-    /// The plan, unchanged.
+    /// The refused plan, unchanged.
     pub plan: Plan<A>,
-    /// The first fault.
+    /// Its first fault, by filter, port and class.
     pub fault: CheckFault,
 }
 
@@ -129,6 +129,8 @@ fn first_fault<A: Allocator + Copy>(
 
 /// Accepts a plan that isolates each of its protected filters and groups. Otherwise refuses it with the first fault, by rising filter
 /// number, then in test order, then by rising port and class.
+///
+/// `plan_picture` of `app_commands` and `check_isolation` of `app_failure` call it.
 pub fn check<A: Allocator + Copy>(alloc: A, plan: Plan<A>) -> Result<Accepted<A>, Refused<A>>
     ensures accepted { IfOk result (λ a. (a ≡ plan) × (first_fault plan ≡ None)) }
     ensures acceptable { IfOk result IsAcceptable }

@@ -46,10 +46,10 @@ fn shared_phase<A: Allocator + Copy>(list: &CyclicList<u8, A>, class: u8) -> Opt
     None
 }
 
-/// Returns the offset in ns at which the port first opens class `class` with another class, if it does. The old list precedes the new list.
-/// A port without a list gives 0.
+/// Returns the offset in ns at which the port first opens class `class` together with another class; `None` if it opens the class by
+/// itself. The old list precedes the new list.
 ///
-/// `queue_test_fault` calls it.
+/// A port without a list gives 0. `queue_test_fault` calls it.
 pub(crate) fn port_shared_phase<A: Allocator + Copy>(port: &PortPlan<A>, class: u8) -> Option<u64>
     requires { class < 8 }
     ensures { result ≡ spec.port_shared_phase port.now.list class }

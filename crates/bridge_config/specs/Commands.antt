@@ -31,7 +31,7 @@ pub record AreCommands {A : Type 0} (p : Plan A) (commands : List Command) : Typ
   pub rise : IsOrdered (λ a b. a.at ≤ b.at) commands
   pub instances : (c : Command) → IsMember c commands → IsTrue (has_instance p c.clear c.number)
 
--- Time of the last command, or `t` without commands.
+-- Time in ns of the last command; `t` if there is no command. Later commands must not be earlier.
 abbrev pub last_time : ℕ → List Command → ℕ
 last_time t [] = t
 last_time t (c ∷ cs) = last_time c.at cs

@@ -52,7 +52,7 @@ read_arrays members = do
   filters ← section_items section.Filter members
   Ok (record { changes = changes; ports = ports; vlans = vlans; statics = statics; streams = streams; gates = gates; meters = meters; filters = filters })
 
--- First item; `None` without items.
+-- First item of an array; `None` if the array is empty.
 abbrev pub first_item : Items → Option Data
 first_item no_items = None
 first_item (item d _) = Some d

@@ -15,7 +15,7 @@ abbrev pub read_fault : {A : Type 0} → Result A PlanFault → Option PlanFault
 read_fault (Ok x) = None
 read_fault (Err e) = Some e
 
--- Value of a result, or `other` after a fault.
+-- Value of a result, or `other` after a fault, so that the reading of the other keys can go on.
 abbrev pub value_or : {A : Type 0} → A → Result A PlanFault → A
 value_or other (Ok x) = x
 value_or other (Err e) = other

@@ -1,4 +1,4 @@
--- Rules that each section of a plan follows.
+-- Rules that the instances of each section of a plan obey.
 use Rattle.std.specs.Prelude.{◌≡◌, ◌≤◌, ◌<◌, ℕ, Bool, true, ◌&&◌, IsTrue, List, [], ◌∷◌, length, nat_eq, map, All, Option, Some, None, if◌then◌else◌}
 use Rattle.std.specs.List.{list_any}
 use Rattle.std.specs.List.Sorted.{IsPermutation, IsStrictlyIncreasing}
@@ -94,8 +94,8 @@ pub record AreVlans (all : ℕ) (vlans : List Vlan) : Type 0 where
 abbrev pub has_static : List StaticEntry → ℕ → List ℕ → Bool
 has_static statics vid address = list_any (λ s. nat_eq s.vid vid && bytes_eq s.address address) statics
 
--- Statement: The static entry has a VLAN of the plan, an address of six octets, and only ports in `all`, the set of the
--- plan's ports.
+-- Statement: The static entry has a VLAN of the plan, an address of six octets, and only ports of the plan (the set
+-- `all`).
 pub record IsStatic (all : ℕ) (vlans : List Vlan) (s : StaticEntry) : Type 0 where
   pub vlan : has_vlan vlans s.vid ≡ true
   pub address : length s.address ≡ 6

@@ -8,7 +8,7 @@ use Rattle.bridge_ident.specs.declared.TagKind.TheVariants as tag
 use Rattle.bridge_filter.specs.declared.Clear.{Clear}
 use Rattle.bridge_filter.specs.declared.Clear.TheVariants as clear
 
--- Kind of identification: the address that an entry compares.
+-- Kind of identification that the text `s` means: `null` compares the destination address, `source` the source address.
 abbrev pub parse_ident_kind : List ℕ → Option Kind
 parse_ident_kind s = if pointwise nat_eq s (codes "null") then Some kind.Null else if pointwise nat_eq s (codes "source") then Some kind.Source else None
 

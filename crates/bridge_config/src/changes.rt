@@ -1,4 +1,4 @@
-//! Schedule change of a plan.
+//! Reads the section `change` of a plan: the time of the schedule change.
 ghost use Rattle.std.specs.Prelude.{◌≡◌, ◌<◌, IfErr, IfOk, option_map};
 ghost use Rattle.toml.specs.View.{items_view, table_view, view};
 ghost use Rattle.bridge_schema.specs.declared.plan_fault.PlanFault.TheVariants.{NoMemory};

@@ -1,4 +1,4 @@
-//! Reads commands for the bridge of a plan.
+//! Reads the commands of a run from their text.
 ghost use Rattle.std.specs.Prelude.{◌≡◌, ◌<◌, ◌≤◌, IfErr, IfOk, All, true, length};
 ghost use Rattle.toml.specs.View.{table_view, items_view};
 ghost use Rattle.bridge_limits.specs.declared.TheConstants.{END_OF_TIME};
@@ -173,7 +173,8 @@ fn command_items<'a>(table: &'a Table) -> Result<&'a [Value], PlanFault>
 ///
 /// Order of faults: `TooLong`, `Syntax`, an unknown section, `NotAList`, `TooMany`, then each command key by key.
 ///
-/// A time before the previous command's time is `OutOfRange`. A number that the plan lacks is `Unresolved`.
+/// A time before the previous command's time is `OutOfRange`. A number that the plan lacks is `Unresolved`. `read_commands` of
+/// `app_failure`, and `explain_bridge_commands` and `bridge_commands` of `app_networks` call it.
 pub fn commands_of<A: Allocator + Copy, B: Allocator + Copy>(
     alloc: A,
     heap: Global,

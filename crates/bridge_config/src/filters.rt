@@ -1,4 +1,4 @@
-//! Stream filters of a plan.
+//! Reads the section `filter` of a plan: stream filters.
 ghost use Rattle.std.specs.Prelude.{◌≡◌, ◌≤◌, IfOk, false, true, length};
 ghost use Rattle.std.specs.Option.{ForSome};
 ghost use Rattle.toml.specs.View.{table_view, items_view};

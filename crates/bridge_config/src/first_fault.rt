@@ -26,7 +26,7 @@ impl Model for FirstFault {
 }
 
 impl FirstFault {
-    /// Starts with `fault` if `holds` is false, otherwise without a fault.
+    /// Starts with `fault` if `holds` is false, otherwise without a fault. `read_command`, `read_filter_by_lookup` and others call it.
     pub fn begin(holds: bool, fault: PlanFault) -> FirstFault
         ensures { Expects None holds fault result }
     {
@@ -34,7 +34,7 @@ impl FirstFault {
         FirstFault { fault }
     }
 
-    /// Stores `fault` if `holds` is false and there is no earlier fault.
+    /// Stores `fault` if `holds` is false and there is no earlier fault. `read_filter_by_lookup`, `value_or` and others call it.
     pub fn expect(&mut self, holds: bool, fault: PlanFault)
         ensures { Expects self.old holds fault self.new }
     {
@@ -43,7 +43,8 @@ impl FirstFault {
         }
     }
 
-    /// Returns the value of `read`. If `read` is a fault, stores it and returns `other`.
+    /// Returns the value of `read`. If `read` is a fault, stores it and returns `other`. `FirstFault::read_required`,
+    /// `FirstFault::read_optional` and others call it.
     pub fn value_or<T: Copy>(&mut self, read: Result<T, PlanFault>, other: T) -> T
         ensures { TakesRead self.old other read self.new result }
     {
@@ -56,7 +57,7 @@ impl FirstFault {
         }
     }
 
-    /// Reads a required key. If that fails, stores the fault and returns `other`.
+    /// Reads a required key. If that fails, stores the fault and returns `other`. Readers of sections then go on to the next key.
     pub fn read_required<K: ValueKind>(
         &mut self,
         row: InstanceTable<'_>,
@@ -75,7 +76,7 @@ impl FirstFault {
         self.value_or(row.read_required(key, kind), other)
     }
 
-    /// Reads an optional key. If that fails, stores the fault and returns `None`.
+    /// Reads an optional key. If that fails, stores the fault and returns `None`. Readers of sections then go on to the next key.
     pub fn read_optional<K: ValueKind>(
         &mut self,
         row: InstanceTable<'_>,
@@ -92,7 +93,8 @@ impl FirstFault {
         self.value_or(row.read_optional(key, kind), None)
     }
 
-    /// Reads an optional key with a default. If that fails, stores the fault and returns the default.
+    /// Reads an optional key with a default. If that fails, stores the fault and returns the default. Readers of sections then go on to the
+    /// next key.
     pub fn read_or_default<K: ValueKind>(
         &mut self,
         row: InstanceTable<'_>,
@@ -117,7 +119,7 @@ impl FirstFault {
         self.fault
     }
 
-    /// Ends the reading of a table: returns the first fault, or `value` without a fault.
+    /// Ends the reading of a table: returns the first fault, or `value` without a fault. Readers of sections call it after the last key.
     pub fn finish<T: Drop>(self, value: T) -> Result<T, PlanFault>
         ensures { EndsReading self value result }
     {

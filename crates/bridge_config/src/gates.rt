@@ -1,4 +1,4 @@
-//! Stream gates of a plan.
+//! Reads the section `gate` of a plan: stream gates and their lists.
 ghost use Rattle.std.specs.Prelude.{◌≡◌, ◌<◌, IfOk, All, false, true};
 ghost use Rattle.std.specs.Option.{ForSome};
 ghost use Rattle.toml.specs.Data.{get_member};
@@ -56,7 +56,8 @@ impl ListEntry for GateEntryReader {
     }
 }
 
-/// Whether a `[[gate]]` table has only allowed keys. Some keys need a schedule change: `change` is its time, or `None`.
+/// Whether a `[[gate]]` table has only allowed keys. Some keys need a schedule change: `change` is its time, or `None`. `has_gate_keys`
+/// calls it.
 fn has_only_gate_keys(change: Option<u64>, table: &Table) -> bool
     ensures { result ≡ has_known_keys (sections.gate_keys change (table_view table.now)) (table_view table.now) }
 {
@@ -138,8 +139,8 @@ fn gate_schedule<A: Allocator + Copy>(
     }
 }
 
-/// Reads the lists of a stream gate; `None` if it has no list. `change` is the time of the schedule change in ns. `take_gate_lists` calls
-/// it.
+/// Reads the lists of a stream gate; `None` if the gate has no list. `change` is the time of the schedule change in ns. `take_gate_lists`
+/// calls it.
 fn read_gate_lists<A: Allocator + Copy>(
     alloc: A,
     change: Option<u64>,

@@ -1,4 +1,4 @@
-//! Flow meters of a plan.
+//! Reads the section `meter` of a plan: flow meters.
 ghost use Rattle.std.specs.Prelude.{◌≡◌, IfOk, false, true};
 ghost use Rattle.toml.specs.View.{table_view};
 ghost use Rattle.bridge_meter.specs.Colours.{is_within_limits};

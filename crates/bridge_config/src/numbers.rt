@@ -6,8 +6,8 @@ ghost use Rattle.bridge_config.specs.Sections as sections;
 use bridge_schema::NumberLookup;
 use std::alloc::AllocError;
 
-/// Whether an instance has this number. Numbers of later instances must differ, and keys may name only existing numbers. `has`, `read_gate`
-/// and `read_meter` call it.
+/// Whether an instance has number `number`. Numbers of later instances must differ, and keys may name only existing numbers. `has`,
+/// `read_gate` and `read_meter` call it.
 pub(crate) fn has_number<X>(instances: &[(u32, X)], number: u64) -> bool
     ensures { result ≡ sections.has_number instances.now number }
 {

@@ -1,4 +1,4 @@
-//! Reads plans.
+//! Defines the plan of a bridge, and reads a plan's text.
 ghost use Rattle.std.specs.Prelude.{◌≡◌, ◌<◌, ◌≤◌, ◌↔◌, ℕ, Some, true, false, IfOk, map, nat_eq, option_map};
 ghost use Rattle.std.specs.Map.{lookup};
 ghost use Rattle.toml.specs.View.{table_view};
@@ -72,7 +72,7 @@ impl<A: Allocator + Copy> Model for Plan<A> {
 }
 
 impl<A: Allocator + Copy> Plan<A> {
-    /// Returns the ports, in file order.
+    /// Returns the ports, in file order. Functions of `app_commands`, `bridge_check`, `bridge_relay` and other crates call it.
     pub fn ports(&self) -> &[PortPlan<A>]
         ensures ports { result.now ≡ self.now.ports }
         ensures rules { rules.IsPlan self.now }
@@ -80,7 +80,7 @@ impl<A: Allocator + Copy> Plan<A> {
         &self.ports
     }
 
-    /// Returns the port with this number; `None` if the plan lacks it.
+    /// Returns the port with number `number`; `None` if the plan lacks it. Checks, bounds and pictures look ports up by it.
     pub fn port(&self, number: u8) -> Option<&PortPlan<A>>
         ensures port { option_map (λ p. p.now) result ≡ rules.find_port self.now.ports number }
         ensures rules { rules.IsPlan self.now }
@@ -88,7 +88,8 @@ impl<A: Allocator + Copy> Plan<A> {
         find_port(&self.ports, number)
     }
 
-    /// Returns the numbers of the ports in rising order.
+    /// Returns the numbers of the ports in rising order. Functions of `app_commands`, `app_networks`, `bridge_core` and other crates call
+    /// it.
     pub fn port_numbers<B: Allocator + Copy>(&self, alloc: B) -> Result<Vec<u8, B>, NoMemory>
         ensures { IfOk result (λ v. rules.IsSortedCopy (map (λ p. p.number) self.now.ports) v.items) }
     {
@@ -97,21 +98,21 @@ impl<A: Allocator + Copy> Plan<A> {
         Ok(ports)
     }
 
-    /// Returns the VLANs, in file order.
+    /// Returns the VLANs, in file order. Warnings and searches for loops need them.
     pub fn vlans(&self) -> &[Vlan]
         ensures { result.now ≡ self.now.database.vlans }
     {
         self.forwarding.vlans()
     }
 
-    /// Returns the static filtering entries, in file order.
+    /// Returns the static filtering entries, in file order. Warnings and searches for loops need them.
     pub fn statics(&self) -> &[StaticEntry]
         ensures { result.now ≡ self.now.database.statics }
     {
         self.forwarding.statics()
     }
 
-    /// Returns the stream identifications, in file order.
+    /// Returns the stream identifications, in file order. Checks, warnings and network tests need them.
     pub fn streams(&self) -> &[StreamEntry]
         ensures streams { result.now ≡ self.now.streams }
         ensures rules { rules.IsPlan self.now }
@@ -119,7 +120,8 @@ impl<A: Allocator + Copy> Plan<A> {
         &self.streams
     }
 
-    /// Returns the stream gates with their numbers, in file order.
+    /// Returns the stream gates with their numbers, in file order. `CommandTargets::has` and functions of `bridge_bounds`, `bridge_check`,
+    /// `bridge_groups` and other crates call it.
     pub fn gates(&self) -> &[(u32, GatePlan<A>)]
         ensures gates { result.now ≡ self.now.gates }
         ensures rules { rules.IsPlan self.now }
@@ -127,7 +129,8 @@ impl<A: Allocator + Copy> Plan<A> {
         &self.gates
     }
 
-    /// Returns the flow meters with their numbers, in file order.
+    /// Returns the flow meters with their numbers, in file order. `CommandTargets::has` and functions of `bridge_groups`, `bridge_relay`
+    /// and `show_lint` call it.
     pub fn meters(&self) -> &[(u32, MeterPlan)]
         ensures meters { result.now ≡ self.now.meters }
         ensures rules { rules.IsPlan self.now }
@@ -135,7 +138,8 @@ impl<A: Allocator + Copy> Plan<A> {
         &self.meters
     }
 
-    /// Returns the stream filters with their numbers, in file order.
+    /// Returns the stream filters with their numbers, in file order. `CommandTargets::has` and functions of `app_commands`, `app_failure`,
+    /// `bridge_bounds` and other crates call it.
     pub fn filters(&self) -> &[(u32, FilterPlan)]
         ensures filters { result.now ≡ self.now.filters }
         ensures rules { rules.IsPlan self.now }
@@ -178,7 +182,7 @@ impl<A: Allocator + Copy> Plan<A> {
     }
 }
 
-/// Returns the first port with this number; `None` if no port has it. `port` calls it.
+/// Returns the first port with number `number`; `None` if no port has it. `port` calls it.
 fn find_port<A: Allocator + Copy>(ports: &[PortPlan<A>], number: u8) -> Option<&PortPlan<A>>
     ensures { option_map (λ p. p.now) result ≡ rules.find_port ports.now number }
 {
@@ -243,6 +247,7 @@ impl<A: Allocator + Copy> Model for Policing<A> {
 }
 
 /// Reads the stream gates and meters, then the filters, which name them. `change` is the time of the schedule change in ns, or `None`.
+/// `read_plan` calls it.
 #[tactic(auto, unfolding(crate::specs::Document::read_policing))]
 fn read_policing<A: Allocator + Copy>(
     alloc: A,
@@ -290,7 +295,8 @@ fn read_plan<A: Allocator + Copy>(alloc: A, arrays: SectionArrays<'_>) -> Result
     })
 }
 
-/// Parses a text as a TOML document, with a plan's faults. The readers of plans and of commands share this function.
+/// Parses a text as a TOML document, with a plan's faults. The readers of plans and of commands share this function. `commands_of` and
+/// `plan_of` call it.
 #[tactic(auto, unfolding(crate::specs::Document::read_document))]
 pub(crate) fn read_document(heap: Global, text: &[u8]) -> Result<Table, PlanFault>
     ensures { MatchesReadingView table_view result (doc.read_document text.now) }
@@ -303,7 +309,7 @@ pub(crate) fn read_document(heap: Global, text: &[u8]) -> Result<Table, PlanFaul
 /// Order of faults: `TooLong`, `Syntax`, an unknown section, then `NotAList`, `TooMany` and `NoPorts` of the sections, then each
 /// instance key by key.
 ///
-/// Sections follow the order of `PLAN_SECTIONS`.
+/// Sections follow the order of `PLAN_SECTIONS`. Functions of `app_commands`, `app_failure` and `app_networks` call it.
 pub fn plan_of<A: Allocator + Copy>(
     alloc: A,
     heap: Global,

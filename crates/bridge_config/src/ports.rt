@@ -1,4 +1,4 @@
-//! Ports of a plan.
+//! Reads the section `port` of a plan: egress ports and their gate control lists.
 ghost use Rattle.std.specs.Prelude.{◌≡◌, ◌<◌, IfOk, All, false};
 ghost use Rattle.std.specs.Option.{ForSome};
 ghost use Rattle.toml.specs.Data.{get_member};
@@ -70,7 +70,8 @@ impl ListEntry for PortEntryReader {
     }
 }
 
-/// Whether a `[[port]]` table has only allowed keys. Some keys need a schedule change: `change` is its time, or `None`.
+/// Whether a `[[port]]` table has only allowed keys. Some keys need a schedule change: `change` is its time, or `None`. `has_port_keys`
+/// calls it.
 fn has_only_port_keys(change: Option<u64>, table: &Table) -> bool
     ensures { result ≡ has_known_keys (sections.port_keys change (table_view table.now)) (table_view table.now) }
 {
@@ -96,7 +97,7 @@ fn has_port_keys(change: Option<u64>, table: &Table) -> bool
         && has_only_port_entry_keys(Field::NextGates, table)
 }
 
-/// Whether a port has this number. Streams may name only such a port, and later ports need another number.
+/// Whether a port has number `number`. Streams may name only such a port, and later ports need another number. `PortNumbers::has` calls it.
 pub(crate) fn has_port<A: Allocator + Copy>(ports: &[PortPlan<A>], number: u64) -> bool
     ensures { result ≡ rules.has_port ports.now number }
 {
@@ -106,7 +107,7 @@ pub(crate) fn has_port<A: Allocator + Copy>(ports: &[PortPlan<A>], number: u64) 
 /// Numbers of a plan's ports. Readers look up a number that must exist because a stream names it, or that must be new.
 #[derive(Clone, Copy)]
 pub(crate) struct PortNumbers<'a, A: Allocator + Copy> {
-    /// The ports.
+    /// The ports of the plan, in file order.
     pub ports: &'a [PortPlan<A>],
 }
 
@@ -172,8 +173,8 @@ fn port_lists<A: Allocator + Copy>(
     }
 }
 
-/// Reads the gate control lists of a port; `None` if it has no list. `change` is the time of the schedule change in ns. `take_port_lists`
-/// calls it.
+/// Reads the gate control lists of a port; `None` if the port has no list. `change` is the time of the schedule change in ns.
+/// `take_port_lists` calls it.
 fn read_port_lists<A: Allocator + Copy>(
     alloc: A,
     change: Option<u64>,

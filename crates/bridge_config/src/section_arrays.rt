@@ -20,17 +20,17 @@ pub(crate) struct SectionArrays<'a> {
     pub changes: &'a [Value],
     /// Ports, at least one and at most 16.
     pub ports: &'a [Value],
-    /// VLANs.
+    /// Tables of the VLANs.
     pub vlans: &'a [Value],
-    /// Static filtering entries.
+    /// Tables of the static filtering entries.
     pub statics: &'a [Value],
-    /// Stream identifications.
+    /// Tables of the stream identifications.
     pub streams: &'a [Value],
-    /// Stream gates.
+    /// Tables of the stream gates.
     pub gates: &'a [Value],
-    /// Flow meters.
+    /// Tables of the flow meters.
     pub meters: &'a [Value],
-    /// Stream filters.
+    /// Tables of the stream filters.
     pub filters: &'a [Value],
 }
 

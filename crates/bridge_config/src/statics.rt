@@ -1,4 +1,4 @@
-//! Static filtering entries of a plan.
+//! Reads the section `static` of a plan: static filtering entries.
 ghost use Rattle.std.specs.Prelude.{◌≡◌, ◌≤◌, ◌+◌, ◌&&◌, ◌||◌, nat_eq, IfOk, drop, false, length};
 ghost use Rattle.std.specs.Str.{bytes_eq};
 ghost use Rattle.toml.specs.View.{table_view};
@@ -16,8 +16,8 @@ use bridge_schema::{
 use std::alloc::Allocator;
 use toml::Table;
 
-/// Whether an entry has this VLAN and this address. The last octet is compared first because it differs most often. `has_static_among` and
-/// `has_static_in_four` call it.
+/// Whether an entry has VLAN `vid` and address `address`. The last octet is compared first because it differs most often.
+/// `has_static_among` and `has_static_in_four` call it.
 #[inline(always)]
 fn has_vlan_and_address(entry: &StaticEntry, vid: u64, address: &[u8; 6]) -> bool
     ensures { result ≡ (nat_eq entry.now.vid vid && bytes_eq entry.now.address address.now) }
@@ -28,7 +28,7 @@ fn has_vlan_and_address(entry: &StaticEntry, vid: u64, address: &[u8; 6]) -> boo
     entry.vid as u64 == vid && entry.address == *address
 }
 
-/// Whether one of the entries has this VLAN and this address. `has_static` calls it for the last entries, at most three.
+/// Whether one of the entries has VLAN `vid` and address `address`. `has_static` calls it for the last entries, at most three.
 fn has_static_among(statics: &[StaticEntry], vid: u64, address: &[u8; 6]) -> bool
     ensures { result ≡ rules.has_static statics.now vid address.now }
 {
@@ -37,7 +37,7 @@ fn has_static_among(statics: &[StaticEntry], vid: u64, address: &[u8; 6]) -> boo
         .any(|s| has_vlan_and_address(s, vid, address))
 }
 
-/// Whether one of the four entries from index `place` on has this VLAN and this address. `has_static` calls it.
+/// Whether one of the four entries from index `place` on has VLAN `vid` and address `address`. `has_static` calls it.
 #[inline(always)]
 fn has_static_in_four(statics: &[StaticEntry], place: usize, vid: u64, address: &[u8; 6]) -> bool
     requires { place + 4 ≤ length statics.now }
@@ -51,7 +51,7 @@ fn has_static_in_four(statics: &[StaticEntry], place: usize, vid: u64, address: 
     one | two | three | four
 }
 
-/// Whether one of the entries has this VLAN and this address. The plan's reader compares each entry with all before it, so the loop
+/// Whether one of the entries has VLAN `vid` and address `address`. The plan's reader compares each entry with all before it, so the loop
 /// compares four at a time. `read_static` calls it.
 fn has_static(statics: &[StaticEntry], vid: u64, address: &[u8; 6]) -> bool
     ensures { result ≡ rules.has_static statics.now vid address.now }

@@ -1,4 +1,4 @@
-//! Stream identifications of a plan.
+//! Reads the section `stream` of a plan: stream identifications.
 ghost use Rattle.std.specs.Prelude.{◌≡◌, ◌≤◌, true, IfOk, All};
 ghost use Rattle.toml.specs.View.{table_view};
 ghost use Rattle.bridge_schema.specs.Readers.{MatchesReading};
@@ -111,6 +111,7 @@ fn read_stream_by_lookup<P: NumberLookup + Copy>(
 }
 
 /// Reads a stream identification, whose port must be one of `ports`. The earlier identifications have no influence on it.
+/// `StreamSection::read` calls it.
 fn read_stream<A: Allocator + Copy>(
     ports: &[PortPlan<A>],
     earlier: &[StreamEntry],

@@ -1,4 +1,4 @@
-//! VLANs of a plan.
+//! Reads the section `vlan` of a plan: VLANs and their member ports.
 ghost use Rattle.std.specs.Prelude.{◌≡◌, IfOk, false};
 ghost use Rattle.toml.specs.View.{table_view};
 ghost use Rattle.bridge_schema.specs.Readers.{MatchesReading};
@@ -15,6 +15,7 @@ use std::alloc::Allocator;
 use toml::Table;
 
 /// Whether a VLAN has the identifier `vid`. Static entries may name only such a VLAN, and later VLANs need another identifier.
+/// `VlanNumbers::has` and `read_vlan` call it.
 pub(crate) fn has_vlan(vlans: &[Vlan], vid: u64) -> bool
     ensures { result ≡ rules.has_vlan vlans.now vid }
 {
@@ -24,7 +25,7 @@ pub(crate) fn has_vlan(vlans: &[Vlan], vid: u64) -> bool
 /// Identifiers of a plan's VLANs. Readers of static entries look up their VLAN in it.
 #[derive(Clone, Copy)]
 pub(crate) struct VlanNumbers<'a> {
-    /// The VLANs.
+    /// The VLANs of the plan, in file order.
     pub vlans: &'a [Vlan],
 }
 

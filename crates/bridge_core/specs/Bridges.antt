@@ -15,11 +15,11 @@ pub record BridgeState (G A : Type 0) : Type 0 where
   pub relay : RelayState G A
   pub command : ℕ
 
--- The bridge's plan.
+-- The plan by which bridge `b` handles frames.
 abbrev pub bridge_plan : {G A : Type 0} → BridgeState G A → Plan A
 bridge_plan b = b.relay.plan
 
--- The number of frames that have arrived.
+-- The number of frames that have arrived at bridge `b` so far.
 abbrev pub bridge_arrivals : {G A : Type 0} → BridgeState G A → ℕ
 bridge_arrivals b = b.relay.arrived
 
@@ -27,7 +27,7 @@ bridge_arrivals b = b.relay.arrived
 abbrev pub bridge_earliest : {G A : Type 0} → BridgeState G A → ℕ
 bridge_earliest b = b.relay.earliest
 
--- The number of queued copies.
+-- The number of copies that wait in the queues of bridge `b`.
 abbrev pub bridge_queued : {G A : Type 0} → BridgeState G A → ℕ
 bridge_queued b = count_waiting_copies b.relay
 

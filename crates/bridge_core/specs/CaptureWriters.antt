@@ -1,4 +1,4 @@
--- Output captures, one for each port.
+-- Output captures of a run, one for each port.
 use Rattle.std.specs.Prelude.{◌≡◌, ◌≢◌, ℕ, Bool, true, ◌*◌, ◌^◌, ◌<◌, ◌≤◌, nat_eq, All, Option, Some, IfSome, List, [], ◌∷◌, ◌++◌, length, slice_get, Result, Ok, Err, if◌then◌else◌}
 use Rattle.std.specs.Io.KnownBytes.{Appends}
 use Rattle.bridge_capture.specs.Grammar.{CapturedFrame}
@@ -18,7 +18,7 @@ use Rattle.bridge_core.specs.declared.capture_writer.CaptureWriter.{CaptureWrite
 abbrev pub IsOutOfMemory : {W : Type 0} → (W → Bool) → List ℕ → ℕ → List W → Type 0
 IsOutOfMemory ran_out ports port sinks = HasFailed ran_out ports port sinks
 
--- The port numbers of the writers, in list order.
+-- The port numbers of the writers of output captures, in list order.
 abbrev pub writer_ports : List CaptureWriter → List ℕ
 writer_ports [] = []
 writer_ports (line ∷ more) = line.number ∷ writer_ports more

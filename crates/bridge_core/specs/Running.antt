@@ -42,7 +42,7 @@ EndsOrFollows text q taken inputs = IsCapture text taken AtEnd ⊎ ((c : Capture
 abbrev pub EndsOrFollowsLater : Option ℕ → List ℕ → ℕ → List CapturedFrame → List Input → Type 0
 EndsOrFollowsLater until text q taken inputs = IsCapture text taken AtEnd ⊎ ((c : CapturedFrame) × HasReadFrames text (taken ++ c ∷ []) × FollowsInputs (capture_input q c) inputs × ((t : ℕ) × (until ≡ Some t) × (t ≤ c.time)))
 
--- Holds if the newest input arrived on port `port`.
+-- Holds if the newest input of the run arrived on port `port`; the port of a command is 0.
 abbrev pub IsNewestPort : ℕ → List Input → Type 0
 IsNewestPort port [] = ⊥
 IsNewestPort port (x ∷ xs) = x.rank ≡ port
@@ -138,12 +138,12 @@ pub record IsUnderWay {R W G A : Type 0} (remaining : R → Option (List ℕ)) (
   pub late : newest_time inputs ≤ b.earliest
   pub written : AreWritten contents (port_numbers lanes) olds sinks left
 
--- Holds if the next frame of the reader at index `place` is before the next command; always if there is no further
--- command.
+-- Holds if the next frame of the reader at index `place` arrives before the next command `next`, or if `next` is `None`: no command
+-- follows.
 abbrev pub PrecedesCommand : {A : Type 0} → List (CaptureReader A) → ℕ → Option Input → Type 0
 PrecedesCommand {A} lanes place next = (l : CaptureReader A) (c : Packet A) → slice_get lanes place ≡ Some l → l.ahead ≡ Some c → IfSome next (λ y. c.time < y.at)
 
--- Holds if the reader at index `place` has its next frame before time `until`. Without `until`, it always holds.
+-- Holds if the next frame of the reader at index `place` arrives before time `until` in ns, or if `until` is `None`.
 abbrev pub IsHeadEarlier : {A : Type 0} → Option ℕ → List (CaptureReader A) → ℕ → Type 0
 IsHeadEarlier {A} until lanes place = (l : CaptureReader A) (c : Packet A) → slice_get lanes place ≡ Some l → l.ahead ≡ Some c → IfSome until (λ t. c.time < t)
 
@@ -197,7 +197,7 @@ DoesCommand remaining contents p texts commanded c next olds b lanes sources sin
 DoesCommand remaining contents p texts commanded c next olds b lanes sources sinks (Err fault) =
     (rests : ℕ → Option (List ℕ)) → HaveRests remaining (port_numbers lanes) rests sources → StopsUnderWay p texts rests commanded (Some (command_as_input c)) contents (port_numbers lanes) olds sinks fault
 
--- The first command as an input; `None` without commands.
+-- The first command as an input of the run; `None` if no command is left.
 abbrev pub first_command : List Command → Option Input
 first_command [] = None
 first_command (c ∷ cs) = Some (command_as_input c)

@@ -128,8 +128,7 @@ OthersChangeNothing {A} {W} p ports commands texts contents olds news o =
     → HaveSameOwnInputs p n f (input_streams (commands_of commands) ran.frames) (input_streams (commands_of other_commands) also.frames)
     → AreSameViews u v
 
--- Holds if plan `p` has the filter `f` with number `n` in the group, and `v` is the record of this filter in the result
--- `o`.
+-- Holds if group `group` of plan `p` has the filter `f` with number `n`, and `v` is this filter's record in the result `o`.
 pub record HasGroupedView {A : Type 0} (p : Plan A) (group n : ℕ) (f : FilterPlan) (o : Outcome A) (v : View A) : Type 0 where
   pub member : IsGroupMember p group n f
   pub told : lookup (nat_eq n) o.filters.items ≡ Some v
@@ -138,8 +137,8 @@ pub record HasGroupedView {A : Type 0} (p : Plan A) (group n : ℕ) (f : FilterP
 abbrev pub HaveSameGroupInputs : {A : Type 0} → Plan A → ℕ → (ℕ → List Input) → (ℕ → List Input) → Type 0
 HaveSameGroupInputs p group input_streams others = (q : ℕ) → group_inputs p group (input_streams q) ≡ group_inputs p group (others q)
 
--- Holds if each grouped filter's record in `o` results from its group's own frames and commands only, as if each queue
--- had its port to itself. Its verdicts, counters, flags and buckets result from its own frames and commands only.
+-- Holds if each grouped filter's record in `o` results only from its group's own frames and commands, as if queues had their ports to
+-- themselves. Its verdicts, counters, flags and buckets result from its own frames and commands only.
 abbrev pub IsolatesMembers : {A W : Type 0} → Plan A → List ℕ → List Command → (ℕ → List ℕ) → (W → Option (List ℕ)) → List W → List W → Outcome A → Type 0
 IsolatesMembers {A} p ports commands texts contents olds news o =
     (ran : IsWholeRun p ports commands texts contents olds news o) (group n : ℕ) (f : FilterPlan) (v : View A)
@@ -158,8 +157,8 @@ OutsidersChangeNothing {A} {W} p ports commands texts contents olds news o =
     → HaveSameGroupInputs p group (input_streams (commands_of commands) ran.frames) (input_streams (commands_of other_commands) also.frames)
     → AreSameViews u v
 
--- Holds if a grouped filter's own frames and commands decide its verdicts, counters, flags and buckets: other runs of
--- the plan agree on them if they agree on the own frames and commands.
+-- Holds if a grouped filter's own frames and commands decide its verdicts, counters, flags and buckets. These are equal in each run of the
+-- plan that has the same own frames and commands.
 abbrev pub MembersChangeNoVerdict : {A W : Type 0} → Plan A → List ℕ → List Command → (ℕ → List ℕ) → (W → Option (List ℕ)) → List W → List W → Outcome A → Type 0
 MembersChangeNoVerdict {A} {W} p ports commands texts contents olds news o =
     (ran : IsWholeRun p ports commands texts contents olds news o)

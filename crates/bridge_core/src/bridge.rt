@@ -61,7 +61,7 @@ impl<'a, G: Agenda + Drop, A: Allocator + Copy> Model for Bridge<'a, G, A> {
 }
 
 impl<'a, G: Agenda + Drop, A: Allocator + Copy> Bridge<'a, G, A> {
-    /// Makes the bridge of an accepted plan, before any event.
+    /// Makes the bridge of an accepted plan, before any event. Callers that hand in single events begin with it.
     pub fn new(alloc: A, accepted: &'a Accepted<A>) -> Result<Bridge<'a, G, A>, NoMemory>
         ensures stands { IfOk result (λ b. BridgeStandsFor accepted.now b [] (λ _. [])) }
         ensures start { IfOk result (λ b. (bridge_plan b ≡ accepted.now) × (bridge_arrivals b ≡ 0)
@@ -93,6 +93,8 @@ impl<'a, G: Agenda + Drop, A: Allocator + Copy> Bridge<'a, G, A> {
 
     /// Handles a frame that arrives on port `port`: after the last start, not before the last event, not after the next start. Without
     /// memory, returns it and leaves the bridge unchanged.
+    ///
+    /// Callers hand in each frame by it.
     pub fn arrive(&mut self, port: u8, packet: Packet<A>) -> Result<(), (Packet<A>, NoMemory)>
         requires known { (out : PortPlan A) × (find_port (bridge_plan self.old).ports port ≡ Some out) }
         requires time { (bridge_earliest self.old ≤ packet.time) × (packet.time < END_OF_TIME) }
@@ -121,6 +123,7 @@ impl<'a, G: Agenda + Drop, A: Allocator + Copy> Bridge<'a, G, A> {
     }
 
     /// Carries out a command, which must be after the last frame and the last start, and not before the last command. Allocates no memory.
+    /// Callers hand in each command by it.
     pub fn command(&mut self, command: &Command)
         requires time { self.old.command ≤ command.now.at }
         requires instance { IsTrue (has_instance (bridge_plan self.old) command.now.clear command.now.number) }
@@ -138,6 +141,8 @@ impl<'a, G: Agenda + Drop, A: Allocator + Copy> Bridge<'a, G, A> {
 
     /// Returns the port and time in ns of the next start, at equal times of the lowest port; `None` if no copy is queued. No port has
     /// missed an earlier start (`next`). Allocates no memory.
+    ///
+    /// Callers start this transmission before they hand in a later event.
     pub fn due(&self) -> Option<(u8, u64)>
         ensures next { (p : config.Plan A) (es : List Event) (left : ℕ → List CapturedFrame)
             → BridgeStandsFor p self.now es left
@@ -150,6 +155,8 @@ impl<'a, G: Agenda + Drop, A: Allocator + Copy> Bridge<'a, G, A> {
 
     /// Makes the next start and returns the frame: the head of the highest class whose head fits (`sends`). All starts up to this one are
     /// then made, by time and port (`reaches`). Allocates no memory.
+    ///
+    /// Callers repeat it while a start is due.
     pub fn advance(&mut self) -> Sent<A>
         requires { (q k : ℕ) × (next_start G.held self.old q ≡ Some k) }
         ensures sends { (p : config.Plan A) (es : List Event) (left : ℕ → List CapturedFrame)
@@ -184,7 +191,8 @@ impl<'a, G: Agenda + Drop, A: Allocator + Copy> Bridge<'a, G, A> {
         self.relay.arrived()
     }
 
-    /// Returns the number of starts of port `port` so far: the number of frames that it has sent.
+    /// Returns the number of starts of port `port` so far: the number of frames that it has sent. Callers compare it with the frames that
+    /// they received.
     pub fn started(&self, port: u8) -> u64
         requires { (out : PortPlan A) × (find_port (bridge_plan self.now).ports port ≡ Some out) }
         ensures { (p : config.Plan A) (es : List Event) (left : ℕ → List CapturedFrame)
@@ -195,14 +203,15 @@ impl<'a, G: Agenda + Drop, A: Allocator + Copy> Bridge<'a, G, A> {
     }
 
     /// Returns the earliest time in ns at which the next frame may arrive. It is the time of the last event, but at least 1 ns after the
-    /// last start.
+    /// last start. Callers of `arrive` need it.
     pub fn earliest(&self) -> u64
         ensures { result ≡ bridge_earliest self.now }
     {
         self.relay.earliest()
     }
 
-    /// Returns the earliest time in ns of the next command: 1 ns after the last frame and start, and not before the last command.
+    /// Returns the earliest time in ns of the next command: 1 ns after the last frame and start, and not before the last command. Callers
+    /// of `command` need it.
     pub fn earliest_command(&self) -> u64
         ensures { result ≡ self.now.command }
     {
@@ -228,6 +237,8 @@ impl<'a, G: Agenda + Drop, A: Allocator + Copy> Bridge<'a, G, A> {
 
     /// Ends a run in which no start is due. Returns the counts of ports and the records of filters. A protected filter's record depends on
     /// its own events only. Allocates no memory.
+    ///
+    /// Callers call it after the last start.
     pub fn finish(self) -> Outcome<A>
         requires idle { (q : ℕ) → next_start G.held self q ≡ None }
         ensures ends { (p : config.Plan A) (es : List Event) (left : ℕ → List CapturedFrame)

@@ -52,8 +52,10 @@ pub fn begin_writers<W: ByteSink, A: Allocator + Copy>(
     Ok(lines)
 }
 
-/// Returns the index of the writer of port `port`; `None` if it has none. Tries index `port` - 1 first, because ports are often numbered 1,
-/// 2, 3 and so on. `write_frame` calls it.
+/// Returns the index of the writer of port `port`; `None` if the port has no writer. Tries index `port` - 1 first, because ports are often
+/// numbered 1, 2, 3 and so on.
+///
+/// `write_frame` calls it.
 #[inline(always)]
 fn writer_index(lines: &[CaptureWriter], port: u8) -> Option<usize>
     ensures within { IfSome result (λ place. place < length lines.now) }

@@ -208,8 +208,8 @@ pub fn simulate_with_agenda<R: ByteSource, W: ByteSink, G: Agenda + Drop, A: All
     run_prepared(commands, relay, lists, lanes, spares, sources, sinks)
 }
 
-/// Runs captures and commands through the bridge of an accepted plan: `simulate_with_agenda` with an ordered tree as agenda. `run` and
-/// `net` call it.
+/// Runs captures and commands through the bridge of an accepted plan: `simulate_with_agenda` with an ordered tree as agenda. The commands
+/// `run` and `net` call it.
 pub fn simulate<R: ByteSource, W: ByteSink, A: Allocator + Copy>(
     alloc: A,
     accepted: &Accepted<A>,

@@ -27,7 +27,7 @@ clip_start m (Some x) = Some (record { state = x.state; start = int_max x.start 
 abbrev pub turn_by_time : {S : Type 0} → Joined S → ℕ → Option (Turn S)
 turn_by_time j t = if nat_lt t j.at then clip_end j.at (cyclic.turn_by_time j.old t) else clip_start j.at (cyclic.turn_by_time j.new t)
 
--- Greater of the two cycle times, in ns.
+-- Greater of the cycle times of the old and the new list, in ns.
 abbrev pub cycle_length : {S : Type 0} → Joined S → ℕ
 cycle_length j = max j.old.cycle j.new.cycle
 

@@ -1,4 +1,4 @@
--- Laws of two lists with a schedule change.
+-- Statements of the laws about two gate control lists with a schedule change.
 use Rattle.std.proofs.Common.{◌≡◌, ℕ, true, false, ◌<◌, ◌≤◌, ◌+◌, min, Option, Some, None, arith, subst, sym, ap, ◌∙◌, inl, inr, refl}
 use Rattle.std.specs.Prelude.{nat_lt}
 use Rattle.std.specs.Int.{int_max}

@@ -62,7 +62,7 @@ first_fault cycle es =
     else if nat_lt cycle (interval_sum es) then Some OverCycle
     else None
 
--- Numbers of the faults of a list.
+-- Numbers of the faults of a gate control list, by which contracts compare faults.
 abbrev pub fault_code : ListFault → ℕ
 fault_code Empty = 1
 fault_code ZeroInterval = 2
@@ -71,8 +71,8 @@ fault_code CycleOutOfRange = 4
 fault_code TooManyEntries = 5
 fault_code NoMemory = 6
 
--- Statement: The list has 1 to 256 entries, a cycle time up to 1 s, positive intervals whose sum is at most the cycle
--- time, and a base time before END_OF_TIME.
+-- Statement: The list has 1 to 256 entries, a cycle time up to 1 s, and a base time before END_OF_TIME. Its intervals are positive, and
+-- their sum is at most the cycle time.
 pub record IsLawful {S : Type 0} (l : Cyclic S) : Type 0 where
   pub some : 0 < length l.entries
   pub few : length l.entries ≤ MAX_ENTRIES

@@ -1,4 +1,4 @@
--- Laws of cyclic lists.
+-- Statements of the laws about gate control lists that repeat in cycles.
 use Rattle.std.proofs.Common.{◌≡◌, ℕ, ◌<◌, ◌≤◌, ◌+◌, ◌-◌, ◌*◌, ◌/◌, ◌%◌, Option, Some, None, List, [], ◌∷◌, length, arith, subst, sym, ◌∙◌, ap, inl, inr, refl}
 use Rattle.std.proofs.lemmas.Int.{ints}
 use Rattle.std.proofs.lemmas.Bool.{cases_lt}
@@ -19,7 +19,8 @@ place_here e f es start cycle p h = grind (arith, nat_tests)
 pub place_next : {S : Type 0} (e f : S × ℕ) (es : List (S × ℕ)) (start cycle p : ℕ) → start + e.1 ≤ p → entry_interval (e ∷ f ∷ es) start cycle p ≡ entry_interval (f ∷ es) (start + e.1) cycle p
 place_next e f es start cycle p h = grind (arith, nat_tests)
 
--- Statement: The interval of the entry in force at offset `p` contains `p`, lies within the cycle, and is the interval of each offset within it.
+-- Statement: The interval of the entry in force at offset `p` contains `p` and lies within the cycle. It is the interval of each offset
+-- within it.
 pub record IsEntryInterval {S : Type 0} (es : List (S × ℕ)) (start cycle p : ℕ) (x : EntryInterval S) : Type 0 where
   pub begins : x.start ≤ p
   pub ends : p < x.end

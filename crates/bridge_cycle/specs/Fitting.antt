@@ -1,4 +1,4 @@
--- Whether a transmission fits at some time.
+-- Conditions under which a transmission fits into the open times of a class.
 use Rattle.std.specs.Prelude.{ℕ, zero, suc, Bool, true, false, ◌+◌, ◌&&◌, ◌||◌}
 
 -- True if `opens` is true at each of the `n` ns from time `t` on; always true if `n` is 0.

@@ -1,4 +1,4 @@
--- Laws of a port's gate control lists.
+-- Statements of the laws about the gate control lists of a port.
 use Rattle.std.specs.Prelude.{◌≡◌, ℕ, Some}
 use Rattle.bridge_cycle.specs.declared.timeline.Turn.{Turn}
 use Rattle.bridge_cycle.specs.declared.gate_control_lists.Egress.{Egress}

@@ -1,4 +1,4 @@
--- Open classes of an interval.
+-- Classes that the interval of a gate control list opens.
 use Rattle.std.specs.Prelude.{ℕ, Bool, false, Option, Some, None}
 use Rattle.bridge_cycle.specs.declared.timeline.Turn.{Turn}
 use Rattle.bridge_cycle.specs.Fits.{is_open}

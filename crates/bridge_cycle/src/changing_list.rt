@@ -35,7 +35,8 @@ impl<S, A: Allocator + Copy> Model for Joined<S, A> {
 }
 
 impl<S: Copy, A: Allocator + Copy> Joined<S, A> {
-    /// Joins `old`, which applies before time `at` in ns, and `new`, which applies from then on. Allocates no memory.
+    /// Joins `old`, which applies before time `at` in ns, and `new`, which applies from then on. Allocates no memory. `gate_schedule` and
+    /// `port_lists` of `bridge_config` call it.
     pub fn new(old: CyclicList<S, A>, new: CyclicList<S, A>, at: u64) -> Self
         requires { at < END_OF_TIME }
         ensures { result ≡ record { old = old; new = new; at = at } }
@@ -49,7 +50,7 @@ impl<S: Copy, A: Allocator + Copy> Joined<S, A> {
         }
     }
 
-    /// Returns equal lists in new memory, or `NoMemory`.
+    /// Returns equal lists in new memory, or `NoMemory`. `Egress::copy` and copies of schedules call it.
     pub fn copy(&self, alloc: A) -> Result<Self, NoMemory>
         ensures equal { IfOk result (λ j. j ≡ self.now) }
     {
@@ -61,7 +62,8 @@ impl<S: Copy, A: Allocator + Copy> Joined<S, A> {
         })
     }
 
-    /// Returns the old and the new list, for searches that examine each list by itself.
+    /// Returns the old and the new list, for searches that examine each list by itself. Functions of `bridge_bounds`, `bridge_check`,
+    /// `bridge_gate` and other crates call it.
     pub fn lists(&self) -> (&CyclicList<S, A>, &CyclicList<S, A>)
         ensures old { result.0.now ≡ self.now.old }
         ensures new { result.1.now ≡ self.now.new }
@@ -70,7 +72,7 @@ impl<S: Copy, A: Allocator + Copy> Joined<S, A> {
         (&self.old, &self.new)
     }
 
-    /// Returns the time in ns of the schedule change.
+    /// Returns the time in ns of the schedule change. Functions of `bridge_port`, `net_report`, `show_lint` and other crates call it.
     pub fn change_time(&self) -> u64
         ensures at { result ≡ self.now.at }
         ensures bounded { result < END_OF_TIME }

@@ -35,7 +35,7 @@ pub enum ListFault {
 
 impl ListFault {
     /// Returns the number of the fault: 1 for `Empty`, 2 for `ZeroInterval`, 3 for `OverCycle`, 4 for `CycleOutOfRange`, 5 for
-    /// `TooManyEntries`, 6 for `NoMemory`.
+    /// `TooManyEntries`, 6 for `NoMemory`. Contracts compare faults by it.
     pub fn number(self) -> u8
         ensures { result ≡ cyclic.fault_code self }
     {
@@ -97,8 +97,8 @@ impl<S, A: Allocator + Copy> Model for CyclicList<S, A> {
 impl<S: Copy, A: Allocator + Copy> CyclicList<S, A> {
     /// Makes a list of a base time and cycle time in ns, and of states with their intervals in ns.
     ///
-    /// Tests run in the order `Empty`, `TooManyEntries`, `CycleOutOfRange`, `ZeroInterval`, `OverCycle`. After a fault, the entries
-    /// are dropped.
+    /// Tests run in the order `Empty`, `TooManyEntries`, `CycleOutOfRange`, `ZeroInterval`, `OverCycle`. After a fault, the entries are
+    /// dropped. `optional_list` of `bridge_config` and `is_list_refused` of `show_explain` call it.
     pub fn new(
         alloc: A,
         base: u64,
@@ -124,7 +124,7 @@ impl<S: Copy, A: Allocator + Copy> CyclicList<S, A> {
         })
     }
 
-    /// Returns an equal list in new memory, or `NoMemory`.
+    /// Returns an equal list in new memory, or `NoMemory`. `Joined::copy` and copies of schedules call it.
     pub fn copy(&self, alloc: A) -> Result<Self, NoMemory>
         ensures equal { IfOk result (λ l. l ≡ self.now) }
     {
@@ -138,7 +138,7 @@ impl<S: Copy, A: Allocator + Copy> CyclicList<S, A> {
         })
     }
 
-    /// Returns the states with their intervals in ns, from the start of a cycle.
+    /// Returns the states with their intervals in ns, from the start of a cycle. Checks and delay bounds examine each entry.
     pub fn entries(&self) -> &[(S, u64)]
         ensures entries { result.now ≡ self.now.entries }
         ensures lawful { cyclic.IsLawful self.now }
@@ -146,7 +146,7 @@ impl<S: Copy, A: Allocator + Copy> CyclicList<S, A> {
         &self.entries
     }
 
-    /// Returns the base time in ns: a cycle starts at this time. `put_list` of `net_check`, and `find_long_wait` and
+    /// Returns the base time in ns: a cycle starts at this time. `put_list_shift` of `net_check`, and `find_long_wait` and
     /// `find_queue_stage_warnings` of `show_lint` call it.
     pub fn base(&self) -> u64
         ensures base { result ≡ self.now.base }
@@ -274,7 +274,7 @@ fn search_index(ends: &[u64], phase: u64) -> usize
     low
 }
 
-/// Returns the index of the entry in force at offset `phase`: by a guess first, then by binary search.
+/// Returns the index of the entry in force at offset `phase`: by a guess first, then by binary search. `find_interval` calls it.
 #[inline(always)]
 fn find_index(ends: &[u64], density: u64, phase: u64) -> usize
     requires some { 0 < length ends.now }

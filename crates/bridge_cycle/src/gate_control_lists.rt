@@ -17,7 +17,7 @@ pub enum Egress<A: Allocator + Copy> {
 }
 
 impl<A: Allocator + Copy> Egress<A> {
-    /// Returns equal lists in new memory, or `NoMemory`.
+    /// Returns equal lists in new memory, or `NoMemory`. A relay copies the lists of its plan, so that the plan stays whole.
     pub fn copy(&self, alloc: A) -> Result<Self, NoMemory>
         ensures equal { IfOk result (λ e. e ≡ self.now) }
     {

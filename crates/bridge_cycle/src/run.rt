@@ -21,7 +21,7 @@ pub enum Run {
 }
 
 impl Run {
-    /// Whether a transmission of `occupied` ns fits within the run.
+    /// Whether a transmission of `occupied` ns fits within the run. Functions of `bridge_check`, `bridge_port` and `show_lint` call it.
     pub fn allows(self, occupied: u64) -> bool
         ensures { (result ≡ true) ↔ Allows self occupied }
     {
@@ -33,8 +33,10 @@ impl Run {
     }
 }
 
-/// Returns the longest time for which `class` is open without a break, also across the end of a cycle. A transmission of this
-/// length fits at most 1 s after any time.
+/// Returns the longest time for which `class` is open without a break, also across the end of a cycle. A transmission of this length fits
+/// at most 1 s after any time.
+///
+/// Functions of `bridge_check`, `bridge_port`, `net_check` and other crates call it.
 pub fn longest_run<A: Allocator + Copy>(list: &CyclicList<u8, A>, class: u8) -> Run
     requires { class < 8 }
     ensures longest { IsLongestRun (λ v. turn_opens (turn_by_time list.now v) class) result }

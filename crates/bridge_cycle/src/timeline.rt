@@ -10,7 +10,7 @@ pub const END_OF_TURNS: u64 = 9_100_000_000_000_000_000;
 /// Interval of a list, in which one state is in force.
 #[derive(Clone, Copy)]
 pub struct Turn<S> {
-    /// State in force.
+    /// State in force during the interval.
     pub state: S,
     /// Start in ns; negative if the interval started before time 0.
     pub start: i64,
@@ -32,13 +32,14 @@ pub trait Timeline {
     /// Cycle time in ns: an interval ends at most this time after each time within it.
     ghost cycle_of: { Self → ℕ };
 
-    /// Returns the interval that contains time `t` in ns.
+    /// Returns the interval that contains time `t` in ns. Searches for fits and delay bounds pass through intervals by it.
     fn turn(&self, t: u64) -> Turn<Self::State>
         requires { t < END_OF_TURNS }
         ensures lawful { is_lawful self.now }
         ensures turn { turn_at self.now t ≡ Some result };
 
-    /// Returns the cycle time in ns, of two lists the greater one. Each interval ends within a cycle time.
+    /// Returns the cycle time in ns, of two lists the greater one. Each interval ends within a cycle time, so searches for fits stop after
+    /// a few.
     fn cycle(&self) -> u64
         ensures lawful { is_lawful self.now }
         ensures cycle { result ≡ cycle_of self.now }

@@ -1,4 +1,4 @@
-//! Agenda as a tree of two levels.
+//! Agenda of the ports' next starts as a tree of two levels, which finds the least time in few steps.
 ghost use Rattle.std.specs.Prelude.{◌≡◌, ◌<◌, ◌+◌, ◌-◌, ◌*◌, ◌^◌, length, min, slice_set};
 ghost use Rattle.bridge_events.specs.Least.{IsLeast};
 ghost use Rattle.bridge_events.specs.Tree.{tree_time, nth_time, least_of_four, least_rest, HaveLeastKeys};
@@ -99,7 +99,7 @@ impl Agenda for TreeAgenda {
     }
 }
 
-/// Returns the key of the port with index `place`, at time `t` in ns.
+/// Returns the key of the port with index `place`, at time `t` in ns. `TreeAgenda::set` calls it.
 #[inline(always)]
 fn entry_key(place: usize, t: u64) -> u64
     requires { place < 16 }

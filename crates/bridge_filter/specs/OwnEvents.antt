@@ -24,7 +24,7 @@ own_filter_events p s f [] = []
 own_filter_events p s f (Arrived c ∷ es) = if is_filter_number s (frame_filter p.filters c) then Arrived c ∷ own_filter_events p s f es else own_filter_events p s f es
 own_filter_events p s f (Cleared c n ∷ es) = if is_own_command s f c n then Cleared c n ∷ own_filter_events p s f es else own_filter_events p s f es
 
--- True if a result belongs to filter `s` with settings `f`: the verdict on its frame, or a command for the filter, its
+-- True if a result belongs to filter `s` with settings `f`. Such a result is the verdict on its frame, or a command for the filter, its
 -- gate or its meter.
 abbrev pub is_own_step : ℕ → FilterPlan → FilterStep → Bool
 is_own_step s f (Unfiltered c) = false

@@ -29,7 +29,7 @@ refusal f sdu =
 abbrev pub count_if : Bool → ℕ
 count_if b = if b then 1 else 0
 
--- Counters after one more verdict.
+-- Counters of a filter after one more frame got the given verdict.
 abbrev pub counters_with_verdict : Counters → Verdict → Counters
 counters_with_verdict c v = record {
   matching = c.matching + 1;
@@ -40,11 +40,11 @@ counters_with_verdict c v = record {
   red = c.red + count_if (is_dropped_by_meter v);
 }
 
--- State of a filter after one more verdict.
+-- State of a filter (counters and blocked flag) after one more frame got the given verdict.
 abbrev pub state_with_verdict : FilterState → Verdict → FilterState
 state_with_verdict f v = record f { counters = counters_with_verdict f.counters v; blocked = f.blocked || (f.plan.block_oversize && is_oversize v) }
 
--- Statement: No counter exceeds `n`.
+-- Statement: No counter of a filter exceeds `n`, so counting on can't overflow.
 pub record AreBounded (c : Counters) (n : ℕ) : Type 0 where
   pub matching : c.matching ≤ n
   pub sdu_passed : c.sdu_passed ≤ n
@@ -81,7 +81,7 @@ pub record HasInstances {A : Type 0} (f : FilterState) (gates : List (ℕ × gat
 abbrev pub HaveInstances : {A : Type 0} → List (ℕ × FilterState) → List (ℕ × gate.GateState A) → List (ℕ × meter.MeterState) → ℕ → Type 0
 HaveInstances filters gates meters calls = (n : ℕ) (f : FilterState) → lookup (nat_eq n) filters ≡ Some f → HasInstances f gates meters calls
 
--- Statement: The stream gate of each filter exists.
+-- Statement: Each filter's stream gate is among the gates, so that a verdict can be given.
 abbrev pub HaveGates : {X : Type 0} → List (ℕ × FilterState) → List (ℕ × X) → Type 0
 HaveGates filters gates = (n : ℕ) (f : FilterState) → lookup (nat_eq n) filters ≡ Some f → IsSome (lookup (nat_eq f.plan.gate) gates)
 
@@ -100,7 +100,7 @@ pub record IsSameFilter (old : List (ℕ × FilterState)) (n : ℕ) (g : FilterS
 abbrev pub InstancesUnchanged : List (ℕ × FilterState) → List (ℕ × FilterState) → Type 0
 InstancesUnchanged old new = (n : ℕ) (g : FilterState) → lookup (nat_eq n) new ≡ Some g → IsSameFilter old n g
 
--- Plans of the filters, by number, without their counters.
+-- Plans of the filters with their numbers; states and counters are left out.
 abbrev pub filter_plans : List (ℕ × FilterState) → List (ℕ × FilterPlan)
 filter_plans fs = map (λ f. (f.0, f.1.plan)) fs
 
@@ -125,12 +125,12 @@ IsMadeIfAny R (Some p) (Some x) = R p x
 abbrev pub AreMade : {P X : Type 0} → (P → X → Type 0) → List (ℕ × P) → List (ℕ × X) → Type 0
 AreMade R plans made = (n : ℕ) → IsMadeIfAny R (lookup (nat_eq n) plans) (lookup (nat_eq n) made)
 
--- Statement: The gate has this plan and no events.
+-- Statement: Stream gate `g` has the plan `plan` and has handled no event yet.
 pub record IsNewGate {A : Type 0} (plan : GatePlan A) (g : gate.GateState A) : Type 0 where
   pub stands : gate.StandsFor (gate_rules plan) g []
   pub earliest : g.earliest ≡ 0
 
--- Statement: The meter has this plan and no events.
+-- Statement: Meter `m` has the plan `plan` and has handled no event yet.
 pub record IsNewMeter (plan : MeterPlan) (m : meter.MeterState) : Type 0 where
   pub stands : meter.StandsFor plan m []
 

@@ -1,4 +1,4 @@
-//! Commands that clear a flag.
+//! Carries out the commands of a run, which clear flags of filters, gates and meters.
 
 ghost use Rattle.std.specs.Prelude.{◌≡◌, ℕ, ◌<◌, nat_eq, IsSome, false, List, ◌∷◌, if◌then◌else◌};
 ghost use Rattle.std.specs.Map.{keys_of, lookup};

@@ -1,4 +1,4 @@
-//! State of a filter.
+//! State of one stream filter during a run.
 
 ghost use Rattle.std.specs.Prelude.{◌≡◌};
 ghost use Rattle.bridge_filter.specs.Steps.{refusal, state_with_verdict, new_filter, AreBounded};
@@ -17,7 +17,7 @@ pub(crate) struct FilterState {
 }
 
 impl FilterState {
-    /// Makes the state of a filter before its first frame. All counters are 0, and the filter isn't blocked.
+    /// Makes the state of a filter before its first frame: all counters are 0, and the filter isn't blocked. `make_filters` calls it.
     pub(crate) fn new(plan: FilterPlan) -> FilterState
         ensures { result ≡ new_filter plan }
     {
@@ -48,7 +48,7 @@ impl FilterState {
         }
     }
 
-    /// Counts a verdict. After an oversize frame, sets the blocked flag if the filter's plan has `block_oversize`.
+    /// Counts a verdict. After an oversize frame, sets the blocked flag if the filter's plan has `block_oversize`. `judge_frame` calls it.
     pub(crate) fn count_verdict(&mut self, verdict: Verdict)
         requires { AreBounded self.old.counters 9223372036854775807 }
         ensures { self.new ≡ state_with_verdict self.old verdict }

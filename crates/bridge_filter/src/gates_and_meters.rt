@@ -139,6 +139,7 @@ fn answer_verdict<A: Allocator + Copy>(
 }
 
 /// Returns the verdict of the stream gate and the meter in `route`, on a frame that the filter itself didn't refuse. Updates both.
+/// `frame_verdict` calls it.
 pub(crate) fn police_frame<A: Allocator + Copy>(
     route: Route,
     gates: &mut ByNumber<StreamGate<A>, A>,

@@ -13,7 +13,8 @@ use bridge_meter::{Meter, MeterPlan};
 use indexmap::IndexMap;
 use std::alloc::{AllocError, Allocator};
 
-/// Inserts the instance `thing` at `number`. Fails only if memory runs out. `make_filters`, `make_gates` and `make_meters` call it.
+/// Inserts the instance `thing` (filter, gate or meter) with the number `number`. Fails only if memory runs out. `make_filters`,
+/// `make_gates` and `make_meters` call it.
 fn insert_instance<T: Drop, A: Allocator + Copy>(
     made: &mut ByNumber<T, A>,
     number: u32,
@@ -31,7 +32,7 @@ fn insert_instance<T: Drop, A: Allocator + Copy>(
     }
 }
 
-/// Makes the states of filters before their first frames. Fails only if memory runs out.
+/// Makes the states of filters before their first frames. Fails only if memory runs out. `Police::new` calls it.
 pub(crate) fn make_filters<A: Allocator + Copy>(
     alloc: A,
     plans: &[(u32, FilterPlan)],
@@ -46,7 +47,7 @@ pub(crate) fn make_filters<A: Allocator + Copy>(
     Ok(made)
 }
 
-/// Makes the stream gates before their first events. Fails only if memory runs out.
+/// Makes the stream gates before their first events. Fails only if memory runs out. `Police::new` calls it.
 pub(crate) fn make_gates<A: Allocator + Copy>(
     alloc: A,
     plans: Vec<(u32, GatePlan<A>), A>,
@@ -62,7 +63,7 @@ pub(crate) fn make_gates<A: Allocator + Copy>(
     Ok(made)
 }
 
-/// Makes the meters before their first events. Fails only if memory runs out.
+/// Makes the meters before their first events. Fails only if memory runs out. `Police::new` calls it.
 pub(crate) fn make_meters<A: Allocator + Copy>(
     alloc: A,
     plans: &[(u32, MeterPlan)],

@@ -67,7 +67,7 @@ impl<A: Allocator + Copy> Model for Police<A> {
 impl<A: Allocator + Copy> Police<A> {
     /// Makes the police of numbered filters, gates and meters, in any order. If memory runs out, the three lists are dropped.
     ///
-    /// Finding the filter of a frame later takes one look-up of its handle.
+    /// Finding the filter of a frame later takes one look-up of its handle. `make_police` of `bridge_relay` calls it.
     pub fn new(
         alloc: A,
         filters: Vec<(u32, FilterPlan), A>,
@@ -114,8 +114,10 @@ impl<A: Allocator + Copy> Police<A> {
         })
     }
 
-    /// Judges a frame that arrives at `t` ns, with `sdu` octets of SDU and `octets` metered octets. Returns its filter and verdict,
-    /// or `None` if no filter matches. Allocates no memory.
+    /// Judges a frame that arrives at `t` ns, with `sdu` octets of SDU and `octets` metered octets. Returns its filter and verdict, or
+    /// `None` if no filter matches. Allocates no memory.
+    ///
+    /// Callers that don't know the frame's route call it; the relay calls `pass_routed`.
     pub fn pass(
         &mut self,
         t: u64,
@@ -154,7 +156,7 @@ impl<A: Allocator + Copy> Police<A> {
         self.pass_routed(call, found)
     }
 
-    /// Returns the route of frames with this handle and priority, for `pass_routed`. `None` if no filter matches. `pass` and
+    /// Returns the route of frames with handle `handle` and priority `priority`, for `pass_routed`. `None` if no filter matches. `pass` and
     /// `filter_number`, and `arrive` of `bridge_relay` call it.
     #[inline(always)]
     pub fn find_route(&self, handle: Option<u32>, priority: u8) -> Option<Route>
@@ -172,8 +174,8 @@ impl<A: Allocator + Copy> Police<A> {
         )
     }
 
-    /// Judges a frame by the route that `find_route` returned. Frames and commands since then don't change the route. Allocates no
-    /// memory.
+    /// Judges a frame by the route that `find_route` returned. Frames and commands since then don't change the route. Allocates no memory.
+    /// `Police::pass` and `Relay::police_frame` of `bridge_relay` call it.
     #[inline(always)]
     pub fn pass_routed(&mut self, call: FilterInput, found: Option<Route>) -> Option<Ruling>
         requires found { IsFoundRoute self.old call.handle call.priority found }
@@ -209,7 +211,8 @@ impl<A: Allocator + Copy> Police<A> {
         })
     }
 
-    /// Returns the number of the filter that judges frames with this handle and priority. `None` if no filter matches.
+    /// Returns the number of the filter that judges frames with handle `handle` and priority `priority`. `None` if no filter matches.
+    /// Callers without a bridge ask it before `pass`.
     pub fn filter_number(&self, handle: Option<u32>, priority: u8) -> Option<u32>
         ensures filter { (at sdu octets : ℕ) (dei : Bool)
             → result ≡ option_map (λ f. f.0) (frame_filter self.now.filters
@@ -222,7 +225,8 @@ impl<A: Allocator + Copy> Police<A> {
         }
     }
 
-    /// Clears a flag of the filter, stream gate or meter `number`, which must exist. Counters, counted octets and bucket levels stay.
+    /// Clears a flag of the filter, stream gate or meter `number`, which must exist. Counters, counted octets and bucket levels stay. The
+    /// relay calls it for a command of a run.
     pub fn clear(&mut self, clear: Clear, number: u32)
         requires { has_instance clear number self.old ≡ true }
         ensures stands { (p : PolicePlans) (es : List FilterEvent) → StandsFor p self.old es

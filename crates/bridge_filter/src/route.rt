@@ -191,8 +191,8 @@ fn lesser_match(
     }
 }
 
-/// Returns the route for this handle and priority by a search through all filters; `None` if none matches. `look_up_route` calls it for
-/// priorities above 7, for which rows have no route.
+/// Returns the route for handle `handle` and priority `priority` by a search through all filters; `None` if no filter matches.
+/// `look_up_route` calls it for priorities above 7, for which rows have no route.
 #[cold]
 #[inline(never)]
 fn search_route<A: Allocator + Copy>(

@@ -9,7 +9,7 @@ abbrev pub has_port_or : Bool → Option ℕ → ℕ → Bool
 has_port_or otherwise None port = otherwise
 has_port_or otherwise (Some set) port = has_port set port
 
--- True if the VLAN `vid` exists and contains `port`.
+-- True if the plan has the VLAN `vid`, and `port` is one of its members.
 abbrev pub is_member : Database → ℕ → ℕ → Bool
 is_member db vid port = has_port_or false (vlan_members db.vlans vid) port
 

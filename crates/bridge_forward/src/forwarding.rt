@@ -16,7 +16,7 @@ use std::alloc::Allocator;
 use std::marker::Model;
 
 /// Whether an address is 01-80-C2-00-00-00 to 01-80-C2-00-00-0F. The first octet already excludes most addresses. Frames to these addresses
-/// aren't forwarded.
+/// aren't forwarded. `Forwarding::forward` calls it.
 #[inline(always)]
 #[tactic(auto, using(crate::proofs::Reserved::is_not_reserved))]
 fn is_reserved(da: &[u8; 6]) -> bool
@@ -28,8 +28,10 @@ fn is_reserved(da: &[u8; 6]) -> bool
     da[..5] == [0x01, 0x80, 0xC2, 0x00, 0x00] && da[5] <= 0x0F
 }
 
-/// Returns the egress ports of a frame: its VLAN's members that the static entry allows, without the ingress port. Empty if the VLAN is
-/// unknown or lacks the ingress port. `forward` calls it.
+/// Returns the egress ports of a frame: members of its VLAN that its static entry allows, without ingress port `port`. The set is empty if
+/// the VLAN is unknown (`members` is `None`) or lacks `port`.
+///
+/// `forward` calls it.
 #[inline(always)]
 fn output_ports(members: Option<PortSet>, entry: Option<PortSet>, port: u8) -> PortSet
     requires from { 1 ≤ port }
@@ -75,8 +77,8 @@ impl<A: Allocator + Copy> Model for Forwarding<A> {
 }
 
 impl<A: Allocator + Copy> Forwarding<A> {
-    /// Makes a database. If several VLANs or static entries have one key, the first applies. If memory runs out, both lists are
-    /// dropped.
+    /// Makes a database. If several VLANs or static entries have one key, the first applies. If memory runs out, both lists are dropped.
+    /// `read_plan` of `bridge_config` calls it.
     pub fn new(
         alloc: A,
         vlans: Vec<Vlan, A>,
@@ -102,14 +104,14 @@ impl<A: Allocator + Copy> Forwarding<A> {
         })
     }
 
-    /// Returns the VLANs in the given order.
+    /// Returns the VLANs in the given order. `Plan::vlans` returns them.
     pub fn vlans(&self) -> &[Vlan]
         ensures { result.now ≡ self.now.vlans }
     {
         self.vlans.as_slice()
     }
 
-    /// Returns the static entries in the given order.
+    /// Returns the static entries in the given order. `Plan::statics` returns them.
     pub fn statics(&self) -> &[StaticEntry]
         ensures { result.now ≡ self.now.statics }
     {
@@ -117,7 +119,7 @@ impl<A: Allocator + Copy> Forwarding<A> {
     }
 
     /// Returns the egress ports of a frame to address `da` in VLAN `vid` that arrived on `port` (IEEE 802.1Q-2018, 8.6.2 to 8.6.4). Takes
-    /// constant time, and allocates no memory.
+    /// constant time, and allocates no memory. `Plan::forward` calls it for each frame.
     #[inline(always)]
     pub fn forward(&self, port: u8, vid: u16, da: &[u8; 6]) -> PortSet
         requires from { 1 ≤ port }
@@ -149,7 +151,7 @@ impl<A: Allocator + Copy> Forwarding<A> {
     }
 
     /// Returns the ports of the static entry for a VLAN and an address; `None` without such an entry. Tries the hinted index before the
-    /// hash.
+    /// hash. `Forwarding::forward` calls it.
     #[inline(always)]
     fn static_ports(&self, vid: u16, da: &[u8; 6]) -> Option<PortSet>
         ensures { result ≡ static_ports self.now.statics vid da.now }

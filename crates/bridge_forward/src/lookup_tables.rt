@@ -1,4 +1,4 @@
-//! Look-up tables of sets of ports.
+//! Tables in which the bridge looks up the ports of VLANs and static entries.
 
 ghost use Rattle.std.specs.Prelude.{◌≡◌, ◌<◌, ℕ, List, [], ◌∷◌, All, IfOk, IfSome, OnOk, Some, None, nat_eq, length, if◌then◌else◌};
 ghost use Rattle.std.specs.Option.{option_or};
@@ -58,7 +58,7 @@ pub(crate) fn make_member_table<A: Allocator + Copy>(
     Ok(members)
 }
 
-/// Sets the ports of `key` unless they are set: the first static entry with a key counts.
+/// Sets the ports of `key` unless they are set: the first static entry with a key counts. `insert_static` calls it.
 fn insert_if_new<A: Allocator + Copy>(
     entries: &mut StaticTable<A>,
     key: u64,
@@ -92,14 +92,15 @@ fn insert_static<A: Allocator + Copy>(
 /// Number of hints for each static entry.
 const HINTS_PER_ENTRY: usize = 4;
 
-/// Returns the index of the hint for `key` among `hints` hints, by mixing the bits of the key.
+/// Returns the index of the hint for `key` among `hints` hints, by mixing the bits of the key. `Forwarding::hinted_index` and `make_hints`
+/// call it.
 #[inline(always)]
 pub(crate) fn hint_slot(key: u64, hints: usize) -> usize {
     let mixed = key.wrapping_mul(0x9E37_79B9_7F4A_7C15) >> 32;
     (mixed.wrapping_mul(hints as u64) >> 32) as usize
 }
 
-/// Makes hints of the entries' indexes. If several keys have one hint, it is the index of the last of them.
+/// Makes hints of the entries' indexes. If several keys have one hint, it is the index of the last of them. `Forwarding::new` calls it.
 pub(crate) fn make_hints<A: Allocator + Copy>(
     alloc: A,
     entries: &StaticTable<A>,

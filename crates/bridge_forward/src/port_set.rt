@@ -1,4 +1,4 @@
-//! Sets of ports.
+//! Set of a bridge's ports, with one bit for each port.
 
 ghost use Rattle.std.specs.Prelude.{◌≡◌, ◌≤◌, ◌↔◌, IsTrue, bit_and};
 ghost use Rattle.bridge_forward.specs.Ports.{has_port, without_port, IsEmpty};
@@ -30,21 +30,22 @@ fn has_no_port(bits: u16) -> bool
 }
 
 impl PortSet {
-    /// Makes a set of bits: bit n - 1 stands for port n.
+    /// Makes a set of bits: bit n - 1 stands for port n. `output_ports`, `Forwarding::forward` and functions of `bridge_config` and
+    /// `net_model` call it.
     pub fn from_bits(bits: u16) -> PortSet
         ensures { result ≡ bits }
     {
         PortSet { bits }
     }
 
-    /// Returns the bits of the set: bit n - 1 stands for port n.
+    /// Returns the bits of the set: bit n - 1 stands for port n. Functions of `bridge_relay` and `net_model` call it.
     pub fn bits(self) -> u16
         ensures { result ≡ self }
     {
         self.bits
     }
 
-    /// Whether the set contains `port`.
+    /// Whether the set contains `port`. Bridges, checks of plans and warnings ask it.
     pub fn has(self, port: u8) -> bool
         requires from { 1 ≤ port }
         requires to { port ≤ 16 }
@@ -53,14 +54,14 @@ impl PortSet {
         self.bits >> (port - 1) & 1 == 1
     }
 
-    /// Whether the set contains none of the ports 1 to 16.
+    /// Whether the set contains none of the ports 1 to 16. A frame with such a set isn't forwarded.
     pub fn is_empty(self) -> bool
         ensures { IsTrue result ↔ IsEmpty self }
     {
         has_no_port(self.bits)
     }
 
-    /// Returns the ports in both sets: the VLAN's members that a static entry allows.
+    /// Returns the ports in both sets: the VLAN's members that a static entry allows. `output_ports` calls it.
     pub(crate) fn intersection(self, other: PortSet) -> PortSet
         ensures { result ≡ bit_and self other }
     {
@@ -69,7 +70,7 @@ impl PortSet {
         }
     }
 
-    /// Returns the set without `port`: a frame never returns to its ingress port.
+    /// Returns the set without `port`: a frame never returns to its ingress port. `output_ports` calls it.
     pub(crate) fn without_port(self, port: u8) -> PortSet
         requires from { 1 ≤ port }
         requires to { port ≤ 16 }

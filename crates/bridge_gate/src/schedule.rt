@@ -39,7 +39,8 @@ pub struct GatePlan<A: Allocator + Copy> {
 }
 
 impl<A: Allocator + Copy> Schedule<A> {
-    /// Returns the interval that contains time `t` in ns. A fixed state is one interval.
+    /// Returns the interval that contains time `t` in ns. A fixed state is one interval. A stream gate calls it if a frame arrives outside
+    /// its stored interval.
     pub fn turn(&self, t: u64) -> Turn<GateEntry>
         requires { t < END_OF_TURNS }
         ensures turn { turn_by_time self.now t ≡ Some result }
@@ -74,7 +75,7 @@ impl<A: Allocator + Copy> Schedule<A> {
         }
     }
 
-    /// An equal schedule.
+    /// Returns an equal schedule in new memory, or `NoMemory`. `GatePlan::copy` calls it.
     pub fn copy(&self, alloc: A) -> Result<Self, NoMemory>
         ensures equal { IfOk result (λ s. s ≡ self.now) }
     {
@@ -107,7 +108,7 @@ fn have_valid_priorities(entries: &[(GateEntry, u64)]) -> bool
 }
 
 impl<A: Allocator + Copy> GatePlan<A> {
-    /// Returns an equal plan in new memory, or `NoMemory`.
+    /// Returns an equal plan in new memory, or `NoMemory`. A relay copies the plans of its stream gates.
     pub fn copy(&self, alloc: A) -> Result<Self, NoMemory>
         ensures equal { IfOk result (λ p. p ≡ self.now) }
     {

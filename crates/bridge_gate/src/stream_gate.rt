@@ -68,7 +68,7 @@ impl<A: Allocator + Copy> Model for StreamGate<A> {
 }
 
 impl<A: Allocator + Copy> StreamGate<A> {
-    /// Makes a gate before its first event.
+    /// Makes a gate before its first event. `make_gates` of `bridge_filter` calls it.
     pub fn new(plan: GatePlan<A>) -> StreamGate<A>
         requires { has_valid_priorities plan.schedule ≡ true }
         ensures stands { StandsFor (gate_rules plan) result [] }
@@ -88,7 +88,7 @@ impl<A: Allocator + Copy> StreamGate<A> {
     }
 
     /// Answers a frame of `sdu` SDU octets that arrives at `t` ns. A refusal may set a flag; a passing frame counts towards the octet
-    /// limit.
+    /// limit. `ask_gate` of `bridge_filter` calls it.
     pub fn ask(&mut self, t: u64, sdu: u32) -> GateAnswer
         requires time { self.old.earliest ≤ t }
         requires range { t < END_OF_TIME }
@@ -106,7 +106,8 @@ impl<A: Allocator + Copy> StreamGate<A> {
         self.answer_frame(t, turn, sdu)
     }
 
-    /// Returns the interval that contains time `t`: the kept interval, or an interval from the schedule, which the gate then keeps.
+    /// Returns the interval that contains time `t`: the kept interval, or an interval from the schedule, which the gate then keeps. `ask`
+    /// calls it.
     #[inline(always)]
     fn find_turn(&mut self, t: u64) -> Turn<GateEntry>
         requires range { t < END_OF_TIME }
@@ -123,7 +124,8 @@ impl<A: Allocator + Copy> StreamGate<A> {
         turn
     }
 
-    /// Clears the receive flag, for a command. The gate then answers by its schedule, unless the octets flag is set.
+    /// Clears the receive flag, for a command of a run. The gate then answers by its schedule, unless the octets flag is set. `clear_rx` of
+    /// `bridge_filter` calls it.
     pub fn clear_rx(&mut self)
         ensures stands { (r : GateRules) (es : List GateEvent)
             → StandsFor r self.old es
@@ -135,7 +137,8 @@ impl<A: Allocator + Copy> StreamGate<A> {
         self.rx = false;
     }
 
-    /// Clears the octets flag, for a command. Octets that passed in the interval still count.
+    /// Clears the octets flag, for a command of a run. Octets that passed in the interval still count. `clear_octets` of `bridge_filter`
+    /// calls it.
     pub fn clear_octets(&mut self)
         ensures stands { (r : GateRules) (es : List GateEvent)
             → StandsFor r self.old es
@@ -147,7 +150,7 @@ impl<A: Allocator + Copy> StreamGate<A> {
         self.octets = false;
     }
 
-    /// Returns the receive flag and the octets flag, for the results of a run.
+    /// Returns the receive flag and the octets flag, for the results of a run. `gate_flags` of `bridge_filter` calls it.
     pub fn flags(&self) -> (bool, bool)
         ensures shows_rx { result.0 ≡ self.now.rx }
         ensures shows_octets { result.1 ≡ self.now.octets }

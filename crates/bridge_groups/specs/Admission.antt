@@ -54,8 +54,8 @@ admits_talker p f most burst rate =
     is_open_gate (lookup (nat_eq f.gate) p.gates)
     && (allows_sdu f.max_sdu most && has_tokens (committed_tokens (plan_police p).meters f.meter) burst rate)
 
--- Holds if the group shares the queue of class `c` at port `q`, and the queue has at least a capacity that is known to
--- suffice. So it drops no copy as full.
+-- Holds if group `group` shares the queue of class `c` at port `q`, and the queue's capacity is known to suffice. So it drops no copy as
+-- full.
 pub record HasSufficientQueue {A : Type 0} (p : Plan A) (group q c : ℕ) : Type 0 where
   pub row : SharedQueue
   pub is_row : IsRowOf p group q c row

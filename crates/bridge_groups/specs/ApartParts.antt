@@ -1,4 +1,4 @@
--- Two parts of a queue's copies that are apart in time: no copy finds a copy of the other part in the queue or on the link.
+-- Two parts of a queue's copies that are apart in time. No copy finds a copy of the other part in the queue or on the link.
 use Rattle.std.specs.Prelude.{◌≡◌, ◌⊎◌, ℕ, Bool, true, false, not, ◌+◌, ◌≤◌, List, [], ◌∷◌, if◌then◌else◌}
 use Rattle.bridge_limits.specs.Members.{IsMember}
 use Rattle.bridge_port.specs.Schedule.{Copy, PortRules}
@@ -30,8 +30,8 @@ module _ {X : Type 0} where
   is_in_part own true x = own x
   is_in_part own false x = not (own x)
 
-  -- Holds if both parts have a delay bound by themselves: if a part is as if alone at the port up to some time, each of its
-  -- copies left at most `delay` ns after its arrival.
+  -- Holds if both parts have a delay bound by themselves. If a part has the port to itself up to some time, each of its copies left at most
+  -- `delay` ns after its arrival.
   abbrev pub HaveDelayBounds : PortRules X → (X → Bool) → (Bool → ℕ) → List (Copy X) → Type 0
   HaveDelayBounds r own delay xs =
       (ys : List (Copy X)) (b : Bool) (y : Copy X)

@@ -33,11 +33,11 @@ rounding_margin Mbps10000 = 2
 abbrev pub octet_cost : ℕ → Speed → ℕ → ℕ
 octet_cost fit speed sdu = max (2 * transmission_time 60 speed) (div_ceil (128 * ((2 * transmission_time (longest_frame sdu) speed + rounding_margin speed) - fit)) (metered_octets (longest_frame sdu)))
 
--- The cost curve in ns of a filter: the most that the frames that its meter passes in `w` ns cost.
+-- The cost curve in ns of filter `f`: the greatest total cost of frames that its meter passes in any `w` ns.
 abbrev pub filter_cost_curve : {A : Type 0} → Plan A → ℕ → Speed → FilterPlan → ℕ → ℕ
 filter_cost_curve p fit speed f w = octet_cost fit speed (sdu_or_zero f.max_sdu) * (optional_burst (plan_police p).meters f.meter * octet_units + optional_rate (plan_police p).meters f.meter * w) / (128 * octet_units)
 
--- The sum of the filters' cost curves.
+-- The cost curve of a shared queue: the sum of its filters' cost curves.
 abbrev pub sharers_cost_curve : {A : Type 0} → Plan A → ℕ → Speed → List (ℕ × FilterPlan) → ℕ → ℕ
 sharers_cost_curve p fit speed [] w = 0
 sharers_cost_curve p fit speed (g ∷ gs) w = filter_cost_curve p fit speed g.1 w + sharers_cost_curve p fit speed gs w

@@ -14,8 +14,8 @@ use Rattle.bridge_groups.specs.Curves.{AreArrivalsInOrder, has_filter_number, la
 abbrev pub frame_cost : ℕ → Speed → ℕ → ℕ
 frame_cost fit speed len = transmission_time len speed + (transmission_time len speed - fit)
 
--- The total cost in ns of the copies that were offered at time `u` or later. The function `cost` gives the cost of a
--- frame by its octets.
+-- The total cost in ns of the copies that were offered at time `u` or later. `cost` is the cost in ns of a frame with a given number of
+-- octets.
 abbrev pub recent_offer_cost : (ℕ → ℕ) → ℕ → List Offer → ℕ
 recent_offer_cost cost u [] = 0
 recent_offer_cost cost u (o ∷ os) = (if nat_le u o.at then cost o.item.len else 0) + recent_offer_cost cost u os

@@ -8,6 +8,7 @@ use Rattle.bridge_meter.specs.Colours.{Arrived, Cleared, MeterEvent}
 use Rattle.bridge_port.specs.Schedule.{Copy, Queued, Started}
 use Rattle.bridge_groups.specs.Work.{count_recent_copies, recent_cost}
 use Rattle.bridge_groups.specs.MeterAllowance.{green_frames, last_metered_time, meter_allowance, meter_burst, meter_rate, recent_octets, recent_passed_units}
+use Rattle.bridge_groups.specs.MergedGates.{first_end, is_any_open, limit_sum}
 use Rattle.bridge_groups.specs.GateIntervals.{gate_opens, last_opening, opening_work}
 use Rattle.bridge_groups.specs.ApartParts.{part_copies}
 use Rattle.bridge_groups.specs.Hops.{Passage, recent_arrived_octets, recent_departed_octets}
@@ -113,3 +114,24 @@ opened_again = refl
 -- 88 octets of SDUs are at most two frames of 60 octets, which take 672 ns each at 1 Gbit/s.
 pub work_of_two_frames : opening_work short_openings 672 44 11 ≡ 1344
 work_of_two_frames = refl
+
+-- A second stream gate that opens from 3 to 6 ns, with 44 octets an opening.
+abbrev later_openings : Cyclic GateEntry
+later_openings = record { base = 3; cycle = 10; entries = (record { lets = true; ipv = None; octets = Some 44 }, 3) ∷ (record { lets = false; ipv = None; octets = None }, 7) ∷ [] }
+
+abbrev both_gates : List (Cyclic GateEntry)
+both_gates = short_openings ∷ later_openings ∷ []
+
+-- At 3 ns both gates are open, so both limits count.
+pub limits_of_both_gates : limit_sum both_gates 3 ≡ 132
+limits_of_both_gates = refl
+
+pub limit_of_the_later_gate : limit_sum both_gates 5 ≡ 44
+limit_of_the_later_gate = refl
+
+pub no_gate_is_open : is_any_open both_gates 6 ≡ false
+no_gate_is_open = refl
+
+-- The first gate closes at 4 ns, so an entry of the merged list ends there.
+pub first_gate_to_close : first_end both_gates 3 10 ≡ 4
+first_gate_to_close = refl

@@ -24,12 +24,12 @@ abbrev pub optional_rate : (ℕ → MeterPlan) → Option ℕ → ℕ
 optional_rate meters None = 0
 optional_rate meters (Some m) = meter_rate (meters m)
 
--- The sum of the filters' bursts in octets.
+-- The sum in octets of the bursts of the meters of the filters that share a queue.
 abbrev pub burst_sum : (ℕ → MeterPlan) → List (ℕ × FilterPlan) → ℕ
 burst_sum meters [] = 0
 burst_sum meters (g ∷ gs) = optional_burst meters g.1.meter + burst_sum meters gs
 
--- The sum of the filters' rates in bit/s.
+-- The sum in bit/s of the rates of the meters of the filters that share a queue.
 abbrev pub rate_sum : (ℕ → MeterPlan) → List (ℕ × FilterPlan) → ℕ
 rate_sum meters [] = 0
 rate_sum meters (g ∷ gs) = optional_rate meters g.1.meter + rate_sum meters gs
@@ -55,7 +55,7 @@ pub record AreSharers {A : Type 0} (p : Plan A) (group q c sdu : ℕ) (sharers :
   pub members : (n : ℕ) (f : FilterPlan) → IsMember (n, f) sharers → IsGroupMember p group n f
   pub short : (n : ℕ) (f : FilterPlan) → IsMember (n, f) sharers → (m : ℕ) × (f.max_sdu ≡ Some m) × (m ≤ sdu)
 
--- Holds if each filter has a flow meter.
+-- Holds if each filter that shares the queue has a flow meter.
 abbrev pub HaveMeters : List (ℕ × FilterPlan) → Type 0
 HaveMeters sharers = (n : ℕ) (f : FilterPlan) → IsMember (n, f) sharers → (m : ℕ) × (f.meter ≡ Some m)
 
@@ -121,7 +121,7 @@ abbrev pub curve_sum : (ℕ → ℕ → ℕ) → List (ℕ × FilterPlan) → �
 curve_sum own [] w = 0
 curve_sum own (g ∷ gs) w = own g.0 w + curve_sum own gs w
 
--- Holds if each frame has at least 60 octets.
+-- Holds if each received frame among the events has at least 60 octets.
 abbrev pub HasNoRunts : List Event → Type 0
 HasNoRunts [] = Unit {0}
 HasNoRunts (Arrived a ∷ es) = (60 ≤ a.len) × HasNoRunts es

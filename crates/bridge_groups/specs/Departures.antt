@@ -21,8 +21,8 @@ abbrev pub filter_passages : ℕ → Speed → List (Copy CarriedFrame) → List
 filter_passages n speed [] = []
 filter_passages n speed (x ∷ xs) = (if has_filter_number x.item.flow n then copy_passage speed x x.fate else []) ++ filter_passages n speed xs
 
--- Holds if the frames that leave in any `w` ns have at most `burst` octets plus the octets that `rate` bit/s give in
--- `w` + `slack` ns. Passages are newest first.
+-- Holds if the frames that leave in any `w` ns have a limited number of octets. It is `burst` plus the octets that
+-- `rate` bit/s give in `w` + `slack` ns. Passages are newest first.
 abbrev pub HaveConformingDepartures : ℕ → ℕ → ℕ → List Passage → Type 0
 HaveConformingDepartures burst rate slack [] = Unit {0}
 HaveConformingDepartures burst rate slack (x ∷ xs) = ((u w : ℕ) → x.departure ≡ u + w → recent_departed_octets u (x ∷ xs) * octet_units ≤ burst * octet_units + rate * (w + slack)) × HaveConformingDepartures burst rate slack xs

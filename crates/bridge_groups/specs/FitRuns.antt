@@ -1,4 +1,4 @@
--- Runs of successive fits.
+-- Runs of successive fits in the windows of a class, by which delay bounds count.
 use Rattle.std.specs.Prelude.{ℕ, Bool, ◌+◌, ◌<◌, ◌≤◌}
 use Rattle.bridge_cycle.specs.Fits.{Fits, IsFirstFit}
 use Rattle.bridge_groups.specs.declared.fit_runs.FitRun.{FitRun}

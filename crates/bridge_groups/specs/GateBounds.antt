@@ -39,8 +39,8 @@ pub record IsScheduleBound {A : Type 0} (s : Schedule A) (out : PortPlan A) (c m
   pub limited : are_limited list.entries ≡ true
   pub is : IsIntervalBound (lists_open out.list c) (gate_opens list) (transmission_time (longest_frame m) out.speed) (transmission_time 60 out.speed) (last_opening list) (opening_work list (transmission_time 60 out.speed) k) b
 
--- Holds if `b` ns is the delay bound of protected filter `n` for class `c` at port `q`, by its stream gate. SDUs have
--- at least `k` octets, where `k` is 1 to 44.
+-- Holds if `b` ns is the delay bound of protected filter `n` for class `c` at port `q`, by its stream gate. SDUs have at least `k` octets,
+-- 1 to 44.
 pub record IsGateWorkBound {A : Type 0} (p : Plan A) (n q c k b : ℕ) : Type 0 where
   pub some : 1 ≤ k
   pub few : k ≤ 44
@@ -56,12 +56,12 @@ pub record IsGateWorkBound {A : Type 0} (p : Plan A) (n q c k b : ℕ) : Type 0 
   pub gated : lookup (nat_eq filter.gate) p.gates ≡ Some gate
   pub is : IsScheduleBound gate.schedule out c max_sdu k b
 
--- Holds if `b` ns is the tight bound, or a lesser bound by the octets that the stream gate passes. SDUs have at least
--- the two octets of an EtherType.
+-- Holds if `b` ns is the tight bound, or a lesser bound that follows from the octets that the stream gate passes. SDUs have at least the
+-- two octets of an EtherType.
 abbrev pub IsLeastBound : {A : Type 0} → Plan A → ℕ → ℕ → ℕ → ℕ → Type 0
 IsLeastBound p n q c b = (a : ℕ) × IsTightBound p n q c a × ((b ≡ a) ⊎ (IsGateWorkBound p n q c 2 b × (b < a)))
 
--- Holds if `b` ns is a bound below `a` for frames of at least 60 octets, by the octets that the stream gate passes.
--- Their SDUs have at least 44 octets.
+-- Holds if `b` ns is a bound below `a` for frames of at least 60 octets. It follows from the octets that the stream gate passes. The SDUs
+-- of these frames have at least 44 octets.
 abbrev pub IsPaddedBound : {A : Type 0} → Plan A → ℕ → ℕ → ℕ → ℕ → ℕ → Type 0
 IsPaddedBound p n q c a b = IsGateWorkBound p n q c 44 b × (b < a)

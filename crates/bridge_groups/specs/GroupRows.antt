@@ -1,4 +1,4 @@
--- The shared queues of a plan.
+-- The shared queues of all groups of a plan.
 use Rattle.std.specs.Prelude.{◌≡◌, ◌⊎◌, ℕ, ◌+◌, ◌*◌, ◌-◌, ◌<◌, ◌≤◌, List, [], ◌∷◌, Option, Some, None, nat_le, if◌then◌else◌}
 use Rattle.bridge_limits.specs.Members.{IsMember}
 use Rattle.bridge_filter.specs.declared.FilterPlan.{FilterPlan}
@@ -13,8 +13,8 @@ pub record AreSharedQueues {A : Type 0} (p : Plan A) (rows : List SharedQueue) :
   pub each : (s : SharedQueue) → IsMember s rows → IsSharedQueue p s
   pub all : (group q c : ℕ) → 1 ≤ q → q ≤ 16 → c < 8 → IsGroupQueue p group q c → (s : SharedQueue) × IsMember s rows × IsRowOf p group q c s
 
--- Holds if `rows` has a row of each shared queue of the groups below `from`, and of the queues of group `from` with an
--- index below `place`.
+-- Holds if `rows` has a row of each shared queue of the groups below `from`. It also has a row of each shared queue of
+-- group `from` with an index below `place`.
 pub record AreRowsSoFar {A : Type 0} (p : Plan A) (from place : ℕ) (rows : List SharedQueue) : Type 0 where
   pub each : (s : SharedQueue) → IsMember s rows → IsSharedQueue p s
   pub all : (group q c : ℕ) → 1 ≤ q → q ≤ 16 → c < 8 → IsGroupQueue p group q c → (group < from) ⊎ ((group ≡ from) × ((q - 1) * 8 + c < place)) → (s : SharedQueue) × IsMember s rows × IsRowOf p group q c s

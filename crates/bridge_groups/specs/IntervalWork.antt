@@ -10,8 +10,8 @@ pub record AreIntervals (begin : ℕ → ℕ) : Type 0 where
   pub same : (t u : ℕ) → begin t ≤ u → u ≤ t → begin u ≡ begin t
 
 module _ {X : Type 0} where
-  -- Holds if copies are offered only while `lets` is true, and the copies of each interval take at most `limit z` ns of transmission time
-  -- together. Here `z` is the interval's first time.
+  -- Holds if copies are offered only while `lets` is true. Together, the copies of each interval take at most `limit z` ns of transmission
+  -- time. Here `z` is the interval's first time.
   abbrev pub HasIntervalWork : PortRules X → (ℕ → Bool) → (ℕ → ℕ) → (ℕ → ℕ) → List (Copy X) → Type 0
   HasIntervalWork r lets begin limit [] = Unit {0}
   HasIntervalWork r lets begin limit (x ∷ xs) = (lets x.at ≡ true) × (recent_work r (begin x.at) (x ∷ xs) ≤ limit (begin x.at)) × HasIntervalWork r lets begin limit xs

@@ -1,4 +1,4 @@
--- Arrival curves that are straight lines.
+-- Arrival curves of metered filters: a burst and a rate.
 use Rattle.std.specs.Prelude.{ℕ, ◌+◌, ◌*◌, ◌/◌, ◌^◌, ◌≤◌, List, [], ◌∷◌}
 use Rattle.bridge_groups.specs.declared.linear_curve.LinearCurve.{LinearCurve}
 

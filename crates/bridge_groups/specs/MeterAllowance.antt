@@ -23,7 +23,7 @@ meter_burst p = if p.drop_yellow then p.cbs else p.cbs + p.ebs
 abbrev pub meter_rate : MeterPlan → ℕ
 meter_rate p = if p.drop_yellow then p.cir else p.cir + p.eir
 
--- The most units that the meter passes in any `w` ns: its burst, and what its rate gives in this time.
+-- The most units that the meter passes in any `w` ns: its burst, and the units that its rate gives in this time.
 abbrev pub meter_allowance : MeterPlan → ℕ → ℕ
 meter_allowance p w = meter_burst p * octet_units + meter_rate p * w
 

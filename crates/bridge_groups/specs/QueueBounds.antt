@@ -7,7 +7,7 @@ use Rattle.bridge_check.specs.Windows.{longest_frame}
 use Rattle.bridge_semantics.specs.Offers.{egress_rules}
 use Rattle.bridge_groups.specs.Work.{IsDelayBound, IsSufficientRoom}
 
--- Holds if `b` ns is a delay bound of the class-`c` queue at port `out`. Frames have the arrival curve `curve` and
+-- Holds if `b` ns is a delay bound of the class-`c` queue at port `out`. Its frames have the arrival curve `curve` and
 -- SDUs of at most `sdu` octets.
 abbrev pub IsCurveBound : {A : Type 0} → PortPlan A → ℕ → ℕ → (ℕ → ℕ) → ℕ → Type 0
 IsCurveBound out c sdu curve b = IsDelayBound (lists_open out.list c) (transmission_time (longest_frame sdu) out.speed) (transmission_time 60 out.speed) curve b

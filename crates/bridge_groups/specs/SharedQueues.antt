@@ -20,7 +20,7 @@ use Rattle.bridge_groups.specs.MergedGates.{IsGatesBound}
 use Rattle.bridge_groups.specs.Sharers.{are_metered, longest_sdu, queue_sharers}
 use Rattle.bridge_groups.specs.declared.shared_queues.SharedQueue.{SharedQueue}
 
--- Holds if `b` ns is the sum of the old list's bound, `occ` ns, and the new list's bound. The curve for the new list is
+-- Holds if delay bound `b` (ns) is the sum of the old list's bound, `occ` ns, and the new list's bound. The curve for the new list is
 -- shifted by the other two times.
 pub record IsSumOfBounds (lists : Joined ℕ) (c occ least : ℕ) (curve : ℕ → ℕ) (b : ℕ) : Type 0 where
   pub before : ℕ
@@ -29,7 +29,7 @@ pub record IsSumOfBounds (lists : Joined ℕ) (c occ least : ℕ) (curve : ℕ �
   pub new_bound : IsDelayBound (list_opens lists.new c) occ least (λ w. curve (w + (before + occ))) after
   pub sum : b ≡ (before + occ) + after
 
--- Holds if `b` ns is a sum of bounds for the schedule change of these gate control lists.
+-- Holds if the port has a schedule change, and delay bound `b` (ns) is the sum of bounds over its two lists.
 pub record IsChangeBound {A : Type 0} (list : Option (Egress A)) (c occ least : ℕ) (curve : ℕ → ℕ) (b : ℕ) : Type 0 where
   pub lists : Joined ℕ
   pub changes : gate_schedule list ≡ Changing lists

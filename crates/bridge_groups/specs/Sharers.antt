@@ -14,7 +14,7 @@ use Rattle.bridge_groups.specs.LinearCurves.{IsCountCurve, IsLinearCurve, curve_
 use Rattle.bridge_groups.specs.declared.linear_curve.LinearCurve.{LinearCurve}
 use Rattle.bridge_groups.specs.Curves.{optional_burst, optional_rate, sharers_curve}
 
--- The reach of each filter, in list order.
+-- The reachable queues of each filter, in list order.
 abbrev pub plan_reaches : {A : Type 0} → Plan A → List (ℕ × FilterPlan) → List Reach
 plan_reaches p filters = map (λ f. filter_reach p f.1) filters
 
@@ -41,7 +41,7 @@ abbrev pub longest_sdu : List (ℕ × FilterPlan) → ℕ
 longest_sdu [] = 0
 longest_sdu (g ∷ gs) = max (sdu_or_zero g.1.max_sdu) (longest_sdu gs)
 
--- True if each filter has a flow meter.
+-- True if each filter that shares a queue has a flow meter: bounds by meters need them.
 abbrev pub are_metered : List (ℕ × FilterPlan) → Bool
 are_metered gs = list_all (λ g. is_some g.1.meter) gs
 

@@ -9,7 +9,7 @@ use Rattle.bridge_groups.specs.declared.span_search.SpanSearch.{SpanSearch}
 abbrev pub AreSpansBounded : (ℕ → Bool) → ℕ → ℕ → (ℕ → ℕ) → ℕ → ℕ → ℕ → ℕ → Type 0
 AreSpansBounded opens occ work curve start shortest end b = (w : ℕ) → shortest ≤ w → w < end → IsSpanBound opens occ work curve b start w
 
--- Holds if `b` ns bounds the delay of each span that lasts at least `shortest` ns.
+-- Holds if `b` ns bounds the delay of each span that lasts at least `shortest` ns, from whatever time it begins.
 abbrev pub AreAllSpansBounded : (ℕ → Bool) → ℕ → ℕ → (ℕ → ℕ) → ℕ → ℕ → Type 0
 AreAllSpansBounded opens occ work curve shortest b = (u w : ℕ) → shortest ≤ w → IsSpanBound opens occ work curve b u w
 

@@ -63,8 +63,8 @@ module _ {X : Type 0} where
 abbrev pub IsSpanBound : (ℕ → Bool) → ℕ → ℕ → (ℕ → ℕ) → ℕ → ℕ → ℕ → Type 0
 IsSpanBound opens occ least curve b u w = (v : ℕ) × IsNthFit opens occ (curve w - least) u v × (v + least ≤ u + w + b)
 
--- Holds if `b` ns is a delay bound for frames with arrival curve `curve` and transmission times of `least` to `occ` ns:
--- `b` bounds the delays in every span.
+-- Holds if `b` ns is a delay bound for frames with arrival curve `curve` and transmission times of `least` to `occ` ns. `b` bounds the
+-- delays in every span.
 pub record IsDelayBound (opens : ℕ → Bool) (occ least : ℕ) (curve : ℕ → ℕ) (b : ℕ) : Type 0 where
   pub has_fit : (u : ℕ) → (v : ℕ) × IsFirstFit opens occ u v
   pub in_time : (u w : ℕ) → least ≤ curve w → (v : ℕ) × IsNthFit opens occ (curve w - least) u v × (v + least ≤ u + w + b)
@@ -76,7 +76,6 @@ pub record IsSufficientRoom (opens : ℕ → Bool) (occ least : ℕ) (curve many
   pub has_place : 1 ≤ room
   pub drains : (u w : ℕ) → (room + 1) * least ≤ curve w → room + 1 ≤ many w → (v : ℕ) × IsNthFit opens occ (curve w - (room + 1) * least) u v × (v < u + w)
 
--- Holds if each cycle of `cycle` ns has `n` fits: the fit with number `k` + `n` comes exactly one cycle after the fit
--- with number `k`.
+-- Holds if each cycle of `cycle` ns has `n` fits. The fit with number `k` + `n` begins exactly one cycle after the fit with number `k`.
 abbrev pub HasFitsPerCycle : (ℕ → Bool) → ℕ → ℕ → ℕ → Type 0
 HasFitsPerCycle opens occ cycle n = (k u v : ℕ) → IsNthFit opens occ k u v → IsNthFit opens occ (k + n) u (v + cycle)

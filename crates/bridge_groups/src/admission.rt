@@ -35,7 +35,7 @@ fn is_open_schedule<A: Allocator + Copy>(schedule: &Schedule<A>) -> bool
     }
 }
 
-/// Whether the stream gate with this number is open at each time and has no octet limit. `admits_talker` and explanations call it.
+/// Whether the stream gate `gate` is open at each time and has no octet limit. `admits_talker` and explanations call it.
 pub fn is_open_gate<A: Allocator + Copy>(plan: &Plan<A>, gate: u32) -> bool
     ensures { result ≡ spec.is_open_gate (lookup (nat_eq gate) plan.now.gates) }
 {

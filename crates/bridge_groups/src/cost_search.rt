@@ -50,10 +50,8 @@ fn has_long_starts<A: Allocator + Copy>(
     true
 }
 
-/// Returns the least length in ns of fits for which frames with SDUs of `sdu` octets cost no more per octet than shortest frames. The bound
-/// is mostly least for such a length.
-///
-/// `list_cost_bound` calls it.
+/// Returns the least length in ns of fits for which frames with SDUs of `sdu` octets cost no more per octet than shortest frames. For this
+/// length, the bound is mostly least. `list_cost_bound` calls it.
 fn plain_fit(speed: Speed, sdu: u32) -> u64
     ensures least { transmission_time 60 speed ≤ result }
 {
@@ -65,8 +63,10 @@ fn plain_fit(speed: Speed, sdu: u32) -> u64
         .max(least)
 }
 
-/// Returns the greatest of the filters' limits of SDU octets that are at most `most`; 0 for none. `list_cost_bound` calls it.
-fn longest_sdu_upto(filters: &[(u32, FilterPlan)], most: u32) -> u32
+/// Returns the greatest `max_sdu` of the filters, in octets, that is at most `most`; 0 if there is none.
+///
+/// `list_cost_bound` takes it as the next frame size of its search, with half of the last size as `most`.
+fn next_search_sdu(filters: &[(u32, FilterPlan)], most: u32) -> u32
     ensures { result ≤ most }
 {
     let mut longest = 0;
@@ -121,8 +121,10 @@ fn fit_bound<A: Allocator + Copy>(
     list_delay_bound(list, class, fit, occupation(60, speed), &curve)
 }
 
-/// Returns the least delay bound in ns that the search finds by costs. Frames have SDUs of at most `sdu` octets, and need at most `long` ns.
-/// Returns `None` if the class is always open.
+/// Returns the least delay bound in ns that the search finds by costs. Frames have SDUs of at most `sdu` octets, and need at most `long`
+/// ns. Returns `None` if the class is always open.
+///
+/// `lists_cost_bound` calls it.
 fn list_cost_bound<A: Allocator + Copy>(
     plan: &Plan<A>,
     sharers: &[(u32, FilterPlan)],
@@ -152,13 +154,13 @@ fn list_cost_bound<A: Allocator + Copy>(
             least,
             fit_bound(plan, sharers, list, class, speed, long, fit, start),
         );
-        size = longest_sdu_upto(sharers, size / 2);
+        size = next_search_sdu(sharers, size / 2);
     }
     least
 }
 
-/// Returns the least delay bound in ns that the search finds by costs, for a port with one gate control list; `None` over a schedule change.
-/// `curve_figures` calls it.
+/// Returns the least delay bound in ns that the search finds by costs, for a port with one gate control list. `None` over a schedule
+/// change. `curve_figures` calls it.
 pub(crate) fn lists_cost_bound<A: Allocator + Copy>(
     plan: &Plan<A>,
     sharers: &[(u32, FilterPlan)],

@@ -12,7 +12,8 @@ use crate::span_search::{fits_per_cycle, spans_bound};
 use bridge_cycle::{CyclicList, LONGEST_CYCLE, Timeline, is_open};
 use std::alloc::Allocator;
 
-/// Returns a time in ns at which `class` is closed, or `None` if it is always open.
+/// Returns a time in ns at which `class` is closed, or `None` if it is always open. `list_cost_bound`, `list_delay_bound` and others call
+/// it.
 pub(crate) fn find_closed<A: Allocator + Copy>(list: &CyclicList<u8, A>, class: u8) -> Option<u64>
     requires class { class < 8 }
     requires lawful { IsLawful list.now }
@@ -104,8 +105,8 @@ fn windows_delay_bound<A: Allocator + Copy>(
 /// Returns a delay bound in ns of a queue that has its link to itself while `class` is open. Its frames have transmission times from `least`
 /// to `occ` ns and the arrival curve `curve`.
 ///
-/// Returns `None` if more work arrives in the long run than fits into the windows, if no frame of `least` ns can arrive at once, or if more
-/// than `LARGEST_BURST` ns of work can.
+/// Returns `None` if more work arrives in the long run than fits into the windows. Also if no frame of `least` ns, or more than
+/// `LARGEST_BURST` ns of work, can arrive at once.
 ///
 /// `fit_bound`, `change_bound` and `lists_bound` call it.
 pub fn list_delay_bound<A: Allocator + Copy>(

@@ -13,7 +13,7 @@ use std::alloc::Allocator;
 pub(crate) struct FitRun {
     /// First fit in ns.
     pub(crate) first: u64,
-    /// Number of fits.
+    /// Number of fits of the run, one each ns.
     pub(crate) length: u64,
 }
 
@@ -38,7 +38,7 @@ fn first_closed<A: Allocator + Copy>(list: &CyclicList<u8, A>, class: u8, from: 
 }
 
 /// Returns the first run of fits, at time `from` or later, for transmissions of `occ` ns in `class`. The class must be closed at some time
-/// of each cycle.
+/// of each cycle. `has_long_starts`, `all_spans_bound` and others call it.
 pub(crate) fn next_fit_run<A: Allocator + Copy>(
     list: &CyclicList<u8, A>,
     class: u8,

@@ -1,4 +1,4 @@
-//! All queues that the groups of a plan share.
+//! Lists all queues that the groups of a plan share, each with bound and capacity.
 ghost use Rattle.std.specs.Prelude.{◌≡◌, ◌≤◌, ◌<◌, ◌+◌, [], IfOk, OnOk, Some};
 ghost use Rattle.bridge_filter.specs.Routes.{lesser_number};
 ghost use Rattle.bridge_config.specs.Rules.{find_port};
@@ -78,6 +78,7 @@ fn least_group(filters: &[(u32, FilterPlan)], from: u64) -> Option<u32>
 }
 
 /// Appends to `rows` the row of the queue with index `place` (0 to 127, by port and class), if the group shares this queue.
+/// `put_group_rows` calls it.
 fn put_row<A: Allocator + Copy>(
     alloc: A,
     accepted: &Accepted<A>,
@@ -158,7 +159,8 @@ fn put_all_rows<A: Allocator + Copy>(
     }
 }
 
-/// Returns the delay bounds and capacities of all queues that the groups of a plan share, by rising group, port and class.
+/// Returns the delay bounds and capacities of all queues that the groups of a plan share, by rising group, port and class. Functions of
+/// `net_latency`, `show_lint`, `show_picture` and other crates call it.
 pub fn plan_shared_queues<A: Allocator + Copy>(
     alloc: A,
     accepted: &Accepted<A>,

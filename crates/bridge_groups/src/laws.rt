@@ -48,7 +48,8 @@ ghost use Rattle.bridge_groups.specs.Talkers.{IsDelivered, AdmitsTalker, IsConfo
 
 use std::alloc::Allocator;
 
-/// If frames arrive in order, a shared queue has the work curve and the count curve of its sharers' meters.
+/// If frames arrive in order, a shared queue has the work curve and the count curve of its sharers' meters. Bounds of shared queues by
+/// meters rest on it.
 pub fn queue_has_meter_curves<A: Allocator + Copy>()
     ensures { (p : Plan A) (group : ℕ) (sharers : List (ℕ × FilterPlan)) (q c sdu : ℕ) (out : PortPlan A)
         (es : List Event) (moments : ℕ → ℕ) (lists : ℕ → List (Copy CarriedFrame))
@@ -67,6 +68,8 @@ pub fn queue_has_meter_curves<A: Allocator + Copy>()
 
 /// Each copy that starts leaves a queue of the group at most `b` ns after its arrival, whatever any talker sends. `b` is the delay bound of
 /// the meters' curve.
+///
+/// Bounds of shared queues by meters rest on it.
 pub fn group_leaves_in_time<A: Allocator + Copy>()
     ensures { (p : Plan A) (group : ℕ) (sharers : List (ℕ × FilterPlan)) (q c sdu b s : ℕ) (out : PortPlan A)
         (es : List Event) (moments : ℕ → ℕ) (lists : ℕ → List (Copy CarriedFrame)) (x : Copy CarriedFrame)
@@ -86,7 +89,8 @@ pub fn group_leaves_in_time<A: Allocator + Copy>()
         → s + transmission_time x.item.len out.speed ≤ x.at + b }
 {}
 
-/// If the capacity suffices for the meters' curves, the queue drops no copy of the group as full, whatever any talker sends.
+/// If the capacity suffices for the meters' curves, the queue drops no copy of the group as full, whatever any talker sends. The capacities
+/// of `shared_queue` rest on it.
 pub fn group_queue_is_never_full<A: Allocator + Copy>()
     ensures { (p : Plan A) (group : ℕ) (sharers : List (ℕ × FilterPlan)) (q c sdu : ℕ) (out : PortPlan A)
         (es : List Event) (moments : ℕ → ℕ) (lists : ℕ → List (Copy CarriedFrame)) (x : Copy CarriedFrame)
@@ -105,8 +109,8 @@ pub fn group_queue_is_never_full<A: Allocator + Copy>()
         → x.fate ≢ Full }
 {}
 
-/// If a filter admits a conforming talker, each of its frames leaves each egress port within the delay bound `b`, whatever all others
-/// send. The capacities are sufficient.
+/// If a filter admits a conforming talker, each of its frames leaves each egress port within the delay bound `b`, whatever all others send.
+/// The capacities are sufficient. docs/DELAYS.md cites it.
 pub fn conforming_frame_is_delivered<A: Allocator + Copy>()
     ensures { (p : Plan A) (group : ℕ) (n m most burst rate q set sdu b : ℕ) (f : FilterPlan)
         (sharers : ℕ → List (ℕ × FilterPlan)) (out : PortPlan A) (a : Arrival)
@@ -133,7 +137,8 @@ pub fn conforming_frame_is_delivered<A: Allocator + Copy>()
         → IsDelivered out (lists q) a n (count_filter_frames p n older + 1) b }
 {}
 
-/// If the settings of a filter pass the test `admits_talker`, the filter admits each conforming talker with this burst and rate.
+/// If the settings of a filter pass the test `admits_talker`, the filter admits each conforming talker with this burst and rate. Delays of
+/// limited talkers rest on it.
 pub fn tested_filter_admits_talker<A: Allocator + Copy>()
     ensures { (p : Plan A) (f : FilterPlan) (most burst rate : ℕ)
         → IsPlan p
@@ -141,8 +146,10 @@ pub fn tested_filter_admits_talker<A: Allocator + Copy>()
         → (m : ℕ) × AdmitsTalker p f m most burst rate }
 {}
 
-/// If a filter admits a conforming talker, each of its frames leaves each egress port within the bound of a shared queue, whatever all
-/// others send. Each shared queue that it can reach there has enough capacity.
+/// If a filter admits a conforming talker, each of its frames leaves each egress port within the bound of a shared queue. Other talkers may
+/// send anything.
+///
+/// Each shared queue that it can reach there has enough capacity. Delays of limited talkers rest on it.
 pub fn conforming_frame_leaves_shared_queue<A: Allocator + Copy>()
     ensures { (p : Plan A) (group n m most burst rate q set : ℕ) (f : FilterPlan)
         (out : PortPlan A) (a : Arrival) (newer older : List Event) (c : FilterInput)
@@ -164,7 +171,7 @@ pub fn conforming_frame_leaves_shared_queue<A: Allocator + Copy>()
         (count_filter_frames p n older + 1) (enough k reach).row.bound) × (d.copy.class ≡ k) × (a.at ≤ d.start) }
 {}
 
-/// If a filter admits a conforming talker, each of its frames has the verdict `Pass`.
+/// If a filter admits a conforming talker, each of its frames has the verdict `Pass`. Delays of limited talkers rest on it.
 pub fn conforming_frames_pass<A: Allocator + Copy>()
     ensures { (p : Plan A) (group n m most burst rate : ℕ) (f : FilterPlan) (es : List Event)
         → IsPlan p
@@ -176,7 +183,8 @@ pub fn conforming_frames_pass<A: Allocator + Copy>()
         → list_all passes (filter_verdicts n (police_steps p es)) ≡ true }
 {}
 
-/// In any `w` ns a stream gate with octet limits passes at most the octets of the intervals that overlap these `w` ns.
+/// In any `w` ns a stream gate with octet limits passes at most the octets of the intervals that overlap these `w` ns. Curves of stream
+/// gates rest on it.
 pub fn gate_limits_octets()
     ensures { (r : GateRules) (u w : ℕ) (es : List GateEvent)
         → HasOctetLimits r.turn_at
@@ -185,8 +193,10 @@ pub fn gate_limits_octets()
         → recent_passed_octets u (gate_steps r es) ≤ octet_budget r.turn_at u w }
 {}
 
-/// A filter's offers to a class have the arrival curve of its meter (`meter`). They have the curve of its stream gate if the gate has
-/// octet limits (`gate`).
+/// A filter's offers to a class have the arrival curve of its meter (`meter`). They have the curve of its stream gate if the gate has octet
+/// limits (`gate`).
+///
+/// Bounds of shared queues add these curves.
 pub fn filter_has_curve<A: Allocator + Copy>()
     ensures meter { (p : Plan A) (out : PortPlan A) (c n m : ℕ) (f : FilterPlan)
         → IsPlan p
@@ -202,7 +212,7 @@ pub fn filter_has_curve<A: Allocator + Copy>()
 {}
 
 /// If each sharer has an arrival curve by its meter or gate, copies leave in time (`done`). A sufficient capacity drops none as full
-/// (`room`).
+/// (`room`). Bounds of shared queues rest on it.
 pub fn group_leaves_in_time_by_curves<A: Allocator + Copy>()
     ensures done { (p : Plan A) (group : ℕ) (sharers : List (ℕ × FilterPlan)) (curves : ℕ → ℕ → ℕ) (q c sdu b s : ℕ)
         (out : PortPlan A) (es : List Event) (moments : ℕ → ℕ) (lists : ℕ → List (Copy CarriedFrame))
@@ -242,8 +252,10 @@ pub fn group_leaves_in_time_by_curves<A: Allocator + Copy>()
         → x.fate ≢ Full }
 {}
 
-/// Each copy that starts leaves a queue of the group within the bound by capacity, also without meters. The lesser of this bound and the bound
-/// by curves holds.
+/// Each copy that starts leaves a queue of the group within the bound by capacity, also without meters. The lesser of this bound and the
+/// bound by curves holds.
+///
+/// Bounds of shared queues rest on it.
 pub fn group_leaves_in_time_by_room<A: Allocator + Copy>()
     ensures { (p : Plan A) (group : ℕ) (sharers : List (ℕ × FilterPlan)) (q c sdu d s : ℕ) (out : PortPlan A)
         (es : List Event) (moments : ℕ → ℕ) (lists : ℕ → List (Copy CarriedFrame)) (x : Copy CarriedFrame)
@@ -263,8 +275,8 @@ pub fn group_leaves_in_time_by_room<A: Allocator + Copy>()
         ≤ x.at + (transmission_time (longest_frame sdu) out.speed - 1) + d }
 {}
 
-/// A filter with a meter has a cost curve by the greatest cost of an octet (`meter`). If the sharers have cost curves, copies leave in
-/// time (`done`).
+/// A filter with a meter has a cost curve by the greatest cost of an octet (`meter`). If the sharers have cost curves, copies leave in time
+/// (`done`). Bounds of shared queues rest on it.
 pub fn group_leaves_in_time_by_cost<A: Allocator + Copy>()
     ensures meter { (p : Plan A) (out : PortPlan A) (c n m sdu num den : ℕ) (f : FilterPlan) (cost : ℕ → ℕ)
         → IsPlan p
@@ -299,8 +311,10 @@ pub fn group_leaves_in_time_by_cost<A: Allocator + Copy>()
         → s + transmission_time x.item.len out.speed ≤ x.at + b }
 {}
 
-/// If a port's lists change, copies leave a shared queue within the old list's bound `b1`, a longest frame, and the new list's bound `b2`
-/// for a shifted curve.
+/// If a port's lists change, copies leave a shared queue within a sum of times. It has the old list's bound `b1`, a longest frame, and the
+/// new list's bound `b2` for a shifted curve.
+///
+/// Bounds of shared queues rest on it.
 pub fn group_leaves_in_time_over_change<A: Allocator + Copy>()
     ensures { (p : Plan A) (group : ℕ) (sharers : List (ℕ × FilterPlan)) (q c sdu b1 b2 s : ℕ) (out : PortPlan A)
         (j : Joined ℕ) (es : List Event) (moments : ℕ → ℕ) (lists : ℕ → List (Copy CarriedFrame))
@@ -328,8 +342,10 @@ pub fn group_leaves_in_time_over_change<A: Allocator + Copy>()
         ≤ x.at + ((b1 + transmission_time (longest_frame sdu) out.speed) + b2) }
 {}
 
-/// Frames of a filter leave a shared queue with the meter's burst and rate. The burst grows by what the rate gives in the queue's
-/// greatest difference of delays.
+/// Frames of a filter leave a shared queue with the meter's burst and rate. The burst grows by the octets that the rate gives in the
+/// queue's greatest difference of delays.
+///
+/// So the next hop's meters can be dimensioned.
 pub fn departures_conform<A: Allocator + Copy>()
     ensures { (p : Plan A) (group : ℕ) (sharers : List (ℕ × FilterPlan)) (q c sdu n m b : ℕ) (f : FilterPlan)
         (out : PortPlan A) (es : List Event) (moments : ℕ → ℕ) (lists : ℕ → List (Copy CarriedFrame))
@@ -358,6 +374,7 @@ pub fn merged_arrivals_are_in_order()
 {}
 
 /// Each copy that starts leaves a shared queue within the bound that `shared_queue` returns, in every run, whatever any talker sends.
+/// docs/DELAYS.md cites it.
 pub fn shared_queue_leaves_in_time<A: Allocator + Copy>()
     ensures { (p : Plan A) (s : SharedQueue) (is : IsSharedQueue p s) (start : ℕ) (es : List Event) (moments : ℕ → ℕ)
         (lists : ℕ → List (Copy CarriedFrame)) (x : Copy CarriedFrame)
@@ -372,7 +389,8 @@ pub fn shared_queue_leaves_in_time<A: Allocator + Copy>()
         → start + transmission_time x.item.len is.out.speed ≤ x.at + s.bound }
 {}
 
-/// If the capacity of a shared queue is at least the one that `shared_queue` finds sufficient, the queue drops no copy as full in any run.
+/// If the capacity of a shared queue is at least the one that `shared_queue` finds, the queue drops no copy as full in any run.
+/// docs/DELAYS.md cites it.
 pub fn shared_queue_is_never_full<A: Allocator + Copy>()
     ensures { (p : Plan A) (s : SharedQueue) (room : ℕ) (es : List Event) (moments : ℕ → ℕ)
         (lists : ℕ → List (Copy CarriedFrame)) (x : Copy CarriedFrame)
@@ -389,8 +407,10 @@ pub fn shared_queue_is_never_full<A: Allocator + Copy>()
         → x.fate ≢ Full }
 {}
 
-/// Each copy that a protected filter's queue sent has left within the bound that `gate_work_bound` returns, in every run whose frames have
+/// Each copy that a protected filter's queue sent has left within the bound that `gate_work_bound` returns. The frames of the run must have
 /// SDUs of at least `fewest` octets.
+///
+/// Bounds by the stream gate rest on it.
 pub fn frames_leave_in_time_by_gate<A: Allocator + Copy>()
     ensures { (p : Plan A) (n q c fewest b start : ℕ) (is : IsGateWorkBound p n q c fewest b) (es : List Event)
         (moments : ℕ → ℕ) (lists : ℕ → List (Copy CarriedFrame)) (x : Copy CarriedFrame)
@@ -408,6 +428,8 @@ pub fn frames_leave_in_time_by_gate<A: Allocator + Copy>()
 
 /// SDUs have at least two octets if no frame has more captured octets than its length (`captured`). They have at least 44 octets if each
 /// frame has at least 60 octets (`padded`).
+///
+/// Bounds by octet limits rest on it.
 pub fn frames_have_sdus()
     ensures captured { (es : List Event) → AreWithinLengths es → HaveSdus 2 es }
     ensures padded { (es : List Event) → HasNoRunts es → HaveSdus 44 es }

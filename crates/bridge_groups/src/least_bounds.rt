@@ -1,4 +1,4 @@
-//! Least delay bounds of queues: by capacity or meters, or by the octets that stream gates pass.
+//! Lesser delay bounds of queues, which follow from the octets that stream gates pass in an interval.
 ghost use Rattle.std.specs.Prelude.{◌≡◌, ◌≤◌, ◌<◌, IfSome, MatchOption};
 ghost use Rattle.bridge_bounds.specs.Bounds.{HasNoBound, IsTightBound};
 ghost use Rattle.bridge_groups.specs.GateBounds.{IsLeastBound, IsPaddedBound};
@@ -10,10 +10,10 @@ use bridge_bounds::{is_coarse, tight_queue_bound};
 use bridge_check::Accepted;
 use std::alloc::Allocator;
 
-/// Returns the lesser of two bounds of a queue in ns: `tight`, and the bound by the octets that the filter's stream gate passes.
+/// Returns the lesser of two bounds of a queue in ns: `tight`, and the bound from the octets that the filter's stream gate passes.
 ///
-/// Returns `tight` if the lists of stream gate and port have no common cycle (`coarse`), because the search for the other bound would take
-/// too long.
+/// Returns `tight` if the lists of stream gate and port have no common cycle (`coarse`). The search for the other bound would then take too
+/// long. `least_queue_bound` and `put_tight_bound` of `net_latency` call it.
 pub fn least_bound<A: Allocator + Copy>(
     accepted: &Accepted<A>,
     number: u32,
@@ -37,10 +37,10 @@ pub fn least_bound<A: Allocator + Copy>(
     }
 }
 
-/// Returns a queue's bound in ns for frames of at least 60 octets, by the octets that the filter's stream gate passes.
+/// Returns a queue's bound in ns for frames of at least 60 octets: it follows from the octets that the filter's stream gate passes.
 ///
-/// Returns `None` if it isn't below `bound`, if no frame of this length passes, or if the lists of stream gate and port have no common
-/// cycle (`coarse`).
+/// Returns `None` if this bound isn't below `bound`, or if no frame of this length passes. Also if the lists of stream gate and port have
+/// no common cycle (`coarse`).
 ///
 /// `put_tight_bound` of `net_latency` and `put_gate_bounds` of `show_lint` call it.
 pub fn padded_bound<A: Allocator + Copy>(
@@ -67,7 +67,8 @@ pub fn padded_bound<A: Allocator + Copy>(
 
 /// Returns the least known bound of a queue in ns for any capture: the bound that `bounds` prints. Allocates no memory.
 ///
-/// Returns `None` exactly if the filter is missing or unprotected, or can't reach the queue.
+/// Returns `None` exactly if the filter is missing or unprotected, or can't reach the queue. Functions of `net_latency`, `show_lint`,
+/// `show_picture` and other crates call it.
 pub fn least_queue_bound<A: Allocator + Copy>(
     accepted: &Accepted<A>,
     number: u32,

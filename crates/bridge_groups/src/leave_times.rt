@@ -73,6 +73,7 @@ pub(crate) fn leave_time<A: Allocator + Copy>(
 /// Returns the longest delay in ns of work of `work` ns that arrives at a time from `first` to `last`. Earlier work has left by `clear`.
 ///
 /// The delay is greatest for arrivals at `first`, at `last`, or just after a run of fits. Returns `None` if the search takes too long.
+/// `add_interval` calls it.
 pub(crate) fn longest_delay<A: Allocator + Copy>(
     list: &CyclicList<u8, A>,
     class: u8,

@@ -21,7 +21,7 @@ pub struct LinearCurve {
 }
 
 impl LinearCurve {
-    /// Returns the most work in ns that arrives in any `w` ns.
+    /// Returns the most work in ns that arrives in any `w` ns. `has_frames`, `is_sufficient` and others call it.
     pub fn at(&self, w: u64) -> u64
         requires curve { IsLinearCurve self.now }
         requires fits { curve_at self.now w < END_OF_CURVES }

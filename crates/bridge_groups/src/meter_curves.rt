@@ -19,7 +19,8 @@ use std::alloc::Allocator;
 /// Meter units of a shortest frame, which has 64 metered octets. Counts of frames divide a meter's units by it.
 const FRAME_UNITS: u128 = 64 * UNITS_PER_OCTET;
 
-/// Returns the settings of meter `number`; settings with rates and bursts of 0 if the list lacks it.
+/// Returns the settings of meter `number`; settings with rates and bursts of 0 if the list lacks it. `committed_tokens` and
+/// `burst_and_rate` call it.
 pub(crate) fn find_meter(meters: &[(u32, MeterPlan)], number: u32) -> MeterPlan
     ensures { result ≡ meter_or_empty (lookup (nat_eq number) meters.now) }
 {

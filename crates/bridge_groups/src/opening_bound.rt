@@ -126,8 +126,8 @@ fn visit_openings<A: Allocator + Copy>(
     None
 }
 
-/// Returns the least common multiple in ns of the cycle times of a port and a stream gate. Returns `None` if it has too many of the port's
-/// cycles.
+/// Returns the least common multiple in ns of the cycle times of a port and a stream gate. Returns `None` if this multiple contains too
+/// many of the port's cycles. `gate_delay_bound` and `gates_cycle` call it.
 pub(crate) fn common_cycle(port: u64, gate: u64) -> Option<u64>
     requires port { (1 ≤ port) × (port ≤ LONGEST_CYCLE) }
     requires gate { 1 ≤ gate }
@@ -160,7 +160,7 @@ fn cycle_work<A: Allocator + Copy>(gate: &CyclicList<GateEntry, A>, least: u64, 
     work
 }
 
-/// Returns the time in ns for which `class` is open in one cycle of a port, at most `u64::MAX`.
+/// Returns the time in ns for which `class` is open in one cycle of a port, at most `u64::MAX`. `is_overloaded` calls it.
 fn open_time<A: Allocator + Copy>(list: &CyclicList<u8, A>, class: u8) -> u64
     requires class { class < 8 }
 {

@@ -1,4 +1,4 @@
-//! Intervals in which a stream gate is open.
+//! Intervals in which a stream gate is open, for delay bounds of its filter.
 ghost use Rattle.std.specs.Prelude.{◌≡◌, ◌+◌, ◌<◌, ◌≤◌, ◌*◌, IfSome, Some};
 ghost use Rattle.bridge_cycle.specs.Cyclic.{IsLawful};
 ghost use Rattle.bridge_groups.specs.GateIntervals as spec;
@@ -51,7 +51,7 @@ pub(crate) fn next_opening<A: Allocator + Copy>(
     None
 }
 
-/// Returns the most transmission time in ns of the frames that pass in an interval: each `share` octets of their SDUs take at most `least`
+/// Returns the most transmission time in ns of the frames that pass in an interval. Each `share` octets of their SDUs take at most `least`
 /// ns. Returns 0 without an octet limit. `add_interval` calls it.
 pub(crate) fn turn_work(turn: &Turn<GateEntry>, least: u64, share: u64) -> u64
     requires least { least ≤ 200_000 }

@@ -15,7 +15,8 @@ ghost use Rattle.bridge_groups.specs.MeterAllowance.{AreConforming, AreFramesInO
 ghost use Rattle.bridge_groups.specs.TalkerFrames.{HasFrameLimit, SentFrame, recent_sent_octets};
 ghost use Rattle.bridge_groups.specs.Work.{HaveBoundedTimes, HaveSufficientCosts, HasCostCurve, HasFitsPerCycle, IsSufficientRoom, IsDelayBound, IsNthFit, IsSufficientCost, IsSpanBound, HasCountCurve, HasWorkCurve};
 
-/// If a queue has its link to itself, each copy that starts leaves within the delay bound of the queue's work curve.
+/// If a queue has its link to itself, each copy that starts leaves within the delay bound of the queue's work curve. docs/DELAYS.md cites
+/// it.
 pub fn copies_leave_in_time<X: Drop>()
     ensures { (r : PortRules X) (curve : ℕ → ℕ) (c occ least b s : ℕ) (x : Copy X) (older : List (Copy X))
         → IsSolo r (x ∷ older)
@@ -29,6 +30,8 @@ pub fn copies_leave_in_time<X: Drop>()
 
 /// If the costs of the offers have a curve, each copy that starts leaves within this curve's delay bound. A long frame can miss fits of
 /// short frames, so it costs more.
+///
+/// Bounds of shared queues by costs rest on it.
 pub fn copies_leave_in_time_by_cost<X: Drop>()
     ensures { (r : PortRules X) (cost : X → ℕ) (curve : ℕ → ℕ) (c occ least b s : ℕ) (x : Copy X)
         (older : List (Copy X))
@@ -42,6 +45,7 @@ pub fn copies_leave_in_time_by_cost<X: Drop>()
 {}
 
 /// If the offers have a work curve and a count curve, and the capacity is sufficient for both, the queue drops no copy as full.
+/// docs/DELAYS.md cites it.
 pub fn queue_is_never_full<X: Drop>()
     ensures { (r : PortRules X) (curve many : ℕ → ℕ) (c occ least : ℕ) (x : Copy X) (older : List (Copy X))
         → IsSolo r (x ∷ older)
@@ -53,7 +57,8 @@ pub fn queue_is_never_full<X: Drop>()
         → x.fate ≢ Full }
 {}
 
-/// In any `w` ns a meter passes at most its burst and what its rate gives. Coupling of the buckets doesn't change this.
+/// In any `w` ns a meter passes at most its burst and the octets that its rate gives. Coupling of the buckets doesn't change this. Curves
+/// of meters rest on it.
 pub fn meter_limits_frames()
     ensures { (p : MeterPlan) (u w : ℕ) (es : List MeterEvent)
         → AreInOrder (meter_history p es).judged
@@ -61,7 +66,8 @@ pub fn meter_limits_frames()
         → recent_passed_units p.drop_yellow u (meter_history p es).judged ≤ meter_allowance p w }
 {}
 
-/// If the frames conform to a burst and a rate within CBS and CIR, the newest one is green, in each mode of the meter.
+/// If the frames conform to a burst and a rate within CBS and CIR, the newest one is green, in each mode of the meter. Delays of limited
+/// talkers rest on it.
 pub fn conforming_frame_is_green()
     ensures { (p : MeterPlan) (burst rate at octets : ℕ) (dei : Bool) (es : List MeterEvent)
         → burst ≤ p.cbs
@@ -71,8 +77,10 @@ pub fn conforming_frame_is_green()
         → frame_colour p (meter_history p es) at octets dei ≡ Green }
 {}
 
-/// A delay bound needs proof for few spans only: those that begin just after a run of fits (`fit`, `shut`) and last at most a cycle
-/// (`cycle`), one for each run (`run`).
+/// A delay bound needs proof for few spans only. They begin just after a run of fits (`fit`, `shut`) and last at most a cycle (`cycle`);
+/// each run has one (`run`).
+///
+/// So searches for bounds need few steps.
 pub fn few_spans_suffice()
     ensures fit { (opens : ℕ → Bool) (occ least : ℕ) (curve : ℕ → ℕ) (b u w : ℕ)
         → ((t : ℕ) → (v : ℕ) × IsFirstFit opens occ t v)
@@ -107,6 +115,8 @@ pub fn few_spans_suffice()
 
 /// Spans that start in one cycle and are shorter than it prove a delay bound, if the cycle has fits for all arriving work (`bound`). All
 /// cycles have equally many fits (`fits`).
+///
+/// So `list_delay_bound` searches one cycle only.
 pub fn one_cycle_suffices()
     ensures bound { (opens : ℕ → Bool) (occ least b cycle n : ℕ) (curve : ℕ → ℕ)
         → IsPeriodic opens cycle
@@ -126,8 +136,10 @@ pub fn one_cycle_suffices()
         → HasFitsPerCycle opens occ cycle n }
 {}
 
-/// Frames that conform to a burst and a rate leave a hop with this rate. Their burst grows by what the rate gives between the best and
-/// the worst delay.
+/// Frames that conform to a burst and a rate leave a hop with this rate. Their burst grows by the octets that the rate gives between the
+/// best and the worst delay.
+///
+/// So the next hop's meters can be dimensioned.
 pub fn next_hop_conforms()
     ensures { (best worst burst rate unit u w : ℕ) (x : Passage) (xs : List Passage)
         → HaveHopDelays best worst (x ∷ xs)
@@ -138,6 +150,8 @@ pub fn next_hop_conforms()
 
 /// A delay bound for a curve holds for each lesser curve (`lesser`). If the class is always open and work arrives slower than it leaves,
 /// the burst is a bound (`always`).
+///
+/// Searches for bounds rest on it.
 pub fn bounds_follow_curves()
     ensures lesser { (opens : ℕ → Bool) (occ least b : ℕ) (curve greater : ℕ → ℕ)
         → ((w : ℕ) → curve w ≤ greater w)
@@ -150,7 +164,9 @@ pub fn bounds_follow_curves()
         → IsDelayBound opens occ least curve (curve 0) }
 {}
 
-/// At most `n` frames of `m` octets in any period conform to the burst `n * m` and to each rate that gives it in a period.
+/// At most `n` frames of `m` octets in any period conform to a meter. Its burst is `n * m`, and its rate gives this burst in a period.
+///
+/// So talkers with a number of frames in any period fit a meter.
 pub fn few_frames_conform()
     ensures { (n m period rate unit u w : ℕ) (x : SentFrame) (xs : List SentFrame)
         → 0 < period
@@ -160,7 +176,8 @@ pub fn few_frames_conform()
         → recent_sent_octets u (x ∷ xs) * unit ≤ m * n * unit + rate * w }
 {}
 
-/// If each run of fits of `occ` ns starts with a fit of `on` ns, the cost `on + (on - occ)` suffices for a frame of `on` ns.
+/// The cost `on + (on - occ)` suffices for a frame of `on` ns. Each run of fits of `occ` ns must start with a fit of `on` ns.
+/// docs/DELAYS.md cites it.
 pub fn long_frame_cost_suffices()
     ensures { (opens : ℕ → Bool) (occ least on : ℕ)
         → 1 ≤ occ
@@ -173,6 +190,8 @@ pub fn long_frame_cost_suffices()
 
 /// At a schedule change, the bound is `b1 + occ + b2` ns. It adds the old lists' bound, a longest frame, and the new lists' bound for a
 /// shifted curve.
+///
+/// Bounds over a schedule change rest on it.
 pub fn copies_leave_in_time_over_change<X: Drop>()
     ensures { (r : PortRules X) (curve : ℕ → ℕ) (c occ least b1 b2 at s : ℕ) (old new : ℕ → Bool) (x : Copy X)
         (older : List (Copy X))
@@ -190,8 +209,8 @@ pub fn copies_leave_in_time_over_change<X: Drop>()
         → s + r.occ x.item ≤ x.at + ((b1 + occ) + b2) }
 {}
 
-/// If copies are offered only while a gate is open, and each interval has limited work, each copy that starts leaves within the intervals'
-/// delay bound.
+/// If copies are offered only while a gate is open, and each interval has limited work, each started copy leaves within the intervals'
+/// delay bound. docs/DELAYS.md cites it.
 pub fn interval_copies_leave_in_time<X: Drop>()
     ensures { (r : PortRules X) (lets : ℕ → Bool) (begin limit : ℕ → ℕ) (c occ least b s : ℕ) (x : Copy X)
         (older : List (Copy X))
@@ -205,7 +224,8 @@ pub fn interval_copies_leave_in_time<X: Drop>()
         → s + r.occ x.item ≤ x.at + b }
 {}
 
-/// If two parts of a queue's copies are apart in time, each part is as if it were alone at the port.
+/// If two parts of a queue's copies are apart in time, each part is as if it were alone at the port. So each part has the bound of a queue
+/// of its own.
 pub fn parts_apart_are_alone<X: Drop>()
     ensures { (r : PortRules X) (own : X → Bool) (xs : List (Copy X))
         → IsSolo r xs

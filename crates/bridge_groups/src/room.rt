@@ -115,8 +115,8 @@ fn room_fits<A: Allocator + Copy>(
 #[derive(Clone, Copy)]
 struct Unstable;
 
-/// Returns a capacity of at most `most` frames that suffices for a queue that has its link to itself while `class` is open: the least one
-/// that a search by halving finds. Returns `None` if the search finds none.
+/// Returns a capacity of at most `most` frames that suffices for a queue, which has its link to itself while `class` is open. Searches by
+/// halving; returns `None` if no tried capacity suffices.
 ///
 /// The frames have transmission times from `least` to `occ` ns and the arrival curve `curve`; `counts` bounds their number. `lists_room`
 /// calls it.

@@ -46,7 +46,7 @@ pub struct SharedQueue {
     pub bound: u64,
     /// Whether the bound holds by the meters of the filters too; otherwise only by the capacity.
     pub is_metered: bool,
-    /// Capacity in frames with which the queue drops no copy as full; `None` if none is known.
+    /// Capacity in frames with which the queue drops no copy as full; `None` if no such capacity is known.
     pub room: Option<u16>,
     /// Capacity of the queue in frames.
     pub capacity: u16,
@@ -56,8 +56,8 @@ pub struct SharedQueue {
     pub padded: Option<u64>,
 }
 
-/// Returns the curve that allows in `w` ns what `curve` allows in `w` + `shift` ns. Returns `None` if its burst is above `LARGEST_CURVE`.
-/// `change_bound` needs it for the new list.
+/// Returns the curve that allows in any `w` ns the work that `curve` allows in `w` + `shift` ns. Returns `None` if its burst is above
+/// `LARGEST_CURVE`. `change_bound` needs it for the new list.
 fn shifted_curve(curve: &LinearCurve, shift: u64) -> Option<LinearCurve>
     requires curve { IsLinearCurve curve.now }
     ensures line { IfSome result IsLinearCurve }
@@ -130,10 +130,10 @@ fn lists_bound<A: Allocator + Copy>(
     }
 }
 
-/// Returns a capacity with which a queue under one gate control list never overflows, by the curves of its frames. Returns `None` if the
-/// search finds none, or if the port has a schedule change.
+/// Returns a capacity with which a queue under one gate control list never overflows. `curve` bounds the work of its frames, `counts` their
+/// number.
 ///
-/// `curve_figures` calls it.
+/// Returns `None` if no tried capacity suffices, or if the port has a schedule change. `curve_figures` calls it.
 fn lists_room<A: Allocator + Copy>(
     lists: &Egress<A>,
     class: u8,

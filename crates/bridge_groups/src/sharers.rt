@@ -1,4 +1,4 @@
-//! Filters of a group that share a queue.
+//! Filters of a group that share a queue: their numbers, longest SDU and meters, for delay bounds.
 ghost use Rattle.std.specs.Prelude.{◌≡◌, ◌≤◌, IfOk, Some};
 ghost use Rattle.bridge_config.specs.Rules.{find_port};
 ghost use Rattle.bridge_check.specs.ReachTables.{filter_reach};
@@ -48,7 +48,7 @@ pub(crate) fn is_sharer<A: Allocator + Copy>(
     }
 }
 
-/// Returns the filters of the group that can reach the queue of class `class` at `port`, in the order of the plan.
+/// Returns the filters of the group that can reach the queue of class `class` at `port`, in the order of the plan. `shared_queue` calls it.
 pub fn queue_sharers<A: Allocator + Copy>(
     alloc: A,
     plan: &Plan<A>,
@@ -76,7 +76,7 @@ pub fn queue_sharers<A: Allocator + Copy>(
     Ok(sharers)
 }
 
-/// Returns the greatest limit of SDU octets among the filters; 0 for none.
+/// Returns the greatest limit of SDU octets among the filters; 0 for none. `shared_queue` calls it.
 pub fn longest_sdu(filters: &[(u32, FilterPlan)]) -> u32
     ensures { result ≡ spec.longest_sdu filters.now }
 {

@@ -44,7 +44,8 @@ pub(crate) fn fits_per_cycle<A: Allocator + Copy>(
     count + (end - run.first)
 }
 
-/// Figures of a search that all its steps share: start and lengths of the spans, the work of the frame in question, and the skipped cycles.
+/// Figures that all steps of a search share. They are start and lengths of the spans, the work of the frame in question, and the skipped
+/// cycles.
 #[derive(Clone, Copy)]
 pub(crate) struct SpanLimits {
     /// Work of the frame in question, in ns: it starts once all other work has left.

@@ -10,7 +10,7 @@ use Rattle.bridge_ident.specs.declared.TagKind.TheVariants.{Tagged, Priority, Al
 use Rattle.bridge_ident.specs.declared.StreamEntry.{StreamEntry}
 use Rattle.bridge_ident.specs.declared.stream_index.FirstEntry.{FirstEntry}
 
--- True if both kinds are equal.
+-- True if both kinds of identification compare the same address: destination or source.
 abbrev pub is_same_kind : Kind → Kind → Bool
 is_same_kind Null Null = true
 is_same_kind Null Source = false

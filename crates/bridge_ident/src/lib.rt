@@ -122,7 +122,7 @@ impl<A: Allocator + Copy> Model for Ident<A> {
 }
 
 impl<A: Allocator + Copy> Ident<A> {
-    /// Makes a table without index. Allocates no memory.
+    /// Makes a table without index. Allocates no memory. `with_index` adds the index, which makes look-ups faster.
     pub fn new(entries: Vec<StreamEntry, A>) -> Ident<A>
         ensures { result ≡ entries.items }
     {
@@ -144,7 +144,7 @@ impl<A: Allocator + Copy> Ident<A> {
         })
     }
 
-    /// Returns the entries in the given order.
+    /// Returns the entries in the given order. `Plan::streams` returns them.
     pub fn entries(&self) -> &[StreamEntry]
         ensures { result.now ≡ self.now }
     {
@@ -164,7 +164,7 @@ impl<A: Allocator + Copy> Ident<A> {
     }
 }
 
-/// The handle of a frame comes from an entry of the table that matches the frame.
+/// The handle of a frame comes from an entry of the table that matches the frame. So a filter gets only frames that the plan names.
 pub fn handle_is_of_an_entry()
     ensures { (entries : List StreamEntry) (port vid h : ℕ) (head : Head)
         → first_handle entries port head vid ≡ Some h

@@ -77,6 +77,7 @@ impl StreamEntry {
 const TWO_POW_64: u128 = 1 << 64;
 
 /// Returns the key of entries with a port, a VLAN identifier and an address. Look-ups compute the keys of a frame's addresses by it.
+/// `index_entry` and `AddressIndex::find_handle` call it.
 #[tactic(auto, unfolding(crate::specs::StreamIndex::entry_key))]
 fn entry_key(port: u8, vid: u16, address: [u8; 6]) -> u128
     ensures number { result ≡ entry_key port vid address }
@@ -94,7 +95,7 @@ fn last_octet(key: u128) -> usize
     (key % 256) as usize
 }
 
-/// Adds an entry at `key` and marks the key's last octet, unless `key` has an entry.
+/// Adds an entry at `key` and marks the key's last octet, unless `key` has an entry. `index_entry` calls it.
 fn insert_if_new<A: Allocator + Copy>(
     firsts: &mut FirstEntries<A>,
     marks: &mut OctetMarks,
@@ -178,6 +179,8 @@ const HINTS_PER_ENTRY: usize = 4;
 
 /// Returns the index of the hint for `key` among `hints` hints, by mixing the bits of the key. The port enters the four bits above the VLAN
 /// identifier, which are 0.
+///
+/// `hinted_index` and `make_hints` call it.
 #[inline(always)]
 fn hint_slot(key: u128, hints: usize) -> usize {
     let folded = ((key >> 64 << 60) ^ key) % TWO_POW_64;
@@ -194,7 +197,7 @@ fn hinted_index(hints: &[u16], key: u128) -> usize {
     }
 }
 
-/// Makes hints of the entries' indexes. If several keys have one hint, it is the index of the last of them.
+/// Makes hints of the entries' indexes. If several keys have one hint, it is the index of the last of them. `with_hints` calls it.
 fn make_hints<A: Allocator + Copy>(
     alloc: A,
     firsts: &FirstEntries<A>,
@@ -291,8 +294,8 @@ fn entry_by_index<A: Allocator + Copy>(
     }
 }
 
-/// Whether surely no entry has `key`, because no entry's address ends in the key's last octet. If false, an entry may have the key.
-/// `handle_by_keys` calls it.
+/// Whether surely no entry has `key`, because no entry's address ends in the key's last octet; if false, an entry may have it.
+/// `handle_by_keys` calls it, because the test needs no hash.
 #[inline(always)]
 fn is_absent<A: Allocator + Copy>(firsts: &FirstEntries<A>, marks: &OctetMarks, key: u128) -> bool
     ensures { result ≡ true → HasMarks firsts.now marks.now → get nat_eq firsts.now key ≡ None }
@@ -352,8 +355,8 @@ impl<A: Allocator + Copy> AddressIndex<A> {
         entry_handle(earlier_entry(destination, source))
     }
 
-    /// Returns the handle of the first entry for the keys `da` or `sa`; `None` if no entry has either key. Most frames need no hash, only
-    /// a mark and a hint.
+    /// Returns the handle of the first entry for the keys `da` or `sa`; `None` if no entry has either key. Most frames need no hash, only a
+    /// mark and a hint. `AddressIndex::find_handle` calls it.
     #[inline(always)]
     fn handle_by_keys(&self, da: u128, sa: u128) -> Option<u32>
         ensures { HasMarks self.now.destinations self.now.destination_marks
@@ -376,7 +379,8 @@ impl<A: Allocator + Copy> AddressIndex<A> {
         }
     }
 
-    /// Returns the handle of the first entry for either address of a frame; `None` if no entry matches.
+    /// Returns the handle of the first entry for either address of a frame; `None` if no entry matches. `StreamIndex::find_handle` calls it
+    /// for the part of the index for tagged or for other frames.
     #[inline(always)]
     fn find_handle(&self, port: u8, head: &Head, vid: u16) -> Option<u32>
         ensures { (entries : List StreamEntry)
@@ -391,7 +395,7 @@ impl<A: Allocator + Copy> AddressIndex<A> {
 }
 
 impl<A: Allocator + Copy> StreamIndex<A> {
-    /// Makes the index of a list of entries: one part for frames with a VLAN tag, one for other frames.
+    /// Makes the index of a list of entries: one part for frames with a VLAN tag, one for other frames. `with_index` calls it.
     pub(crate) fn new(alloc: A, entries: &[StreamEntry]) -> Result<StreamIndex<A>, AllocError>
         ensures tagged { IfOk result (λ index. HasAddressEntries true entries.now index.tagged.destinations
             index.tagged.destination_marks index.tagged.sources index.tagged.source_marks) }
@@ -408,7 +412,7 @@ impl<A: Allocator + Copy> StreamIndex<A> {
         Ok(StreamIndex { tagged, others })
     }
 
-    /// Returns the handle of the first matching entry; `None` if no entry matches.
+    /// Returns the handle of the first matching entry; `None` if no entry matches. `handle_of` calls it if the table has an index.
     #[inline(always)]
     pub(crate) fn find_handle(&self, port: u8, head: &Head, vid: u16) -> Option<u32>
         ensures { (entries : List StreamEntry)

@@ -1,4 +1,4 @@
--- Members of a list, and lists that rise.
+-- Members of a list, and lists whose items rise.
 use Rattle.std.specs.Prelude.{◌≡◌, Bool, true, not, ◌&&◌, List, [], ◌∷◌, ◌⊎◌}
 use Rattle.std.specs.List.{list_any}
 

@@ -1,4 +1,4 @@
--- Colours that a meter gives to frames.
+-- Colours that a flow meter gives to frames: green, yellow or red.
 use Rattle.std.specs.Prelude.{ℕ, Bool, true, false, ◌-◌, ◌*◌, not, ◌&&◌, ◌||◌, nat_le, List, [], ◌∷◌, if◌then◌else◌}
 use Rattle.bridge_meter.specs.declared.TheConstants.{HIGHEST_RATE, LARGEST_BURST, UNITS_PER_OCTET}
 use Rattle.bridge_meter.specs.declared.Colour.{Colour}

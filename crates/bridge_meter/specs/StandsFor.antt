@@ -1,4 +1,4 @@
--- When a meter stands for a list of events.
+-- The condition that a meter stands for a list of events.
 use Rattle.std.specs.Prelude.{◌≡◌, ℕ, ◌≤◌, List, [], ◌∷◌}
 use Rattle.bridge_meter.specs.declared.MeterPlan.{MeterPlan}
 use Rattle.bridge_meter.specs.declared.Buckets.{Buckets}

@@ -33,7 +33,7 @@ spend_tokens b octets Green all_red = record { committed = b.committed - octets 
 spend_tokens b octets Yellow all_red = record { committed = b.committed; excess = b.excess - octets * octet_units; at = b.at; all_red = all_red }
 spend_tokens b octets Red all_red = record { committed = b.committed; excess = b.excess; at = b.at; all_red = all_red }
 
--- Meter after the refilled buckets `b` judged a frame.
+-- State of a meter after it judged a frame with the refilled buckets `b`.
 abbrev pub meter_after_judging : MeterPlan → ℕ → Bool → Buckets → MeterState
 meter_after_judging p octets dei b = record { plan = p; buckets = spend_tokens b octets (colour_by_buckets p b octets dei) (p.mark_all_red && is_red (colour_by_buckets p b octets dei)) }
 

@@ -53,7 +53,7 @@ pub struct MeterPlan {
 }
 
 impl MeterPlan {
-    /// Whether the rates and burst sizes are within the limits of a meter.
+    /// Whether the rates and burst sizes are within the limits of a meter. Callers that don't read a plan test a meter before they make it.
     pub fn is_within_limits(&self) -> bool
         ensures { result ≡ is_within_limits self.now }
     {
@@ -101,7 +101,7 @@ impl Model for Meter {
 }
 
 impl Meter {
-    /// Makes a meter with full buckets. Allocates no memory.
+    /// Makes a meter with full buckets. Allocates no memory. `make_meters` of `bridge_filter` calls it.
     pub fn new(plan: MeterPlan) -> Meter
         requires { is_within_limits plan ≡ true }
         ensures { StandsFor plan result [] }
@@ -151,7 +151,7 @@ impl Meter {
         self.buckets
     }
 
-    /// Clears the red flag. The levels stay.
+    /// Clears the red flag. The levels stay. `clear_red` of `bridge_filter` calls it for a command of a run.
     pub fn clear_red(&mut self)
         ensures plan { self.new.plan ≡ self.old.plan }
         ensures buckets { self.new.buckets ≡ record self.old.buckets { all_red = false } }
@@ -238,8 +238,10 @@ fn spend_tokens(plan: &MeterPlan, buckets: Buckets, octets: u32, dei: bool) -> (
     }
 }
 
-/// Computes later bucket levels from the levels that the newest judged frame left. The overflow since an earlier frame grows by an
-/// amount independent of that frame.
+/// Computes later bucket levels from the levels that the newest judged frame left. The overflow since an earlier frame grows by an amount
+/// independent of that frame.
+///
+/// So a meter needs to store the newest levels only.
 pub fn buckets_step()
     ensures committed { (l : bounds.Limits) (f : bounds.JudgedFrame) (fs : List bounds.JudgedFrame) (d : ℕ)
         → IsCovered l (f ∷ fs)
@@ -255,7 +257,8 @@ pub fn buckets_step()
         (bounds.committed l f.at fs - f.green + l.cir * d - bounds.committed l (f.at + d) (f ∷ fs))) }
 {}
 
-/// The definitions of bucket levels are exact: if arrival times never fall, none of their subtractions stops at 0.
+/// The definitions of bucket levels are exact: if arrival times never fall, none of their subtractions stops at 0. So subtraction of
+/// natural numbers loses nothing.
 pub fn bounds_are_covered()
     ensures { (plan : MeterPlan) (events : List MeterEvent) → AreInOrder (meter_history plan events).judged
         → IsCovered (meter_limits plan) (meter_history plan events).judged }

@@ -1,4 +1,4 @@
--- Open times of a port's transmission gates.
+-- Open times of an egress port's transmission gates.
 use Rattle.std.specs.Prelude.{◌≡◌, ◌↔◌, ℕ, Bool, true, ◌<◌, ◌≤ℤ◌, ◌&&◌, nat_le, pos, Option, Some, None, List, slice_index_or}
 use Rattle.std.specs.List.{list_all}
 use Rattle.bridge_cycle.specs.Opens.{turn_opens}

@@ -27,7 +27,7 @@ pub record IsSoonestHead (fits : List (Option ℕ)) (n k c : ℕ) : Type 0 where
   pub least : (d u : ℕ) → d < n → slice_index_or fits d None ≡ Some u → k ≤ u
   pub highest : (d : ℕ) → d < n → slice_index_or fits d None ≡ Some k → d ≤ c
 
--- Statement: The pair is the best head among the classes below `n`; `None` if none of them has a head.
+-- Statement: The pair (time and class) is the best head among the classes below `n`. `None` means that these classes have no head.
 abbrev pub IsBestHead : List (Option ℕ) → ℕ → Option (ℕ × ℕ) → Type 0
 IsBestHead fits n None = (d : ℕ) → d < n → slice_index_or fits d None ≡ None
 IsBestHead fits n (Some b) = IsSoonestHead fits n b.0 b.1
@@ -51,7 +51,7 @@ pub record GainsHead (list : GateSchedule) (from c occ : ℕ) (old new : List (O
   pub fits : new ≡ slice_set old c (Some at)
   pub best : after ≡ sooner_head before at c
 
--- Statement: The next start is at time `k` in class `c`, at most 2 s after the link is free and the next offer may arrive.
+-- Statement: The next start is at time `k` in class `c`. It is at most 2 s after the link is free and the next offer may arrive.
 pub record StartsNext {T : Type 0} (p : EgressState T) (k c : ℕ) : Type 0 where
   pub item : Item T
   pub next : IsNextStart p k c item

@@ -1,12 +1,12 @@
--- Schedules of mapped items. The relay's items become the contents of frames by such a map.
+-- Schedules of mapped items: a map turns the relay's items into the contents of frames.
 use Rattle.std.specs.Prelude.{◌≡◌, ℕ, List, [], ◌∷◌}
 use Rattle.bridge_port.specs.Schedule.{Copy, PortRules}
 
--- Copy with its item mapped by `g`.
+-- Copy with its item replaced by the result of `g`; times, class and fate stay.
 abbrev pub map_copy : {X Y : Type 0} → (X → Y) → Copy X → Copy Y
 map_copy g x = record { at = x.at; class = x.class; item = g x.item; fate = x.fate }
 
--- Copies with their items mapped by `g`.
+-- Copies with each item replaced by the result of `g`; times, classes and fates stay.
 abbrev pub map_copies : {X Y : Type 0} → (X → Y) → List (Copy X) → List (Copy Y)
 map_copies g [] = []
 map_copies g (x ∷ xs) = map_copy g x ∷ map_copies g xs

@@ -67,7 +67,7 @@ abbrev pub older_head : {X : Type 0} → Option (ℕ × X) → Option (ℕ × X)
 older_head None b = b
 older_head (Some a) b = Some a
 
--- True if the copy started.
+-- True if the fate of a copy is that its transmission started.
 abbrev pub is_started : Fate → Bool
 is_started Never = false
 is_started Full = false
@@ -126,7 +126,7 @@ module _ {X : Type 0} where
   AreAnswered r [] = Unit {0}
   AreAnswered r (x ∷ xs) = IsAnswer r x xs x.fate × AreAnswered r xs
 
-  -- Statement: If copy `x` started at time `s`, then `s` is before `h`, at or after the offer, and its class stays open
+  -- Statement: If copy `x` started at time `s`, then `s` is before `h`, and not before the offer. Its class stays open
   -- for the transmission.
   abbrev pub IsLawfulStart : PortRules X → ℕ → Copy X → Fate → Type 0
   IsLawfulStart r h x Never = Unit {0}
@@ -197,14 +197,14 @@ module _ {X : Type 0} where
   queued_items c [] = []
   queued_items c (x ∷ xs) = queued_items c xs ++ (if nat_eq x.class c && is_queued x.fate then x.item ∷ [] else [])
 
-  -- True if a copy of class `c` still waits.
+  -- True if a copy of class `c` still waits in its queue.
   abbrev pub has_queued : ℕ → List (Copy X) → Bool
   has_queued c [] = false
   has_queued c (x ∷ xs) = (nat_eq x.class c && is_queued x.fate) || has_queued c xs
 
 -- Sums over copies.
 module _ {X : Type 0} where
-  -- Number of copies that started.
+  -- Number of copies whose transmission started.
   abbrev pub count_started : List (Copy X) → ℕ
   count_started [] = 0
   count_started (x ∷ xs) = (if is_started x.fate then 1 else 0) + count_started xs

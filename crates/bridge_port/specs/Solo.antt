@@ -1,9 +1,9 @@
--- The schedule of a class alone.
+-- The schedule of a class that has its port to itself.
 use Rattle.std.specs.Prelude.{◌≡◌, ℕ, true, false, ◌<◌, ◌≤◌, ◌+◌, nat_eq, max, List, [], ◌∷◌, if◌then◌else◌}
 use Rattle.bridge_cycle.specs.Fits.{IsFirstFit}
 use Rattle.bridge_port.specs.Schedule.{Fate, Never, Full, Queued, Started, Copy, PortRules, count_waiting, is_queued}
 
--- Time in ns at which the copy's transmission of `n` ns ends; `t` if the copy was dropped or is still queued.
+-- Time in ns at which the copy's transmission of `n` ns ends; time `t` if the copy was dropped or is still queued.
 abbrev pub done_time_or : Fate → ℕ → ℕ → ℕ
 done_time_or Never n t = t
 done_time_or Full n t = t

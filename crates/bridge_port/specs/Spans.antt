@@ -35,7 +35,7 @@ pub record HasSpans (opens : ℕ → Bool) (spans : List OpenSpan) : Type 0 wher
 abbrev pub open_or_stopped : (ℕ → Bool) → ℕ → ℕ → Bool
 open_or_stopped opens stop u = opens u || nat_le stop u
 
--- First time, `from` or later, from which a span lasts for `occ` ns or up to time `stop`; `None` if the spans show none.
+-- First time in ns, `from` or later, from which a span lasts for `occ` ns or up to time `stop`. `None` if no span lasts that long.
 abbrev pub fit_in_spans : List OpenSpan → ℕ → ℕ → ℕ → Option ℕ
 fit_in_spans [] from occ stop = None
 fit_in_spans (x ∷ xs) from occ stop = let start = max from (min x.start stop) in if nat_le (min (start + occ) stop) x.end then Some start else fit_in_spans xs from occ stop

@@ -50,7 +50,7 @@ pub record StandsFor {T : Type 0} (p : EgressState T) (xs : List (Copy (Item T))
   pub started : p.started ≡ count_started xs
   pub earliest : p.earliest ≡ earliest_offer xs
 
--- Statement: No queued frame can start before time `t`.
+-- Statement: No queued frame of the port can start before time `t` (ns).
 abbrev pub HasNoStartEarlier : {T : Type 0} → EgressState T → ℕ → Type 0
 HasNoStartEarlier {T} p t = (c : ℕ) (x : Item T) (rest : List (Item T)) → class_queue p c ≡ x ∷ rest → (u : ℕ) → p.earliest ≤ u → p.free ≤ u → u < t → ¬ Fits (opens p.list c) (transmission_time x.len p.speed) u
 
@@ -64,7 +64,7 @@ pub record IsNextStart {T : Type 0} (p : EgressState T) (k c : ℕ) (x : Item T)
   pub least : HasNoStartEarlier p k
   pub highest : (d : ℕ) (y : Item T) (others : List (Item T)) → class_queue p d ≡ y ∷ others → Fits (opens p.list d) (transmission_time y.len p.speed) k → d ≤ c
 
--- Statement: All queues are empty.
+-- Statement: All queues of the port are empty.
 abbrev pub IsIdle : {T : Type 0} → EgressState T → Type 0
 IsIdle p = (c : ℕ) → class_queue p c ≡ []
 
@@ -80,7 +80,7 @@ offer_refusal p c x =
     else if nat_le (slice_index_or p.rooms c 0) (length (class_queue p c)) then Some refusal.Full
     else None
 
--- Numbers of refusals, in the order of the tests.
+-- Numbers of the reasons why a port drops a copy, in the order of the tests.
 abbrev pub refusal_code : Refusal → ℕ
 refusal_code refusal.NeverFits = 1
 refusal_code refusal.Full = 2

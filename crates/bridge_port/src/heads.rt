@@ -12,8 +12,10 @@ use bridge_frame::{Speed, occupation};
 use circular_buffer::HeapCircularBuffer;
 use std::alloc::Allocator;
 
-/// Returns the better of the head `best` and the head of `class` with the earliest start `fit`: the earlier one, or at equal times the one
-/// of the higher class. `sooner_optional_head` and `add_item_fit` call it.
+/// Returns the better of the head `best` and the head of `class` with the earliest start `fit`. The earlier head is better, or at equal
+/// times that in the higher class.
+///
+/// `sooner_optional_head` and `add_item_fit` call it.
 #[inline(always)]
 fn sooner_head(best: Option<(u64, usize)>, fit: u64, class: usize) -> Option<(u64, usize)>
     ensures { result ≡ heads.sooner_head best fit class }
@@ -24,8 +26,8 @@ fn sooner_head(best: Option<(u64, usize)>, fit: u64, class: usize) -> Option<(u6
     }
 }
 
-/// Returns the better of the head `best` and the head of `class`, as `sooner_head` does; `best` if the class has no head (`fit` is `None`).
-/// `refresh_fits` calls it.
+/// Returns the better of the head `best` and the head of `class` with the earliest start `fit`; `best` if the class has no head (`None`).
+/// `sooner_head` compares them. `refresh_fits` calls it for each class.
 fn sooner_optional_head(
     best: Option<(u64, usize)>,
     fit: Option<u64>,
@@ -130,10 +132,9 @@ pub fn refresh_fits<T: Drop, A: Allocator + Copy>(
     best
 }
 
-/// Stores the earliest start, `from` or later, of a new item with transmission time `occ` ns if the queue of `class` is empty. Returns time
-/// and class of the best head; before, it was `best`.
+/// If the queue of `class` is empty, stores in `fits` the earliest start in ns, `from` or later, of a new item of `occ` ns.
 ///
-/// `offer` calls it.
+/// Returns the best head (time and class): `best`, or the new item. `offer` calls it.
 #[inline(always)]
 pub fn add_item_fit<A: Allocator + Copy>(
     fits: &mut [Option<u64>; 8],

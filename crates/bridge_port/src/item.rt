@@ -25,7 +25,7 @@ pub enum Refusal {
 }
 
 impl Refusal {
-    /// Returns the number of the refusal, in the order of the tests: 1 for `NeverFits`, 2 for `Full`.
+    /// Returns the number of the refusal, in the order of the tests: 1 for `NeverFits`, 2 for `Full`. Contracts compare refusals by it.
     pub fn number(self) -> u8
         ensures { result ≡ refusal_code self }
     {

@@ -1,4 +1,4 @@
-//! Laws of schedules.
+//! Laws about the schedules of egress ports.
 ghost use Rattle.std.specs.Prelude.{◌≡◌, ◌≢◌, ◌+◌, ◌*◌, ◌<◌, ◌≤◌, ◌↔◌, ◌∷◌, ℕ, List, Some, true};
 ghost use Rattle.bridge_cycle.specs.Cyclic.{Cyclic};
 ghost use Rattle.bridge_cycle.specs.ChangingList.{Joined};
@@ -11,7 +11,8 @@ ghost use Rattle.bridge_port.specs.Solo.{HasOwnWindow, IsSolo, IsFinished, HaveS
 use crate::queues::LARGEST_ROOM;
 use bridge_cycle::LONGEST_CYCLE;
 
-/// A schedule stays lawful up to an earlier time, if this time is after the last start and not before the last offer.
+/// A schedule stays lawful up to an earlier time, if this time is after the last start and not before the last offer. So laws about the
+/// past follow from the present schedule.
 pub fn lawful_up_to_a_lower_moment<X: Drop>()
     ensures { (r : PortRules X) (h k : ℕ) (xs : List (Copy X))
         → k ≤ h
@@ -21,7 +22,9 @@ pub fn lawful_up_to_a_lower_moment<X: Drop>()
         → IsLawful r k xs }
 {}
 
-/// A schedule that is lawful up to time `h` is lawful up to a later time `k`, if from `h` to `k` no head fits while the link is free.
+/// A schedule that is lawful up to time `h` is lawful up to a later time `k`. From `h` to `k`, no head may fit while the link is free.
+///
+/// So a port may skip times without a start.
 pub fn lawful_up_to_a_later_moment<X: Drop>()
     ensures { (r : PortRules X) (h k : ℕ) (xs : List (Copy X))
         → h ≤ k
@@ -31,7 +34,7 @@ pub fn lawful_up_to_a_later_moment<X: Drop>()
         → IsLawful r k xs }
 {}
 
-/// An offer at time `h`, answered by the rule, keeps the schedule lawful.
+/// An offer at time `h`, answered by the rule, keeps the schedule lawful. So a port's schedule stays lawful after each offer.
 pub fn lawful_with_an_offer<X: Drop>()
     ensures { (r : PortRules X) (h : ℕ) (x : Copy X) (xs : List (Copy X))
         → x.at ≡ h
@@ -41,7 +44,8 @@ pub fn lawful_with_an_offer<X: Drop>()
         → IsLawful r h (x ∷ xs) }
 {}
 
-/// A schedule that is lawful up to time `h`, with the start that strict priority demands at `h`, is lawful up to 1 ns later.
+/// A schedule that is lawful up to time `h`, with the start that strict priority demands at `h`, is lawful up to 1 ns later. So a port's
+/// schedule stays lawful after each start.
 pub fn lawful_with_a_start<X: Drop>()
     ensures { (r : PortRules X) (c h i : ℕ) (item : X) (xs ys : List (Copy X))
         → IsLawful r h xs
@@ -53,7 +57,7 @@ pub fn lawful_with_a_start<X: Drop>()
         → IsLawful r (h + 1) ys }
 {}
 
-/// A class whose window no other class shares is served as if it had the link alone.
+/// A class whose window no other class shares is served as if it had the link alone. docs/ISOLATION.md cites it.
 pub fn own_windows_isolate<X: Drop>()
     ensures { (r : PortRules X) (c h : ℕ) (xs : List (Copy X))
         → ((n : X) → 0 < r.occ n)
@@ -63,7 +67,8 @@ pub fn own_windows_isolate<X: Drop>()
         → IsSolo r (class_copies c xs) }
 {}
 
-/// `can_fit` is exact: it is true exactly if the class stays open for `n` ns at some time, under each list by itself.
+/// `can_fit` is exact: it is true exactly if the class stays open for `n` ns at some time, under each list by itself. So a port drops as
+/// `NeverFits` only frames that never fit.
 pub fn can_fit_is_exact()
     ensures none { (c n : ℕ) → (can_fit Always c n ≡ true) ↔ ((t : ℕ) × Fits (opens Always c) n t) }
     ensures one { (l : Cyclic ℕ) (c n : ℕ)
@@ -75,7 +80,7 @@ pub fn can_fit_is_exact()
         ↔ (((t : ℕ) × Fits (list_opens j.old c) n t) × ((t : ℕ) × Fits (list_opens j.new c) n t)) }
 {}
 
-/// If `can_fit` is true, a fit starts within 2 s of any time, despite a schedule change.
+/// If `can_fit` is true, a fit starts within 2 s of any time, despite a schedule change. So each queued frame starts.
 pub fn can_fit_soon()
     ensures { (list : GateSchedule) (c n from : ℕ)
         → HasLawfulLists list
@@ -83,7 +88,7 @@ pub fn can_fit_soon()
         → (u : ℕ) × (from ≤ u) × (u ≤ from + 2 * LONGEST_CYCLE) × Fits (opens list c) n u }
 {}
 
-/// If a queue has the link alone, the offers to this queue determine the fate of each copy.
+/// If a queue has the link alone, the offers to this queue determine the fate of each copy. docs/ISOLATION.md cites it.
 pub fn solo_copies_follow<X: Drop>()
     ensures { (r : PortRules X) (xs ys : List (Copy X)) → HaveSameOffers xs ys → IsSolo r xs → IsSolo r ys → xs ≡ ys }
 {}

@@ -1,4 +1,4 @@
-//! Egress port.
+//! Egress port of a bridge: queues, transmission gates, and the next start.
 ghost use Rattle.std.specs.Prelude.{◌≡◌, ◌<◌, ◌≤◌, ◌+◌, ◌-◌, ◌&&◌, ℕ, Bool, true, Option, Some, None, IfOk, IfSome, IfNone, List, [], ◌∷◌, length, max, replicate, is_none, MatchOption, if◌then◌else◌};
 
 use crate::heads::{add_item_fit, refresh_after_start};
@@ -23,7 +23,7 @@ use std::marker::Model;
 pub struct Port<T: Drop, A: Allocator + Copy> {
     /// Speed of the link.
     speed: Speed,
-    /// Transmission gates.
+    /// Transmission gates of the port's classes, with the hints of their searches.
     gates: TransmissionGates<A>,
     /// Queues of the classes.
     rings: Vec<HeapCircularBuffer<Item<T>, A>, A>,
@@ -69,7 +69,8 @@ impl<T: Drop, A: Allocator + Copy> Port<T, A> {
     /// Makes an idle port with queue capacities for classes 0 to 7, in frames. Without a list, all classes are always open;
     /// otherwise bit c of a state opens class c.
     ///
-    /// With a schedule change (8.6.9.4), the old list applies before the change. Each item must fit under both lists.
+    /// With a schedule change (8.6.9.4), the old list applies before the change. Each item must fit under both lists. `PortState::new` of
+    /// `bridge_relay` calls it.
     pub fn new(
         alloc: A,
         speed: Speed,
@@ -133,7 +134,8 @@ impl<T: Drop, A: Allocator + Copy> Port<T, A> {
         }
     }
 
-    /// Offers an item to the queue of `class` at `t` ns. Returns a dropped item with the first reason that applies.
+    /// Offers an item to the queue of `class` at `t` ns. Returns a dropped item with the first reason that applies. The relay calls it for
+    /// each copy of a frame.
     #[inline(always)]
     pub fn offer(&mut self, t: u64, class: u8, item: Item<T>) -> Result<(), (Item<T>, Refusal)>
         requires class { class < 8 }
@@ -204,7 +206,8 @@ impl<T: Drop, A: Allocator + Copy> Port<T, A> {
         }
     }
 
-    /// Starts the next frame, and returns its item and class. Afterwards `earliest` is 1 ns after the start.
+    /// Starts the next frame, and returns its item and class. Afterwards `earliest` is 1 ns after the start. `PortState::start` of
+    /// `bridge_relay` calls it.
     #[inline(always)]
     pub fn start(&mut self) -> (Item<T>, u8)
         requires { (k : ℕ) × IsNextStartTime self.old (Some k) }
@@ -252,7 +255,7 @@ impl<T: Drop, A: Allocator + Copy> Port<T, A> {
         }
     }
 
-    /// Returns the number of offers so far, at most `MAX_ARRIVALS`.
+    /// Returns the number of offers so far, at most `MAX_ARRIVALS`. Callers keep it below `MAX_ARRIVALS`, which `offer` requires.
     pub fn offered(&self) -> u64
         ensures offered { result ≡ self.now.offered }
         ensures counted { self.now.started + count_queued (λ x. true) self.now ≤ result }
@@ -261,14 +264,14 @@ impl<T: Drop, A: Allocator + Copy> Port<T, A> {
         self.offered
     }
 
-    /// Returns the number of starts so far.
+    /// Returns the number of starts so far. `Relay::started` returns it.
     pub fn started(&self) -> u64
         ensures { result ≡ self.now.started }
     {
         self.started
     }
 
-    /// Returns the earliest time in ns at which the next offer may be made.
+    /// Returns the earliest time in ns at which the next offer may be made. Callers of `offer` need it.
     pub fn earliest(&self) -> u64
         ensures earliest { result ≡ self.now.earliest }
         ensures bounded { result ≤ time_limit self.now.started }
@@ -278,7 +281,7 @@ impl<T: Drop, A: Allocator + Copy> Port<T, A> {
     }
 
     /// Returns the end of the last transmission in ns, gap included, or 0 before the first. The relay reads it after each start as the
-    /// frame's end of transmission.
+    /// frame's end of transmission. `PortState::start` of `bridge_relay` calls it.
     pub fn free_time(&self) -> u64
         ensures free { result ≡ self.now.free }
         ensures bounded { result ≤ time_limit self.now.started }

@@ -1,4 +1,4 @@
-//! Rings of a port, one for each class.
+//! Queues of an egress port, one for each class, as rings of limited capacity.
 ghost use Rattle.std.specs.Prelude.{◌≡◌, nat_le, ◌<◌, [], ◌∷◌, ◌++◌, Option, length, replicate, IfOk, slice_get, slice_index_or, slice_set, drop, vec_len};
 ghost use Rattle.std.specs.Option.{option_copied};
 ghost use Rattle.bridge_port.specs.GateSchedule.{are_valid_rooms};
@@ -53,7 +53,7 @@ pub fn queue_head<T, A: Allocator + Copy>(
     rings[class].front()
 }
 
-/// Whether the queue of `class` is full. If so, the port drops the next copy.
+/// Whether the queue of `class` is full. If so, the port drops the next copy. `Port::refusal` calls it.
 #[inline(always)]
 pub fn is_full<T, A: Allocator + Copy>(
     rings: &Vec<HeapCircularBuffer<Item<T>, A>, A>,

@@ -51,7 +51,7 @@ pub struct SearchHints {
 }
 
 impl SearchHints {
-    /// Makes hints before the first search.
+    /// Makes hints before the first search. `TransmissionGates::new` calls it.
     pub fn new() -> SearchHints {
         let last = SearchHint {
             laps: 0,
@@ -65,7 +65,7 @@ impl SearchHints {
 }
 
 impl<A: Allocator + Copy> ClassSpans<A> {
-    /// Makes empty spans, in place of a list that a port doesn't have. Allocates no memory.
+    /// Makes empty spans, in place of a list that a port doesn't have. Allocates no memory. `make_cache` calls it.
     pub fn empty(alloc: A) -> ClassSpans<A> {
         ClassSpans {
             runs: [Run::Never; 8],
@@ -122,10 +122,10 @@ fn open_spans<A: Allocator + Copy>(
     Ok(spans)
 }
 
-/// Returns the first time, `from` or later, from which a span lasts for `occ` ns or up to `stop`, when the list ends; `None` if none does.
-/// All times count from a cycle's start.
+/// Returns the first time in ns, `from` or later, from which a span lasts for `occ` ns, or up to `stop`, when the list ends. `None` if no
+/// span lasts that long.
 ///
-/// `fit_until_stop` calls it.
+/// All times count from a cycle's start. `fit_until_stop` calls it.
 fn fit_in_spans(spans: &[OpenSpan], from: u64, occ: u64, stop: u64) -> Option<u64>
     requires from { from < 9_000_000_000_000_000_000 }
     requires occ { occ ≤ 1_000_000_000 }
@@ -142,6 +142,7 @@ fn fit_in_spans(spans: &[OpenSpan], from: u64, occ: u64, stop: u64) -> Option<u6
 }
 
 /// Returns the number of first spans that end at `t` or earlier, by binary search. This is the index of the first span that ends later.
+/// `find_index` calls it.
 #[inline(never)]
 fn search_index(spans: &[OpenSpan], t: u64) -> usize
     ensures within { result ≤ length spans.now }
@@ -200,8 +201,8 @@ fn walk_spans(spans: &[OpenSpan], from: usize, t: u64) -> usize
     place
 }
 
-/// Returns the index of the first span that ends after `t`. The search starts at index `last` if that is near, otherwise it is a
-/// binary search.
+/// Returns the index of the first span that ends after `t`. The search starts at index `last` if that is near, otherwise it is a binary
+/// search. `fit_until_stop` calls it.
 #[inline(always)]
 fn find_index(spans: &[OpenSpan], last: usize, t: u64) -> usize
     ensures within { result ≤ length spans.now }
@@ -251,8 +252,10 @@ pub fn class_spans<A: Allocator + Copy>(
     Ok(ClassSpans { runs, each })
 }
 
-/// Returns the earliest time, `from` or later, from which a list opens `class` for `occ` ns or up to `stop`. `None` if the spans
-/// show none. `fit_in_list` and `fit_in_changing_list` call it.
+/// Returns the earliest time in ns, `from` or later, from which `list` opens `class` for `occ` ns or up to `stop`, by stored spans. `None`
+/// if no span is long enough.
+///
+/// `fit_in_list` and `fit_in_changing_list` call it.
 fn fit_until_stop<A: Allocator + Copy>(
     list: &CyclicList<u8, A>,
     spans: &ClassSpans<A>,
@@ -288,8 +291,9 @@ fn fit_until_stop<A: Allocator + Copy>(
     }
 }
 
-/// Returns the earliest time, `from` or later, from which a list opens `class` for `occ` ns. `None` if the spans show none.
-/// `fit_in_changing_list` and `fit_by_spans` call it.
+/// Returns the earliest time in ns, `from` or later, from which `list` opens `class` for `occ` ns, by stored spans; updates hint `last`.
+///
+/// `None` if no span is long enough; `fit_by_spans` and, after a schedule change, `fit_in_changing_list` call it.
 pub fn fit_in_list<A: Allocator + Copy>(
     list: &CyclicList<u8, A>,
     spans: &ClassSpans<A>,
@@ -307,8 +311,10 @@ pub fn fit_in_list<A: Allocator + Copy>(
     fit_until_stop(list, spans, last, class, occ, from, u64::MAX)
 }
 
-/// Returns the earliest time, `from` or later, from which two lists with a schedule change open `class` for `occ` ns. `None` if the
-/// spans show none. `fit_by_spans` calls it.
+/// Returns the earliest time in ns, `from` or later, from which the lists of a schedule change open `class` for `occ` ns, by stored spans.
+/// `None` if no span is long enough.
+///
+/// `fit_by_spans` calls it, and keeps the hints `last`.
 pub fn fit_in_changing_list<A: Allocator + Copy>(
     lists: &Joined<u8, A>,
     old: &ClassSpans<A>,

@@ -1,4 +1,4 @@
-//! Open times of the classes of a port.
+//! Finds the next fit in the open times of an egress port's classes.
 ghost use Rattle.std.specs.Prelude.{◌≡◌, ◌↔◌, ◌+◌, ◌*◌, ◌<◌, ◌≤◌, ℕ, IfOk, IfSome, Some, true, slice_index_or};
 ghost use Rattle.bridge_cycle.specs.GateControlLists as egress;
 ghost use Rattle.bridge_cycle.specs.Fits.{Fits, IsFirstFit};
@@ -138,7 +138,7 @@ fn has_time<A: Allocator + Copy>(kept: &Turn<u8>, list: &Egress<A>, t: u64) -> b
     kept.start <= t as i64 && t < kept.end
 }
 
-/// Keeps the interval that contains `t`: the interval kept so far, or an interval from the lists.
+/// Keeps the interval that contains `t`: the interval kept so far, or an interval from the lists. `fits_in_turn` calls it.
 fn find_turn<A: Allocator + Copy>(kept: &mut Turn<u8>, list: &Egress<A>, t: u64)
     requires range { t < END_OF_SEARCHES }
     requires kept { IsListsTurn list.now kept.old }
@@ -270,6 +270,8 @@ fn fit_in_lists<A: Allocator + Copy>(
 
 /// Returns the earliest time, `from` or later, from which `class` stays open for `occ` ns. For short lists, keeps the interval at `from`.
 /// Isn't inlined: a search in the kept interval then needs few registers.
+///
+/// `earliest_fit` calls it.
 #[inline(never)]
 fn search_fit<A: Allocator + Copy>(
     is_short: bool,
@@ -300,7 +302,7 @@ fn search_fit<A: Allocator + Copy>(
 }
 
 impl<A: Allocator + Copy> TransmissionGates<A> {
-    /// Makes the gates for the lists. Without lists, all gates are always open.
+    /// Makes the gates for the lists. Without lists, all gates are always open. `Port::new` calls it.
     pub fn new(alloc: A, list: Option<Egress<A>>) -> Result<TransmissionGates<A>, AllocError>
         ensures { IfOk result (λ g. g ≡ gate_schedule list) }
     {
@@ -322,7 +324,7 @@ impl<A: Allocator + Copy> TransmissionGates<A> {
         })
     }
 
-    /// Whether each list opens `class` for `occ` ns at some time.
+    /// Whether each list opens `class` for `occ` ns at some time. `Port::refusal` calls it: otherwise the copy is dropped as `NeverFits`.
     #[inline(always)]
     pub fn can_fit(&self, class: usize, occ: u64) -> bool
         requires { class < 8 }

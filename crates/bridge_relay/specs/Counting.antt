@@ -1,4 +1,4 @@
--- Counts of the ports.
+-- Numbers of frames and copies at each port of a run.
 use Rattle.std.specs.Prelude.{ℕ, zero, suc, ◌+◌, Option, Some, None, List, [], ◌∷◌, ◌++◌}
 use Rattle.bridge_semantics.specs.declared.outcome.PortCount.{PortCount}
 use Rattle.bridge_relay.specs.declared.port_state.PortState.{PortState}

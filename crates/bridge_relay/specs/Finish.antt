@@ -1,4 +1,4 @@
--- Records of the filters when a run ends.
+-- Records of the filters that the relay returns when a run ends.
 use Rattle.std.specs.Prelude.{◌≡◌, ℕ, Some, List, [], ◌∷◌, nat_eq}
 use Rattle.std.specs.Map.{lookup}
 use Rattle.bridge_filter.specs.declared.FilterPlan.{FilterPlan}

@@ -31,7 +31,7 @@ refusal_result (Some r) = Err r
 abbrev pub offer_result : {A : Type 0} → PortState A → ℕ → Item (QueuedFrame A) → Result (Unit {0}) Refusal
 offer_result s c x = refusal_result (offer_refusal s.port c x)
 
--- The counts after one more arriving frame, by what the bridge does with it.
+-- The counts of a port after one more arriving frame, which the bridge handled as `came` shows.
 abbrev pub count_ingress : PortCount → Ingress → PortCount
 count_ingress c came.Malformed = record c { frames = c.frames + 1; malformed = c.malformed + 1 }
 count_ingress c came.Nowhere = record c { frames = c.frames + 1; nowhere = c.nowhere + 1 }

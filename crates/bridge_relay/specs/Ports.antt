@@ -27,7 +27,7 @@ nth_port slots q = slice_index_or slots (q - 1) None
 abbrev pub port_state : {G A : Type 0} → PortsState G A → ℕ → Option (PortState A)
 port_state p q = nth_port p.slots q
 
--- Holds if a port's state is consistent: classes are at most 7, queued and dropped copies add up to the offers, and counts of frames fit.
+-- Holds if a port's state is consistent. Classes are at most 7, queued and dropped copies add up to the offers, and counts of frames fit.
 pub record IsPortSound {A : Type 0} (s : PortState A) : Type 0 where
   pub classes : (k : ℕ) → k ≤ 7 → slice_index s.classes k < 8
   pub counted : s.count.sent + s.count.dropped ≡ s.port.offered
@@ -41,7 +41,7 @@ pub record ArePortsSound {G A : Type 0} (held : G → ℕ → Option ℕ) (slots
   pub others : (q k : ℕ) → held agenda q ≡ Some k → (1 ≤ q) × ((s : PortState A) × (nth_port slots q ≡ Some s))
   pub each : (q : ℕ) (s : PortState A) → 1 ≤ q → nth_port slots q ≡ Some s → IsPortSound s
 
--- Holds if no start in the agenda is earlier than `t`.
+-- Holds if no port in the agenda has its next start before time `t` (ns).
 abbrev pub StartsNoEarlier : (ℕ → Option ℕ) → ℕ → Type 0
 StartsNoEarlier held t = (q k : ℕ) → held q ≡ Some k → t ≤ k
 

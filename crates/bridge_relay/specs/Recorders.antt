@@ -1,4 +1,4 @@
--- The record of a filter during a run.
+-- The record of a filter while the run goes on.
 use Rattle.bridge_port.specs.declared.item.Refusal.{Refusal}
 use Rattle.std.specs.Prelude.{Result, Ok, Err, ℕ, Bool, true, false, ◌+◌, ◌-◌, ◌<◌, ◌≤◌, ◌≡◌, ◌++◌, [], ◌∷◌, nat_eq, max, Option, Some, None, List, length, Vec, vec_len, vec_capacity, if◌then◌else◌}
 use Rattle.std.specs.Map.{lookup}
@@ -47,7 +47,7 @@ with_drop t d = record t { drops = t.drops ++ d ∷ []; owed = t.owed - 1 }
 abbrev pub with_verdict : RecorderState → Verdict → Origin → RecorderState
 with_verdict t v o = record t { verdicts = t.verdicts ++ v ∷ []; origins = t.origins ++ o ∷ []; is_open = false }
 
--- The recorder after the release of `copies` reserved copies.
+-- The recorder after the reservation of `copies` copies was released, because the filter refused their frame.
 abbrev pub without_room : RecorderState → ℕ → RecorderState
 without_room t copies = record t { owed = t.owed - copies }
 

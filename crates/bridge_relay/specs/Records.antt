@@ -4,7 +4,7 @@ use Rattle.bridge_filter.specs.declared.FilterPlan.{FilterPlan}
 use Rattle.bridge_relay.specs.declared.filter_recorder.FilterRecord.{FilterRecord}
 use Rattle.bridge_relay.specs.Recorders.{RecorderState}
 
--- A recorder before the first frame.
+-- The recorder of a filter before the first frame.
 abbrev pub empty_recorder : RecorderState
 empty_recorder = record { verdicts = []; origins = []; departures = []; drops = []; delay = None; owed = 0; is_open = false }
 

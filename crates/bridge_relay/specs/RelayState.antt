@@ -53,11 +53,11 @@ count_port_items f (Some s) = count_queued f s.port
 abbrev pub count_all_items : {G A : Type 0} → (Item (QueuedFrame A) → Bool) → PortsState G A → ℕ
 count_all_items f p = sum_by (count_port_items f) p.slots
 
--- The number of queued copies of all ports.
+-- The number of copies that wait in the queues of all ports.
 abbrev pub count_waiting_copies : {G A : Type 0} → RelayState G A → ℕ
 count_waiting_copies b = count_all_items (λ x. true) b.ports
 
--- True if an item's optional filter number is `n`.
+-- True if the optional filter number of a queued frame is `n`.
 abbrev pub is_filter_number : Option ℕ → ℕ → Bool
 is_filter_number None n = false
 is_filter_number (Some m) n = nat_eq m n
@@ -125,7 +125,7 @@ pub record HasLeft {A : Type 0} (s : PortState A) (copies : List (Copy CarriedFr
   pub before : (d : CapturedFrame) → IsMember d left → d.time ≤ s.port.free
   pub many : s.port.started ≡ length left
 
--- The verdicts and the origins in a recorder.
+-- The verdicts and the origins of the filter's frames in a recorder, for contracts that leave out departures.
 abbrev pub recorded_frames : RecorderState → List Verdict × List Origin
 recorded_frames t = (t.verdicts, t.origins)
 

@@ -1,4 +1,4 @@
--- How a relay handles a frame.
+-- How the relay handles a frame: forwarding, verdict, and offered copies.
 use Rattle.std.specs.Prelude.{◌≡◌, ℕ, Bool, false, not, ◌+◌, ◌-◌, ◌<◌, ◌≤◌, ◌&&◌, ◌⊎◌, Option, Some, None, IfSome, is_none, List, [], ◌∷◌, length, count_by, nat_eq, nat_lt, slice_set, slice_index, if◌then◌else◌, Vec, max}
 use Rattle.std.specs.Map.{lookup}
 use Rattle.bridge_limits.specs.Members.{IsMember}

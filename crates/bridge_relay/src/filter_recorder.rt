@@ -106,7 +106,7 @@ impl<A: Allocator + Copy> Model for FilterRecorder<A> {
 }
 
 impl<A: Allocator + Copy> FilterRecorder<A> {
-    /// Returns a recorder as it is before the first frame. Allocates no memory.
+    /// Returns a recorder as it is before the first frame. Allocates no memory. `take_record` and `make_recorders` call it.
     pub fn new(alloc: A) -> FilterRecorder<A>
         ensures { result ≡ record {
           verdicts = [];

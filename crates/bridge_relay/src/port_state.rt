@@ -43,7 +43,7 @@ pub struct StartedFrame<A: Allocator + Copy> {
     pub item: Item<QueuedFrame<A>>,
 }
 
-/// How a port counts an arriving frame: what the bridge does with it.
+/// How a port counts an arriving frame: malformed, not forwarded, unfiltered, or judged by a filter.
 #[derive(Clone, Copy)]
 pub enum Ingress {
     /// The header can't be read.
@@ -93,7 +93,7 @@ impl<A: Allocator + Copy> PortState<A> {
         })
     }
 
-    /// Counts a frame that arrived at this port, by what the bridge does with it (`came`). `Ports::count_arrival` calls it.
+    /// Counts a frame that arrived at this port. `came` shows how the bridge handled it. `Ports::count_arrival` calls it.
     #[inline(always)]
     pub fn count_frame(&mut self, came: Ingress)
         requires few { self.old.count.frames < MAX_ARRIVALS }

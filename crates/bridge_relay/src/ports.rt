@@ -130,6 +130,7 @@ impl<G: Agenda + Drop, A: Allocator + Copy> Ports<G, A> {
     }
 
     /// Returns the next start: port and time in ns. At equal times, the lowest port is next. Returns `None` if no copy is queued.
+    /// `Relay::due` returns it.
     pub fn due(&self) -> Option<(u8, u64)>
         ensures { IsLeast (G.held self.now.agenda) result }
     {
@@ -235,7 +236,7 @@ impl<G: Agenda + Drop, A: Allocator + Copy> Ports<G, A> {
     }
 
     /// Returns the number of ports in `set` that exist, and the highest of them; 0 and 0 without such a port. A frame gets one copy for
-    /// each.
+    /// each. `prepare_copies`, `offer_several_copies` and others call it.
     #[inline(always)]
     pub fn count_outputs(&self, set: PortSet) -> (usize, u8)
         ensures count { result.0 ≡ count_outputs self.now.slots set 16 }
@@ -249,7 +250,7 @@ impl<G: Agenda + Drop, A: Allocator + Copy> Ports<G, A> {
         )
     }
 
-    /// Counts a frame that arrived at port `number`, which must exist, by what the bridge does with it (`came`). `count_unforwarded` and
+    /// Counts a frame that arrived at port `number`, which must exist. `came` shows how the bridge handled it. `count_unforwarded` and
     /// `police_frame` call it.
     #[inline(always)]
     pub fn count_arrival(&mut self, number: u8, came: Ingress)

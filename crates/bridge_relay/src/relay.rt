@@ -131,7 +131,7 @@ pub struct Sent<A: Allocator + Copy> {
 
 impl<'a, G: Agenda + Drop, A: Allocator + Copy> Relay<'a, G, A> {
     /// Returns the port and time in ns of the next start, at equal times of the lowest port. Returns `None` if no copy is queued.
-    /// `send_due_frames` calls it.
+    /// `send_due_frames` of `bridge_core` calls it.
     pub fn due(&self) -> Option<(u8, u64)>
         ensures { IsLeast (G.held self.now.ports.agenda) result }
     {
@@ -164,7 +164,7 @@ impl<'a, G: Agenda + Drop, A: Allocator + Copy> Relay<'a, G, A> {
     }
 
     /// Starts the transmission that is next among all ports, records the departure, and returns the frame. A copy must be queued. Allocates
-    /// no memory. `send_due_frames` calls it.
+    /// no memory. `send_due_frames` of `bridge_core` calls it.
     #[inline(always)]
     pub fn advance(&mut self) -> Sent<A>
         requires { (q k : ℕ) × (G.held self.old.ports.agenda q ≡ Some k) }
@@ -216,7 +216,7 @@ impl<'a, G: Agenda + Drop, A: Allocator + Copy> Relay<'a, G, A> {
     }
 
     /// Clears the flag `clear` of the filter, stream gate or meter with number `number`, at time `t` in ns. Allocates no memory.
-    /// `process_command` and `Bridge::command` call it.
+    /// `process_command` and `Bridge::command` of `bridge_core` call it.
     pub fn clear(&mut self, t: u64, clear: Clear, number: u32)
         requires time { self.old.earliest ≤ t }
         requires instance { IsTrue (has_instance self.old.plan clear number) }
@@ -571,6 +571,8 @@ impl<'a, G: Agenda + Drop, A: Allocator + Copy> Relay<'a, G, A> {
 
     /// Judges a frame by its filter `found`, counts it at its ingress port, and records verdict and origin. Returns the ruling and the
     /// frame's number within the filter; `None` for an unfiltered frame.
+    ///
+    /// `relay_frame` calls it.
     #[inline(always)]
     fn police_frame(
         &mut self,
@@ -701,7 +703,7 @@ impl<'a, G: Agenda + Drop, A: Allocator + Copy> Relay<'a, G, A> {
     }
 
     /// Handles a frame that arrived on port `port`. Octets that no queue accepts return to the pool. If memory runs out, returns the frame
-    /// and leaves the relay unchanged.
+    /// and leaves the relay unchanged. `handle_arrival` calls it.
     #[inline(always)]
     pub fn arrive(
         &mut self,

@@ -1,4 +1,4 @@
--- Computed examples of sections.
+-- Computed examples of sections of a run's report.
 use Rattle.std.specs.Prelude.{◌≡◌, ℕ, true, false, Option, Some, None, List, [], ◌∷◌, ◌++◌, codes, flat_map, refl}
 use Rattle.std.specs.Fmt.{digits}
 use Rattle.bridge_filter.specs.declared.Verdict.{Verdict}
@@ -36,7 +36,7 @@ pub one_frame : told (counted 1) (verdict.Pass None false ∷ []) (left ∷ []) 
 unfolding all_flags digits
 one_frame = refl
 
--- The section has these lines, if the record has these values.
+-- The report section of a record with the given fields has the given lines.
 pub section_is : {A : Type 0} (view : View A) → view.protected ≡ true → view.flags ≡ unset → view.buckets ≡ None → view.drops.items ≡ []
     → section_text 10 view ≡ told view.counters view.verdicts.items view.departures.items view.delay
 unfolding section_text state_lines copy_lines list_lines

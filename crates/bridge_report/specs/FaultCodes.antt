@@ -1,4 +1,4 @@
--- Numbers of the faults of a report.
+-- Numbers of the faults of writing a report, by which contracts compare faults.
 use Rattle.std.specs.Prelude.{ℕ}
 use Rattle.bridge_report.specs.declared.report_fault.ReportFault.{ReportFault}
 use Rattle.bridge_report.specs.declared.report_fault.ReportFault.TheVariants.{Broken, NoMemory}

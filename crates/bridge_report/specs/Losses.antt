@@ -44,8 +44,8 @@ losses_of verdicts drops = record {
 abbrev pub total : Losses → ℕ
 total l = l.blocked + l.oversize + l.gate_closed + (l.shut_rx + l.shut_octets) + (l.octets_exceeded + l.red) + (l.yellow_dropped + l.full + l.never)
 
--- A comma, the text `place`, the reason and its number, as text. `place` says where frames were lost; it is empty for
--- one bridge.
+-- A comma, the text `place`, the reason and its number, as text. `place` is the hop at which frames were lost; it is
+-- empty for one bridge.
 abbrev pub counted_words : List ℕ → List ℕ → ℕ → List ℕ
 counted_words place word count = codes ", " ++ (place ++ (word ++ (codes " " ++ decimal count)))
 

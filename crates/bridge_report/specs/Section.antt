@@ -32,7 +32,7 @@ abbrev pub counter_lines : Counters → List ℕ
 counter_lines c = matching_line c.matching ++ (test_line (codes "sdu") c.sdu_passed c.sdu_refused
     ++ (test_line (codes "gate") c.gate_passed c.gate_refused ++ red_line c.red))
 
--- A flag's name and its value, as text.
+-- A flag in a report line: a space, the flag's name, and its word `yes` or `no`.
 abbrev pub named_flag : List ℕ → Bool → List ℕ
 named_flag name flag = codes " " ++ (name ++ (codes " " ++ flag_word flag))
 
@@ -50,7 +50,7 @@ bucket_line None = codes "bucket none\n"
 bucket_line (Some b) = codes "bucket committed " ++ (decimal b.committed ++ (codes " excess " ++ (decimal b.excess
     ++ (codes " at " ++ (decimal b.at ++ codes "\n")))))
 
--- True if a full queue dropped the copy.
+-- True if a port dropped the copy as `Full`: its queue had no free place.
 abbrev pub is_full : Refusal → Bool
 is_full refusal.Full = true
 is_full refusal.NeverFits = false
@@ -60,7 +60,7 @@ abbrev pub never_fits : Refusal → Bool
 never_fits refusal.Full = false
 never_fits refusal.NeverFits = true
 
--- The number of copies that full queues dropped.
+-- The number of copies of a filter that ports dropped as `Full`.
 abbrev pub count_full : List Dropped → ℕ
 count_full drops = count_by (λ d. is_full d.refusal) drops
 
@@ -108,7 +108,7 @@ copy_lines view = queued_line view.departures.items view.drops.items ++ delay_li
 unfoldable pub list_lines : {A : Type 0} → View A → List ℕ
 list_lines view = frame_lines 1 view.verdicts.items ++ (flat_map drop_line view.drops.items ++ flat_map departure_line view.departures.items)
 
--- The section of filter number `filter` by its record.
+-- The section of filter `filter` in a run's report, from its record.
 unfoldable pub section_text : {A : Type 0} → ℕ → View A → List ℕ
 section_text filter view = state_lines filter view ++ (copy_lines view ++ (list_lines view ++ codes "end\n"))
 

@@ -1,4 +1,4 @@
--- The line of counts of a run.
+-- The line of counts that `run` prints.
 use Rattle.std.specs.Prelude.{ℕ, ◌-◌, List, ◌++◌, sum_by, codes, decimal}
 use Rattle.bridge_semantics.specs.declared.outcome.PortCount.{PortCount}
 

@@ -1,4 +1,4 @@
--- A computed example of the line of counts.
+-- A computed example of the line of counts that `run` prints.
 use Rattle.std.specs.Prelude.{◌≡◌, [], ◌∷◌, codes, refl}
 use Rattle.std.specs.Fmt.{digits}
 use Rattle.bridge_semantics.specs.declared.outcome.PortCount.{PortCount}

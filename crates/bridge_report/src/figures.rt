@@ -6,6 +6,8 @@ use bridge_semantics::StoredOrigin;
 
 /// Returns the arrival time in ns of the frame with number `own`, from 1, among a filter's frames; 0 if no frame has this number. Tables
 /// compute delays from it.
+///
+/// Functions of `net_report` and `show_tables` call it.
 pub fn arrival_time(origins: &[StoredOrigin], own: u64) -> u64
     ensures { result ≡ spec.at_of origins.now own }
 {
@@ -18,7 +20,8 @@ pub fn arrival_time(origins: &[StoredOrigin], own: u64) -> u64
     }
 }
 
-/// Returns the least of `delays` in ns; 2^64 - 1 if the list is empty. `delay_statistics` and `put_figures` call it.
+/// Returns the least of `delays` in ns; 2^64 - 1 if the list is empty. `delay_statistics` of `net_report` and `put_figures` of
+/// `show_tables` call it.
 pub fn least_delay(delays: &[u64]) -> u64
     ensures { result ≡ spec.least_of delays.now }
 {
@@ -29,7 +32,8 @@ pub fn least_delay(delays: &[u64]) -> u64
     least
 }
 
-/// Returns the greatest of `delays` in ns; 0 if the list is empty. Tables, and lines about late streams, show it.
+/// Returns the greatest of `delays` in ns; 0 if the list is empty. Tables, and lines about late streams, show it. `put_late` and
+/// `delay_statistics` of `net_report`, and `put_figures` of `show_tables` call it.
 pub fn greatest_delay(delays: &[u64]) -> u64
     ensures { result ≡ spec.greatest_of delays.now }
 {

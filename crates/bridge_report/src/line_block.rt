@@ -80,7 +80,7 @@ impl LineBlock {
         self.prepend(piece);
     }
 
-    /// Returns the block's octets, for sinks that accept octets (`ReportWriter`).
+    /// Returns the block's octets, for sinks that accept octets (`ReportWriter`). `text` calls it.
     #[inline(always)]
     pub fn octets(&self) -> &[u8]
         ensures octets { result.now ≡ self.now }
@@ -89,7 +89,7 @@ impl LineBlock {
         &self.octets[self.start..]
     }
 
-    /// Returns the block's text, for sinks that accept text (`TextBuilder`).
+    /// Returns the block's text, for sinks that accept text (`TextBuilder`). `TextBuilder::put_block` calls it.
     pub fn text(&self) -> &str
         ensures { result.now ≡ self.now }
     {

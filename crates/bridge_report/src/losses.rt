@@ -53,7 +53,7 @@ pub struct Losses {
     pub yellow_dropped: u64,
     /// Copies that a full queue dropped.
     pub full: u64,
-    /// Copies that fit no window of their class.
+    /// Copies that ports dropped as `NeverFits`: they fit no window of their class.
     pub never: u64,
 }
 
@@ -73,7 +73,8 @@ fn has_reason(reason: Reason, verdict: &StoredVerdict) -> bool
     }
 }
 
-/// Returns the number of frames that the filter refused for reason `reason`, by their verdicts.
+/// Returns the number of frames that the filter refused for reason `reason`, by their verdicts. `count_losses` and `put_refused_count` of
+/// `show_tables` call it.
 pub fn count_refused(reason: Reason, verdicts: &[StoredVerdict]) -> u64
     ensures { result ≡ spec.refused_for reason verdicts.now }
 {
@@ -130,8 +131,8 @@ fn total(losses: &Losses) -> u128
     refused + shut + metered + dropped
 }
 
-/// Writes a comma, `place`, the reason `word` and its number `count`. `place` says where frames were lost; it is empty for one bridge.
-/// `put_reason` calls it.
+/// Writes a comma, `place`, the reason `word` and its number `count`. `place` is the hop at which frames were lost; it is empty for one
+/// bridge. `put_reason` calls it.
 fn put_counted<A: Allocator>(text: &mut TextBuilder<A>, place: &str, word: &str, count: u128)
     ensures { HasGrown text.old (spec.counted_words place.now word.now count) text.new }
 {
@@ -142,7 +143,8 @@ fn put_counted<A: Allocator>(text: &mut TextBuilder<A>, place: &str, word: &str,
     text.put_integer(count);
 }
 
-/// Writes a comma, `place`, the reason `word` and its number `count`. Writes nothing if the number is 0.
+/// Writes a comma, `place`, the reason `word` and its number `count`. Writes nothing if the number is 0. `put_losses` and `put_loss_causes`
+/// of `net_report` call it.
 pub fn put_reason<A: Allocator>(text: &mut TextBuilder<A>, place: &str, word: &str, count: u128)
     ensures { HasGrown text.old (spec.reason_words place.now word.now count) text.new }
 {
@@ -151,8 +153,10 @@ pub fn put_reason<A: Allocator>(text: &mut TextBuilder<A>, place: &str, word: &s
     }
 }
 
-/// Writes the reasons of all losses with their numbers; leaves out reasons without loss. The text `place` before each reason says where
-/// frames were lost.
+/// Writes the reasons of all losses with their numbers; leaves out reasons without loss. The text `place` before each reason is the hop at
+/// which frames were lost; it is empty for one bridge.
+///
+/// `put_line` and `put_hop_losses` of `net_report` call it.
 pub fn put_losses<A: Allocator>(text: &mut TextBuilder<A>, place: &str, losses: &Losses)
     ensures { HasGrown text.old (spec.loss_words place.now losses.now) text.new }
 {

@@ -37,7 +37,8 @@ fn put_lists<A: Allocator, T: ReportSink>(text: &mut T, view: &View<A>)
     put_departures(text, &view.departures);
 }
 
-/// Writes the report section of filter `filter` with the record `view`, from its header to the line `end`.
+/// Writes the report section of filter `filter` with the record `view`, from its header to the line `end`. `put_sections` and `section`
+/// call it.
 pub fn put_section<A: Allocator, T: ReportSink>(text: &mut T, filter: u32, view: &View<A>)
     ensures { HasGrown T.contents text.old (section_text filter view.now) text.new }
 {

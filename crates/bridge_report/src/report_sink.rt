@@ -13,15 +13,15 @@ pub trait ReportSink {
     /// Octets of the text: `None` after a failure, `Some (None)` if they are unknown.
     ghost contents: { Self → Option (Option (List ℕ)) };
 
-    /// Appends `piece` to the report.
+    /// Appends `piece` to the report. The lines of a report are written by it.
     fn put(&mut self, piece: &str)
         ensures { HasGrown contents self.old piece.now self.new };
 
-    /// Appends `piece` and the decimal digits of `number` to the report.
+    /// Appends `piece` and the decimal digits of `number` to the report, for lines with counts.
     fn put_number(&mut self, piece: &str, number: u64)
         ensures { HasGrown contents self.old (piece.now ++ decimal number) self.new };
 
-    /// Appends the lines of `block` to the report.
+    /// Appends the lines of `block` to the report. Lists of frames and copies are written in such blocks.
     fn put_block(&mut self, block: &LineBlock)
         ensures { HasGrown contents self.old block.now self.new };
 }

@@ -52,7 +52,7 @@ impl<W: Write + Drop, A: Allocator> BufferedWriter<W, A> {
         Ok(())
     }
 
-    /// Writes the buffered octets, flushes the writer and returns it.
+    /// Writes the buffered octets, flushes the writer and returns it. `ReportWriter::finish` calls it at the report's end.
     fn finish(mut self) -> Result<W, ReportFault>
         ensures { IfOk result (λ writer. Keeps (append_known (W.contents self.writer) self.octets.items)
             (W.contents writer)) }
@@ -69,7 +69,7 @@ impl<W: Write + Drop, A: Allocator> BufferedWriter<W, A> {
     }
 }
 
-/// Appends `more` to `octets`. The fault is `NoMemory` if memory runs out.
+/// Appends `more` to `octets`. The fault is `NoMemory` if memory runs out. `push_number`, `BufferedWriter::put` and others call it.
 #[inline(always)]
 fn push_octets<A: Allocator>(octets: &mut Vec<u8, A>, more: &[u8]) -> Result<(), ReportFault>
     ensures { OnOk result (octets.new.items ≡ octets.old.items ++ more.now) }
@@ -107,7 +107,7 @@ fn push_number<A: Allocator>(octets: &mut Vec<u8, A>, number: u64) -> Result<(),
 }
 
 impl<W: Write + Drop, A: Allocator> BufferedWriter<W, A> {
-    /// Appends `piece` to the buffer. If the buffer lacks capacity for it, its octets are written first.
+    /// Appends `piece` to the buffer. If the buffer lacks capacity for it, its octets are written first. `ReportWriter::put` calls it.
     #[inline(always)]
     fn put(&mut self, piece: &str) -> Result<(), ReportFault>
         ensures { OnOk result (Appends (append_known (W.contents self.old.writer) self.old.octets.items)
@@ -118,6 +118,7 @@ impl<W: Write + Drop, A: Allocator> BufferedWriter<W, A> {
     }
 
     /// Appends `piece` and the digits of `number` to the buffer. If the buffer lacks capacity for them, its octets are written first.
+    /// `ReportWriter::put_number` calls it.
     #[inline(always)]
     fn put_number(&mut self, piece: &str, number: u64) -> Result<(), ReportFault>
         ensures { OnOk result (Appends (append_known (W.contents self.old.writer) self.old.octets.items)
@@ -129,6 +130,7 @@ impl<W: Write + Drop, A: Allocator> BufferedWriter<W, A> {
     }
 
     /// Appends the lines of `block` to the buffer. If the buffer lacks capacity for them, its octets are written first.
+    /// `ReportWriter::put_block` calls it.
     #[inline(always)]
     fn put_block(&mut self, block: &LineBlock) -> Result<(), ReportFault>
         ensures { OnOk result (Appends (append_known (W.contents self.old.writer) self.old.octets.items)

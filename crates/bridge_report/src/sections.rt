@@ -37,7 +37,8 @@ pub fn has_section<A: Allocator>(outcome: &Outcome<A>, filter: u32) -> bool
     find_view(outcome, filter).is_some()
 }
 
-/// Returns the report section of filter `filter`, which must have a record in the result. Each line ends with a line feed.
+/// Returns the report section of filter `filter`, which must have a record in the result. Each line ends with a line feed. Callers that
+/// need no whole report call it.
 pub fn section<A: Allocator + Copy>(
     alloc: A,
     outcome: &Outcome<A>,
@@ -55,7 +56,7 @@ pub fn section<A: Allocator + Copy>(
     text.finish()
 }
 
-/// Returns the report of a run as a text in memory: the sections of all filters, by rising number.
+/// Returns the report of a run as a text in memory: the sections of all filters, by rising number. Callers that write no file call it.
 pub fn report<A: Allocator + Copy>(alloc: A, outcome: &Outcome<A>) -> Result<String<A>, NoMemory>
     ensures { IfOk result (λ text. string_bytes text ≡ report_text outcome.now.filters.items) }
 {

@@ -5,7 +5,7 @@ ghost use Rattle.bridge_report.specs.Words.{flag_word, kind_word, refusal_word, 
 use bridge_filter::Verdict;
 use bridge_port::Refusal;
 
-/// Returns the word for a filter's protection: `protected` or `plain`.
+/// Returns the word for a filter's protection: `protected` or `plain`. `put_header` calls it.
 pub fn kind_word(protected: bool) -> &'static str
     ensures { result.now ≡ kind_word protected }
 {

@@ -7,7 +7,7 @@ use Rattle.bridge_schema.specs.declared.keys.Presence.{Presence}
 use Rattle.bridge_schema.specs.declared.keys.Presence.TheVariants as presence
 use Rattle.bridge_schema.specs.Readers.{has_key, has_known_keys}
 
--- True if a key with this presence rule is allowed in the table. `change` says whether the plan has a schedule change.
+-- True if a key with this presence rule is allowed in the table. `change` is true if the plan has a schedule change.
 abbrev pub is_allowed_presence : Bool → Members → Presence → Bool
 is_allowed_presence change ms presence.Required = true
 is_allowed_presence change ms presence.Optional = true

@@ -1,4 +1,4 @@
--- Numbers of a plan's faults.
+-- Numbers of a plan's faults, by which contracts compare faults.
 use Rattle.std.specs.Prelude.{ℕ}
 use Rattle.bridge_schema.specs.declared.plan_fault.PlanFault.{PlanFault}
 use Rattle.bridge_schema.specs.declared.plan_fault.PlanFault.TheVariants as fault

@@ -14,7 +14,7 @@ use Rattle.bridge_schema.specs.Keys.{key_name}
 use Rattle.bridge_schema.specs.Reading as reading
 pub use Rattle.bridge_schema.specs.Reading.{◌>>=◌, are_tables, count_items, instances, further_instances}
 
--- True if the fault is that memory ran out.
+-- True if the fault of a plan is `NoMemory`, which depends on the system and not on the text.
 abbrev pub is_no_memory : PlanFault → Bool
 is_no_memory fault.NoMemory = true
 is_no_memory _ = false
@@ -67,7 +67,7 @@ unfoldable pub text_value : {A : Type 0} → (List ℕ → Option A) → Data �
 text_value meaning (string s) = or_out_of_range (meaning s)
 text_value meaning _ = Err flaw.WrongKind
 
--- True if each item is an integer.
+-- True if each item of an array is an integer.
 abbrev pub are_integers : Items → Bool
 are_integers no_items = true
 are_integers (item (integer z) ds) = are_integers ds
@@ -79,7 +79,7 @@ are_in_range low high no_items = true
 are_in_range low high (item (integer (pos n)) ds) = (nat_le low n && nat_le n high) && are_in_range low high ds
 are_in_range low high (item _ ds) = false
 
--- True if there are no items.
+-- True if an array has no items.
 abbrev pub is_empty : Items → Bool
 is_empty no_items = true
 is_empty _ = false
@@ -171,7 +171,7 @@ read_optional place key kind members = optional_value place kind (get_member (ke
 unfoldable pub read_or_default : {A : Type 0} → A → KeyLocation → Field → (Data → Result A Flaw) → Members → Result A PlanFault
 read_or_default default place key kind members = value_or_default default place kind (get_member (key_name key) members)
 
--- True if the table has the key.
+-- True if a table of a plan has the key `field`.
 abbrev pub has_key : Field → Members → Bool
 has_key key members = is_some (get_member (key_name key) members)
 

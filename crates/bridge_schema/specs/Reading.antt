@@ -19,7 +19,7 @@ abbrev pub Unless : Bool → Type 0 → Type 0
 Unless true Holds = Unit {0}
 Unless false Holds = Holds
 
--- Statement: The fault `e` of a reader is the fault of its definition `read`, unless `e` says that memory ran out.
+-- Statement: The fault `e` of a reader is the fault of its definition `read`, unless `e` means that memory ran out.
 abbrev pub Fails : {Y E : Type 0} → (E → Bool) → E → Result Y E → Type 0
 Fails is_memory e read = Unless (is_memory e) (read ≡ Err e)
 
@@ -87,13 +87,13 @@ are_known spelling words (member k d ms) = is_among spelling words k && are_know
 
 -- Sections.
 
--- True if each item is a table.
+-- True if each item of an array is a table.
 abbrev pub are_tables : Items → Bool
 are_tables no_items = true
 are_tables (item (table ms) ds) = are_tables ds
 are_tables (item _ ds) = false
 
--- Number of items of an array.
+-- Number of items of an array in a plan.
 abbrev pub count_items : Items → ℕ
 count_items no_items = 0
 count_items (item d ds) = suc (count_items ds)

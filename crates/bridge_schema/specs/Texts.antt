@@ -1,4 +1,4 @@
--- Meanings of texts in a plan.
+-- Meanings of MAC addresses and of other texts in a plan.
 use Rattle.std.specs.Prelude.{ℕ, ◌+◌, ◌*◌, ◌-◌, Bool, true, false, ◌&&◌, List, [], ◌∷◌, codes, Option, Some, None, nat_le, nat_eq, length, slice_index, if◌then◌else◌}
 use Rattle.std.specs.Cmp.Lexicographic.{pointwise}
 
@@ -19,7 +19,7 @@ digits_octet _ _ = None
 abbrev pub hex_pair : List ℕ → ℕ → Option ℕ
 hex_pair s i = digits_octet (hex_value (slice_index s i)) (hex_value (slice_index s (i + 1)))
 
--- Prepends an octet to the octets of the rest.
+-- Prepends an octet of an address to the remaining octets; `None` if one of both is missing.
 abbrev pub prepend_octet : Option ℕ → Option (List ℕ) → Option (List ℕ)
 prepend_octet (Some x) (Some xs) = Some (x ∷ xs)
 prepend_octet _ _ = None

@@ -1,4 +1,4 @@
-//! Keys that are allowed in a table.
+//! Tests which keys are allowed in a table of a plan.
 ghost use Rattle.std.specs.Prelude.{◌≡◌, ◌&&◌, is_none, nat_eq, option_map};
 ghost use Rattle.std.specs.Cmp.Lexicographic.{pointwise};
 ghost use Rattle.toml.specs.View.{view, table_view, items_view};
@@ -33,8 +33,8 @@ fn find_lack(table: &Table, key: Field) -> Option<KeyConflict>
     }
 }
 
-/// Returns why a key with this presence rule isn't allowed in the table; `None` if it is allowed. `has_change` says whether the
-/// plan has a schedule change.
+/// Returns why a key with this presence rule isn't allowed in the table; `None` if it is allowed. `has_change` is true if the plan has a
+/// schedule change.
 ///
 /// `is_allowed_key`, and `first_misplaced_key` and `put_misplaced_table_key` of `show_explain` call it.
 pub fn find_conflict(presence: Presence, has_change: bool, table: &Table) -> Option<KeyConflict>
@@ -69,7 +69,7 @@ pub fn find_conflict(presence: Presence, has_change: bool, table: &Table) -> Opt
     }
 }
 
-/// Whether `key` has this name and is allowed in the table. `is_allowed_name` calls it for each rule.
+/// Whether `key` has name `name` and is allowed in the table. `is_allowed_name` calls it for each rule.
 fn is_allowed_key(key: &KeyRule, name: &str, has_change: bool, table: &Table) -> bool
     ensures { result ≡ (pointwise nat_eq (key_name key.now.0) name.now
         && spec.is_allowed_presence has_change (table_view table.now) key.now.2) }
@@ -77,7 +77,7 @@ fn is_allowed_key(key: &KeyRule, name: &str, has_change: bool, table: &Table) ->
     key.0.key() == name && find_conflict(key.2, has_change, table).is_none()
 }
 
-/// Whether one of `keys` has this name and is allowed in the table. `has_allowed_keys` calls it for each key of the table.
+/// Whether one of `keys` has name `name` and is allowed in the table. `has_allowed_keys` calls it for each key of the table.
 fn is_allowed_name(keys: &[KeyRule], name: &str, has_change: bool, table: &Table) -> bool
     ensures { result ≡ is_key_name (spec.allowed_keys has_change (table_view table.now) keys.now) name.now }
 {
@@ -89,7 +89,8 @@ fn is_allowed_name(keys: &[KeyRule], name: &str, has_change: bool, table: &Table
     false
 }
 
-/// Whether a table has only allowed keys. `has_change` says whether the plan has a schedule change.
+/// Whether a table has only allowed keys. `has_change` is true if the plan has a schedule change. `have_allowed_keys` and functions of
+/// `bridge_config` call it.
 pub fn has_allowed_keys(table: &Table, keys: &[KeyRule], has_change: bool) -> bool
     ensures known { result ≡ spec.has_allowed_keys has_change keys.now (table_view table.now) }
 {

@@ -1,4 +1,4 @@
-//! Arrays of numbers, and arrays of tables.
+//! Reads arrays of numbers, such as ports, and tests arrays of tables.
 ghost use Rattle.std.specs.Prelude.{◌≡◌, ◌≤◌, ◌<◌, ◌+◌, ◌-◌, ◌^◌, true, length, nat_eq, bit_or};
 ghost use Rattle.toml.specs.View.{view, items_view};
 ghost use Rattle.bridge_schema.specs.Readers as spec;
@@ -19,7 +19,7 @@ fn are_integers(items: &[Value]) -> bool
     true
 }
 
-/// Whether each item is an integer from `low` to `high`. If not, an array is refused.
+/// Whether each item is an integer from `low` to `high`. If not, an array is refused. `numbers_flaw` and `KnownPorts::read` call it.
 fn are_in_range(items: &[Value], low: u64, high: u64) -> bool
     ensures { result ≡ spec.are_in_range low high (items_view items.now) }
 {
@@ -102,9 +102,9 @@ fn value_set(items: &[Value], low: u64, high: u64) -> u16
 /// Array of integers from `low` to `high` as a set: bit `n - low` stands for `n`. At most 16 different numbers; repetitions are
 /// ignored.
 pub struct NumberSet {
-    /// Least number.
+    /// Least number that an item may have.
     pub low: u64,
-    /// Greatest number.
+    /// Greatest number that an item may have.
     pub high: u64,
     ghost order: { low ≤ high },
     ghost few: { high < low + 16 },

@@ -11,7 +11,8 @@ use crate::reader_fault::{ReaderFault, Spell, TextSection};
 use std::alloc::Global;
 use toml::{Table, Value};
 
-/// Parses a text as a TOML document. Returns `too_long` above 1,048,576 octets, and `syntax` if the text isn't TOML in UTF-8.
+/// Parses a text as a TOML document. Returns `too_long` above 1,048,576 octets, and `syntax` if the text isn't TOML in UTF-8. Readers of
+/// plans, commands, networks and traffic call it first.
 #[tactic(auto, using(bridge_limits::proofs::Octets::utf8_whole))]
 pub fn read_document<F: ReaderFault>(heap: Global, text: &[u8]) -> Result<Table, F>
     ensures { spec.GivesAs F.is_memory table_view result (spec.document_of F.too_long F.syntax text.now) }
@@ -36,7 +37,8 @@ fn is_spelled<W: Spell>(words: &[W], text: &str) -> bool
     words.iter().any(|word| word.spell() == text)
 }
 
-/// Whether each key of a table is one of `words`: keys of an instance, or sections of a document.
+/// Whether each key of a table is one of `words`: keys of an instance, or sections of a document. Functions of `bridge_config` and
+/// `net_file` call it.
 pub fn has_only<W: Spell>(table: &Table, words: &[W]) -> bool
     ensures known { result ≡ spec.are_known W.spelling words.now (table_view table.now) }
 {
@@ -48,7 +50,8 @@ pub fn has_only<W: Spell>(table: &Table, words: &[W]) -> bool
     true
 }
 
-/// Whether a section has no tables. The reader of plans refuses a plan without ports.
+/// Whether a section has no tables. The reader of plans refuses a plan without ports. `read_arrays` of `bridge_config` and `read_arrays` of
+/// `net_file` call it.
 #[tactic(auto, using(crate::proofs::Counts::is_empty_view))]
 pub fn is_empty(items: &[Value]) -> bool
     ensures empty { result ≡ is_empty (items_view items.now) }
@@ -95,6 +98,8 @@ fn array_items<'a, F: ReaderFault>(
 
 /// Returns the tables of a section in the document `table`; none if the section is absent. Refuses a section that isn't an array of tables
 /// or exceeds its limit. Allocates no memory.
+///
+/// Functions of `bridge_config` and `net_file` call it.
 pub fn section_items<'a, F: ReaderFault>(
     section: F::Section,
     table: &'a Table,

@@ -26,7 +26,8 @@ pub struct InstanceTable<'t> {
 }
 
 impl<'t> InstanceTable<'t> {
-    /// Returns the location of `key`, for faults.
+    /// Returns the location of `key`, for faults. `InstanceTable::read_required`, `InstanceTable::read_optional` and functions of
+    /// `bridge_config` call it.
     pub fn locate_key(&self, key: Field) -> KeyLocation
         ensures { result ≡ record { section = self.now.section; index = self.now.index; field = key } }
     {
@@ -37,7 +38,8 @@ impl<'t> InstanceTable<'t> {
         }
     }
 
-    /// Reads a required key. Returns `Missing` if the table lacks it, or the fault of a refused value. Allocates no memory.
+    /// Reads a required key. Returns `Missing` if the table lacks it, or the fault of a refused value. Allocates no memory. Readers of
+    /// sections call it.
     pub fn read_required<K: ValueKind>(&self, key: Field, kind: &K) -> Result<K::Out, PlanFault>
         ensures reads { MatchesReading result (spec.read_required (record {
           section = self.now.section;
@@ -50,7 +52,8 @@ impl<'t> InstanceTable<'t> {
         read_required(self.table, self.locate_key(key), key, kind)
     }
 
-    /// Reads an optional key. Returns `None` if the table lacks it, or the fault of a refused value. Allocates no memory.
+    /// Reads an optional key. Returns `None` if the table lacks it, or the fault of a refused value. Allocates no memory. Readers of
+    /// sections call it.
     pub fn read_optional<K: ValueKind>(
         &self,
         key: Field,
@@ -67,7 +70,8 @@ impl<'t> InstanceTable<'t> {
         read_optional(self.table, self.locate_key(key), key, kind)
     }
 
-    /// Reads an optional key, or returns `default` if the table lacks it. A refused value is a fault. Allocates no memory.
+    /// Reads an optional key, or returns `default` if the table lacks it. A refused value is a fault. Allocates no memory. Readers of
+    /// sections call it.
     pub fn read_or_default<K: ValueKind>(
         &self,
         default: K::Out,
@@ -88,7 +92,8 @@ impl<'t> InstanceTable<'t> {
         read_or_default(default, self.table, self.locate_key(key), key, kind)
     }
 
-    /// If the table has the key `other`, reads `key`, which is then required. Otherwise returns `absent`. Allocates no memory.
+    /// If the table has the key `other`, reads `key`, which is then required. Otherwise returns `absent`. Allocates no memory. Readers of
+    /// lists call it.
     pub fn read_required_if_present<K: ValueKind>(
         &self,
         other: Field,
@@ -110,7 +115,8 @@ impl<'t> InstanceTable<'t> {
         read_required_if_present(other, absent, self.table, self.locate_key(key), key, kind)
     }
 
-    /// If the table lacks the key `other`, reads `key`, which is then required. Otherwise returns `absent`. Allocates no memory.
+    /// If the table lacks the key `other`, reads `key`, which is then required. Otherwise returns `absent`. Allocates no memory. Readers of
+    /// lists call it.
     pub fn read_required_if_absent<K: ValueKind>(
         &self,
         other: Field,

@@ -1,4 +1,4 @@
-//! Instances of a section, table by table.
+//! Reads the instances of a section, table by table.
 ghost use Rattle.std.specs.Prelude.{◌<◌, ◌≤◌, ◌^◌, ℕ, List, [], ◌∷◌, ◌++◌, length, Result, IfOk};
 ghost use Rattle.toml.specs.Data.{Members};
 ghost use Rattle.toml.specs.View.{table_view, items_view};
@@ -37,6 +37,7 @@ pub trait SectionReader<A: Allocator + Copy> {
 }
 
 /// Reads the instances of a section in order, one from each table, or returns the first fault. `Keeps` must hold for the empty list.
+/// Functions of `bridge_config` and `net_file` call it.
 pub fn read_instances<A: Allocator + Copy, S: SectionReader<A>>(
     alloc: A,
     section: &S,

@@ -323,7 +323,7 @@ pub fn entry_keys(section: Section) -> &'static [KeyRule] {
 }
 
 /// Returns the keys of the lists that an instance can have: the first list, then the list after the schedule change. Only ports and stream
-/// gates have lists.
+/// gates have lists. `put_refused_list` and `put_misplaced_entry_key` of `show_explain` call it.
 pub fn section_lists(section: Section) -> &'static [ListKeys] {
     match section {
         Section::Port => &[PORT_LIST, NEXT_PORT_LIST],
@@ -332,7 +332,8 @@ pub fn section_lists(section: Section) -> &'static [ListKeys] {
     }
 }
 
-/// Returns the first key that identifies an instance, such as `number` of a port. Explanations name the instance by this key.
+/// Returns the first key that identifies an instance, such as `number` of a port. Explanations name the instance by this key. Functions of
+/// `show_explain` call it.
 pub fn identifying_key(section: Section) -> Field {
     match section {
         Section::Vlan | Section::Static => Field::Vid,

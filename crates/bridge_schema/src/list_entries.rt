@@ -24,7 +24,7 @@ pub trait ListEntry {
     /// Property that each value has.
     ghost Fits: { Self → Self.Out → Type 0 };
 
-    /// Reads the table of one entry, or returns its first fault. Allocates no memory.
+    /// Reads the table of one entry, or returns its first fault. Allocates no memory. `read_entries` calls it for each entry of a list.
     fn read(&self, table: &Table) -> Result<Self::Out, PlanFault>
         ensures reads { MatchesReading result (reading self.now (table_view table.now)) }
         ensures fits { IfOk result (Fits self.now) }

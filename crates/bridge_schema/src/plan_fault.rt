@@ -1,4 +1,4 @@
-//! Faults of a plan, and their locations.
+//! Faults of plans and commands, with the sections and keys in which they are.
 ghost use Rattle.std.specs.Prelude.{◌≡◌};
 ghost use Rattle.bridge_schema.specs.declared.plan_fault.PlanFault.TheVariants.{NoMemory};
 ghost use Rattle.bridge_schema.specs.Keys.{key_name, section_name};
@@ -34,7 +34,7 @@ pub enum Section {
 }
 
 impl Section {
-    /// Returns the name of a section, as in files and fault lines; `top` for the top level.
+    /// Returns the name of a section, as in files and fault lines; `top` for the top level. Readers and fault lines use it.
     pub fn name(self) -> &'static str
         ensures name { result.now ≡ section_name self }
     {
@@ -195,7 +195,7 @@ const KEYS: [&str; 44] = [
 ];
 
 impl Field {
-    /// Returns the name of a key, as in files and fault lines.
+    /// Returns the name of a key, as in files and fault lines. Readers and fault lines use it.
     pub fn key(self) -> &'static str
         ensures spelling { result.now ≡ key_name self }
     {
@@ -273,7 +273,7 @@ pub enum PlanFault {
 }
 
 impl PlanFault {
-    /// Returns the number of the fault, 1 to 13, in the order of the variants.
+    /// Returns the number of the fault, 1 to 13, in the order of the variants. Contracts compare faults by it.
     pub fn number(self) -> u8
         ensures { result ≡ fault_code self }
     {

@@ -1,4 +1,4 @@
-//! Ranges of the numbers in a plan.
+//! Ranges of the numbers in plans and commands.
 ghost use Rattle.std.specs.Prelude.{◌≡◌, ◌-◌, ◌^◌};
 
 use crate::value_kinds::NumberRange;

@@ -14,7 +14,7 @@ pub trait Spell {
     /// Spelling of the name.
     ghost spelling: { Self → List ℕ };
 
-    /// Returns the spelling of a section or key in a text.
+    /// Returns the spelling of a section or key in a text. Readers compare the keys of a document with it.
     fn spell(&self) -> &'static str
         ensures spelling { result.now ≡ spelling self.now };
 }
@@ -24,7 +24,7 @@ pub trait TextSection: Spell {
     /// Largest number of instances.
     ghost limit: { Self → ℕ };
 
-    /// Returns the largest number of instances; a section with more is refused.
+    /// Returns the largest number of instances of a section; `are_few` refuses a section with more.
     fn limit(&self) -> usize
         ensures limit { result ≡ limit self.now };
 }
@@ -37,10 +37,10 @@ pub trait ReaderFault {
     /// Location of a key, which faults name.
     type Place: Drop;
 
-    /// Whether the fault says that memory ran out.
+    /// Whether the fault means that memory ran out.
     ghost is_memory: { Self → Bool };
 
-    /// Fault that says that memory ran out.
+    /// Fault for memory that ran out.
     ghost memory: { Self };
 
     /// Fault of a text that is too long.
@@ -61,16 +61,16 @@ pub trait ReaderFault {
     /// Fault of a refused value, by its location and the reason of the refusal.
     ghost flawed: { Self.Place → Flaw → Self };
 
-    /// Returns the fault that says that memory ran out.
+    /// Returns the fault that means that memory ran out. `read_document` and `read_instances` call it.
     fn no_memory() -> Self
         ensures fault { is_memory result ≡ true };
 
-    /// Returns the fault of a text that is too long.
+    /// Returns the fault of a text that is too long. `read_document` calls it.
     fn too_long() -> Self
         ensures fault { result ≡ too_long }
         ensures told { is_memory result ≡ false };
 
-    /// Returns the fault of a text that isn't TOML in UTF-8.
+    /// Returns the fault of a text that isn't TOML in UTF-8. `read_document` calls it.
     fn syntax() -> Self
         ensures fault { result ≡ syntax }
         ensures told { is_memory result ≡ false };
@@ -81,7 +81,7 @@ pub trait ReaderFault {
         ensures told { is_memory result ≡ false }
         ensures takes_no_memory { ¬ (result ≡ memory) };
 
-    /// Returns the fault of a section with too many instances.
+    /// Returns the fault of a section with too many instances. `array_items` calls it.
     fn too_many(section: Self::Section) -> Self
         ensures fault { result ≡ too_many section }
         ensures told { is_memory result ≡ false }
@@ -100,7 +100,7 @@ pub trait ReaderFault {
         ensures takes_no_memory { ¬ (result ≡ memory) };
 }
 
-/// Returns the largest number of instances of a section. A section with more is the fault `TooMany`.
+/// Returns the largest number of instances of a section. A section with more is the fault `TooMany`. `Section::limit` calls it.
 pub fn max_instances(section: Section) -> usize
     ensures { result ≡ limit_of section }
 {

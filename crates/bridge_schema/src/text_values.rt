@@ -1,4 +1,4 @@
-//! Texts of a fixed set, and addresses.
+//! Reads texts of a fixed set, such as `open`, and MAC addresses.
 ghost use Rattle.std.specs.Prelude.{◌≡◌, ◌+◌, ◌<◌, ℕ, List, Option, ⊤, length};
 ghost use Rattle.bridge_schema.specs.Readers as spec;
 ghost use Rattle.bridge_schema.specs.Texts as texts;
@@ -15,7 +15,7 @@ pub trait TextMeaning {
     /// Meaning of a text; `None` if the text isn't allowed.
     ghost meaning: { Self → List ℕ → Option Self.Out };
 
-    /// Returns the meaning of a text; `None` if the text isn't allowed. Allocates no memory.
+    /// Returns the meaning of a text; `None` if the text isn't allowed. Allocates no memory. The reader of a key's text calls it.
     fn parse_text(&self, text: &str) -> Option<Self::Out>
         ensures means { result ≡ meaning self.now text.now };
 }
@@ -97,7 +97,7 @@ fn has_hyphens(text: &[u8]) -> bool
     text[2] == 45 && text[5] == 45 && text[8] == 45 && text[11] == 45 && text[14] == 45
 }
 
-/// Parses a MAC address such as `01-80-C2-00-00-0E`; `None` for any other text.
+/// Parses a MAC address such as `01-80-C2-00-00-0E`; `None` for any other text. `Address::parse_text` calls it.
 #[tactic(auto, unfolding(crate::specs::Texts::parse_address))]
 fn parse_address(text: &[u8]) -> Option<[u8; 6]>
     ensures { result ≡ texts.parse_address text.now }

@@ -20,7 +20,7 @@ pub trait ValueKind {
     /// Property that each parsed value has.
     ghost Fits: { Self → Self.Out → Type 0 };
 
-    /// Parses a value, or returns why it is refused. Allocates no memory.
+    /// Parses a value, or returns why it is refused. Allocates no memory. Readers of keys call it with the key's kind of value.
     fn read(&self, value: &Value) -> Result<Self::Out, Flaw>
         ensures reads { result ≡ reading self.now (view value.now) }
         ensures fits { IfOk result (Fits self.now) };
@@ -29,9 +29,9 @@ pub trait ValueKind {
 /// Integer from `low` to `high`.
 #[derive(Clone, Copy)]
 pub struct NumberRange {
-    /// Least number.
+    /// Least allowed number.
     pub low: u64,
-    /// Greatest number.
+    /// Greatest allowed number.
     pub high: u64,
 }
 
@@ -110,7 +110,7 @@ pub trait NumberLookup {
     /// Whether an instance has this number, so that a key may name it.
     ghost among: { Self → ℕ → Bool };
 
-    /// Whether an instance has the number `number`.
+    /// Whether an instance has the number `number`: a value may refer only to such numbers.
     fn has(&self, number: u64) -> bool
         ensures among { result ≡ among self.now number };
 }

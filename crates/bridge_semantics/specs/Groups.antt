@@ -1,4 +1,4 @@
--- Groups of stream filters that share queues: their own events, and what these decide.
+-- Groups of stream filters that share queues: their own events, and the records that these events determine.
 use Rattle.std.specs.Prelude.{◌≡◌, ℕ, Bool, true, false, ◌||◌, ◌&&◌, List, [], ◌∷◌, Option, Some, None, if◌then◌else◌}
 use Rattle.std.specs.List.{list_any}
 use Rattle.bridge_limits.specs.Members.{IsMember}

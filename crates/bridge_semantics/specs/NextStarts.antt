@@ -1,4 +1,4 @@
--- The bridge's next start of a transmission.
+-- The next start of a transmission at any port of the bridge.
 use Rattle.std.specs.Prelude.{◌≡◌, ℕ, true, ◌+◌, ◌≤◌, nat_lt, Option, Some, None, List, if◌then◌else◌}
 use Rattle.bridge_capture.specs.Grammar.{CapturedFrame}
 use Rattle.bridge_cycle.specs.Fits.{Fits}
@@ -70,8 +70,8 @@ pub record SendsHead {A : Type 0} (p : Plan A) (es : List Event) (left : ℕ →
   pub next : HasNextStart p es left port start class item
   pub is : frame ≡ departed_frame next.out.speed start item
 
--- Holds if `next q` is the optional time of the next start of each port `q`, in a run of the events `es` in which the
--- ports have sent exactly `left`.
+-- Holds if `next q` is the optional time in ns of the next start of each port `q`. The run has the events `es`, and the ports have sent
+-- exactly `left`.
 pub record AreNextStarts {A : Type 0} (p : Plan A) (es : List Event) (left : ℕ → List CapturedFrame) (next : ℕ → Option ℕ) : Type 0 where
   pub moments : ℕ → ℕ
   pub lists : ℕ → List (Copy CarriedFrame)

@@ -1,4 +1,4 @@
--- Frames that have left an egress port.
+-- Frames that have left an egress port during a run.
 use Rattle.std.specs.Prelude.{◌≡◌, ℕ, ◌+◌, ◌<◌, ◌≤◌, List, Option, Some, ◌↔◌}
 use Rattle.bridge_limits.specs.Members.{IsMember, IsOrdered}
 use Rattle.bridge_capture.specs.Grammar.{CapturedFrame}

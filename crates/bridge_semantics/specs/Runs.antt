@@ -150,8 +150,8 @@ pub record IsPortCount {A : Type 0} (p : Plan A) (es : List Event) (q : ℕ) (xs
   pub sent : c.sent ≡ count_by (λ x. is_accepted x.fate) xs
   pub dropped : c.dropped ≡ count_by (λ x. not (is_accepted x.fate)) xs
 
--- Holds if the copies in `lists` form a complete run of the events `es`, and `o` contains exactly its filter records
--- and port counts. The records rise by filter number, the counts by port number.
+-- Holds if the copies in `lists` form a complete run of the events `es`, and result `o` contains exactly its filter records and port
+-- counts. The records rise by filter number, the counts by port number.
 pub record IsOutcome {A : Type 0} (p : Plan A) (es : List Event) (lists : ℕ → List (Copy CarriedFrame)) (o : Outcome A) : Type 0 where
   pub moments : ℕ → ℕ
   pub run : IsRun p es moments lists
@@ -163,7 +163,7 @@ pub record IsOutcome {A : Type 0} (p : Plan A) (es : List Event) (lists : ℕ �
   pub ports_are : (q : ℕ) → ((out : PortPlan A) × (find_port p.ports q ≡ Some out)) ↔ ((c : PortCount) × (lookup (nat_eq q) o.ports.items ≡ Some c))
   pub counts : (q : ℕ) (c : PortCount) → lookup (nat_eq q) o.ports.items ≡ Some c → IsPortCount p es q (lists q) c
 
--- Holds if the copies `lists q c` are the offers to class `c` at port `q`, each treated as if the queue had its port to itself. A missing port has none.
+-- Holds if the copies `lists q c` are the offers to class `c` at port `q`, as if the queue had its port to itself. A missing port has none.
 pub record AreSolo {A : Type 0} (p : Plan A) (es : List Event) (lists : ℕ → ℕ → List (Copy CarriedFrame)) : Type 0 where
   pub offers : (q c : ℕ) (out : PortPlan A) → find_port p.ports q ≡ Some out → copy_offers (lists q c) ≡ class_offers c (port_offers p out es)
   pub solo : (q c : ℕ) (out : PortPlan A) → find_port p.ports q ≡ Some out → IsSolo (egress_rules out) (lists q c)

@@ -1,11 +1,11 @@
--- Verdicts, as a run stores them.
+-- Verdicts, as a run of a bridge stores them.
 use Rattle.std.specs.Prelude.{Bool, true, false, Some, None}
 use Rattle.bridge_filter.specs.declared.Verdict.{Verdict}
 use Rattle.bridge_filter.specs.declared.Verdict.TheVariants as verdict
 use Rattle.bridge_semantics.specs.declared.stored_verdict.VerdictKind.{VerdictKind}
 use Rattle.bridge_semantics.specs.declared.stored_verdict.VerdictKind.TheVariants as kind
 
--- The verdict that a kind stands for.
+-- The verdict that a stored `VerdictKind` stands for.
 abbrev pub kind_verdict : VerdictKind → Verdict
 kind_verdict kind.Blocked = verdict.Blocked
 kind_verdict kind.Oversize = verdict.Oversize

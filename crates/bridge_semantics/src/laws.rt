@@ -26,7 +26,8 @@ ghost use Rattle.bridge_semantics.specs.Groups.{IsGroupMember, IsGroupQueue, IsG
 
 use std::alloc::Allocator;
 
-/// The reachable queues of a protected filter hold exactly the copies of its frames, in every run of an accepted plan.
+/// The reachable queues of a protected filter hold exactly the copies of its frames, in every run of an accepted plan. docs/ISOLATION.md
+/// cites it.
 pub fn own_queues<A: Allocator + Copy>()
     ensures { (p : Plan A) (n : ℕ) (f : FilterPlan) (es : List Event) (moments : ℕ → ℕ)
         (lists : ℕ → List (Copy CarriedFrame)) (q : ℕ) (out : PortPlan A) (x : Copy CarriedFrame)
@@ -42,6 +43,8 @@ pub fn own_queues<A: Allocator + Copy>()
 
 /// The copies of a protected filter are exactly those that its own events give, each queue with its port to itself. The law holds in every
 /// complete run of an accepted plan.
+///
+/// The isolation theorem rests on it.
 pub fn own_queues_alone<A: Allocator + Copy>()
     ensures { (p : Plan A) (n : ℕ) (f : FilterPlan) (es : List Event) (moments : ℕ → ℕ)
         (lists : ℕ → List (Copy CarriedFrame))
@@ -55,7 +58,7 @@ pub fn own_queues_alone<A: Allocator + Copy>()
 {}
 
 /// While a port opens a reachable class of a protected filter, no copy of another class occupies the link. The law holds at any time of any
-/// lawful schedule.
+/// lawful schedule. docs/ISOLATION.md cites it.
 pub fn no_other_class_occupies<A: Allocator + Copy>()
     ensures { (p : Plan A) (n : ℕ) (f : FilterPlan) (q c h u : ℕ) (out : PortPlan A) (xs : List (Copy CarriedFrame))
         (x : Copy CarriedFrame)
@@ -73,7 +76,9 @@ pub fn no_other_class_occupies<A: Allocator + Copy>()
 {}
 
 /// The scheduler neither misses nor delays a start of a protected filter's reachable class: the class fares as if alone on the link
-/// (`alone`). Its copies start at the first time that fits (`at_once`, `own`).
+/// (`alone`).
+///
+/// Its copies start at the first time that fits (`at_once`, `own`). docs/ISOLATION.md cites it.
 pub fn starts_as_alone<A: Allocator + Copy>()
     ensures alone { (p : Plan A) (n : ℕ) (f : FilterPlan) (q c h : ℕ) (out : PortPlan A) (xs : List (Copy CarriedFrame))
         → IsPlan p
@@ -116,7 +121,8 @@ pub fn starts_as_alone<A: Allocator + Copy>()
         (max x.at (last_done_time (egress_rules out) (class_copies x.class older))) s }
 {}
 
-/// A protected filter's record in a run equals its record if only its own events arrive and each queue has its port to itself.
+/// A protected filter's record in a run equals its record if only its own events arrive and each queue has its port to itself. This is the
+/// isolation theorem (docs/ISOLATION.md).
 pub fn filter_is_isolated<A: Allocator + Copy>()
     ensures { (p : Plan A) (n : ℕ) (f : FilterPlan) (es : List Event) (lists : ℕ → List (Copy CarriedFrame))
         (o : Outcome A) (v : View A)
@@ -139,6 +145,7 @@ pub fn solo_view_is_unique<A: Allocator + Copy>()
 {}
 
 /// Two runs of an accepted plan with equal own events of a protected filter give it equal records. Other events change nothing.
+/// docs/ISOLATION.md cites it.
 pub fn others_change_nothing<A: Allocator + Copy>()
     ensures { (p : Plan A) (n : ℕ) (f : FilterPlan) (es others : List Event) (lists more : ℕ → List (Copy CarriedFrame))
         (o q : Outcome A) (u v : View A)
@@ -154,8 +161,9 @@ pub fn others_change_nothing<A: Allocator + Copy>()
         → AreSameViews u v }
 {}
 
-/// At most as many frames leave a port as arrive at the bridge, in a complete run (`whole`), up to a time (`so_far`) and up to a start
-/// (`to_start`). Written captures are therefore limited.
+/// No port sends more frames than arrive at the bridge, so output captures keep the limit of records.
+///
+/// Clauses: complete runs (`whole`), runs up to a time (`so_far`), runs up to the start of a transmission (`to_start`).
 pub fn few_leave<A: Allocator + Copy>()
     ensures whole { (p : Plan A) (es : List Event) (left : ℕ
         → List CapturedFrame) (o : Outcome A) (q : ℕ) (out : PortPlan A)
@@ -174,13 +182,13 @@ pub fn few_leave<A: Allocator + Copy>()
         → length (left q) ≤ length (arrivals es) }
 {}
 
-/// The commands and the ports' captures have one merged list of inputs.
+/// The commands and the ports' captures have one merged list of inputs. So contracts may speak of the inputs of a run.
 pub fn merged_list_is_unique()
     ensures { (streams : ℕ → List Input) (xs ys : List Input) → IsMerged streams xs → IsMerged streams ys → xs ≡ ys }
 {}
 
 /// A filter's own inputs of each stream determine its own events. If two sets of captures differ only in frames of other filters, the own
-/// events are equal.
+/// events are equal. docs/ISOLATION.md cites it.
 pub fn own_by_stream<A: Allocator + Copy>()
     ensures { (p : Plan A) (n : ℕ) (f : FilterPlan) (streams others : ℕ → List Input) (xs ys : List Input)
         → IsMerged streams xs
@@ -189,8 +197,10 @@ pub fn own_by_stream<A: Allocator + Copy>()
         → own_events p n f (input_events xs) ≡ own_events p n f (input_events ys) }
 {}
 
-/// A copy of a grouped filter is in a queue that this filter can reach (`reach`). A queue that the group can reach holds only copies of
-/// the group (`members`).
+/// A copy of a grouped filter is in a queue that this filter can reach (`reach`). A queue that the group can reach holds only copies of the
+/// group (`members`).
+///
+/// The isolation of groups rests on it.
 pub fn group_queues_hold_members<A: Allocator + Copy>()
     ensures reach { (p : Plan A) (group n : ℕ) (f : FilterPlan) (es : List Event) (moments : ℕ → ℕ)
         (lists : ℕ → List (Copy CarriedFrame)) (q : ℕ) (out : PortPlan A) (x : Copy CarriedFrame)
@@ -213,8 +223,10 @@ pub fn group_queues_hold_members<A: Allocator + Copy>()
         → IsGroupCopy p group x }
 {}
 
-/// The record of a grouped filter in a run equals its record if only the group's own events arrive and each queue has its port to itself.
-/// Other traffic changes nothing of it.
+/// The record of a grouped filter in a run equals its record on an idle bridge. There, only the group's own events arrive, and queues have
+/// their ports to themselves.
+///
+/// Other traffic changes nothing of it. This is the isolation theorem for groups (docs/ISOLATION.md).
 pub fn group_is_isolated<A: Allocator + Copy>()
     ensures { (p : Plan A) (group n : ℕ) (f : FilterPlan) (es : List Event) (lists : ℕ → List (Copy CarriedFrame))
         (o : Outcome A) (v : View A)
@@ -226,7 +238,8 @@ pub fn group_is_isolated<A: Allocator + Copy>()
         → IsSoloView p n f (group_events p group es) v }
 {}
 
-/// A grouped filter's verdicts, counters, flags and buckets are those that its own events alone give.
+/// A grouped filter's verdicts, counters, flags and buckets are those that its own events alone give. Other members of its group can't
+/// change them.
 pub fn member_decides_alone<A: Allocator + Copy>()
     ensures { (p : Plan A) (group n : ℕ) (f : FilterPlan) (es : List Event) (lists : ℕ → List (Copy CarriedFrame))
         (o : Outcome A) (v : View A)
@@ -238,7 +251,7 @@ pub fn member_decides_alone<A: Allocator + Copy>()
         → IsPoliceRecord p n f (own_events p n f es) v }
 {}
 
-/// If two runs have equal own events of a group, the records of its filters are equal, whatever else arrived.
+/// If two runs have equal own events of a group, the records of its filters are equal, whatever else arrived. docs/ISOLATION.md cites it.
 pub fn outsiders_change_nothing<A: Allocator + Copy>()
     ensures { (p : Plan A) (group n : ℕ) (f : FilterPlan) (es others : List Event)
         (lists more : ℕ → List (Copy CarriedFrame)) (o q : Outcome A) (u v : View A)
@@ -253,8 +266,8 @@ pub fn outsiders_change_nothing<A: Allocator + Copy>()
         → AreSameViews u v }
 {}
 
-/// If two runs have equal own events of one grouped filter, its verdicts, counters, flags and buckets are equal. Other filters of the
-/// group can't change them.
+/// If two runs have equal own events of one grouped filter, its verdicts, counters, flags and buckets are equal. Other filters of the group
+/// can't change them. docs/ISOLATION.md cites it.
 pub fn members_change_no_verdict<A: Allocator + Copy>()
     ensures { (p : Plan A) (group n : ℕ) (f : FilterPlan) (es others : List Event)
         (lists more : ℕ → List (Copy CarriedFrame)) (o q : Outcome A) (u v : View A)
@@ -269,8 +282,8 @@ pub fn members_change_no_verdict<A: Allocator + Copy>()
         → HaveSamePoliceRecords u v }
 {}
 
-/// A group's own inputs of each stream determine its own events. If two sets of captures differ only in frames of outsiders, the own
-/// events are equal.
+/// A group's own inputs of each stream determine its own events. If two sets of captures differ only in frames of outsiders, the own events
+/// are equal. So only captures of the group's streams matter.
 pub fn group_by_stream<A: Allocator + Copy>()
     ensures { (p : Plan A) (group : ℕ) (streams others : ℕ → List Input) (xs ys : List Input)
         → IsMerged streams xs

@@ -1,4 +1,4 @@
-//! Frame in a queue, without its length.
+//! Frame in a queue of a port, without its length.
 use std::alloc::Allocator;
 
 /// Contents of a queued frame. The queue stores the length.

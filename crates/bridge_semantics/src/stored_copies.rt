@@ -26,7 +26,7 @@ impl Model for StoredOrigin {
 }
 
 impl StoredOrigin {
-    /// Packs an origin into its octets.
+    /// Packs an origin into its octets. `FilterRecorder::record_verdict` of `bridge_relay` calls it.
     #[inline(always)]
     pub fn new(origin: Origin) -> StoredOrigin
         ensures { result ≡ origin }
@@ -37,7 +37,7 @@ impl StoredOrigin {
         }
     }
 
-    /// Unpacks the origin.
+    /// Unpacks the origin. Reports and pictures need the frame's port and arrival time.
     #[inline(always)]
     pub fn origin(&self) -> Origin
         ensures { result ≡ self.now }
@@ -83,7 +83,8 @@ impl Model for StoredDeparture {
 }
 
 impl StoredDeparture {
-    /// Packs a departure into its octets. Its transmission, from `start` to `done` in ns, takes less than 2^24 ns.
+    /// Packs a departure into its octets. Its transmission, from `start` to `done` in ns, takes less than 2^24 ns. `Relay::advance` of
+    /// `bridge_relay` calls it.
     #[inline(always)]
     pub fn new(own: u32, port: u8, start: u64, done: u64) -> StoredDeparture
         requires ordered { start ≤ done }
@@ -101,7 +102,7 @@ impl StoredDeparture {
         }
     }
 
-    /// Unpacks the departure.
+    /// Unpacks the departure. `unpack_departures` and functions of `app_commands`, `bridge_report`, `net_report` and other crates call it.
     #[inline(always)]
     pub fn departure(&self) -> Departure
         ensures { result ≡ self.now }
@@ -139,7 +140,7 @@ impl Model for StoredDrop {
 }
 
 impl StoredDrop {
-    /// Packs a drop into its octets.
+    /// Packs a drop into its octets. `record_answer` of `bridge_relay` calls it.
     pub fn new(own: u32, port: u8, refusal: Refusal) -> StoredDrop
         ensures { result ≡ record { own = own; port = port; refusal = refusal } }
     {
@@ -150,7 +151,7 @@ impl StoredDrop {
         }
     }
 
-    /// Unpacks the drop.
+    /// Unpacks the drop. `unpack_drops` and functions of `bridge_report`, `net_report`, `show_picture` and other crates call it.
     #[inline(always)]
     pub fn dropped_copy(&self) -> Dropped
         ensures { result ≡ self.now }

@@ -1,4 +1,4 @@
-//! Verdicts as a run stores them.
+//! Verdicts as a run stores them, in one octet each.
 ghost use Rattle.std.specs.Prelude.{◌≡◌, ◌≤◌, Some, true, false};
 ghost use Rattle.bridge_filter.specs.Verdicts.{HasValidPriority};
 ghost use Rattle.bridge_filter.specs.declared.Verdict.TheVariants.{Pass};
@@ -81,7 +81,7 @@ impl Model for StoredVerdict {
 }
 
 impl StoredVerdict {
-    /// Stores a verdict, whose internal priority value is at most 7.
+    /// Stores a verdict, whose internal priority value is at most 7. `FilterRecorder::record_verdict` of `bridge_relay` calls it.
     #[inline(always)]
     pub fn new(verdict: Verdict) -> StoredVerdict
         requires { HasValidPriority verdict }
@@ -100,7 +100,7 @@ impl StoredVerdict {
         self.kind
     }
 
-    /// Returns the verdict.
+    /// Returns the verdict. Functions of `bridge_report`, `net_report`, `show_picture` and other crates call it.
     #[inline(always)]
     pub fn verdict(&self) -> Verdict
         ensures { result ≡ self.now }
@@ -136,7 +136,8 @@ impl StoredVerdict {
     }
 }
 
-/// Returns the verdict `Pass` with an optional internal priority value. If `eligible` is true, the frame is marked drop eligible.
+/// Returns the verdict `Pass` with an optional internal priority value. If `eligible` is true, the frame is marked drop eligible. `verdict`
+/// calls it.
 #[inline(always)]
 fn pass(ipv: Option<u8>, eligible: bool) -> Verdict
     ensures { result ≡ Pass ipv eligible }
@@ -178,7 +179,8 @@ fn verdict_kind(verdict: Verdict) -> VerdictKind
     }
 }
 
-/// Returns the kind of a frame that passes with an internal priority value. `verdict_kind` calls it.
+/// Returns the `VerdictKind` of a frame that passes with internal priority value `ipv` and isn't marked drop eligible. `verdict_kind` calls
+/// it.
 #[inline(always)]
 fn pass_kind(ipv: u8) -> VerdictKind
     requires { ipv ≤ 7 }
@@ -196,7 +198,8 @@ fn pass_kind(ipv: u8) -> VerdictKind
     }
 }
 
-/// Returns the kind of a frame that passes with an internal priority value, marked drop eligible. `verdict_kind` calls it.
+/// Returns the `VerdictKind` of a frame that passes with internal priority value `ipv` and is marked drop eligible. `verdict_kind` calls
+/// it.
 #[inline(always)]
 fn eligible_kind(ipv: u8) -> VerdictKind
     requires { ipv ≤ 7 }

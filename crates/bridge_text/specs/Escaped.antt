@@ -1,4 +1,4 @@
--- Texts that stay on one line.
+-- Texts that stay on one line, because control characters are escaped.
 use Rattle.std.specs.Prelude.{ℕ, ◌/◌, ◌%◌, Bool, ◌&&◌, ◌||◌, List, [], ◌∷◌, ◌++◌, ◌==◌, chars, codes, encode_utf8, flat_map, if◌then◌else◌, nat_le, nat_lt}
 use Rattle.std.specs.Char.{digit_char}
 

@@ -1,4 +1,4 @@
--- Texts that begin with a name.
+-- Texts that begin with the path of a file, such as explanations.
 use Rattle.std.specs.Prelude.{◌≡◌, ◌++◌, ℕ, List}
 
 -- Statement: The text `said` begins with `name`. Contracts of explanations state it of the file's path.

@@ -13,7 +13,7 @@ pub struct Document<'a> {
     pub table: &'a Table,
 }
 
-/// Returns the items of an array, or an empty slice for any other value.
+/// Returns the items of an array, or an empty slice for any other value. `section_instances` and functions of `show_explain` call it.
 pub fn value_items<'a>(value: Option<&'a Value>) -> &'a [Value] {
     match value {
         Some(Value::Array(items)) => items,
@@ -21,12 +21,14 @@ pub fn value_items<'a>(value: Option<&'a Value>) -> &'a [Value] {
     }
 }
 
-/// Returns the items of the array `section`; no items if the section is absent or isn't an array.
+/// Returns the items of the array `section`; no items if the section is absent or isn't an array. `instance_table`, `Instance::position`
+/// and functions of `show_explain` call it.
 pub fn section_instances<'a>(table: &'a Table, section: &str) -> &'a [Value] {
     value_items(table.get(section))
 }
 
 /// Returns table `index`, counted from 1, of the array `section`. `None` if there is no item with this index, or the item isn't a table.
+/// `table` calls it.
 pub fn instance_table<'a>(table: &'a Table, section: &str, index: u32) -> Option<&'a Table> {
     match section_instances(table, section).get((index as usize).wrapping_sub(1)) {
         Some(Value::Table(table)) => Some(table),
@@ -34,7 +36,8 @@ pub fn instance_table<'a>(table: &'a Table, section: &str, index: u32) -> Option
     }
 }
 
-/// Returns the value at `key`. `None` if there is no table, or the table lacks the key.
+/// Returns the value at `key`. `None` if there is no table, or the table lacks the key. `value`, `is_twin` and functions of `show_explain`
+/// call it.
 pub fn table_value<'a>(table: Option<&'a Table>, key: &str) -> Option<&'a Value> {
     match table {
         Some(table) => table.get(key),
@@ -43,7 +46,7 @@ pub fn table_value<'a>(table: Option<&'a Table>, key: &str) -> Option<&'a Value>
 }
 
 /// Returns the value as a number if it is an integer of at least 0; otherwise `None`. Explanations of faults read the numbers in a file by
-/// it.
+/// it. Functions of `show_explain` call it.
 pub fn unsigned_number(value: Option<&Value>) -> Option<u64> {
     match value {
         Some(Value::Integer(number)) if *number >= 0 => Some(*number as u64),
@@ -63,18 +66,20 @@ pub struct Instance<'a> {
 }
 
 impl<'a> Instance<'a> {
-    /// Finds this instance's table in the document. `None` if the section has no table with this index.
+    /// Finds this instance's table in the document. `None` if the section has no table with this index. `value`, and `put_stray_key` and
+    /// `put_duplicate` of `show_explain` call it.
     pub fn table(self) -> Option<&'a Table> {
         instance_table(self.document.table, self.section, self.index)
     }
 
-    /// Returns the value at `key`. `None` if the document lacks the table, or the table lacks the key.
+    /// Returns the value at `key`. `None` if the document lacks the table, or the table lacks the key. `put_identifying_key` and functions
+    /// of `show_explain` call it.
     pub fn value(self, key: &str) -> Option<&'a Value> {
         table_value(self.table(), key)
     }
 
-    /// Returns the position of `key`, or of the table's header if the key isn't found. `None` if a table of the section has no
-    /// header of its own.
+    /// Returns the position of `key`, or of the table's header if the key isn't found. `None` if a table of the section has no header of
+    /// its own. `Instance::put_place` calls it.
     pub fn position(self, key: Option<&str>) -> Option<Position> {
         let (text, count) = (
             self.document.text,
@@ -90,8 +95,10 @@ impl<'a> Instance<'a> {
         }
     }
 
-    /// Writes the position of `key`, or of the table if `key` is `None` or isn't found; then the table's index in the file, and the values
-    /// of the keys `known`.
+    /// Writes the position of `key`, or of the table if `key` is `None` or isn't found. The table's index in the file and the values of the
+    /// keys `known` follow.
+    ///
+    /// Explanations of a document's faults begin with it.
     pub fn put_place(self, said: &mut Said, known: &[&str], key: Option<&str>) {
         put_position(said, self.position(key));
         fill_with_word(
@@ -115,8 +122,8 @@ impl<'a> Instance<'a> {
     }
 }
 
-/// Writes that the top-level key `name` isn't an array of tables: its position, its value, and how to write the section. `put_fault` of
-/// `show_explain` calls it.
+/// Writes that the top-level key `name` isn't an array of tables: its position, its value, and how to write the section. `put_fault` and
+/// `put_net_fault` of `show_explain` call it.
 pub fn put_no_list(said: &mut Said, document: Document<'_>, name: &str) {
     put_position(said, top_level_position(document.text, name));
     let value = document.table.get(name);
@@ -125,7 +132,8 @@ pub fn put_no_list(said: &mut Said, document: Document<'_>, name: &str) {
     fill_with_word(said, advice, 0, name);
 }
 
-/// Writes the position of the first table over `limit`, and the number of tables. `put_fault` of `show_explain` calls it.
+/// Writes the position of the first table over `limit`, and the number of tables. `put_fault` and `put_net_fault` of `show_explain` call
+/// it.
 pub fn put_too_many(said: &mut Said, document: Document<'_>, section: &str, limit: usize) {
     let most = u32::try_from(limit).unwrap_or(u32::MAX);
     let first = Instance {

@@ -53,7 +53,7 @@ pub fn is_network_text(text: &[u8]) -> bool {
     has_header(text, &NETWORK)
 }
 
-/// Returns the kind of a file. `None` if the text has headers of no kind, or of several kinds.
+/// Returns the kind of a file. `None` if the text has headers of no kind, or of several kinds. `put_other_kind` calls it.
 pub fn file_kind(text: &[u8]) -> Option<FileKind> {
     let kinds = [
         (is_network_text(text), FileKind::Network),
@@ -73,7 +73,8 @@ pub fn file_kind(text: &[u8]) -> Option<FileKind> {
     found
 }
 
-/// Returns the sentences for a file of this kind: its contents, and the command that reads it. `{a}` is the path.
+/// Returns the sentences for a file of kind `kind`: its contents, and the command that reads it. `{a}` is the path. `put_other_kind` calls
+/// it.
 fn kind_sentence(kind: FileKind) -> &'static str {
     match kind {
         FileKind::Plan => ": This file describes one bridge. `tsnbridge check {a}` checks it.\n",

@@ -4,7 +4,9 @@
 //! If memory runs out, a text reports it once, at its end. Functions that add pieces therefore return no error.
 //!
 //! Callers of the SVG modules give elements with positions, styles and words. The modules write the markup, escape each word, and keep a
-//! picture within 2,000,000 octets: shapes up to a limit, a page that grows downwards, and spans of time with their axis.
+//! picture within 2,000,000 octets.
+//!
+//! They have shapes up to a limit, a page that grows downwards, and spans of time with their axis.
 
 mod document;
 mod kind;

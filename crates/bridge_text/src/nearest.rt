@@ -12,7 +12,7 @@ const LONGEST_WORD: usize = 40;
 /// Largest number of edits between a word and a near name.
 const MAX_EDITS: usize = 3;
 
-/// Largest number of names that `put_all` lists.
+/// Largest number of names in the list that `put_name_list` writes.
 const MOST_NAMES: usize = 16;
 
 /// Returns the first name with the fewest edits from `word`. The limit is 3 edits, or a quarter, rounded up, of the octets of
@@ -85,17 +85,18 @@ pub const BRIDGES: Listing = Listing {
     next: ", \"{a}\"",
 };
 
-/// Writes the name nearest to `word`, or all names if no name is near. `put_stray_section`, and `put_nearest_key` and `put_unknown` of
-/// `show_explain` call it.
+/// Writes the name nearest to `word`, or the list of known names if no name is near. `put_stray_section`, and `put_nearest_key` and
+/// `put_unknown` of `show_explain` call it.
 pub fn put_nearest(alloc: Global, said: &mut Said, word: &str, names: &[&str], listing: Listing) {
     match nearest_name(alloc, said, "", word, names) {
         Some(name) => fill_with_word(said, listing.nearest, 0, name),
-        None => put_all(said, names, listing),
+        None => put_name_list(said, names, listing),
     }
 }
 
-/// Writes all names, at most the first 16. A single name gets a sentence of its own. `put_nearest` calls it if no name is near.
-fn put_all(said: &mut Said, names: &[&str], listing: Listing) {
+/// Writes the list of the known names. After 16 names, `..` stands for the others; a single name gets a sentence of its own. `put_nearest`
+/// calls it if no name is near.
+fn put_name_list(said: &mut Said, names: &[&str], listing: Listing) {
     if let [name] = names {
         return fill_with_word(said, listing.only, 0, *name);
     }

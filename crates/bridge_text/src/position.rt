@@ -49,7 +49,7 @@ fn strip_word<'a>(line: &'a str, word: &str) -> Option<&'a str> {
     }
 }
 
-/// Returns what follows `name` in a table header such as `[[name]]`. `None` if the line isn't a header that begins with `name`.
+/// Returns the rest of a table header such as `[[name]]`, after `name`. `None` if the line isn't a header that begins with `name`.
 /// `is_table_header` and `is_key_line` call it.
 fn strip_header_name<'a>(line: &'a str, name: &str) -> Option<&'a str> {
     strip_word(strip_word(line, "[")?.trim_start_matches('['), name)
@@ -136,7 +136,8 @@ pub fn top_level_position(text: &str, key: &str) -> Option<Position> {
     None
 }
 
-/// Writes a position, if it is known, after the name of the file.
+/// Writes a position, if it is known, after the name of the file. `Instance::put_place`, `put_no_list` and functions of `net_latency`,
+/// `show_explain` and `show_lint` call it.
 pub fn put_position<A: Allocator>(said: &mut TextBuilder<A>, position: Option<Position>) {
     match position {
         Some(Position { line, column }) => said.put_template(

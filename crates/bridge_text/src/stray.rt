@@ -1,4 +1,4 @@
-//! Unknown sections of a file.
+//! Explains unknown sections of a plan or network file.
 
 use crate::document::Document;
 use crate::nearest::{SECTIONS, put_nearest};

@@ -64,7 +64,7 @@ pub struct Bar {
     pub height: u64,
 }
 
-/// Triangle with a horizontal base: left and right end of the base, its height, and the tip.
+/// Triangle with a horizontal base: left and right end of the base, its distance from the top, and the tip. Units are the caller's.
 #[derive(Clone, Copy)]
 pub struct Mark {
     pub left: u64,
@@ -74,7 +74,7 @@ pub struct Mark {
     pub tip: u64,
 }
 
-/// Point: distances from the left and from the top.
+/// Point: distances from the left and from the top, in the caller's units.
 pub type Point = (u64, u64);
 
 /// Element with its positions. `Shapes` and `Page` draw it.
@@ -142,7 +142,7 @@ impl Shapes {
         }
     }
 
-    /// Writes the end of a text that `begin_text` began.
+    /// Writes the end of a text that `begin_text` began. `Page::end_text` and pictures of networks call it.
     pub fn end_text(&mut self) {
         self.add_piece("</text>", &[], &[]);
     }
@@ -166,8 +166,10 @@ pub enum Size {
     Wide(u64, u64),
 }
 
-/// Returns the head of a picture: its size, the styles of its shapes, the hatching with squares of side `hatch` (none for `None`), and the
-/// background.
+/// Returns the head of a picture: its size, the styles of its shapes, its hatching and its background. Squares of the hatching have the
+/// side `hatch`; `None` means no hatching.
+///
+/// `Page::finish`, and `draw_network` and `RunPicture::finish` of `net_report` call it.
 pub fn picture_head(
     alloc: Global,
     size: Size,
@@ -191,7 +193,8 @@ pub fn picture_head(
     head.finish()
 }
 
-/// Returns a line of text at a point, for the head or the foot of a picture.
+/// Returns a line of text at a point, for the head or the foot of a picture. `Page::finish`, and `draw_network` and `RunPicture::finish` of
+/// `net_report` call it.
 pub fn text_line(alloc: Global, at: Point, words: &str) -> Result<String, NoMemory> {
     fill_form(alloc, NOTE, &[at.0, at.1], &[words])
 }

@@ -7,16 +7,16 @@ use crate::svg_span::{MAX_INTERVALS, Span, TimeScale};
 use bridge_limits::NoMemory;
 use std::alloc::Global;
 
-/// Width of a page.
+/// Width of a page, in tenths of a pixel.
 pub const PAGE_WIDTH: u64 = 12_000;
 
-/// Left end of the time axis.
+/// Left end of the time axis, in tenths of a pixel from the left.
 pub const AXIS_LEFT: u64 = 1_500;
 
-/// Width of the time axis.
+/// Width of the time axis, in tenths of a pixel.
 pub const AXIS_WIDTH: u64 = 10_000;
 
-/// Side of the hatching's squares.
+/// Side of the hatching's squares, in tenths of a pixel.
 const HATCHES: u64 = 70;
 
 /// Note at the end of a picture with omitted shapes.
@@ -44,7 +44,7 @@ pub enum Sample {
 /// Legend row: a sample, the style of its shapes, and the words after it.
 pub type LegendRow = (Sample, &'static str, &'static str);
 
-/// Page under construction: its shapes, its lower end, and the right end of its current legend line.
+/// Page under construction: its shapes, its lower end and the right end of its current legend line, in tenths of a pixel.
 #[derive(Drop)]
 pub struct Page {
     shapes: Shapes,
@@ -53,7 +53,7 @@ pub struct Page {
 }
 
 impl Page {
-    /// Returns an empty page of height 0.
+    /// Returns an empty page of height 0. `Picture::new` of `show_picture` calls it.
     pub fn new(alloc: Global) -> Page {
         Page {
             shapes: Shapes::new(alloc),
@@ -62,73 +62,81 @@ impl Page {
         }
     }
 
-    /// Returns the distance from the top to the page's lower end. `put_ports` of `show_picture` calls it.
+    /// Returns the distance from the top to the page's lower end, in tenths of a pixel. `put_ports` of `show_picture` calls it.
     pub fn bottom(&self) -> u64 {
         self.bottom
     }
 
-    /// Returns the distance from the top to the point `by` below the page's lower end: callers place shapes by it.
+    /// Returns the distance from the top to the point `by` below the page's lower end. Both are tenths of a pixel. Callers place shapes by
+    /// it.
     pub fn bottom_plus(&self, by: u64) -> u64 {
         self.bottom.saturating_add(by)
     }
 
-    /// Moves the page's lower end down by `by`, so that later shapes lie below.
+    /// Moves the page's lower end down by `by` (tenths of a pixel), so that later shapes lie below.
     pub fn skip_height(&mut self, by: u64) {
         self.bottom = self.bottom_plus(by);
     }
 
-    /// Writes a piece of the current shape: the text of `form` with its numbers and its word.
+    /// Writes a piece of the current shape: the text of `form` with its numbers and its word. `Page::put_text`, `put_time` and `put_span`
+    /// call it.
     pub fn add_piece(&mut self, form: &str, numbers: &[u64], word: &str) {
         self.shapes.add_piece(form, numbers, &[word]);
     }
 
     /// Writes words of the program itself as a piece of the current shape. The words aren't escaped, so they must not come from users.
+    /// `put_span` and functions of `show_picture` call it.
     pub fn add_words(&mut self, words: &str) {
         self.shapes.add_piece(words, &[], &[]);
     }
 
-    /// Begins a text at the point `x`, `y`. `end_text` ends it.
+    /// Begins a text at the point `x`, `y`. `end_text` ends it. `begin_text_line`, `Page::put_text` and `put_axis_label` call it.
     pub fn begin_text(&mut self, style: &str, x: u64, y: u64) {
         self.shapes.begin_text(style, (x, y));
     }
 
-    /// Moves down by `by`, and begins a line of text at the left end of the time axis.
+    /// Moves down by `by` (tenths of a pixel), and begins a line of text at the left end of the time axis. Functions of `show_picture` call
+    /// it.
     pub fn begin_text_line(&mut self, style: &str, by: u64) {
         self.skip_height(by);
         self.begin_text(style, AXIS_LEFT, self.bottom);
     }
 
-    /// Ends a text and its shape.
+    /// Ends a text and its shape. `Page::put_text` and `put_axis_label` call it.
     pub fn end_text(&mut self) {
         self.shapes.end_text();
         self.shapes.end_shape();
     }
 
-    /// Draws the text of `form`, with its numbers, at `x`, `by` below the page's lower end.
+    /// Draws the text of `form`, with its numbers, at the distance `x` from the left and `by` below the page's lower end. Lengths are
+    /// tenths of a pixel. `put_legend_row` calls it.
     pub fn put_text(&mut self, style: &str, x: u64, by: u64, form: &str, numbers: &[u64]) {
         self.begin_text(style, x, self.bottom_plus(by));
         self.add_piece(form, numbers, "");
         self.end_text();
     }
 
-    /// Draws an element as a shape of its own. If the picture is full, the shape is only counted.
+    /// Draws an element as a shape of its own. If the picture is full, the shape is only counted. `put_bar`, `put_sample` and `put_axis`
+    /// call it.
     pub fn draw(&mut self, style: &str, element: Element) {
         self.shapes.draw(style, element);
         self.shapes.end_shape();
     }
 
-    /// Begins an element with a title, which viewers show when the pointer rests on it. `end_titled` ends it.
+    /// Begins an element with a title, which viewers show when the pointer rests on it. `end_titled` ends it. Pictures of plans and runs
+    /// call it.
     pub fn begin_titled(&mut self, style: &str, element: Element) {
         self.shapes.begin_titled(style, element);
     }
 
-    /// Ends an element with a title, and its shape. `element` is the element that was begun.
+    /// Ends an element with a title, and its shape. `element` is the element that was begun. Pictures of plans and runs call it.
     pub fn end_titled(&mut self, element: Element) {
         self.shapes.end_titled(element);
         self.shapes.end_shape();
     }
 
-    /// Draws a bar at `x`, `by` below the page's lower end.
+    /// Draws a bar at the distance `x` from the left and `by` below the page's lower end. All lengths are tenths of a pixel. `put_axis` and
+    /// functions of `show_picture` call it.
     pub fn put_bar(&mut self, style: &str, x: u64, by: u64, width: u64, height: u64) {
         self.draw(style, bar(x, self.bottom_plus(by), width, height));
     }
@@ -222,10 +230,10 @@ impl Page {
         self.end_text();
     }
 
-    /// Draws the time axis below the page's contents, with grid lines up to the height `top` and their times. A tall picture has times
-    /// above too. Draws a schedule change, if present.
+    /// Draws the time axis below the page's contents, with grid lines and their times. The lines begin at the distance `top` from the
+    /// page's upper end, in tenths of a pixel.
     ///
-    /// `finish_ports` of `show_picture` calls it.
+    /// A tall picture has times above too. Draws a schedule change, if present. `finish_ports` of `show_picture` calls it.
     pub fn put_axis(&mut self, span: Span, top: u64, change: Option<u64>) {
         let step = span.grid_step();
         let first = (span.from / step).saturating_add(u64::from(span.from % step > 0));
@@ -251,7 +259,8 @@ impl Page {
         self.skip_height(250);
     }
 
-    /// Returns the picture as SVG text of at most 2,000,000 octets. If shapes are omitted, a note gives their number.
+    /// Returns the picture as SVG text of at most 2,000,000 octets. If shapes are omitted, a note gives their number. Pictures of plans and
+    /// runs call it after their last shape.
     pub fn finish(self, alloc: Global, styles: &str) -> Result<String, NoMemory>
         ensures { IfOk result (λ text. length (string_bytes text) ≤ 2000000) }
     {
@@ -271,7 +280,10 @@ impl Page {
 }
 
 impl Span {
-    /// Returns the distance from the left of time `t`. Times outside the span are at the ends of the axis.
+    /// Returns the distance of time `t` (ns) from the left of the page, in tenths of a pixel. Times outside the span are at the ends of the
+    /// axis.
+    ///
+    /// `put_axis`, `page_extent` and functions of `show_picture` call it.
     pub fn page_x(self, t: u64) -> u64
         ensures from { AXIS_LEFT ≤ result }
         ensures to { result ≤ AXIS_LEFT + AXIS_WIDTH }
@@ -279,8 +291,10 @@ impl Span {
         AXIS_LEFT + self.axis_distance(t, AXIS_WIDTH)
     }
 
-    /// Returns the left end and the width of a span on the page. The width is at least 8, which keeps the span visible. `put_window`,
-    /// `put_wait` and `put_frame` of `show_picture` call it.
+    /// Returns the left end and the width of the span `from` to `to` (ns) on the page, in tenths of a pixel. The width is at least 8, which
+    /// keeps the span visible.
+    ///
+    /// `put_window`, `put_wait` and `put_frame` of `show_picture` call it.
     pub fn page_extent(self, from: u64, to: u64) -> (u64, u64) {
         let x = self.page_x(from);
         (x, self.page_x(to).saturating_sub(x).max(8))
@@ -297,7 +311,8 @@ fn bar(x: u64, y: u64, width: u64, height: u64) -> Element {
     })
 }
 
-/// Returns the triangle of a sample by the heights of its base and its tip. `put_sample` calls it; `x` is the left end of the sample.
+/// Returns the triangle of a legend's sample with the left end `x`; `base` and `tip` are distances from the top, in tenths of a pixel.
+/// `put_sample` calls it.
 fn sample_mark(x: u64, base: u64, tip: u64) -> Element {
     Element::Mark(Mark {
         left: x.saturating_add(30),
@@ -308,7 +323,7 @@ fn sample_mark(x: u64, base: u64, tip: u64) -> Element {
     })
 }
 
-/// Returns `yes` if `is` is true, otherwise `no`.
+/// Returns `yes` if `is` is true, otherwise `no`. `put_time` and functions of `show_picture` call it.
 pub fn choose_word(is: bool, yes: &'static str, no: &'static str) -> &'static str {
     if is { yes } else { no }
 }

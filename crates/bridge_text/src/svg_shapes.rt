@@ -1,4 +1,4 @@
-//! Writes shapes as lines of SVG.
+//! Writes the shapes of a picture as lines of SVG, up to a limit.
 ghost use Rattle.std.specs.Prelude.{◌≤◌, IfOk, length, string_bytes};
 
 use crate::TextBuilder;
@@ -28,7 +28,7 @@ pub struct Shapes {
 }
 
 impl Shapes {
-    /// Returns an empty list of shapes.
+    /// Returns an empty list of shapes. `Page::new`, and `draw_network` and `RunPicture::new` of `net_report` call it.
     pub fn new(alloc: Global) -> Shapes {
         Shapes {
             text: TextBuilder::new(alloc),
@@ -37,7 +37,7 @@ impl Shapes {
         }
     }
 
-    /// Returns the number of omitted shapes, for a note in the picture.
+    /// Returns the number of omitted shapes, for a note in the picture. `Page::finish` and functions of `net_report` call it.
     pub fn omitted_shapes(&self) -> u64 {
         self.omitted
     }
@@ -48,14 +48,15 @@ impl Shapes {
     }
 
     /// Writes a piece of the current shape by a form: numbers replace `{0}` to `{9}`, and words replace `{a}` to `{z}`. Writes nothing if
-    /// the picture is full.
+    /// the picture is full. `put_shape` calls it.
     pub fn add_piece(&mut self, form: &str, numbers: &[u64], words: &[&str]) {
         if !self.is_full {
             put_form(&mut self.text, form, numbers, words);
         }
     }
 
-    /// Ends the current shape: a new line, or one more omitted shape if the picture is full.
+    /// Ends the current shape: a new line, or one more omitted shape if the picture is full. `Page::end_text`, `Page::draw` and functions
+    /// of `net_report` call it.
     pub fn end_shape(&mut self) {
         if self.is_full {
             return self.omit_shape();
@@ -64,13 +65,13 @@ impl Shapes {
         self.is_full = self.text.len() > MAX_PICTURE_OCTETS - RESERVED_OCTETS;
     }
 
-    /// Draws a shape of one piece.
+    /// Draws a shape of one piece, which callers don't have to end by `end_shape`.
     pub fn put_shape(&mut self, form: &str, numbers: &[u64], words: &[&str]) {
         self.add_piece(form, numbers, words);
         self.end_shape();
     }
 
-    /// Returns the picture as SVG text of at most 2,000,000 octets: `head`, the shapes, `foot`.
+    /// Returns the picture as SVG text of at most 2,000,000 octets: `head`, the shapes, `foot`. Pictures call it after their last shape.
     pub fn finish(self, alloc: Global, head: &str, foot: &str) -> Result<String, NoMemory>
         ensures { IfOk result (λ text. length (string_bytes text) ≤ 2000000) }
     {
@@ -101,7 +102,8 @@ pub fn fill_form(
     text.finish()
 }
 
-/// Writes the text of a form: numbers replace `{0}` to `{9}`, and escaped words replace `{a}` to `{z}`.
+/// Writes the text of a form: numbers replace `{0}` to `{9}`, and escaped words replace `{a}` to `{z}`. `picture_head`, `Shapes::add_piece`
+/// and `fill_form` call it.
 pub(crate) fn put_form(
     text: &mut TextBuilder<Global>,
     form: &str,
@@ -119,7 +121,7 @@ pub(crate) fn put_form(
     }
 }
 
-/// Writes the number or word of the placeholder `place`. Writes nothing if `numbers` or `words` lacks it.
+/// Writes the number or word of the placeholder `place`. Writes nothing if `numbers` or `words` lacks it. `put_form` calls it.
 fn put_placeholder(text: &mut TextBuilder<Global>, place: &[u8], numbers: &[u64], words: &[&str]) {
     match place {
         [digit @ b'0'..=b'9'] => {

@@ -15,14 +15,15 @@ pub struct Span {
 pub type TimeScale = (u64, &'static str, u64);
 
 impl Span {
-    /// Returns the span's duration in ns, at least 1: it is a divisor.
+    /// Returns the span's duration in ns, at least 1: it is a divisor. `axis_distance`, `Span::origin` and others call it.
     fn duration(self) -> u64
         ensures { 1 ≤ result }
     {
         self.to.saturating_sub(self.from).max(1)
     }
 
-    /// Whether the span overlaps the time from `from` up to `to` in ns; both ends are excluded.
+    /// Whether the span overlaps the time from `from` up to `to` in ns; both ends are excluded. `put_axis` and functions of `show_picture`
+    /// call it.
     pub fn has_overlap(self, from: u64, to: u64) -> bool {
         self.from < to && from < self.to
     }
@@ -39,6 +40,7 @@ impl Span {
     }
 
     /// Returns the origin of the span's times: 0, or a round time shortly before a span that starts very late, compared with its duration.
+    /// `time_scale` calls it.
     fn origin(self) -> u64 {
         let (from, length) = (self.from, self.duration());
         let digits = (length - 1).checked_ilog10().map_or(0, |it| it + 1);
@@ -47,7 +49,8 @@ impl Span {
         if is_far { from - from % power } else { 0 }
     }
 
-    /// Returns the span's origin and unit: µs below 2 ms, ms below 2 s, otherwise s.
+    /// Returns the span's origin and unit: µs below 2 ms, ms below 2 s, otherwise s. `put_duration`, `put_span` and functions of
+    /// `show_picture` call it.
     pub fn time_scale(self) -> TimeScale {
         match self.duration() {
             0..2_000_000 => (self.origin(), "µs", 1),
@@ -56,8 +59,8 @@ impl Span {
         }
     }
 
-    /// Returns the time between two lines of the axis in ns: one, two or five times a power of ten, so that the axis has at most
-    /// `MAX_INTERVALS` whole intervals.
+    /// Returns the time between two lines of the axis in ns: one, two or five times a power of ten. The axis then has at most
+    /// `MAX_INTERVALS` whole intervals. `put_axis` calls it.
     pub(crate) fn grid_step(self) -> u64
         ensures { 1 ≤ result }
     {

@@ -1,4 +1,4 @@
-//! Texts that grow at their end.
+//! Builds texts such as explanations and reports, piece by piece.
 ghost use Rattle.std.specs.Prelude.{◌≡◌, ◌<◌, [], ◌∷◌, IfErr, IfOk, IfSome, None, Some, decimal, encode_utf8, length, string_bytes};
 ghost use Rattle.std.specs.Char.{digit_char};
 ghost use Rattle.bridge_text.specs.Escaped.{control_escape, escaped, escaped_letter, hexadecimal};
@@ -25,7 +25,7 @@ impl<A: Allocator> Model for TextBuilder<A> {
 }
 
 impl<A: Allocator> TextBuilder<A> {
-    /// Returns an empty text.
+    /// Returns an empty text. Callers then add pieces.
     pub fn new(alloc: A) -> TextBuilder<A>
         ensures { result ≡ Some [] }
     {
@@ -34,7 +34,7 @@ impl<A: Allocator> TextBuilder<A> {
         }
     }
 
-    /// Returns the number of octets, or 0 after memory ran out.
+    /// Returns the number of octets, or 0 after memory ran out. Callers compare lengths to find out whether a text was added.
     pub fn len(&self) -> usize
         ensures { IfSome self.now (λ octets. result ≡ length octets) }
     {
@@ -57,7 +57,7 @@ impl<A: Allocator> TextBuilder<A> {
         }
     }
 
-    /// Adds a number in decimal digits.
+    /// Adds a number in decimal digits. `TextBuilder::put_placeholder` calls it.
     pub fn put_number(&mut self, number: u64)
         ensures { HasGrown self.old (decimal number) self.new }
     {
@@ -65,7 +65,8 @@ impl<A: Allocator> TextBuilder<A> {
         self.put(digits.format(number));
     }
 
-    /// Adds an integer of any width in decimal digits, with a minus sign if it is negative.
+    /// Adds an integer of any width in decimal digits, with a minus sign if it is negative. `put_item` and functions of `bridge_report`,
+    /// `net_check`, `net_latency` and other crates call it.
     pub fn put_integer<I: Integer>(&mut self, number: I)
         ensures { HasGrown self.old (I.text number) self.new }
     {
@@ -166,6 +167,8 @@ impl<A: Allocator> TextBuilder<A> {
 
     /// Adds a template. `{0}` to `{9}` stand for numbers and `{a}` to `{z}` for words, by index. A placeholder without a value adds
     /// nothing.
+    ///
+    /// `put_too_many`, `put_position` and functions of `app_commands`, `net_check`, `net_latency` and other crates call it.
     #[tactic(auto, using(crate::proofs::Longer::longer))]
     pub fn put_template(&mut self, template: &str, numbers: &[u64], words: &[&str])
         ensures { IsLonger self.old self.new }
@@ -175,8 +178,8 @@ impl<A: Allocator> TextBuilder<A> {
         }
     }
 
-    /// Adds a piece of a template, which `put_template` splits at each `{`: the value of the placeholder up to `}`, then the rest of the
-    /// piece.
+    /// Adds a piece of a template: the value of the placeholder up to `}`, then the rest of the piece. `put_template` splits the template
+    /// at each `{`.
     #[tactic(auto, using(crate::proofs::Longer::longer))]
     fn put_template_piece(&mut self, piece: &str, numbers: &[u64], words: &[&str])
         ensures { IsLonger self.old self.new }
@@ -191,6 +194,7 @@ impl<A: Allocator> TextBuilder<A> {
     }
 
     /// Adds the value of a placeholder: `place` is the digit or letter between its braces. Adds nothing for an unknown placeholder.
+    /// `put_template_piece` calls it.
     #[tactic(auto, using(crate::proofs::Longer::longer))]
     fn put_placeholder(&mut self, place: &[u8], numbers: &[u64], words: &[&str])
         ensures { IsLonger self.old self.new }
@@ -217,7 +221,7 @@ impl<A: Allocator> TextBuilder<A> {
         self.held = None;
     }
 
-    /// Returns the text, or `NoMemory` if memory ran out.
+    /// Returns the text, or `NoMemory` if memory ran out. Callers call it once, after the last piece.
     pub fn finish(self) -> Result<String<A>, NoMemory>
         ensures text { IfOk result (λ text. self ≡ Some (string_bytes text)) }
         ensures refused { IfErr result (λ fault. self ≡ None) }

@@ -1,4 +1,4 @@
-//! Values of a document in words of planners.
+//! Writes values of a TOML document in words that planners know.
 
 use crate::text_builder::TextBuilder;
 use std::alloc::Global;
@@ -13,7 +13,8 @@ const MAX_CHARACTERS: usize = 60;
 /// Largest number of items shown of an array.
 const MAX_ITEMS: usize = 16;
 
-/// Writes a template in which `{0}` stands for `number` and `{a}` for `word`. The template may use only one of them.
+/// Writes a template in which `{0}` stands for `number` and `{a}` for `word`. The template may use only one of them. `Instance::put_place`,
+/// `put_identifying_key` and functions of `show_explain` call it.
 pub fn fill_with_word(said: &mut Said, template: &str, number: u64, word: &str) {
     said.put_template(template, &[number], &[word]);
 }
@@ -26,7 +27,7 @@ fn shown_prefix(text: &str) -> &str {
     }
 }
 
-/// Writes a text in quotes, cut after 60 characters.
+/// Writes a text in quotes, cut after 60 characters. `put_key`, `put_item` and functions of `net_check` and `show_explain` call it.
 pub fn put_text(said: &mut Said, text: &str) {
     let front = shown_prefix(text);
     said.put_quoted(front);
@@ -36,6 +37,7 @@ pub fn put_text(said: &mut Said, text: &str) {
 }
 
 /// Writes a key in backquotes. A key that is long or needs quotes in TOML is written as a quoted text, cut after 60 characters.
+/// `put_stray_section` and functions of `show_explain` call it.
 pub fn put_key(said: &mut Said, key: &str) {
     let mut is_plain = true;
     for octet in key.as_bytes() {
@@ -100,7 +102,7 @@ pub fn put_value(said: &mut Said, value: &Value) {
     }
 }
 
-/// Writes a sentence that ends with a value, or with `word` if the value is missing.
+/// Writes a sentence that ends with a value, or with `word` if the value is missing. `put_no_list` and functions of `show_explain` call it.
 pub fn put_value_sentence(
     said: &mut Said,
     template: &str,

@@ -16,7 +16,7 @@ use Rattle.bridge_wire.specs.Rings.{one_queue_state, ring_items}
 use Rattle.bridge_wire.specs.Wire.{StopsRun}
 use Rattle.bridge_wire.specs.Departures.{IsUnderWay}
 
--- State of the port of an open queue.
+-- State of the port that has the open queue of a run of `wire`.
 abbrev pub queue_state : {A : Type 0} → OpenQueue A → EgressState (Vec ℕ A)
 queue_state q = one_queue_state q.speed (length q.places.items - 1) (take q.queued (ring_items q.head q.places.items)) q.free q.earliest q.offered q.started
 
@@ -39,7 +39,7 @@ abbrev pub ReadsPlace : {A : Type 0} → CaptureState → OpenQueue A → Option
 ReadsPlace capture q remaining text taken (Ok time) = IsOneAhead (queue_reader capture time q) remaining text taken
 ReadsPlace capture q remaining text taken (Err fault) = IsRefusal fault remaining text taken
 
--- Frame of an item that arrived at time `time`.
+-- Captured frame of an item that arrived at time `time` (ns).
 abbrev pub arrived_frame : {A : Type 0} → ℕ → Item (Vec ℕ A) → CapturedFrame
 arrived_frame time x = record { time = time; len = x.len; octets = x.load.items }
 

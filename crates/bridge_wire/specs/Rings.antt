@@ -5,7 +5,7 @@ use Rattle.bridge_port.specs.declared.item.Item.{Item}
 use Rattle.bridge_port.specs.GateSchedule.{Always}
 use Rattle.bridge_port.specs.StandsFor.{EgressState}
 
--- Items of a ring, from index `head` on.
+-- Items of a ring, the oldest first; the oldest has index `head`.
 abbrev pub ring_items : {X : Type 0} → ℕ → List X → List X
 ring_items head places = drop head places ++ take head places
 

@@ -1,4 +1,4 @@
--- Run of one capture through one queue.
+-- Run of `wire`: one capture through one queue.
 use Rattle.std.specs.Prelude.{◌≡◌, ◌≢◌, ◌⊎◌, ℕ, Bool, true, ◌+◌, ◌<◌, ◌≤◌, All, not, is_ok, List, [], ◌∷◌, ◌++◌, length, map, filter, reverse, count_by, Option, Some, ◌↔◌}
 use Rattle.std.specs.Io.KnownBytes.{Appends, Keeps}
 use Rattle.bridge_frame.specs.declared.Speed.{Speed}
@@ -42,7 +42,7 @@ is_well_formed c = is_ok (parsed_head c.octets c.len)
 abbrev pub frame_offer : CapturedFrame → Offer
 frame_offer c = record { at = c.time; class = 0; frame = record { len = c.len; octets = c.octets } }
 
--- Offers of the frames with a header, newest first.
+-- Offers to the queue by well-formed frames, newest first; malformed frames make none.
 abbrev pub frame_offers : List CapturedFrame → List Offer
 frame_offers frames = reverse (map frame_offer (filter is_well_formed frames))
 

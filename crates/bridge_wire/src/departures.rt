@@ -13,8 +13,8 @@ use crate::open_queue::OpenQueue;
 use bridge_capture::{ByteSink, RunFault, SNAP_LENGTH, Writer};
 use std::alloc::Allocator;
 
-/// Starts the oldest frame at `start` ns, and writes it with the end of its transmission. A failed write is the fault
-/// `RunFault::Write` of port 1.
+/// Starts the oldest frame at `start` ns, and writes it with the end of its transmission. A failed write is the fault `RunFault::Write` of
+/// port 1. `send_due_frames` calls it.
 #[inline(always)]
 pub fn send_next<W: ByteSink, A: Allocator + Copy>(
     start: u64,
@@ -74,7 +74,7 @@ fn write_record<W: ByteSink>(
     writer.put(sink, done, len, octets).is_ok()
 }
 
-/// Starts and writes all frames due before time `t` in ns. Stops at the first failed write.
+/// Starts and writes all frames due before time `t` in ns. Stops at the first failed write. `offer_frame` and `send_all` call it.
 #[inline(always)]
 pub fn send_due_frames<W: ByteSink, A: Allocator + Copy>(
     t: u64,

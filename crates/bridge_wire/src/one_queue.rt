@@ -21,7 +21,7 @@ use bridge_port::{Item, LARGEST_ROOM};
 use std::alloc::Allocator;
 
 /// Starts and writes all frames that are due before `time` ns, when the frame ahead arrived. Then offers the frame ahead to the queue;
-/// without a header, it is only counted.
+/// without a header, it is only counted. `process_frame` calls it.
 #[inline(always)]
 fn offer_frame<W: ByteSink, A: Allocator + Copy>(
     speed: Speed,
@@ -69,8 +69,10 @@ fn offer_frame<W: ByteSink, A: Allocator + Copy>(
     Ok(())
 }
 
-/// Writes the frames that start before `time` ns, when the frame ahead arrived, and offers this frame. Then reads the next record, and
-/// returns its arrival time in ns; `None` at the capture's end.
+/// Writes frames that start before `time` ns, then offers the frame ahead, which arrived at `time`, to the queue; malformed frames are only
+/// counted.
+///
+/// Reads the next record and returns its arrival time in ns, or `None` at the capture's end. `send_all` calls it.
 #[inline(always)]
 fn process_frame<R: ByteSource, W: ByteSink, A: Allocator + Copy>(
     speed: Speed,
@@ -208,6 +210,7 @@ fn split_packet<A: Allocator + Copy>(
 /// Frames without a header are only counted.
 ///
 /// Faults of the source are `Capture` of port 1. Faults of the sink are `Write` of port 1; the sink then has a prefix of the capture.
+/// `wire_capture` and `wire_text` of `app_commands` call it.
 pub fn wire<R: ByteSource, W: ByteSink, A: Allocator + Copy>(
     alloc: A,
     speed: Speed,

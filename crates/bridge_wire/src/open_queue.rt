@@ -52,7 +52,7 @@ impl<A: Allocator + Copy> OpenQueue<A> {
     ghost use Rattle.bridge_wire.specs.OpenQueues.{ReadsPlace, place_ahead, queue_reader, queue_state};
 
     /// Makes an empty queue for `room` frames, with a frame ahead. Allocates memory once; reading later frames allocates memory for their
-    /// octets.
+    /// octets. `wire` calls it.
     pub fn new(
         alloc: A,
         speed: Speed,
@@ -95,6 +95,7 @@ impl<A: Allocator + Copy> OpenQueue<A> {
     }
 
     /// Reads the next record of a capture into the place ahead, and returns its arrival time in ns; `None` at the end of the capture.
+    /// `process_frame` calls it after the frame ahead was offered.
     #[inline(always)]
     pub fn read_ahead<R: ByteSource>(
         &mut self,
@@ -135,7 +136,7 @@ impl<A: Allocator + Copy> OpenQueue<A> {
         &self.places[self.head]
     }
 
-    /// Returns the time in ns of the next start if nothing more is offered; `None` if no frame is queued.
+    /// Returns the time in ns of the next start if nothing more is offered; `None` if no frame is queued. `send_due_frames` calls it.
     #[inline(always)]
     pub fn next_start(&self) -> Option<u64>
         ensures due { IsNextStartTime (queue_state self.now) result }
@@ -161,7 +162,7 @@ impl<A: Allocator + Copy> OpenQueue<A> {
         start + occupation(self.oldest().len, self.speed)
     }
 
-    /// Starts the oldest frame at `start` ns. Its transmission ends at `end` ns.
+    /// Starts the oldest frame at `start` ns. Its transmission ends at `end` ns. `send_next` calls it.
     #[inline(always)]
     pub fn start(&mut self, start: u64, end: u64)
         requires due { start ≡ max self.old.free self.old.earliest }
@@ -183,7 +184,8 @@ impl<A: Allocator + Copy> OpenQueue<A> {
         self.head = next_index(self.head, self.places.len());
     }
 
-    /// Offers the frame ahead at `t` ns, and returns whether it was queued. A full queue drops it.
+    /// Offers the frame ahead at `t` ns, and returns whether it was queued. A full queue drops it. `offer_frame` calls it for each
+    /// well-formed frame.
     #[inline(always)]
     pub fn offer(&mut self, t: u64) -> bool
         requires time { (self.old.earliest ≤ t) × (t < END_OF_TIME) }

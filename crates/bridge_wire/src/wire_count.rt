@@ -1,4 +1,4 @@
-//! Counts of a run through one queue.
+//! Counts of frames in a run of `wire` through one queue.
 
 /// Numbers of frames of a capture that was sent through one queue.
 #[derive(Clone, Copy, Debug, Default, PartialEq, Eq)]

@@ -1,4 +1,4 @@
--- Names of bridges.
+-- Names of a network's bridges, in fault lines and warnings.
 use Rattle.std.specs.Prelude.{ℕ, zero, suc, List, [], ◌∷◌}
 use Rattle.net_file.specs.Model.{Bridge}
 

@@ -83,7 +83,7 @@ network_fault_line bridges (network.NotClosed stream hop bridge port filter from
     hop_fault_text (codes "NotClosed") stream hop ++ (codes " " ++ (port_text bridges bridge port ++ sender_text filter from))
 network_fault_line bridges (network.NotFed stream hop) = hop_fault_text (codes "NotFed") stream hop
 
--- Holds if the program's fault is `NoMemory`, or has the fault line of the first stream whose talker's period doesn't suit the plans.
+-- Holds if the command's failure is `NoMemory`, or has the fault line of the first stream whose talker's period doesn't suit the plans.
 abbrev pub RefusesPeriods : {A : Type 0} → file.Network → List (Plan A) → Failure → Type 0
 RefusesPeriods f plans (fault.Network line) = (e : NetFault) × (first_misfit plans 1 f.streams ≡ Some e) × (string_bytes line ≡ text_line e)
 RefusesPeriods f plans fault.NoMemory = Unit {0}
@@ -160,7 +160,7 @@ paths_of path bridges = path ∷ map (λ (b : Bridge). beside path b.plan) bridg
 
 -- THE FAULTS OF THE COMMAND
 
--- Holds if the program's fault is `NoMemory`, or has the fault line of the text fault `e`, which isn't `NoMemory`.
+-- Holds if the command's failure is `NoMemory`, or has the fault line of the text fault `e`, which isn't `NoMemory`.
 abbrev pub SaysText : NetFault → Failure → Type 0
 SaysText e (fault.Network line) = (e ≢ net.NoMemory) × (string_bytes line ≡ text_line e)
 SaysText e fault.NoMemory = Unit {0}
@@ -170,13 +170,13 @@ SaysText e f = ⊥
 abbrev pub RefusesText : List ℕ → Type 0
 RefusesText line = (text : List ℕ) × (e : NetFault) × (network_of_text text ≡ Err e) × (line ≡ text_line e)
 
--- Holds if the program's fault is `NoMemory`, or `reading` is a fault and the program's fault has its fault line.
+-- Holds if the command's failure is `NoMemory`, or `reading` is a fault and the command's failure has its fault line.
 abbrev pub RefusesTextBy : Result file.Network NetFault → Failure → Type 0
 RefusesTextBy reading (fault.Network line) = (e : NetFault) × (reading ≡ Err e) × (string_bytes line ≡ text_line e)
 RefusesTextBy reading fault.NoMemory = Unit {0}
 RefusesTextBy reading f = ⊥
 
--- Holds if the failure says why `path` gives no network. It is a file error with this path, the fault line of a refused text, or
+-- Holds if the failure is why the file at `path` gives no network. It is a file error with this path, the fault line of a refused text, or
 -- `NoMemory`.
 abbrev pub EndsText : List ℕ → Failure → Type 0
 EndsText path (fault.File e) = string_bytes e.path ≡ path
@@ -188,7 +188,7 @@ EndsText path f = ⊥
 unfoldable pub plan_lines : List ℕ → List ℕ → List ℕ
 plan_lines name line = codes "network refused: Plan " ++ (name ++ (codes "\n" ++ line))
 
--- Holds if the program's fault is `NoMemory`, or has the lines for a plan of bridge `name` with fault `e`. This fault has exit status 1.
+-- Holds if the command's failure is `NoMemory`, or has the lines for a plan of bridge `name` with fault `e`. This fault has exit status 1.
 abbrev pub SaysPlan : List ℕ → Failure → Failure → Type 0
 SaysPlan name e (fault.Network line) = (fault_status e ≡ 1) × (string_bytes line ≡ plan_lines name (fault_line e))
 SaysPlan name e fault.NoMemory = Unit {0}
@@ -199,13 +199,13 @@ SaysPlan name e f = ⊥
 abbrev pub RefusesPlanOf : (A : Type 0) → Bridge → List ℕ → Type 0
 RefusesPlanOf A b lines = (text : List ℕ) × (e : Failure) × RefusesPlan A text e × (fault_status e ≡ 1) × (lines ≡ plan_lines b.name (fault_line e))
 
--- Holds if the program's fault is `NoMemory`, or has the lines for the plan of bridge `name`, whose text `text` is refused.
+-- Holds if the command's failure is `NoMemory`, or has the lines for the plan of bridge `name`, whose text `text` is refused.
 abbrev pub RefusesPlanBy : (A : Type 0) → List ℕ → List ℕ → Failure → Type 0
 RefusesPlanBy A name text (fault.Network line) = (e : Failure) × RefusesPlan A text e × (fault_status e ≡ 1) × (string_bytes line ≡ plan_lines name (fault_line e))
 RefusesPlanBy A name text fault.NoMemory = Unit {0}
 RefusesPlanBy A name text f = ⊥
 
--- Holds if the failure says why bridge `b` of the network file at `path` has no accepted plan. It is an error of the plan's file, a refused
+-- Holds if the failure is why bridge `b` of the network file at `path` has no accepted plan. It is an error of the plan's file, a refused
 -- plan's lines, or `NoMemory`.
 abbrev pub EndsPlanOf : (A : Type 0) → List ℕ → Bridge → Failure → Type 0
 EndsPlanOf A path b (fault.File e) = string_bytes e.path ≡ beside path b.plan
@@ -213,7 +213,7 @@ EndsPlanOf A path b (fault.Network line) = RefusesPlanOf A b (string_bytes line)
 EndsPlanOf A path b fault.NoMemory = Unit {0}
 EndsPlanOf A path b f = ⊥
 
--- Holds if failure `f` says why one of these bridges has no accepted plan. `path` is the network file's path.
+-- Holds if failure `f` is why one of these bridges has no accepted plan. `path` is the network file's path.
 abbrev pub EndsPlans : (A : Type 0) → List ℕ → List Bridge → Failure → Type 0
 EndsPlans A path bridges f = (b : Bridge) × IsMember b bridges × EndsPlanOf A path b f
 

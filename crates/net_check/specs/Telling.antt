@@ -17,12 +17,12 @@ use Rattle.net_check.specs.Naming.{bridge_name}
 
 -- FRAMES THAT MAY LOOP
 
--- The number of an optional VLAN, or `none`.
+-- The number of the optional VLAN in a warning about a loop, or `none` for frames without a tag.
 abbrev pub vlan_text : Option ℕ → List ℕ
 vlan_text None = codes "none"
 vlan_text (Some vid) = decimal vid
 
--- Octet `n` as two hexadecimal digits.
+-- Octet `n` of an address, as two hexadecimal digits.
 abbrev pub octet_text : ℕ → List ℕ
 octet_text n = padded_integral (format_spec 32 0 4 2 (2 ^ 64 - 1)) false [] (digits 16 true n)
 
@@ -32,7 +32,7 @@ address_text a =
     octet_text (slice_index a 0) ++ (codes "-" ++ (octet_text (slice_index a 1) ++ (codes "-" ++ (octet_text (slice_index a 2) ++ (codes "-"
     ++ (octet_text (slice_index a 3) ++ (codes "-" ++ (octet_text (slice_index a 4) ++ (codes "-" ++ octet_text (slice_index a 5))))))))))
 
--- A destination, or all destinations without a static entry.
+-- The destination in a warning about a loop: an address, or the words for all destinations without a static entry.
 abbrev pub destination_text : Option (List ℕ) → List ℕ
 destination_text None = codes "any other destination"
 destination_text (Some address) = codes "destination " ++ address_text address

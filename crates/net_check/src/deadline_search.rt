@@ -24,7 +24,7 @@ const PASSES: u32 = 8;
 const CHANGES: u32 = 16;
 
 /// Returns changes after which each stream that `is_searched` meets its deadline. `explain_network_streams` prints them. Returns `None` if
-/// `PASSES` passes find none, or memory runs out.
+/// `PASSES` passes leave a stream late, or if memory runs out.
 pub(crate) fn find_changes(
     alloc: Global,
     network: &Network<Global>,
@@ -300,6 +300,8 @@ fn relieve_hop(
 
 /// Lets the talker send later by the latest frame's wait at the first hop. Undoes this if a frame may then be refused. Returns whether the
 /// change stays, or `None` if memory runs out.
+///
+/// `relieve_hop` calls it.
 fn relieve_talker(
     alloc: Global,
     route: &StreamRoute<'_>,
@@ -322,6 +324,8 @@ fn relieve_talker(
 
 /// Lets the hop's list begin earlier by the latest frame's wait. Undoes this if a frame may then be refused. Returns whether the change
 /// stays; false without a list that can shift (`cycle_of_port`).
+///
+/// `relieve_hop` calls it.
 fn relieve_list(
     alloc: Global,
     route: &StreamRoute<'_>,
@@ -357,7 +361,7 @@ fn is_passing(alloc: Global, route: &StreamRoute<'_>, index: usize, changes: &Ch
     }
 }
 
-/// Returns the phases `wait` ns later, counted within the period. If they would lie in two periods, they begin at the start of a period
+/// Returns `phases` delayed by `wait` ns, counted within the period. If they would lie in two periods, they begin at the start of a period
 /// instead. `relieve_talker` calls it.
 fn later_phases(phases: Phases, wait: u64, period: u64) -> Phases {
     let width = phases.to.saturating_sub(phases.from);

@@ -79,7 +79,7 @@ fn network_text<'a>(
 }
 
 /// Returns a line for each group of frames that may loop, to explain why a network run didn't end. Reads the network's files again; returns
-/// `None` if this fails. `explain_stopped_run` calls it.
+/// `None` if this fails. `explain_stopped_run` of `app_networks` calls it.
 pub fn explain_loops<H: AllocGlobal + Files>(rt: &H, path: &str) -> Option<String> {
     let alloc = rt.alloc();
     let mut files = CommandFiles::new(rt);

@@ -24,7 +24,7 @@ const MOST_TURNS: u32 = 257;
 /// Window in which a frame is sent: its class is open without a break. Times are in ns from the start of a period.
 #[derive(Clone, Copy)]
 struct Window {
-    /// Start of the window one cycle later, so that it isn't negative.
+    /// Start of the window in ns, one cycle later, so that it isn't negative.
     later: u64,
     /// Cycle time of the list in ns.
     cycle: u64,
@@ -110,12 +110,12 @@ fn put_hops(
     times: &[HopTimes],
 ) {
     for hop in times {
-        put_hop(said, file, network, hop);
+        put_queue_line(said, file, network, hop);
     }
 }
 
 /// Appends the line of a hop's queue: arrivals, ends of transmission, longest wait, and the window. `put_hops` calls it.
-fn put_hop(
+fn put_queue_line(
     said: &mut TextBuilder<Global>,
     file: &NetworkFile<Global>,
     network: &Network<Global>,
@@ -144,7 +144,7 @@ fn put_hop(
 }
 
 /// Appends the window, and its slack: the time in ns from `leaves`, the latest end of transmission, to the window's end. The window's start
-/// can be negative. `put_hop` calls it.
+/// can be negative. `put_queue_line` calls it.
 fn put_window(said: &mut TextBuilder<Global>, window: Window, leaves: u64) {
     said.put(", window ");
     match window.later.checked_sub(window.cycle) {
@@ -159,7 +159,7 @@ fn put_window(said: &mut TextBuilder<Global>, window: Window, leaves: u64) {
 }
 
 /// Returns the window in which the last frame is sent. `None` without a list, with a schedule change, if the class never closes, or after
-/// `END_OF_SEARCHES`. `put_hop` calls it.
+/// `END_OF_SEARCHES`. `put_queue_line` calls it.
 fn window_of_hop(plan: &Plan<Global>, hop: &HopTimes) -> Option<Window> {
     let port = plan.port(hop.port)?;
     let time = hop.leaves.to.checked_sub(1)?;

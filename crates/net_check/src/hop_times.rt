@@ -97,7 +97,7 @@ struct QueueTimes {
 }
 
 /// Returns the time in ns by which the list of port `port` of bridge `bridge` begins earlier, by its last item in `shifts`. Returns 0
-/// without such an item.
+/// without such an item. `relieve_list`, `keep_ports` and others call it.
 pub(crate) fn shift_of_port(shifts: &[ListShift], bridge: u16, port: u8) -> u64 {
     let mut earlier = 0;
     for shift in shifts {
@@ -140,7 +140,9 @@ pub(crate) fn hop_times(
 }
 
 /// Appends the times of the arrival's hop to `times`, and arrivals at the next hops to `arrivals`. `sent` is the talker's first phase in
-/// ns. `None` as in `hop_times`.
+/// ns. Returns `None` if phases are unknown or memory runs out.
+///
+/// `hop_times` calls it.
 fn put_hop_times(
     route: &StreamRoute<'_>,
     arrival: HopArrival,
@@ -154,16 +156,16 @@ fn put_hop_times(
 {
     let is_first = times.is_empty();
     let rows = bounds_of_bridge(route.bounds, arrival.hop.bridge);
-    put_rows(
+    put_queues_of_hop(
         route, rows, arrival, sent, is_first, shifts, arrivals, times,
     )
 }
 
 /// Appends the times of the queues in `rows` that belong to the hop's filter to `times`, and arrivals at the next hops to `arrivals`.
-/// `sent` and `is_first` as in `times_in_queue`; `None` as in `hop_times`.
 ///
+/// `sent` is the talker's first phase in ns; `is_first` marks the first hop. Returns `None` if phases are unknown or memory runs out.
 /// `put_hop_times` calls it.
-fn put_rows(
+fn put_queues_of_hop(
     route: &StreamRoute<'_>,
     rows: &[QueueBound],
     arrival: HopArrival,
@@ -189,7 +191,7 @@ fn put_rows(
 /// Returns the times of the frames of `arrival` in the queue of `row`; `None` if phases are unknown or the queue is missing. `sent` is the
 /// talker's first phase in ns. `is_first`: first hop.
 ///
-/// `put_rows` calls it.
+/// `put_queues_of_hop` calls it.
 fn times_in_queue(
     route: &StreamRoute<'_>,
     row: &QueueBound,
@@ -248,20 +250,19 @@ fn longest_transmission(plan: &Plan<Global>, row: &QueueBound, traffic: &Traffic
     Some(occupation(traffic.longest.min(longest), speed))
 }
 
-/// Returns the times in a queue whose list begins `earlier` ns earlier, computed with later arrivals instead. `None` if phases are unknown,
-/// or a transmission may end after the next period's earliest arrival.
+/// Returns the times of `traffic` in a queue whose list begins earlier by `shift` ns, computed with traffic delayed by `shift` instead.
 ///
-/// `times_in_queue` calls it.
+/// `None` if phases are unknown, or a transmission may end after the next period's earliest arrival. `times_in_queue` calls it.
 fn shifted_times(
     accepted: &Accepted<Global>,
     row: &QueueBound,
     traffic: &Traffic,
-    earlier: u64,
+    shift: u64,
 ) -> Option<QueueTimes>
     requires row { HasValidPort row.now }
     requires traffic { IsTraffic traffic.now }
 {
-    let shifted = shifted_traffic(traffic, earlier)?;
+    let shifted = shifted_traffic(traffic, shift)?;
     let timing = queue_timing(accepted, row.filter, row.port, row.class, &shifted)?;
     let done = timing.phases?;
     if done.to > shifted.from.saturating_add(traffic.period) {
@@ -269,36 +270,37 @@ fn shifted_times(
     }
     Some(QueueTimes {
         leaves: Phases {
-            from: done.from.saturating_sub(earlier),
-            to: done.to.saturating_sub(earlier),
+            from: done.from.saturating_sub(shift),
+            to: done.to.saturating_sub(shift),
         },
         worst: timing.worst,
     })
 }
 
-/// Returns the traffic with phases `earlier` ns later. The period doubles, so that the phases lie in one period. `None` if `earlier`
-/// reaches the period, or the new period is too long. `shifted_times` calls it.
-fn shifted_traffic(traffic: &Traffic, earlier: u64) -> Option<Traffic>
+/// Returns `traffic` delayed by `shift` ns, with twice the period, so that the delayed phases lie in one period.
+///
+/// `None` if `shift` reaches the old period or the new period is too long; `shifted_times` calls it.
+fn shifted_traffic(traffic: &Traffic, shift: u64) -> Option<Traffic>
     requires { IsTraffic traffic.now }
     ensures { IfSome result IsTraffic }
 {
-    if earlier == 0 {
+    if shift == 0 {
         return Some(*traffic);
     }
-    if earlier >= traffic.period || traffic.period > END_OF_TIME / 2 {
+    if shift >= traffic.period || traffic.period > END_OF_TIME / 2 {
         return None;
     }
     Some(Traffic {
         period: traffic.period * 2,
-        from: traffic.from + earlier,
-        to: traffic.to + earlier,
+        from: traffic.from + shift,
+        to: traffic.to + shift,
         least: traffic.least,
         longest: traffic.longest,
     })
 }
 
 /// Appends to `arrivals` the arrival at the hop after the queue of `found`, if the queue's port leads to a hop. Returns `None` if memory
-/// runs out. `put_rows` calls it.
+/// runs out. `put_queues_of_hop` calls it.
 fn put_next_arrival(
     route: &StreamRoute<'_>,
     found: &HopTimes,

@@ -58,15 +58,15 @@ fn put_lists_of_bridge(
         let earlier = shift_of_port(shifts, bridge, port.number);
         if earlier > 0 {
             if let Some(list) = port_list(port) {
-                put_list(said, row, port.number, list, earlier);
+                put_list_shift(said, row, port.number, list, earlier);
             }
         }
     }
 }
 
-/// Appends the line that proposes to start `list` earlier by `earlier` ns. It names the plan, the port, and the new base time in ns, below
-/// the cycle time. `put_lists_of_bridge` calls it.
-fn put_list(
+/// Appends the line that proposes to let `list` begin `earlier` ns before its present start. It names the plan, the port, and the new base
+/// time in ns, below the cycle time. `put_lists_of_bridge` calls it.
+fn put_list_shift(
     said: &mut TextBuilder<Global>,
     row: &BridgeRow<Global>,
     port: u8,

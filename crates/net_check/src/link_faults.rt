@@ -34,7 +34,8 @@ fn is_one_port(one: BridgePort, other: BridgePort) -> bool {
     one.bridge == other.bridge && one.port == other.port
 }
 
-/// Returns the name of the bridge at this end of a link, or an empty text if the bridge is missing.
+/// Returns the name of the bridge at this end of a link, or an empty text if the bridge is missing. `put_link_end`, `put_speeds` and `put_ports`
+/// call it.
 fn bridge_name<'a>(asked: NetworkText<'a>, end: BridgePort) -> &'a str {
     match asked.bridge(end.bridge) {
         Some(bridge) => bridge.name(),
@@ -51,7 +52,7 @@ fn bridge_plan<'a>(asked: NetworkText<'a>, end: BridgePort) -> &'a str {
     }
 }
 
-/// Returns the number, from 1, of the first link that ends at this port, or 0 if none does. `put_twice` calls it.
+/// Returns the number, from 1, of the first link that ends at port `end`; 0 if the port has no link. `put_twice` calls it.
 fn first_link_index(links: &[Link], end: BridgePort) -> u64 {
     let mut place = 0u64;
     for link in links {
@@ -65,7 +66,7 @@ fn first_link_index(links: &[Link], end: BridgePort) -> u64 {
 
 /// Appends the position of end `field` of link `place` in the file, and the end as the file writes it. Explanations of unequal speeds don't
 /// begin like this. `put_ports` and `put_twice` call it.
-fn put_end(
+fn put_link_end(
     said: &mut TextBuilder<Global>,
     asked: NetworkText<'_>,
     place: usize,
@@ -98,14 +99,14 @@ fn put_twice(
         } else {
             NetField::Other
         };
-        put_end(said, asked, place, field, end);
+        put_link_end(said, asked, place, field, end);
         return said.put_template(
             "but `link` {0} ends at this port too.\nA port has at most one link: correct one of the two.\n",
             &[earlier],
             &[],
         );
     }
-    put_end(said, asked, place, NetField::Other, end);
+    put_link_end(said, asked, place, NetField::Other, end);
     said.put("and so is `one`.\nA link joins two ports: correct one of its ends.\n");
 }
 
@@ -166,7 +167,7 @@ fn put_ports(
     } else {
         (NetField::One, link.one)
     };
-    put_end(said, asked, place, field, end);
+    put_link_end(said, asked, place, field, end);
     said.put_template(
         "but the plan of {a} ({b}) has no port {0}.\n",
         &[u64::from(end.port)],

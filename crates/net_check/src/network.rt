@@ -206,7 +206,7 @@ pub fn read_network<F: ReadFiles>(
     }
 }
 
-/// Returns the network that the text describes. For a refused text, returns the program's fault with the line of the text's first fault.
+/// Returns the network that the text describes. For a refused text, returns the command's failure with the line of the text's first fault.
 /// `read_network` calls it.
 fn parse_network_text(alloc: Global, text: &[u8]) -> Result<NetworkFile<Global>, Failure>
     ensures file { IfOk result (λ file. network_of_text text.now ≡ Ok file) }
@@ -218,8 +218,8 @@ fn parse_network_text(alloc: Global, text: &[u8]) -> Result<NetworkFile<Global>,
     }
 }
 
-/// Returns the program's fault for a network file whose text has the fault `fault`: its fault line, or out of memory. `parse_network_text`
-/// calls it.
+/// Returns the command's failure for a network file with fault `fault`: the fault line, or `NoMemory` if memory ran out, now or before.
+/// `parse_network_text` calls it.
 fn refused_text_fault(alloc: Global, fault: &NetFault) -> Failure
     ensures { SaysText fault.now result }
 {
@@ -241,6 +241,8 @@ fn is_absolute(path: &str) -> bool
 
 /// Returns the path of the plan file `file`, which a network file at `path` names. A relative path counts from the network file's folder,
 /// so both can be moved together.
+///
+/// `explain_plan_path`, `read_plan` and functions of `app_networks` call it.
 pub fn sibling_path(alloc: Global, path: &str, file: &str) -> Result<String, NoMemory>
     ensures { IfOk result (λ place. string_bytes place ≡ beside path.now file.now) }
 {
@@ -253,8 +255,8 @@ pub fn sibling_path(alloc: Global, path: &str, file: &str) -> Result<String, NoM
     }
 }
 
-/// Returns the program's fault for a refused plan: a line with the bridge's name, then the plan's fault line. Returns `NoMemory` if `fault`
-/// isn't a refusal or memory runs out. `check_bridge_plan` calls it.
+/// Returns the command's failure for a refused plan: a line with the bridge's name, then the plan's fault line. Returns `NoMemory` if
+/// `fault` isn't a refusal or memory runs out. `check_bridge_plan` calls it.
 #[tactic(auto, unfolding(crate::specs::Networks::plan_lines))]
 fn plan_failure(alloc: Global, name: &str, fault: &Failure) -> Failure
     ensures { SaysPlan name.now fault.now result }
@@ -271,7 +273,7 @@ fn plan_failure(alloc: Global, name: &str, fault: &Failure) -> Failure
     }
 }
 
-/// Returns the accepted plan of a text. For a refused plan, returns the program's fault with the name of the bridge, `name`. `read_plan`
+/// Returns the accepted plan of a text. For a refused plan, returns the command's failure with the name of the bridge, `name`. `read_plan`
 /// calls it.
 fn check_bridge_plan(alloc: Global, name: &str, text: &[u8]) -> Result<Accepted<Global>, Failure>
     ensures accepts { IfOk result (Accepts text.now) }
@@ -418,6 +420,8 @@ fn describe_network<A: Allocator + Copy>(
 
 /// Checks the network of the file at `path`, with its plans, for `net check`. Returns lines and warnings. Faults come in this order:
 /// network file, plans by bridge, tests of the network, periods of talkers.
+///
+/// `check_network` of `app_networks` calls it.
 pub fn network_job<F: ReadFiles>(
     alloc: Global,
     files: &mut F,

@@ -76,7 +76,7 @@ pub(crate) fn explain_open_stream(
     if is_left_out(refused, hops, end, open) {
         put_left_out(&mut said, file.bridges(), row.name(), end, open);
     } else {
-        put_front(&mut said, "Repair", file.bridges(), end);
+        put_remedy_heading(&mut said, "Repair", file.bridges(), end);
     }
     put_remedies(&mut said, sender, hops, &stray, end, open);
     said.finish().ok()
@@ -185,12 +185,12 @@ fn put_left_out<A: Allocator + Copy>(
         &[u64::from(open.filter.unwrap_or(0))],
         &[bridge_name(bridges, end.bridge), stream],
     );
-    put_front(said, "Otherwise repair", bridges, end);
+    put_remedy_heading(said, "Otherwise repair", bridges, end);
 }
 
 /// Appends the heading of the list of remedies, which names the sending bridge's plan. `word` begins the sentence. `explain_open_stream`
 /// and `put_left_out` call it.
-fn put_front<A: Allocator + Copy>(
+fn put_remedy_heading<A: Allocator + Copy>(
     said: &mut TextBuilder<Global>,
     word: &str,
     bridges: &[BridgeRow<A>],

@@ -37,7 +37,7 @@ pub(crate) fn put_refusable_streams(
     for stream in streams {
         if let Some(talker) = stream.talker() {
             if let Ok(hops) = stream_hops(alloc, stream.hops()) {
-                put_stream(
+                put_refusable_stream(
                     alloc,
                     said,
                     file,
@@ -54,7 +54,7 @@ pub(crate) fn put_refusable_streams(
 
 /// Appends a sentence about a stream if its frames may be refused. Finds the hop by computing delays up to hop 1, up to hop 2, and so on.
 /// `put_refusable_streams` calls it.
-fn put_stream(
+fn put_refusable_stream(
     alloc: Global,
     said: &mut TextBuilder<Global>,
     file: &NetworkFile<Global>,
@@ -83,16 +83,16 @@ fn put_stream(
         match course {
             Some(course) if course.passes => before = Some(course),
             course => {
-                put_start(said, file, name, hops, place);
+                put_stream_and_hop(said, file, name, hops, place);
                 let traffic = hop_traffic(network.links(), hops, place, talker, before);
-                return put_hop(said, network, bounds, hops, place, traffic, course);
+                return put_hop_reason(said, network, bounds, hops, place, traffic, course);
             }
         }
     }
 }
 
-/// Appends the beginning of a sentence: the stream, and its hop with index `place`, from 0. `put_stream` calls it.
-fn put_start(
+/// Appends the beginning of a sentence: the stream, and its hop with index `place`, from 0. `put_refusable_stream` calls it.
+fn put_stream_and_hop(
     said: &mut TextBuilder<Global>,
     file: &NetworkFile<Global>,
     name: &str,
@@ -112,7 +112,7 @@ fn put_start(
 /// Returns a talker's traffic at hop `place`, from the delays `before` up to the hop before it. `None` if phases are unknown or lie in two
 /// periods, or no link joins the hops.
 ///
-/// `put_stream` calls it.
+/// `put_refusable_stream` calls it.
 fn hop_traffic(
     links: &[Link],
     hops: &[StreamHop],
@@ -179,7 +179,7 @@ fn link_delay(links: &[Link], hops: &[StreamHop], place: usize) -> Option<u64> {
 }
 
 /// Returns whether each hop up to index `place` has a link to the hop before it. Only then do delays determine the phases at the next hop.
-/// `put_hop` calls it.
+/// `put_hop_reason` calls it.
 fn is_chain(links: &[Link], hops: &[StreamHop], place: usize) -> bool {
     for next in 1..=place {
         if link_delay(links, hops, next).is_none() {
@@ -189,7 +189,8 @@ fn is_chain(links: &[Link], hops: &[StreamHop], place: usize) -> bool {
     true
 }
 
-/// Returns whether a hop before index `place` is at this bridge. Delays are unknown if a stream crosses a bridge twice. `put_hop` calls it.
+/// Returns whether a hop before index `place` is at bridge `bridge`. Delays are unknown if a stream crosses a bridge twice.
+/// `put_hop_reason` calls it.
 fn has_earlier_hop(hops: &[StreamHop], place: usize, bridge: u16) -> bool {
     for (k, hop) in hops.iter().enumerate() {
         if k < place && hop.bridge == bridge {
@@ -199,8 +200,9 @@ fn has_earlier_hop(hops: &[StreamHop], place: usize, bridge: u16) -> bool {
     false
 }
 
-/// Appends why frames may be refused at hop `place`: the first reason that applies, in the order of the tests below. `put_stream` calls it.
-fn put_hop(
+/// Appends why frames may be refused at hop `place`: the first reason that applies. Reasons of the route precede conditions of the hop's
+/// filter. `put_refusable_stream` calls it.
+fn put_hop_reason(
     said: &mut TextBuilder<Global>,
     network: &Network<Global>,
     bounds: &[Vec<QueueBound>],
@@ -246,6 +248,8 @@ fn put_hop(
 
 /// Appends the first condition that fails for this traffic at a hop with class `class`. If the filter passes it and delays are known
 /// (`has_figures`), the filter may refuse frames of the hop before.
+///
+/// `put_hop_reason` calls it.
 fn put_condition(
     said: &mut TextBuilder<Global>,
     plan: &Plan<Global>,
@@ -265,7 +269,7 @@ fn put_condition(
 }
 
 /// Returns the first port of a hop's bridge on which frames of other devices may get the hop's handle, or `None`. `is_first` is true for
-/// the stream's first hop. `put_hop` calls it.
+/// the stream's first hop. `put_hop_reason` calls it.
 fn port_of_others(
     links: &[Link],
     is_first: bool,
@@ -280,7 +284,7 @@ fn port_of_others(
     None
 }
 
-/// Returns the class of the first queue that the frames of a hop can enter, or `None` if they can enter none. `put_hop` calls it.
+/// Returns the class of the first queue that the frames of a hop can enter, or `None` if they can enter none. `put_hop_reason` calls it.
 fn first_queue_class(bounds: &[Vec<QueueBound>], hop: StreamHop) -> Option<u8> {
     for row in bounds_of_bridge(bounds, hop.bridge) {
         if row.filter == hop.filter {

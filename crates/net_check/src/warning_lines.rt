@@ -156,7 +156,7 @@ fn is_entered_by_link<A: Allocator + Copy>(
 }
 
 /// Returns whether a filter of bridge `bridge` is protected, its frames can arrive over a link, and it is a hop of no stream. The filter is
-/// then likely a forgotten hop.
+/// then likely a forgotten hop. `push_unlisted_filter` calls it.
 fn is_unlisted<A: Allocator + Copy>(
     links: &[LinkRow],
     streams: &[StreamRow<A>],
@@ -233,7 +233,7 @@ fn push_unlisted_filters<A: Allocator + Copy>(
     Ok(())
 }
 
-/// Returns the limit in octets (`max_sdu`) of the filter with this number. Returns `None` if the filter is missing or has no limit.
+/// Returns the limit in octets (`max_sdu`) of the filter with number `number`. Returns `None` if the filter is missing or has no limit.
 /// `hop_sdu` calls it.
 fn filter_sdu<A: Allocator + Copy>(plan: &Plan<A>, number: u32) -> Option<u32>
     ensures { result ≡ spec.filter_sdu (Some plan.now) number }

@@ -13,7 +13,7 @@ use Rattle.net_file.specs.Model.{Network}
 use Rattle.net_file.specs.Keys.{provided, section_items, instances}
 use Rattle.net_file.specs.Sections.{read_bridge, read_link_in_list, read_stream}
 
--- The sections of a network.
+-- The sections that a network file may have, in reading order.
 abbrev pub net_sections : List NetSection
 net_sections = section.Bridge ∷ section.Link ∷ section.Stream ∷ []
 
@@ -50,7 +50,7 @@ read_sections arrays = do
   streams ← instances (read_stream bridges) arrays.streams
   Ok (record { bridges = bridges; links = links; streams = streams })
 
--- The network of a document, or its first fault.
+-- The network that a TOML document describes, or its first fault.
 abbrev pub network_of_document : Members → Result Network NetFault
 network_of_document members = read_arrays members >>= read_sections
 
@@ -58,6 +58,6 @@ network_of_document members = read_arrays members >>= read_sections
 unfoldable pub read_document : List ℕ → Result Members NetFault
 read_document = reading.document_of fault.TooLong fault.Syntax
 
--- The network of a text, or its first fault.
+-- The network that the text of a network file describes, or its first fault.
 abbrev pub network_of_text : List ℕ → Result Network NetFault
 network_of_text text = read_document text >>= network_of_document

@@ -7,7 +7,7 @@ use Rattle.net_file.specs.declared.fault.NetField.TheVariants as field
 use Rattle.net_file.specs.declared.fault.NetFault.{NetFault}
 use Rattle.net_file.specs.declared.fault.NetFault.TheVariants as fault
 
--- Name of a section.
+-- Name of a section of a network or traffic file, as the file writes it.
 abbrev pub section_name : NetSection → List ℕ
 section_name section.Top = codes "top"
 section_name section.Bridge = codes "bridge"
@@ -15,7 +15,7 @@ section_name section.Link = codes "link"
 section_name section.Stream = codes "stream"
 section_name section.Traffic = codes "traffic"
 
--- Spelling of a key.
+-- Spelling of a key of a network or traffic file.
 abbrev pub key_name : NetField → List ℕ
 key_name field.Bridge = codes "bridge"
 key_name field.Name = codes "name"

@@ -1,4 +1,4 @@
--- Reading of keys, and the allowed keys.
+-- Keys of network and traffic files: how they are read, and which are allowed.
 use Rattle.std.specs.Prelude.{ℕ, Bool, true, false, List, Option, Result, Ok, Err, if◌then◌else◌}
 use Rattle.toml.specs.Data.{Data, string, Items, Members, get_member}
 use Rattle.bridge_schema.specs.declared.plan_fault.Flaw.{Flaw}
@@ -56,11 +56,11 @@ flaw_fault place flaw.Unresolved = fault.Unresolved place
 abbrev pub value_or_fault : {A : Type 0} → NetKeyLocation → Result A Flaw → Result A NetFault
 value_or_fault = reading.at_place flaw_fault
 
--- The value of a required key, or its fault.
+-- The value of the required key at a location, or its fault: the key is missing, or its value isn't allowed.
 abbrev pub required_value : {A : Type 0} → NetKeyLocation → (Data → Result A Flaw) → Option Data → Result A NetFault
 required_value = reading.required_in (λ place. fault.Missing place) flaw_fault
 
--- The value of an optional key, or its fault.
+-- The value of the optional key at a location; `None` if the key is absent. A value that isn't allowed is a fault.
 abbrev pub optional_value : {A : Type 0} → NetKeyLocation → (Data → Result A Flaw) → Option Data → Result (Option A) NetFault
 optional_value = reading.optional_in flaw_fault
 

@@ -14,28 +14,30 @@ instance_text section index = if index == 0 then section_name section else secti
 abbrev pub key_text : NetKeyLocation → List ℕ
 key_text place = instance_text place.section place.index ++ (codes " " ++ key_name place.field)
 
--- The line `KIND refused: NAME` of a fault without location, from `kind` and `name`.
+-- The fault line `KIND refused: NAME` of a fault without location: `kind` is `network` or `traffic`, and `name` the
+-- fault.
 abbrev pub refusal_text : List ℕ → List ℕ → List ℕ
 refusal_text kind name = kind ++ (codes " refused: " ++ name)
 
--- The line `KIND refused: NAME PLACE` of a fault with a location, from `kind`, `name` and `place`.
-abbrev pub refusal_with_detail : List ℕ → List ℕ → List ℕ → List ℕ
-refusal_with_detail kind name place = kind ++ (codes " refused: " ++ (name ++ (codes " " ++ place)))
+-- The fault line `KIND refused: NAME PLACE`: `kind` is `network` or `traffic`, `name` the fault, and `place` its
+-- location, such as `link 2 delay`.
+abbrev pub located_refusal : List ℕ → List ℕ → List ℕ → List ℕ
+located_refusal kind name place = kind ++ (codes " refused: " ++ (name ++ (codes " " ++ place)))
 
--- The fault line of a file. The kind of the file is `network` or `traffic`.
+-- The fault line of a network or traffic file; `kind` is `network` or `traffic`.
 abbrev pub refusal_line : List ℕ → NetFault → List ℕ
 refusal_line kind fault.Syntax = refusal_text kind (codes "Syntax")
 refusal_line kind fault.TooLong = refusal_text kind (codes "TooLong")
-refusal_line kind (fault.UnknownKey section index) = refusal_with_detail kind (codes "UnknownKey") (instance_text section index)
-refusal_line kind (fault.NotAList section) = refusal_with_detail kind (codes "NotAList") (section_name section)
-refusal_line kind (fault.Missing place) = refusal_with_detail kind (codes "Missing") (key_text place)
-refusal_line kind (fault.WrongKind place) = refusal_with_detail kind (codes "WrongKind") (key_text place)
-refusal_line kind (fault.OutOfRange place) = refusal_with_detail kind (codes "OutOfRange") (key_text place)
-refusal_line kind (fault.Duplicate section index) = refusal_with_detail kind (codes "Duplicate") (instance_text section index)
-refusal_line kind (fault.Unresolved place) = refusal_with_detail kind (codes "Unresolved") (key_text place)
-refusal_line kind (fault.TooMany section) = refusal_with_detail kind (codes "TooMany") (section_name section)
+refusal_line kind (fault.UnknownKey section index) = located_refusal kind (codes "UnknownKey") (instance_text section index)
+refusal_line kind (fault.NotAList section) = located_refusal kind (codes "NotAList") (section_name section)
+refusal_line kind (fault.Missing place) = located_refusal kind (codes "Missing") (key_text place)
+refusal_line kind (fault.WrongKind place) = located_refusal kind (codes "WrongKind") (key_text place)
+refusal_line kind (fault.OutOfRange place) = located_refusal kind (codes "OutOfRange") (key_text place)
+refusal_line kind (fault.Duplicate section index) = located_refusal kind (codes "Duplicate") (instance_text section index)
+refusal_line kind (fault.Unresolved place) = located_refusal kind (codes "Unresolved") (key_text place)
+refusal_line kind (fault.TooMany section) = located_refusal kind (codes "TooMany") (section_name section)
 refusal_line kind fault.NoMemory = codes "no memory"
 
--- The fault line of a network file.
+-- The fault line of a network file with fault `e`, without line feed.
 abbrev pub fault_line : NetFault → List ℕ
 fault_line e = refusal_line (codes "network") e

@@ -1,4 +1,4 @@
--- The parts of a network file.
+-- Contents of a network file: bridges, links and streams.
 use Rattle.std.specs.Prelude.{ℕ, List, Option}
 use Rattle.net_file.specs.declared.link_row.LinkRow.{LinkRow}
 use Rattle.net_file.specs.declared.talker.Talker.{Talker}
@@ -15,7 +15,7 @@ pub record Stream : Type 0 where
   pub talker : Option Talker
   pub deadline : Option ℕ
 
--- The bridges, links and streams, each in file order.
+-- Contents of a network file: bridges, links and streams, each in file order.
 pub record Network : Type 0 where
   pub bridges : List Bridge
   pub links : List LinkRow

@@ -35,7 +35,7 @@ pub record NumberedName : Type 0 where
 abbrev pub is_dot : ℕ → Bool
 is_dot c = c == 46
 
--- The text before the first dot of `s` and the number after it. `None` without a dot or without a number from `low` to `high`.
+-- The text before the first dot of text `s`, and the number after it. `None` without a dot or without a number from `low` to `high`.
 abbrev pub split_numbered_name : ℕ → ℕ → List ℕ → Option NumberedName
 split_numbered_name low high s =
     if nat_lt (position_or_len is_dot s) (length s)
@@ -46,7 +46,7 @@ split_numbered_name low high s =
 abbrev pub is_numbered_name : ℕ → ℕ → List ℕ → Bool
 is_numbered_name low high s = is_some (split_numbered_name low high s)
 
--- The index of the first bridge with the name, if indexes begin at `k`, or `None`.
+-- The index of the first bridge with the given name, if the list's first bridge has index `k`. `None` if no bridge has the name.
 abbrev pub bridge_index_from_start : ℕ → List Bridge → List ℕ → Option ℕ
 bridge_index_from_start k [] name = None
 bridge_index_from_start k (b ∷ bs) name = if bytes_eq b.name name then Some k else bridge_index_from_start (suc k) bs name

@@ -10,15 +10,15 @@ use Rattle.net_file.specs.declared.talker.Talker.{Talker}
 use Rattle.net_file.specs.Model.{Bridge, Stream, Network}
 use Rattle.net_file.specs.Names.{is_valid_name}
 
--- True if one of these bridges has the name.
+-- True if one of these bridges has the name `name`: names must differ, and links may use only such names.
 abbrev pub has_bridge : List Bridge → List ℕ → Bool
 has_bridge bridges name = list_any (λ b. bytes_eq b.name name) bridges
 
--- True if one of these streams has the name.
+-- True if one of these streams has the name `name`: names must differ.
 abbrev pub has_stream : List Stream → List ℕ → Bool
 has_stream streams name = list_any (λ s. bytes_eq s.name name) streams
 
--- Holds if the bridges have valid, different names.
+-- Holds if the bridges of a network file have valid names, and no two names are equal.
 pub record AreBridges (bridges : List Bridge) : Type 0 where
   pub names : All (λ b. is_valid_name b.name ≡ true) bridges
   pub own : has_no_duplicate (λ b c. bytes_eq b.name c.name) bridges ≡ true

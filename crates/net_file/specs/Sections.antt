@@ -1,4 +1,4 @@
--- The sections of a network, key by key.
+-- Bridges, links and streams of a network file, as they are read key by key.
 use Rattle.std.specs.Prelude.{ℕ, ◌-◌, ◌^◌, Bool, true, false, not, ◌&&◌, List, [], ◌∷◌, ◌++◌, Option, Some, None, Result, Ok, Err, nat_le, nat_lt, if◌then◌else◌}
 use Rattle.std.specs.List.{list_any}
 use Rattle.toml.specs.Data.{Data, string, array, Items, no_items, item, Members, get_member}
@@ -59,7 +59,7 @@ read_link_in_list bridges earlier index members = read_link bridges index member
 
 -- STREAM
 
--- True if each item is a text.
+-- True if each item of an array, such as a stream's hops, is a text.
 abbrev pub are_texts : Items → Bool
 are_texts no_items = true
 are_texts (item (string s) ds) = are_texts ds
@@ -96,11 +96,11 @@ hops_value place bridges (Some _) = Err (fault.WrongKind place)
 abbrev pub talker_keys : List NetField
 talker_keys = field.Period ∷ field.From ∷ field.To ∷ field.Least ∷ field.Longest ∷ []
 
--- Keys that a stream's table may have.
+-- Keys that a stream's table in a network file may have.
 abbrev pub stream_keys : List NetField
 stream_keys = field.Name ∷ field.Hops ∷ field.Period ∷ field.From ∷ field.To ∷ field.Least ∷ field.Longest ∷ field.Deadline ∷ []
 
--- True if an optional value is present.
+-- True if the optional value of a key is present.
 abbrev pub is_present : Option Data → Bool
 is_present None = false
 is_present (Some d) = true

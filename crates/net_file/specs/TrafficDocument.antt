@@ -16,10 +16,10 @@ row_items members = do
   keys ← provided (has_only_sections (section.Traffic ∷ []) members) (fault.UnknownKey section.Top 0)
   section_items section.Traffic members
 
--- The rows of a document, or the first fault.
+-- The rows that the TOML document of a traffic file describes, or its first fault.
 abbrev pub rows_of_document : Members → Result (List TalkerRow) NetFault
 rows_of_document members = row_items members >>= λ items. instances read_row_in_list items
 
--- The rows of a text, or the first fault.
+-- The rows that the text of a traffic file describes, or its first fault.
 abbrev pub rows_of_text : List ℕ → Result (List TalkerRow) NetFault
 rows_of_text text = read_document text >>= rows_of_document

@@ -1,4 +1,4 @@
--- The rows of a traffic file, key by key.
+-- Rows of a traffic file, as they are read key by key.
 use Rattle.std.specs.Prelude.{◌≡◌, ℕ, ◌-◌, ◌^◌, ◌≤◌, Bool, true, List, [], ◌∷◌, All, Result, Ok, nat_eq, nat_lt, if◌then◌else◌}
 use Rattle.std.specs.List.{list_any}
 use Rattle.std.specs.Option.{ForSome}
@@ -44,7 +44,7 @@ read_row index members =
         deadline = deadline;
       })
 
--- The filter of a row.
+-- The number of the filter whose talker a traffic row describes.
 abbrev pub row_filter : TalkerRow → ℕ
 row_filter (row.Periodic r) = r.filter
 row_filter (row.Limited r) = r.filter
@@ -55,7 +55,7 @@ read_talker_row index members =
     if is_limited members then (read_limited_row index members >>= λ r. Ok (row.Limited r))
     else (read_row index members >>= λ r. Ok (row.Periodic r))
 
--- True if one of these rows has the filter.
+-- True if one of the traffic rows is for filter `filter`: two rows of a filter are a fault.
 abbrev pub has_filter : List TalkerRow → ℕ → Bool
 has_filter rows filter = list_any (λ r. nat_eq (row_filter r) filter) rows
 

@@ -32,14 +32,14 @@ impl<A: Allocator + Copy> Model for BridgeRow<A> {
 }
 
 impl<A: Allocator + Copy> BridgeRow<A> {
-    /// Returns the name: 1 to 32 letters, digits, `-` and `_`.
+    /// Returns the name: 1 to 32 letters, digits, `-` and `_`. Lines, links and hops name the bridge by it.
     pub fn name(&self) -> &str
         ensures { result.now ≡ self.now.name }
     {
         self.name.as_str()
     }
 
-    /// Returns the path of the plan's file, as the network file writes it.
+    /// Returns the path of the plan's file, as the network file writes it. Callers that read the plan join it to the network file's folder.
     pub fn plan(&self) -> &str
         ensures { result.now ≡ self.now.plan }
     {

@@ -25,7 +25,7 @@ pub enum NetSection {
 }
 
 impl NetSection {
-    /// Returns the section's name, as files and fault lines spell it. The top of a file has the name `top`.
+    /// Returns the section's name, as files and fault lines spell it. The top of a file has the name `top`. `NetSection::spell` calls it.
     pub fn name(self) -> &'static str
         ensures name { result.now ≡ section_name self }
     {
@@ -79,7 +79,7 @@ pub enum NetField {
 }
 
 impl NetField {
-    /// Returns the key as files and fault lines spell it.
+    /// Returns the key as files and fault lines spell it. `NetField::spell` calls it.
     pub fn key(self) -> &'static str
         ensures spelling { result.now ≡ key_name self }
     {
@@ -192,6 +192,7 @@ impl<T: Drop> From<AllocFailed<T>> for NetFault {
 }
 
 /// Returns the largest number of instances of a section; 0 for the top, which has none. More instances are the fault `TooMany`.
+/// `NetSection::limit`, and `put_net_fault` of `show_explain` call it.
 pub fn max_instances(section: NetSection) -> usize
     ensures { result ≡ spec.max_instances section }
 {

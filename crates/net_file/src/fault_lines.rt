@@ -1,12 +1,13 @@
 //! Fault lines of refused network and traffic files, which commands print.
 ghost use Rattle.std.specs.Prelude.{◌≡◌, IfOk, codes, string_bytes};
-ghost use Rattle.net_file.specs.Lines.{instance_text, key_text, refusal_line, fault_line, refusal_text, refusal_with_detail};
+ghost use Rattle.net_file.specs.Lines.{instance_text, key_text, refusal_line, fault_line, refusal_text, located_refusal};
 
 use crate::fault::{NetFault, NetKeyLocation, NetSection};
 use bridge_limits::NoMemory;
 use std::alloc::Allocator;
 
 /// Returns the fault line of a network without line feed, for example `network refused: OutOfRange link 2 delay` or `no memory`.
+/// `check_periods` and `refused_text_fault` of `net_check`, and `traffic_refusal` of `net_latency` call it.
 pub fn fault_line<A: Allocator + Copy>(alloc: A, fault: &NetFault) -> Result<String<A>, NoMemory>
     ensures { IfOk result (λ line. string_bytes line ≡ fault_line fault.now) }
 {
@@ -28,7 +29,7 @@ pub fn refusal_line<A: Allocator + Copy>(
         NetFault::UnknownKey(section, index) => {
             instance_refusal(alloc, kind, "UnknownKey", *section, *index)
         }
-        NetFault::NotAList(section) => refusal_with_detail(alloc, kind, "NotAList", section.name()),
+        NetFault::NotAList(section) => located_refusal(alloc, kind, "NotAList", section.name()),
         NetFault::Missing(place) => key_refusal(alloc, kind, "Missing", place),
         NetFault::WrongKind(place) => key_refusal(alloc, kind, "WrongKind", place),
         NetFault::OutOfRange(place) => key_refusal(alloc, kind, "OutOfRange", place),
@@ -36,7 +37,7 @@ pub fn refusal_line<A: Allocator + Copy>(
             instance_refusal(alloc, kind, "Duplicate", *section, *index)
         }
         NetFault::Unresolved(place) => key_refusal(alloc, kind, "Unresolved", place),
-        NetFault::TooMany(section) => refusal_with_detail(alloc, kind, "TooMany", section.name()),
+        NetFault::TooMany(section) => located_refusal(alloc, kind, "TooMany", section.name()),
         NetFault::NoMemory => no_memory_line(alloc),
     }
 }
@@ -65,15 +66,15 @@ fn refusal_text<A: Allocator + Copy>(
     }
 }
 
-/// Returns the line `KIND refused: NAME PLACE`. `place` is the location in words, such as `link 2 delay`. `refusal_line`,
-/// `instance_refusal` and `key_refusal` call it.
-fn refusal_with_detail<A: Allocator + Copy>(
+/// Returns the fault line `KIND refused: NAME PLACE`: `kind` is `network` or `traffic`, `name` the fault, `place` its location, such as
+/// `link 2 delay`. `refusal_line`, `instance_refusal` and `key_refusal` call it.
+fn located_refusal<A: Allocator + Copy>(
     alloc: A,
     kind: &str,
     name: &str,
     place: &str,
 ) -> Result<String<A>, NoMemory>
-    ensures { IfOk result (λ line. string_bytes line ≡ refusal_with_detail kind.now name.now place.now) }
+    ensures { IfOk result (λ line. string_bytes line ≡ located_refusal kind.now name.now place.now) }
 {
     match format!(in alloc; "{kind} refused: {name} {place}") {
         Ok(line) => Ok(line),
@@ -91,12 +92,12 @@ fn instance_refusal<A: Allocator + Copy>(
     index: u32,
 ) -> Result<String<A>, NoMemory>
     ensures { IfOk result (λ line. string_bytes line
-        ≡ refusal_with_detail kind.now name.now (instance_text section index)) }
+        ≡ located_refusal kind.now name.now (instance_text section index)) }
 {
     let Ok(words) = instance_words(alloc, section, index) else {
         return Err(NoMemory);
     };
-    refusal_with_detail(alloc, kind, name, words.as_str())
+    located_refusal(alloc, kind, name, words.as_str())
 }
 
 /// Returns the fault line of an instance's key, such as `network refused: OutOfRange link 2 delay`. `refusal_line` calls it.
@@ -106,7 +107,7 @@ fn key_refusal<A: Allocator + Copy>(
     name: &str,
     place: &NetKeyLocation,
 ) -> Result<String<A>, NoMemory>
-    ensures { IfOk result (λ line. string_bytes line ≡ refusal_with_detail kind.now name.now (key_text place.now)) }
+    ensures { IfOk result (λ line. string_bytes line ≡ located_refusal kind.now name.now (key_text place.now)) }
 {
     let Ok(words) = instance_words(alloc, place.section, place.index) else {
         return Err(NoMemory);
@@ -115,7 +116,7 @@ fn key_refusal<A: Allocator + Copy>(
     let Ok(key_words) = format!(in alloc; "{words} {key}") else {
         return Err(NoMemory);
     };
-    refusal_with_detail(alloc, kind, name, key_words.as_str())
+    located_refusal(alloc, kind, name, key_words.as_str())
 }
 
 /// Returns the section's name and the instance's number `index`, from 1, such as `link 2`. If the number is 0, returns only the name.

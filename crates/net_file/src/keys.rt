@@ -179,7 +179,7 @@ pub enum NetAllowed {
 }
 
 /// Returns the values that a key allows, for explanations of faults. Other keys can restrict them further: a talker's phases must be less
-/// than its period.
+/// than its period. `put_allowed` and `allowed_number` of `show_explain` call it.
 pub fn allowed_value(field: NetField) -> NetAllowed {
     match field {
         NetField::Bridge => NetAllowed::Tables,

@@ -31,7 +31,7 @@ pub enum FrameLimit {
     Count {
         /// Largest number of frames that the talker sends in less than `period` ns.
         frames: u64,
-        /// Period in ns.
+        /// Length of the period in ns.
         period: u64,
     },
 }

@@ -64,7 +64,7 @@ pub fn is_numbered_name(text: &str, low: u32, high: u32) -> bool
     split_numbered_name(text, low, high).is_some()
 }
 
-/// Returns the index of the bridge with this name, from 0. Returns `None` if no bridge has it. `resolve_numbered_name` calls it.
+/// Returns the index of the bridge with name `name`, from 0. Returns `None` if no bridge has it. `resolve_numbered_name` calls it.
 fn bridge_index<A: Allocator + Copy>(bridges: &[BridgeRow<A>], name: &str) -> Option<u16>
     requires { length bridges.now ≤ 64 }
     ensures place { result ≡ spec.bridge_index bridges.now name.now }

@@ -40,7 +40,8 @@ impl<A: Allocator + Copy> Model for NetworkFile<A> {
 }
 
 impl<A: Allocator + Copy> NetworkFile<A> {
-    /// Returns the bridges, in file order. Links and hops name a bridge by its index in this list.
+    /// Returns the bridges, in file order. Links and hops name a bridge by its index in this list. Functions of `app_networks`, `net_check`
+    /// and `net_latency` call it.
     pub fn bridges(&self) -> &[BridgeRow<A>]
         ensures bridges { result.now ≡ self.now.bridges }
         ensures rules { rules.IsNetwork self.now }
@@ -48,7 +49,7 @@ impl<A: Allocator + Copy> NetworkFile<A> {
         &self.bridges
     }
 
-    /// Returns the links, in file order.
+    /// Returns the links, in file order. Runs, checks and pictures of networks need them.
     pub fn links(&self) -> &[LinkRow]
         ensures links { result.now ≡ self.now.links }
         ensures rules { rules.IsNetwork self.now }
@@ -56,7 +57,7 @@ impl<A: Allocator + Copy> NetworkFile<A> {
         &self.links
     }
 
-    /// Returns the streams, in file order.
+    /// Returns the streams, in file order. Runs, checks and pictures of networks need them.
     pub fn streams(&self) -> &[StreamRow<A>]
         ensures streams { result.now ≡ self.now.streams }
         ensures rules { rules.IsNetwork self.now }
@@ -133,6 +134,8 @@ fn read_sections<A: Allocator + Copy>(
 
 /// Reads the TOML document of a network or traffic file into `heap`. `TooLong` is a text above 1,048,576 octets, `Syntax` a text that isn't
 /// TOML in UTF-8.
+///
+/// `parse_network`, `parse_traffic` and functions of `net_check` and `net_latency` call it.
 #[tactic(auto, unfolding(crate::specs::Document::read_document))]
 pub fn read_document(heap: Global, text: &[u8]) -> Result<Table, NetFault>
     ensures { GivesAs table_view result (doc.read_document text.now) }

@@ -14,6 +14,8 @@ use toml::{Table, Value};
 
 /// Reads the value of the required key at `place` from its table. `kind` defines the allowed values. Returns the fault `Missing` if the key
 /// is absent. Allocates no memory. Sections are read by it.
+///
+/// `read_rate`, `read_count` and others call it.
 #[tactic(auto, unfolding(crate::specs::Keys::read_required))]
 pub fn read_required<K: ValueKind>(
     table: &Table,
@@ -29,6 +31,8 @@ pub fn read_required<K: ValueKind>(
 
 /// Reads the value of the optional key at `place` from its table. `kind` defines the allowed values. Returns `None` if the key is absent.
 /// Allocates no memory. Sections are read by it.
+///
+/// `read_limited_row`, `read_deadline` and `read_row` call it.
 #[tactic(auto, unfolding(crate::specs::Keys::read_optional))]
 pub fn read_optional<K: ValueKind>(
     table: &Table,

@@ -50,21 +50,23 @@ impl<A: Allocator + Copy> Model for StreamRow<A> {
 }
 
 impl<A: Allocator + Copy> StreamRow<A> {
-    /// Returns the name: 1 to 32 letters, digits, `-` and `_`.
+    /// Returns the name: 1 to 32 letters, digits, `-` and `_`. Lines and tables name the stream by it.
     pub fn name(&self) -> &str
         ensures { result.now ≡ self.now.name }
     {
         self.name.as_str()
     }
 
-    /// Returns the hops from talker to listener: each has the index of its bridge, from 0, and its filter number.
+    /// Returns the hops from talker to listener: each has the index of its bridge, from 0, and its filter number. Functions of
+    /// `app_networks`, `net_check`, `net_latency` and other crates call it.
     pub fn hops(&self) -> &[(u16, u32)]
         ensures { result.now ≡ self.now.hops }
     {
         self.hops.as_slice()
     }
 
-    /// Returns the stream's periodic talker, or `None` if the stream has none in the file.
+    /// Returns the stream's periodic talker, or `None` if the stream has none in the file. Functions of `net_check` and `net_latency` call
+    /// it.
     pub fn talker(&self) -> Option<Talker>
         ensures { result ≡ self.now.talker }
     {
@@ -72,7 +74,7 @@ impl<A: Allocator + Copy> StreamRow<A> {
     }
 
     /// Returns the largest allowed delay in ns, from arrival at the first hop to the end of transmission at the last hop. `None` means no
-    /// limit.
+    /// limit. Functions of `app_networks`, `net_check` and `net_latency` call it.
     pub fn deadline(&self) -> Option<u64>
         ensures { result ≡ self.now.deadline }
     {

@@ -40,7 +40,8 @@ fn is_present(value: Option<&Value>) -> bool
     }
 }
 
-/// Returns whether a table has at least one of these keys. By it, streams have a talker, and traffic rows a limit.
+/// Returns whether a table has at least one of these keys. By it, streams have a talker, and traffic rows a limit. `is_limited`,
+/// `has_limited_keys` and others call it.
 pub(crate) fn has_any_key(table: &Table, keys: &[NetField]) -> bool
     ensures { result ≡ sections.has_any_key keys.now (table_view table.now) }
 {
@@ -92,7 +93,7 @@ fn read_talker(index: u32, table: &Table) -> Result<Talker, NetFault>
     })
 }
 
-/// Reads the talker of stream `index`. Returns `None` if the stream's table has none of a talker's keys. Allocates no memory. `read_stream`
+/// Reads the talker of stream `index`. Returns `None` if the stream's table has no key of a talker. Allocates no memory. `read_stream`
 /// calls it.
 pub(crate) fn read_optional_talker(index: u32, table: &Table) -> Result<Option<Talker>, NetFault>
     ensures reads { Gives result (sections.read_optional_talker index (table_view table.now)) }

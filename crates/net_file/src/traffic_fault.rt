@@ -23,7 +23,8 @@ pub enum TrafficFault {
     NotGrouped(u32),
 }
 
-/// Returns the fault line without line feed, for example `traffic refused: NotProtected traffic 1` or `no memory`.
+/// Returns the fault line without line feed, for example `traffic refused: NotProtected traffic 1` or `no memory`. The failure of `bounds
+/// --traffic` contains it.
 pub fn traffic_fault_line<A: Allocator + Copy>(
     alloc: A,
     fault: &TrafficFault,

@@ -37,7 +37,7 @@ pub enum TalkerRow {
 }
 
 impl TalkerRow {
-    /// Returns the number of the row's filter.
+    /// Returns the number of the row's filter. `queue_timings` of `net_latency` needs it.
     pub fn filter(&self) -> u32
         ensures { result ≡ spec.row_filter self.now }
     {
@@ -48,7 +48,7 @@ impl TalkerRow {
     }
 }
 
-/// Returns the location of a key of row `index`, from 1, for a fault.
+/// Returns the location of a key of row `index`, from 1, for a fault. `read_rate`, `read_count` and others call it.
 pub(crate) fn row_key(index: u32, field: NetField) -> NetKeyLocation
     ensures { result ≡ record { section = the_section.Traffic; index = index; field = field } }
 {

@@ -49,7 +49,7 @@ use Rattle.net_latency.specs.declared.latency.StreamLatency.{StreamLatency}
 use Rattle.net_latency.specs.declared.queue_exit.HopArrival.{HopArrival}
 use Rattle.net_latency.specs.declared.tree.HopQueue.{HopQueue}
 use Rattle.net_latency.specs.Delivered.{AreCommands, FollowsPath, HasPorts, HasReachableQueues, HaveSameCopies, IsAcceptedNetwork, IsForwardedAlong, IsForwardedByPort, IsStreamOfNetwork}
-use Rattle.net_latency.specs.Entering.{are_handed, come_in_once, is_handed}
+use Rattle.net_latency.specs.Entering.{are_received_by_next_hops, come_in_once, is_handed}
 use Rattle.net_latency.specs.NextHop.{hop_at_bridge, next_hop}
 use Rattle.net_latency.specs.Phased.{HasHopTiming, IsRouteOfStream, KeepsTrafficAtHop, queue_of_route_hop, stream_hop}
 use Rattle.net_latency.specs.StreamLatency.{HopPasses, IsHopLatency, IsHopLatencyByQueues, StreamModel, arrival_over_link}
@@ -66,7 +66,7 @@ use Rattle.net_latency.proofs.SentCopies.{IsCopyOfFrame, at_any_time, frame_copy
 
 module _ {A : Type 0} (n : NetworkParts A) (hops : List StreamHop) (queues : List HopQueue) (first : StreamHop) (from : ℕ) (commands : ℕ → List Input) (captures : ℕ → ℕ → List CapturedFrame) (o : ℕ → Outcome A)
     (accepted : IsAcceptedNetwork n) (known : IsStreamOfNetwork n hops) (all : HasReachableQueues n.plans hops queues) (commanded : AreCommands commands)
-    (begins : slice_get hops 0 ≡ Some first) (once : come_in_once n.plans n.links true hops ≡ true) (tree : is_tree n.links hops queues first ≡ true) (handed : are_handed n.plans n.links hops queues ≡ true)
+    (begins : slice_get hops 0 ≡ Some first) (once : come_in_once n.plans n.links true hops ≡ true) (tree : is_tree n.links hops queues first ≡ true) (handed : are_received_by_next_hops n.plans n.links hops queues ≡ true)
     (run : IsNetworkRun (network_value n) commands captures o) where
   net : IsNetwork (network_value n)
   net = accepted.checked.network

@@ -17,7 +17,7 @@ use Rattle.net_model.specs.Networks.{IsNetworkRun}
 use Rattle.net_latency.specs.declared.latency.StreamLatency.{StreamLatency}
 use Rattle.net_latency.specs.declared.tree.HopQueue.{HopQueue}
 use Rattle.net_latency.specs.Delivered.{AreCommands, HasReachableQueues, IsAcceptedNetwork, IsStreamOfNetwork}
-use Rattle.net_latency.specs.Entering.{IsStreamCourse, are_handed, come_in_once, handed_course, tested_course}
+use Rattle.net_latency.specs.Entering.{IsStreamCourse, are_received_by_next_hops, come_in_once, handed_course, tested_course}
 use Rattle.net_latency.specs.Phased.{IsRouteOfStream, KeepsStreamLatency, KeepsTrafficAtHop, stream_hop}
 use Rattle.net_latency.specs.StreamLatency.{IfElse, IsHopLatency, IsLatencyWithinOther, IsStreamLatency, IsStreamLatencyFromHop, StreamModel, first_hop_arrival}
 use Rattle.net_latency.specs.Trees.{is_tree}
@@ -31,10 +31,10 @@ pub record HasCourse {A : Type 0} (plans : List (Plan A)) (links : List Link) (h
   pub course : StreamLatency
   pub is : IsStreamLatency plans links hops queues t (Some course)
   pub once : come_in_once plans links true hops ≡ true
-  pub same : handed_course (are_handed plans links hops queues) course ≡ r
+  pub same : handed_course (are_received_by_next_hops plans links hops queues) course ≡ r
 
 course_by : {A : Type 0} (plans : List (Plan A)) (links : List Link) (hops : List StreamHop) (queues : List HopQueue) (t : Traffic) (r : StreamLatency) (c : Option StreamLatency) (once : Bool)
-    → IsStreamLatency plans links hops queues t c → come_in_once plans links true hops ≡ once → Some r ≡ tested_course once (are_handed plans links hops queues) c → HasCourse plans links hops queues t r
+    → IsStreamLatency plans links hops queues t c → come_in_once plans links true hops ≡ once → Some r ≡ tested_course once (are_received_by_next_hops plans links hops queues) c → HasCourse plans links hops queues t r
 course_by plans links hops queues t r None once is test e = absurd (some_is_none r e)
 course_by plans links hops queues t r (Some x) true is test e = record { course = x; is = is; once = test; same = sym (same_Some r _ e) }
 course_by plans links hops queues t r (Some x) false is test e = absurd (some_is_none r e)
@@ -68,4 +68,4 @@ kept n hops queues t r commands captures o run leg more accepted listed all comm
     let fed = fed_in_turn n hops queues (stream_hop leg) commands captures o accepted listed all commanded begins c.once h.tree run leg more way of in
     let f = figures_of_way (network_value n) run.lists n.links hops queues t leg more c.course way begins of c.is in
     let held = way_in_phases (network_value n) commands captures o accepted.checked.network run leg more t f.figures f.done way fed traffic keeps f.are in
-    record { figures = f.figures; done = f.done; are = f.are; within = same_within (are_handed n.plans n.links hops queues) f.figures c.course r c.same f.within; keeps = held }
+    record { figures = f.figures; done = f.done; are = f.are; within = same_within (are_received_by_next_hops n.plans n.links hops queues) f.figures c.course r c.same f.within; keeps = held }

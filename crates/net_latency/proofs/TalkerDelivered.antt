@@ -21,7 +21,7 @@ use Rattle.net_model.specs.Networks.{IsNetworkRun}
 use Rattle.net_latency.specs.declared.latency.StreamLatency.{StreamLatency}
 use Rattle.net_latency.specs.declared.tree.HopQueue.{HopQueue}
 use Rattle.net_latency.specs.Delivered.{AreCommands, CompareDestinations, HasPath, HasReachableQueues, IsAcceptedNetwork, IsDeliveredAlong, IsForwardedAlong, IsFrameOfHop, IsStreamOfNetwork, IsWithinStreamLatency, KeepsTrafficOfHop}
-use Rattle.net_latency.specs.Entering.{IsStreamCourse, are_handed, come_in_once}
+use Rattle.net_latency.specs.Entering.{IsStreamCourse, are_received_by_next_hops, come_in_once}
 use Rattle.net_latency.specs.Phased.{IsWithinRouteLatency, KeepsTrafficAtHop, stream_hop}
 use Rattle.net_latency.specs.StreamLatency.{IsLatencyWithinOther, first_hop_arrival}
 use Rattle.net_latency.specs.Ways.{RouteHop, hop_end, last_hop}
@@ -62,7 +62,7 @@ within_stream period at end x r done within is =
 
 -- The first hop, with one of its frames.
 at_first : {A : Type 0} (n : NetworkParts A) (hops : List StreamHop) (queues : List HopQueue) (first : StreamHop) (t : Traffic) (commands : ℕ → List Input) (captures : ℕ → ℕ → List CapturedFrame) (o : ℕ → Outcome A) (accepted : IsAcceptedNetwork n) (known : IsStreamOfNetwork n hops) (all : HasReachableQueues n.plans hops queues) (commanded : AreCommands commands)
-    (begins : slice_get hops 0 ≡ Some first) (once : come_in_once n.plans n.links true hops ≡ true) (tree : is_tree n.links hops queues first ≡ true) (handed : are_handed n.plans n.links hops queues ≡ true) (run : IsNetworkRun (network_value n) commands captures o) (a : Arrival)
+    (begins : slice_get hops 0 ≡ Some first) (once : come_in_once n.plans n.links true hops ≡ true) (tree : is_tree n.links hops queues first ≡ true) (handed : are_received_by_next_hops n.plans n.links hops queues ≡ true) (run : IsNetworkRun (network_value n) commands captures o) (a : Arrival)
     → IsTraffic t → KeepsTrafficOfHop n.plans run.inputs t first → IsFrameOfHop n.plans run.inputs first a → IsAtHop n hops queues first t.from commands captures o accepted known all commanded begins once tree handed run first t a
 at_first {A} n hops queues first t commands captures o accepted known all commanded begins once tree handed run a traffic keeps frame =
     let g = filter_of n hops first accepted known (members.in_at hops 0 first begins) in
@@ -91,7 +91,7 @@ pub delivered : {A : Type 0} (n : NetworkParts A) (hops : List StreamHop) (queue
 delivered {A} n hops queues t r first commands captures o run a q ports accepted known all commanded traffic begins keeps is pass frame way =
     let c = course_of n.plans n.links hops queues t r is in
     let h = hop_course n.plans n.links hops queues t first c.course begins c.is in
-    let (passes, handed) = and_parts c.course.passes (are_handed n.plans n.links hops queues) (ap (λ (z : StreamLatency). z.passes) c.same ∙ pass) in
+    let (passes, handed) = and_parts c.course.passes (are_received_by_next_hops n.plans n.links hops queues) (ap (λ (z : StreamLatency). z.passes) c.same ∙ pass) in
     let here_first = at_first n hops queues first t commands captures o accepted known all commanded begins c.once h.tree handed run a traffic keeps frame in
     let x = deliver n hops queues first t.from commands captures o accepted known all commanded begins c.once h.tree handed run (length hops) ports first (first_hop_arrival t) c.course a q
     here_first h.told passes way in
@@ -118,6 +118,6 @@ pub has_path : {A : Type 0} (n : NetworkParts A) (hops : List StreamHop) (queues
 has_path n hops queues t r first commands captures o run a accepted known all commanded traffic begins keeps is pass frame compare =
     let c = course_of n.plans n.links hops queues t r is in
     let h = hop_course n.plans n.links hops queues t first c.course begins c.is in
-    let (passes, handed) = and_parts c.course.passes (are_handed n.plans n.links hops queues) (ap (λ (z : StreamLatency). z.passes) c.same ∙ pass) in
+    let (passes, handed) = and_parts c.course.passes (are_received_by_next_hops n.plans n.links hops queues) (ap (λ (z : StreamLatency). z.passes) c.same ∙ pass) in
     let here = at_first n hops queues first t commands captures o accepted known all commanded begins c.once h.tree handed run a traffic keeps frame in
     path_of n hops queues first t.from commands captures o accepted known all commanded begins c.once h.tree handed run compare first (length hops) (first_hop_arrival t) c.course a here h.told passes

@@ -27,7 +27,7 @@ use Rattle.net_latency.specs.declared.next_hop.NextHop.{NextHop}
 use Rattle.net_latency.specs.declared.queue_exit.HopArrival.{HopArrival}
 use Rattle.net_latency.specs.declared.tree.HopQueue.{HopQueue}
 use Rattle.net_latency.specs.Delivered.{AreCommands, CompareDestinations, HasPath, HasReachableQueues, IsAcceptedNetwork, IsForwardedAlong, IsForwardedByPort, IsStreamOfNetwork}
-use Rattle.net_latency.specs.Entering.{are_handed, come_in_once, is_handed}
+use Rattle.net_latency.specs.Entering.{are_received_by_next_hops, come_in_once, is_handed}
 use Rattle.net_latency.specs.NextHop.{hop_at_bridge, next_hop, next_hop_over_link}
 use Rattle.net_latency.specs.Phased.{HasHopTiming}
 use Rattle.net_latency.specs.StreamLatency.{IsHopLatency, IsHopLatencyByQueues, arrival_over_link}
@@ -49,7 +49,7 @@ forwarded p m a (way.Forwarded set c) plan e own = some_port p a.octets a.len a.
 
 module _ {A : Type 0} (n : NetworkParts A) (hops : List StreamHop) (queues : List HopQueue) (first : StreamHop) (from : ℕ) (commands : ℕ → List Input) (captures : ℕ → ℕ → List CapturedFrame) (o : ℕ → Outcome A)
     (accepted : IsAcceptedNetwork n) (known : IsStreamOfNetwork n hops) (all : HasReachableQueues n.plans hops queues) (commanded : AreCommands commands)
-    (begins : slice_get hops 0 ≡ Some first) (once : come_in_once n.plans n.links true hops ≡ true) (tree : is_tree n.links hops queues first ≡ true) (handed : are_handed n.plans n.links hops queues ≡ true)
+    (begins : slice_get hops 0 ≡ Some first) (once : come_in_once n.plans n.links true hops ≡ true) (tree : is_tree n.links hops queues first ≡ true) (handed : are_received_by_next_hops n.plans n.links hops queues ≡ true)
     (run : IsNetworkRun (network_value n) commands captures o) (compare : CompareDestinations n.plans hops) where
   net : IsNetwork (network_value n)
   net = accepted.checked.network

@@ -20,7 +20,7 @@ queue_bound n q c b = record { filter = n; port = q; class = c; bound = b }
 abbrev pub queue_index : ℕ → ℕ → ℕ
 queue_index q c = (q - 1) * 8 + c
 
--- Holds if `a` comes before `b`: by filter, then by port, then by class.
+-- Holds if queue bound `a` precedes queue bound `b` in the list of bounds: by filter, then by port, then by class.
 abbrev pub PrecedesQueue : QueueBound → QueueBound → Type 0
 PrecedesQueue a b = (a.filter < b.filter) ⊎ ((a.filter ≡ b.filter) × (queue_index a.port a.class < queue_index b.port b.class))
 

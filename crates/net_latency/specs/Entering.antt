@@ -76,9 +76,9 @@ hands_to_end plans hops x (Some s) = hands_to_hop plans x s.from (hop_at_bridge 
 abbrev pub is_handed : {A : Type 0} → List (Plan A) → List Link → List StreamHop → HopQueue → Bool
 is_handed plans links hops x = hands_to_end plans hops x (sender (map link_value links) x.hop.bridge x.port)
 
--- True if `is_handed` holds for each queue of the stream.
-abbrev pub are_handed : {A : Type 0} → List (Plan A) → List Link → List StreamHop → List HopQueue → Bool
-are_handed plans links hops queues = list_all (is_handed plans links hops) queues
+-- True if each frame that leaves a queue of the stream gets the filter of the next hop. A queue whose port leads to no hop counts as true.
+abbrev pub are_received_by_next_hops : {A : Type 0} → List (Plan A) → List Link → List StreamHop → List HopQueue → Bool
+are_received_by_next_hops plans links hops queues = list_all (is_handed plans links hops) queues
 
 -- THE DELAYS OF A STREAM
 
@@ -93,9 +93,9 @@ tested_course once handed None = None
 tested_course true handed (Some x) = Some (handed_course handed x)
 tested_course false handed (Some x) = None
 
--- Holds if `r` has the delays of a periodic talker's stream. They are unknown if other frames can get its handles. `passes` needs that each
--- hop's frames get the next hop's filter.
+-- Holds if `r` has the delays of a periodic talker's stream. They are unknown if other frames can get its handles. The flag `passes` needs
+-- that each hop's frames get the next hop's filter.
 abbrev pub IsStreamCourse : {A : Type 0} → List (Plan A) → List Link → List StreamHop → List HopQueue → Traffic → Option StreamLatency → Type 0
 IsStreamCourse plans links hops queues t r =
     (c : Option StreamLatency) × IsStreamLatency plans links hops queues t c
-    × (r ≡ tested_course (come_in_once plans links true hops) (are_handed plans links hops queues) c)
+    × (r ≡ tested_course (come_in_once plans links true hops) (are_received_by_next_hops plans links hops queues) c)

@@ -38,7 +38,8 @@ sent_frames p n (Arrived a ∷ es) =
     else sent_frames p n es
 sent_frames p n (Cleared clear k ∷ es) = sent_frames p n es
 
--- Holds if frames keep a burst and a rate. In any `w` ns, their metered octets are at most the burst and what the rate gives in `w` ns.
+-- Holds if frames keep a burst and a rate. In any `w` ns, their metered octets are at most the burst and the octets that the rate gives in
+-- `w` ns.
 abbrev pub KeepsRate : ℕ → ℕ → List SentFrame → Type 0
 KeepsRate burst rate [] = Unit {0}
 KeepsRate burst rate (x ∷ xs) = ((u w : ℕ) → x.at ≡ u + w → recent_sent_octets u (x ∷ xs) * octet_units ≤ burst * octet_units + rate * w) × KeepsRate burst rate xs

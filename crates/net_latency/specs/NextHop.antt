@@ -21,6 +21,6 @@ abbrev pub next_hop_over_link : List StreamHop → Option Sender → Option Next
 next_hop_over_link hops None = None
 next_hop_over_link hops (Some s) = option_map (λ (h : StreamHop). record { hop = h; delay = s.delay }) (hop_at_bridge hops s.from.bridge)
 
--- The hop to which port `q` of bridge `b` leads over its link, with the link's delay in ns. `None` if it leads to no hop.
+-- The hop to which port `q` of bridge `b` leads over its link, with the link's delay in ns. `None` if the port leads to no hop.
 abbrev pub next_hop : List Link → List StreamHop → ℕ → ℕ → Option NextHop
 next_hop links hops b q = next_hop_over_link hops (sender (map link_value links) b q)

@@ -49,7 +49,7 @@ IsOwnInput inputs leg x =
     (f : FilterPlan) × (lookup (nat_eq leg.filter) leg.plan.filters ≡ Some f)
     × IsMember x (own_inputs leg.plan leg.filter f (inputs leg.bridge))
 
--- Holds if an input is a command.
+-- Holds if the input `x` of a bridge is a command, so that it is no frame.
 abbrev pub IsCommand : Input → Type 0
 IsCommand x = (clear : Clear) × (m : ℕ) × (x.event ≡ Cleared clear m)
 
@@ -69,7 +69,7 @@ AreFedInTurn n inputs lists leg (x ∷ more) = IsFedByHop n inputs lists leg x.1
 
 -- DELAYS AND PHASES OF A ROUTE
 
--- Holds if `x` has the delays in the queue of `leg` for frames that arrive as `a` says, and `done` its phases.
+-- Holds if timing `x` is that of the queue of `leg` for frames that arrive as `a` describes, and `done` has its phases.
 pub record HasHopTiming {A : Type 0} (leg : RouteHop A) (a : HopArrival) (x : Timing) (done : Phases) : Type 0 where
   pub timing : IsTiming leg.plan leg.filter leg.port leg.copy.class a.traffic x
   pub phases : x.phases ≡ Some done

@@ -1,4 +1,4 @@
--- Lines of delay bounds.
+-- Lines of delay bounds that `bounds` prints.
 use Rattle.std.specs.Prelude.{◌≡◌, ℕ, Bool, List, [], ◌++◌, Option, None, Some, flat_map, codes, decimal, if◌then◌else◌}
 use Rattle.bridge_config.specs.Model.{Plan}
 use Rattle.app_failure.specs.Jobs.{Accepts}
@@ -17,11 +17,11 @@ abbrev pub padded_figure : Option ℕ → List ℕ
 padded_figure None = []
 padded_figure (Some b) = codes " padded " ++ decimal b
 
--- The line of a queue's delay bound.
+-- The line of `bounds` for the delay bound of a queue.
 unfoldable pub bound_line : TightBound → List ℕ
 bound_line r = codes "filter " ++ (decimal r.filter ++ (codes " port " ++ (decimal r.port ++ (codes " class " ++ (decimal r.class ++ (coarse_mark r.coarse ++ (codes " bound " ++ (decimal r.bound ++ (padded_figure r.padded ++ codes "\n")))))))))
 
--- One line for each delay bound.
+-- The lines of `bounds`, one for each delay bound, in order.
 abbrev pub bounds_text : List TightBound → List ℕ
 bounds_text rows = flat_map bound_line rows
 

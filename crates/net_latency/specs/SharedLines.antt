@@ -1,4 +1,4 @@
--- Lines of the queues that groups share.
+-- Lines of `bounds` about the queues that groups share.
 use Rattle.std.specs.Prelude.{ℕ, Bool, true, List, [], ◌++◌, Option, Some, None, flat_map, codes, decimal, nat_lt, if◌then◌else◌}
 use Rattle.bridge_groups.specs.declared.shared_queues.SharedQueue.{SharedQueue}
 use Rattle.bridge_groups.specs.SharedQueues.{is_bounded_by_gates, least_shared_bound, padded_shared_bound}
@@ -18,15 +18,15 @@ abbrev pub padded_words : Option ℕ → List ℕ
 padded_words None = []
 padded_words (Some padded) = codes " padded " ++ decimal padded
 
--- The words for the capacity that suffices (`none` if none is known), and for the queue's own capacity.
+-- The words for the capacity that suffices (the word `none` if it is unknown), and for the queue's own capacity.
 abbrev pub room_words : Option ℕ → ℕ → List ℕ
 room_words None capacity = codes " room none of " ++ decimal capacity
 room_words (Some room) capacity = codes " room " ++ (decimal room ++ (codes " of " ++ decimal capacity))
 
--- The line of a shared queue.
+-- The line of `bounds` about shared queue `s`: group, port, class, mark, delay bound in ns, and capacities.
 unfoldable pub shared_line : SharedQueue → List ℕ
 shared_line s = codes "group " ++ (decimal s.group ++ (codes " port " ++ (decimal s.port ++ (codes " class " ++ (decimal s.class ++ (shared_mark s ++ (codes " bound " ++ (decimal (least_shared_bound s) ++ (padded_words (padded_shared_bound s) ++ (room_words s.room s.capacity ++ codes "\n"))))))))))
 
--- One line for each shared queue.
+-- The lines of `bounds`, one for each shared queue, in order.
 abbrev pub shared_text : List SharedQueue → List ℕ
 shared_text rows = flat_map shared_line rows

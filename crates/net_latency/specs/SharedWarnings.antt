@@ -1,4 +1,4 @@
--- Warnings about queues that groups share.
+-- Warnings of `bounds` about queues that groups share.
 use Rattle.std.specs.Prelude.{◌≡◌, ℕ, List, [], ◌++◌, Option, Some, None, flat_map, codes, decimal, if◌then◌else◌}
 use Rattle.bridge_config.specs.Model.{Plan}
 use Rattle.bridge_groups.specs.declared.shared_queues.SharedQueue.{SharedQueue}
@@ -36,7 +36,7 @@ lossy_warning s = lossy_words s.room s
 abbrev pub shared_warning : SharedQueue → List ℕ
 shared_warning s = if s.is_metered then (if is_lossy s.room s.capacity then lossy_warning s else []) else if is_bounded_by_gates s then unknown_room_warning s else unmetered_warning s
 
--- One warning for each marked queue.
+-- The warnings of `bounds`, one for each shared queue with a mark.
 abbrev pub shared_warnings : List SharedQueue → List ℕ
 shared_warnings rows = flat_map shared_warning rows
 

@@ -178,7 +178,8 @@ Pairwise R xs ys = ⊥
 abbrev pub is_queue_of_hop : StreamHop → HopQueue → Bool
 is_queue_of_hop h x = nat_eq x.hop.bridge h.bridge
 
--- Holds if `r` has the delays after a step: at the last queue, or by `T` over all routes from the next hop on.
+-- Holds if `r` has the delays of a stream after a step; an unknown step has none. After the last queue, the step has them. Otherwise, `T`
+-- defines them over all routes from the next hop on.
 abbrev pub IsLatencyAfterExit : (StreamHop → HopArrival → Option StreamLatency → Type 0) → Option QueueExit → Option StreamLatency → Type 0
 IsLatencyAfterExit T None r = r ≡ None
 IsLatencyAfterExit T (Some (stop.Last x)) r = r ≡ Some x
@@ -210,13 +211,14 @@ IsHopLatency n (suc k) h a r = IsHopLatencyByQueues (IsHopLatency n k) n h a r
 abbrev pub first_hop_arrival : Traffic → HopArrival
 first_hop_arrival t = record { traffic = t; later = 0; worst = 0; best = 0; passes = true }
 
--- Holds if `r` has the delays of all routes from the optional first hop. They are unknown without a first hop, or if the hops are no tree.
+-- Holds if `r` has the delays over all routes of a stream from the optional first hop. They are unknown without a first hop, or if the hops
+-- are no tree.
 abbrev pub IsStreamLatencyFromHop : {A : Type 0} → StreamModel A → Traffic → Option StreamHop → Option StreamLatency → Type 0
 IsStreamLatencyFromHop n t None r = r ≡ None
 IsStreamLatencyFromHop n t (Some first) r =
     IfElse (is_tree n.links n.hops n.queues first) (IsHopLatency n (length n.hops) first (first_hop_arrival t) r) (r ≡ None)
 
--- Holds if `r` has the delays of all routes of a stream with a periodic talker.
+-- Holds if `r` has the delays over all routes of a stream with the periodic talker `t`.
 abbrev pub IsStreamLatency : {A : Type 0} → List (Plan A) → List Link → List StreamHop → List HopQueue → Traffic → Option StreamLatency → Type 0
 IsStreamLatency plans links hops queues t r =
     IsStreamLatencyFromHop (record { plans = plans; links = links; hops = hops; queues = queues; from = t.from }) t (slice_get hops 0) r

@@ -85,7 +85,8 @@ course_words (Some x) = delay_words x.worst x.best (Some x.phases)
 abbrev pub latency_words : Option StreamLatency → ℕ → List ℕ
 latency_words c bound = course_words c ++ (codes " bound " ++ decimal bound)
 
--- The time between a deadline and a worst delay: the margin of a met deadline, or what a missed one lacks. Empty without a deadline.
+-- The time between a deadline and a worst delay: the margin of a met deadline, or the time by which a missed deadline is exceeded. Empty
+-- without a deadline.
 abbrev pub margin_words : Option ℕ → ℕ → List ℕ
 margin_words None worst = codes ""
 margin_words (Some d) worst = if is_met (Some d) worst then codes " margin " ++ decimal (d - worst) else codes " lacks " ++ decimal (worst - d)
@@ -97,7 +98,7 @@ stream_line bounds links r =
     ++ (deadline_words r.0.deadline (worst_latency r.1 (stream_bound bounds links r.0.hops))
     ++ (margin_words r.0.deadline (worst_latency r.1 (stream_bound bounds links r.0.hops)) ++ codes "\n")))))
 
--- The lines of all streams, in file order.
+-- The lines of `net check` about all streams, in file order.
 abbrev pub stream_lines : {A : Type 0} → List (Vec QueueBound A) → List LinkRow → List (Stream × Option StreamLatency) → List ℕ
 stream_lines bounds links rows = flat_map (stream_line bounds links) rows
 

@@ -67,11 +67,12 @@ filter_queues rows h = map (hop_queue h) (filter (is_queue_of_hop h) rows)
 abbrev pub queues_of_hop : {A : Type 0} → List (Vec QueueBound A) → StreamHop → List HopQueue
 queues_of_hop bounds h = filter_queues (bounds_if_any (slice_get bounds h.bridge)) h
 
--- The reachable queues of all hops, hop by hop.
+-- The reachable queues of all hops of a stream, hop by hop.
 abbrev pub hop_queues : {A : Type 0} → List (Vec QueueBound A) → List StreamHop → List HopQueue
 hop_queues bounds hops = flat_map (queues_of_hop bounds) hops
 
--- Holds if `r` has the delays of the frames of a stream with an optional periodic talker; `None` without a talker.
+-- Holds if `r` has the delays of the frames of a stream's optional periodic talker. It is `None` if the stream has no
+-- talker.
 abbrev pub IsTalkerLatency : {A : Type 0} → List (Plan A) → List Link → List (Vec QueueBound A) → Option Talker → List StreamHop → Option StreamLatency → Type 0
 IsTalkerLatency plans links bounds None hops r = r ≡ None
 IsTalkerLatency plans links bounds (Some t) hops r = IsStreamCourse plans links hops (hop_queues bounds hops) (talker_traffic t) r

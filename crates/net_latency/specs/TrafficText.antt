@@ -34,7 +34,7 @@ abbrev pub deadline_words : Option ℕ → ℕ → List ℕ
 deadline_words None worst = codes ""
 deadline_words (Some d) worst = codes " deadline " ++ (decimal d ++ (codes " " ++ deadline_word (is_met (Some d) worst)))
 
--- The row, filter, port and class of a queue.
+-- The start of a line of `bounds --traffic`: row, filter, port and class of a queue.
 abbrev pub queue_words : QueueTiming → List ℕ
 queue_words x = codes "traffic " ++ (decimal x.row ++ (codes " filter " ++ (decimal x.filter ++ (codes " port " ++ (decimal x.port ++ (codes " class " ++ decimal x.class))))))
 
@@ -48,7 +48,7 @@ abbrev pub delay_words : ℕ → ℕ → Option Phases → List ℕ
 delay_words worst best phases =
     codes " worst " ++ (decimal worst ++ (codes " best " ++ (decimal best ++ (codes " jitter " ++ (decimal (worst - best) ++ phase_words phases)))))
 
--- The words for the delays in a queue.
+-- The words of `bounds --traffic` for the delays of a row in a queue.
 abbrev pub figure_words : QueueTiming → List ℕ
 figure_words x = delay_words x.timing.worst x.timing.best x.timing.phases
 
@@ -71,7 +71,8 @@ timings_text xs = flat_map figures_line xs
 
 -- THE COMMAND `bounds --traffic`
 
--- Holds if the first 1,048,577 octets of a file with the octets `words` have these rows. Longer files are refused.
+-- Holds if a traffic file with the octets `words` has the rows `rows`. The first 1,048,577 octets decide, because a file of more than
+-- 1,048,576 octets is refused.
 abbrev pub ReadsRows : List ℕ → List TalkerRow → Type 0
 ReadsRows words rows = rows_of_text (take 1048577 words) ≡ Ok rows
 
@@ -93,29 +94,29 @@ pub record PrintsTraffic (A : Type 0) (input words lines : List ℕ) (kept : Boo
   pub reads : ReadsRows words rows
   pub are_lines : AreLinesOfTraffic plan rows lines kept
 
--- Holds if the program's fault is `NoMemory`, or has the fault line of traffic fault `e`.
+-- Holds if the command's failure is `NoMemory`, or has the fault line of traffic fault `e`.
 abbrev pub IsTrafficFailure : TrafficFault → Failure → Type 0
 IsTrafficFailure e (fault.Network line) = string_bytes line ≡ traffic_line e
 IsTrafficFailure e fault.NoMemory = Unit {0}
 IsTrafficFailure e f = ⊥
 
--- Holds if fault `f` is a reason to read no rows from the file `words`: `NoMemory`, or the fault of its contents.
+-- Holds if failure `f` is why the traffic file with contents `words` gives no rows: `NoMemory`, or the fault of its contents.
 abbrev pub RefusesRows : List ℕ → Failure → Type 0
 RefusesRows words f = (f ≡ fault.NoMemory) ⊎ ((e : NetFault) × (rows_of_text (take 1048577 words) ≡ Err e) × IsTrafficFailure (text.Text e) f)
 
--- Holds if fault `f` is a reason to print no delays of these rows: `NoMemory`, or the first row that doesn't suit the plan.
+-- Holds if failure `f` is why the program prints no delays of these rows: `NoMemory`, or the first row that doesn't suit the plan.
 abbrev pub RefusesTimings : {A : Type 0} → Plan A → List TalkerRow → Failure → Type 0
 RefusesTimings p rows f = (f ≡ fault.NoMemory) ⊎ ((e : TrafficFault) × (first_row_fault p 1 rows ≡ Some e) × IsTrafficFailure e f)
 
--- Holds if fault `f` ends the command over an accepted plan. In this order: `file` can't be read, its text `words` is refused, or its rows
--- don't suit the plan.
+-- Holds if failure `f` can end `bounds --traffic` for an accepted plan. In this order: `file` can't be read, its text `words` is refused,
+-- or its rows don't suit the plan.
 abbrev pub EndsRows : {A : Type 0} → Plan A → List ℕ → List ℕ → Failure → Type 0
 EndsRows p file words f =
     IsFileFault file f
     ⊎ (RefusesRows words f
     ⊎ ((rows : List TalkerRow) × ReadsRows words rows × RefusesTimings p rows f))
 
--- Holds if fault `f` ends `bounds --traffic`: a fault of the plan file, or of the traffic file for an accepted plan.
+-- Holds if failure `f` can end `bounds --traffic`: the plan file failed or is refused, or the traffic file for an accepted plan.
 abbrev pub EndsTraffic : (A : Type 0) → List ℕ → List ℕ → List ℕ → List ℕ → Failure → Type 0
 EndsTraffic A path input file words f = EndsCheck A path input f ⊎ ((plan : Plan A) × Accepts input plan × EndsRows plan file words f)
 
@@ -129,17 +130,19 @@ pub record PrintsRows (A : Type 0) (input words lines : List ℕ) (kept : Bool) 
   pub reads : rows_of_text words ≡ Ok rows
   pub are_lines : AreLinesOfTraffic plan rows lines kept
 
--- Holds if fault `f` is `NoMemory`, or says why the traffic text `words` gives no rows.
+-- Holds if failure `f` is `NoMemory`, or why the traffic text `words` is refused.
 abbrev pub RefusesWords : List ℕ → Failure → Type 0
 RefusesWords words f = (f ≡ fault.NoMemory) ⊎ ((e : NetFault) × (rows_of_text words ≡ Err e) × IsTrafficFailure (text.Text e) f)
 
--- Holds if fault `f` ends the command over an accepted plan. The file can't be read, its text `words` is refused, or its rows don't suit the plan.
+-- Holds if failure `f` can end `bounds --traffic` for an accepted plan. The file can't be read, its text `words` is refused, or its rows
+-- don't suit the plan.
 abbrev pub EndsWords : {A : Type 0} → Plan A → List ℕ → List ℕ → Failure → Type 0
 EndsWords p file words f =
     IsFileFault file f
     ⊎ (RefusesWords words f
     ⊎ ((rows : List TalkerRow) × (rows_of_text words ≡ Ok rows) × RefusesTimings p rows f))
 
--- Holds if fault `f` ends `bounds --traffic` over traffic text `words`: a fault of the plan file, or of the traffic for an accepted plan.
+-- Holds if failure `f` can end `bounds --traffic` over traffic text `words`. The plan file failed or is refused, or the traffic for an
+-- accepted plan.
 abbrev pub EndsTexts : (A : Type 0) → List ℕ → List ℕ → List ℕ → List ℕ → Failure → Type 0
 EndsTexts A path input file words f = EndsCheck A path input f ⊎ ((plan : Plan A) × Accepts input plan × EndsWords plan file words f)

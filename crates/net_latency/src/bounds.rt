@@ -79,6 +79,8 @@ fn bound_in_reach<A: Allocator + Copy>(
 
 /// Appends to `rows` the bound of the filter with index `at` in `order`. Its queue is `place`, 0 to 127 by port and class. Appends nothing
 /// if the filter is unprotected or can't reach it.
+///
+/// `put_filter_bounds` calls it.
 fn put_bound<A: Allocator + Copy>(
     accepted: &Accepted<A>,
     order: &[(u32, FilterPlan)],

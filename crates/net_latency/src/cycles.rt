@@ -21,7 +21,7 @@ use std::fs;
 use std::rt::Files;
 use toml::Table;
 
-/// A traffic file that was read again for an explanation, and the path of its plan. The functions below take it as `asked`.
+/// A traffic file that was read again for an explanation, and the path of its plan. Functions that explain the file take it as `asked`.
 #[derive(Clone, Copy)]
 struct TrafficText<'a> {
     /// Path of the traffic file.
@@ -74,8 +74,14 @@ fn traffic_text<'a>(
     }
 }
 
-/// Appends the path of the traffic file, and the position of the key `field` in row `index`, from 1.
-fn put_place(said: &mut TextBuilder<Global>, asked: TrafficText<'_>, index: u32, field: NetField) {
+/// Appends the path of the traffic file, and the position of the key `field` in row `index`, from 1. `explain_grouped_filter`,
+/// `explain_limited_row` and others call it.
+fn put_row_position(
+    said: &mut TextBuilder<Global>,
+    asked: TrafficText<'_>,
+    index: u32,
+    field: NetField,
+) {
     let row = Instance {
         document: asked.document,
         section: NetSection::Traffic.name(),
@@ -140,7 +146,7 @@ fn explain_grouped_filter(
     group: u32,
 ) -> Option<String> {
     let mut said = TextBuilder::new(alloc);
-    put_place(&mut said, asked, index, NetField::Filter);
+    put_row_position(&mut said, asked, index, NetField::Filter);
     let span = row.traffic.to.saturating_sub(row.traffic.from);
     said.put_template(
         "`filter` of `traffic` {0} is {1}, a filter of group {2} in the plan {a}. The bound of a shared queue needs no phases.\nIts talker sends at most one frame in any {3} ns: give `frames = 1` and `period = {3}` instead of `from` and `to`.\n",
@@ -179,7 +185,7 @@ fn explain_limited_row(
         ),
     };
     let mut said = TextBuilder::new(alloc);
-    put_place(&mut said, asked, index, NetField::Filter);
+    put_row_position(&mut said, asked, index, NetField::Filter);
     said.put_template(
         template,
         &[u64::from(index), u64::from(number)],
@@ -210,7 +216,7 @@ fn explain_unusable_filter(
         ),
     };
     let mut said = TextBuilder::new(alloc);
-    put_place(&mut said, asked, index, NetField::Filter);
+    put_row_position(&mut said, asked, index, NetField::Filter);
     said.put_template(
         template,
         &[u64::from(index), u64::from(number)],
@@ -338,7 +344,7 @@ fn explain_row(
     row: &TrafficRow,
 ) -> Option<String> {
     let mut said = TextBuilder::new(alloc);
-    put_place(&mut said, asked, index, NetField::Period);
+    put_row_position(&mut said, asked, index, NetField::Period);
     said.put_template(
         "`period` of `traffic` {0} is {1} ns. It must be a multiple of each cycle on the route of filter {2}:\n",
         &[u64::from(index), row.traffic.period, u64::from(row.filter)],
@@ -355,7 +361,7 @@ fn explain_row(
 }
 
 /// Explains why the period of stream `index`, from 1, isn't a multiple of each cycle time on its route. `None` without a talker or memory.
-/// `explain_plans` of net_check calls it.
+/// `explain_plans` of `net_check` calls it.
 pub fn explain_period(
     alloc: Global,
     asked: NetworkText<'_>,

@@ -29,7 +29,8 @@ ghost use Rattle.net_latency.specs.Ways.{IsRoute, RouteHop};
 
 use std::alloc::Allocator;
 
-/// The queues of a stream's hops, as `net check` collects them from the delay bounds, include each queue that the hops can reach.
+/// The queues of a stream's hops, as `net check` collects them from the delay bounds, include each queue that the hops can reach. Delivery
+/// (`stream_is_delivered`) rests on it.
 pub fn stream_queues_are_reachable<A: Allocator + Copy>()
     ensures { (plans : List (Plan A)) (bounds : List (Vec QueueBound A)) (hops : List StreamHop)
         → AreQueueBoundsOfPlans plans bounds
@@ -42,7 +43,7 @@ pub fn read_commands_are_commands<A: Allocator + Copy>()
 {}
 
 /// If the frames at the talker's port keep the traffic, all frames that the first hop's filter receives keep it, whatever arrives at other
-/// ports.
+/// ports. Delivery (`stream_is_delivered`) rests on it.
 pub fn talker_port_keeps_traffic<A: Allocator + Copy>()
     ensures { (n : NetworkParts A) (hops : List StreamHop) (queues : List HopQueue) (first : StreamHop) (t : Traffic)
         (q : ℕ) (commands : ℕ → List Input) (captures : ℕ → ℕ → List CapturedFrame) (o : ℕ → Outcome A)
@@ -60,6 +61,8 @@ pub fn talker_port_keeps_traffic<A: Allocator + Copy>()
 
 /// On each route of a stream, each later hop's filter receives only copies from the hop before it. The hops must be a tree, and only the
 /// talker's frames may get their handles.
+///
+/// Delivery (`stream_is_delivered`) rests on it.
 pub fn stream_is_fed_in_turn<A: Allocator + Copy>()
     ensures { (n : NetworkParts A) (hops : List StreamHop) (queues : List HopQueue) (first : StreamHop)
         (commands : ℕ → List Input) (captures : ℕ → ℕ → List CapturedFrame) (o : ℕ → Outcome A)
@@ -77,7 +80,7 @@ pub fn stream_is_fed_in_turn<A: Allocator + Copy>()
 {}
 
 /// Each frame of a stream's talker keeps the printed delays and phases on each route. Only this talker must keep its traffic; other devices
-/// may send anything.
+/// may send anything. docs/NETWORK_PROOF.md cites it.
 pub fn stream_keeps_latency<A: Allocator + Copy>()
     ensures { (n : NetworkParts A) (hops : List StreamHop) (queues : List HopQueue) (t : Traffic) (r : StreamLatency)
         (commands : ℕ → List Input) (captures : ℕ → ℕ → List CapturedFrame) (o : ℕ → Outcome A)
@@ -96,7 +99,7 @@ pub fn stream_keeps_latency<A: Allocator + Copy>()
 {}
 
 /// If the delays of a stream have the flag `passes`, each frame of its talker is delivered along each path of bridges that forward it.
-/// Other devices may send anything.
+/// Other devices may send anything. docs/NETWORK_PROOF.md cites it.
 pub fn stream_is_delivered<A: Allocator + Copy>()
     ensures { (n : NetworkParts A) (hops : List StreamHop) (queues : List HopQueue) (t : Traffic) (r : StreamLatency)
         (first : StreamHop) (commands : ℕ → List Input) (captures : ℕ → ℕ → List CapturedFrame) (o : ℕ → Outcome A)
@@ -116,7 +119,7 @@ pub fn stream_is_delivered<A: Allocator + Copy>()
 {}
 
 /// If all stream entries of a stream compare destination addresses, the bridges forward each frame of its talker along some path. By
-/// `stream_is_delivered`, the frame is delivered along it.
+/// `stream_is_delivered`, the frame is delivered along it. docs/NETWORK_PROOF.md cites it.
 pub fn talker_frame_has_path<A: Allocator + Copy>()
     ensures { (n : NetworkParts A) (hops : List StreamHop) (queues : List HopQueue) (t : Traffic) (r : StreamLatency)
         (first : StreamHop) (commands : ℕ → List Input) (captures : ℕ → ℕ → List CapturedFrame) (o : ℕ → Outcome A)
@@ -136,7 +139,7 @@ pub fn talker_frame_has_path<A: Allocator + Copy>()
 {}
 
 /// If `net check` prints `arrives` and the talker keeps its traffic, each frame at the talker's port is delivered, whatever arrives at
-/// other ports.
+/// other ports. docs/NETWORK_PROOF.md cites it.
 pub fn printed_stream_is_delivered<A: Allocator + Copy>()
     ensures { (n : NetworkParts A) (bounds : List (Vec QueueBound A)) (hops : List StreamHop) (talker : Talker)
         (r : StreamLatency) (first : StreamHop) (q : ℕ) (commands : ℕ → List Input)

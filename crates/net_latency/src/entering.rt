@@ -18,8 +18,8 @@ use net_model::{
 };
 use std::alloc::Allocator;
 
-/// Returns whether port `on` of bridge `bridge` is open and has a stream entry with this handle. Then devices outside the network can send
-/// frames that get the handle. `is_talker_port` and `is_other_entry_port` call it.
+/// Returns whether port `on` of bridge `bridge` is open and has a stream entry with handle `handle`. Then devices outside the network can
+/// send frames that get the handle. `is_talker_port` and `is_other_entry_port` call it.
 fn enters<A: Allocator + Copy>(
     links: &[Link],
     bridge: u16,
@@ -35,8 +35,8 @@ fn enters<A: Allocator + Copy>(
     has_entry(plan, on.number, handle)
 }
 
-/// Returns whether port `port` of bridge `bridge` is the talker's port: the plan's first open port that has a stream entry with this
-/// handle. `is_other_entry_port` calls it.
+/// Returns whether port `port` of bridge `bridge` is the talker's port: the plan's first open port that has a stream entry with handle
+/// `handle`. `is_other_entry_port` calls it.
 fn is_talker_port<A: Allocator + Copy>(
     links: &[Link],
     bridge: u16,
@@ -144,7 +144,7 @@ fn are_single_entries<A: Allocator + Copy>(
 }
 
 /// Returns whether each frame that leaves queue `queue` gets the filter of the stream's next hop. True if the queue's port leads to no hop.
-/// `are_handed` calls it.
+/// `are_received_by_next_hops` calls it.
 fn is_handed<A: Allocator + Copy>(
     plans: &[Accepted<A>],
     links: &[Link],
@@ -163,16 +163,18 @@ fn is_handed<A: Allocator + Copy>(
     }
 }
 
-/// Returns whether each frame that leaves a queue of the stream gets the filter of the next hop. Otherwise the stream's line says
-/// `refusable`. `checked_stream_latency` calls it.
-fn are_handed<A: Allocator + Copy>(
+/// Returns whether each frame that leaves a queue of the stream gets the filter of the next hop. A queue whose port leads to no hop counts
+/// as true.
+///
+/// `checked_stream_latency` calls it; if false, the stream's line has the word `refusable`.
+fn are_received_by_next_hops<A: Allocator + Copy>(
     plans: &[Accepted<A>],
     links: &[Link],
     hops: &[StreamHop],
     queues: &[HopQueue],
 ) -> bool
     requires { All IsQueue queues.now }
-    ensures { result ≡ spec.are_handed plans.now links.now hops.now queues.now }
+    ensures { result ≡ spec.are_received_by_next_hops plans.now links.now hops.now queues.now }
 {
     for queue in queues {
         if !is_handed(plans, links, hops, queue) {
@@ -211,7 +213,7 @@ pub fn checked_stream_latency<A: Allocator + Copy>(
 {
     let course = stream_latency(plans, links, hops, queues, traffic);
     let once = are_single_entries(plans, links, hops);
-    let handed = are_handed(plans, links, hops, queues);
+    let handed = are_received_by_next_hops(plans, links, hops, queues);
     tested_course(once, handed, course)
 }
 

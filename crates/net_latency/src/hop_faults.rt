@@ -23,7 +23,7 @@ struct RefusedHop<'a> {
     bridge: &'a BridgeRow<Global>,
 }
 
-/// Explains the fault of `refused` at hop `place` of stream `stream`, both from 1. `explain_refusal` of net_check calls it. `None` if the
+/// Explains the fault of `refused` at hop `place` of stream `stream`, both from 1. `explain_refusal` of `net_check` calls it. `None` if the
 /// hop is missing or memory runs out.
 pub fn explain_hop_fault(
     alloc: Global,

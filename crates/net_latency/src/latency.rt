@@ -147,8 +147,8 @@ fn add_queue_latency<A: Allocator + Copy>(
     add_latency(gathered, told)
 }
 
-/// Returns the delays over all routes that begin at `hop`, where frames arrive as `came` says, and have at most `depth` hops. `None` if
-/// they are unknown. `queue_latency` and `stream_latency` call it.
+/// Returns the delays over all routes that begin at `hop` and have at most `depth` hops. Frames arrive at `hop` as `came` describes. `None`
+/// if they are unknown. `queue_latency` and `stream_latency` call it.
 #[cycle(hop_latency)]
 fn hop_latency<A: Allocator + Copy>(
     case: &StreamContext<'_, A>,

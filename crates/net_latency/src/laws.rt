@@ -52,6 +52,8 @@ ghost use Rattle.net_latency.specs.Ways.{IsRoute, RouteHop, route_bound, hop_end
 use std::alloc::Allocator;
 
 /// A frame's delay over its route is at most the sum of the bounds of its queues and the delays of its links. Talkers may send anything.
+///
+/// This is the theorem about delays over networks (docs/DELAYS.md).
 pub fn route_in_time<A: Allocator + Copy>()
     ensures { (n : Network A) (commands : ℕ → List Input) (captures : ℕ → ℕ → List CapturedFrame) (o : ℕ → Outcome A)
         (run : IsNetworkRun n commands captures o) (leg : RouteHop A) (more : List (ℕ × RouteHop A))
@@ -62,6 +64,8 @@ pub fn route_in_time<A: Allocator + Copy>()
 
 /// A frame of a periodic talker keeps the delays and phases of its route (`phases`) and of its stream (`course`). Each later hop must
 /// receive only copies from the hop before it (`AreFedInTurn`).
+///
+/// Delays of periodic talkers over networks rest on it.
 pub fn route_in_phases<A: Allocator + Copy>()
     ensures phases { (n : Network A) (commands : ℕ → List Input) (captures : ℕ → ℕ → List CapturedFrame) (o : ℕ
         → Outcome A)
@@ -93,6 +97,8 @@ pub fn route_in_phases<A: Allocator + Copy>()
 
 /// If a periodic row prints `passes`, its filter passes each frame (`filter`). Each copy leaves between the row's phases and within its
 /// delays (`queue`). Other talkers may send anything.
+///
+/// So the word `passes` of `bounds --traffic` is proved.
 pub fn passing_row_is_sent<A: Allocator + Copy>()
     ensures filter { (p : Plan A) (f : FilterPlan) (es : List Event) (lists : ℕ
         → List (Copy CarriedFrame)) (o : Outcome A)
@@ -128,7 +134,8 @@ pub fn passing_row_is_sent<A: Allocator + Copy>()
 
 /// If all lines of a grouped filter's row print `passes`, the filter passes each frame of a talker that keeps the row (`filter`).
 ///
-/// Each egress port of the frame sends it within the delays of one of these lines (`frame`).
+/// Each egress port of the frame sends it within the delays of one of these lines (`frame`). So the word `passes` of `bounds --traffic` is
+/// proved.
 pub fn passing_limited_row_is_sent<A: Allocator + Copy>()
     ensures filter { (p : Plan A) (group index : ℕ) (f : FilterPlan) (r : LimitedRow) (s : SharedQueue)
         (x : QueueTiming) (es : List Event) (lists : ℕ → List (Copy CarriedFrame)) (o : Outcome A) (v : View A)

@@ -26,6 +26,8 @@ pub(crate) struct NextHop {
 
 /// Returns the port at the other end of the link of a port, with the link's delay. `bridge` is the index of the port's bridge, from 0.
 /// Returns `None` for an open port.
+///
+/// `is_handed`, `next_hop` and `is_feeder` call it.
 pub(crate) fn far_end(links: &[Link], bridge: u16, port: u8) -> Option<FarEnd>
     ensures { option_map sender_of_far_end result ≡ sender (map link_value links.now) bridge port }
 {

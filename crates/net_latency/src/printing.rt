@@ -97,7 +97,7 @@ pub(crate) fn bound_lines<A: Allocator + Copy>(
 }
 
 /// Returns the output of `bounds`: a line for each reachable queue of protected filters, and for each shared queue. Its faults are the
-/// faults of `check`.
+/// faults of `check`. `bound_text` of `app_networks` calls it.
 pub fn bounds_job<R: Read + Drop, A: Allocator + Copy>(
     alloc: A,
     heap: Global,

@@ -24,8 +24,10 @@ use std::rt::Files;
 /// Octets of a frame check sequence. The lengths in traffic rows don't include it.
 const CHECK_OCTETS: u32 = 4;
 
-/// Explains why frames of a traffic file may be refused, for each queue whose line says `refusable`. Reads both files again. Returns `None`
-/// if this fails or memory runs out. `traffic_reasons` calls it.
+/// Explains why frames of a traffic file may be refused, for each queue whose line has the word `refusable`. Reads both files again.
+/// Returns `None` if this fails or memory runs out.
+///
+/// `traffic_reasons` of `app_networks` calls it.
 pub fn explain_refusable<H: AllocGlobal + Files>(
     rt: &H,
     plan: &str,
@@ -62,14 +64,14 @@ fn explain_refusable_rows(
     let mut index: u32 = 0;
     for row in rows {
         index = index.saturating_add(1);
-        put_row(&mut said, accepted.plan(), &shared, index, row, &timings);
+        put_refusable_row(&mut said, accepted.plan(), &shared, index, row, &timings);
     }
     said.finish().ok()
 }
 
 /// Appends a sentence for each queue in which frames of row `index` may be refused. `timings` has the results of all rows, `shared` the
 /// shared queues. `explain_refusable_rows` calls it.
-fn put_row(
+fn put_refusable_row(
     said: &mut TextBuilder<Global>,
     plan: &Plan<Global>,
     shared: &[SharedQueue],
@@ -88,7 +90,7 @@ fn put_row(
     }
 }
 
-/// Appends a sentence: the traffic row, its filter, the queue's port, and the first condition that fails there. `put_row` calls it.
+/// Appends a sentence: the traffic row, its filter, the queue's port, and the first condition that fails there. `put_refusable_row` calls it.
 fn put_queue(
     said: &mut TextBuilder<Global>,
     plan: &Plan<Global>,

@@ -28,7 +28,7 @@ pub struct TrafficReport<A: Allocator + Copy> {
     pub kept: bool,
 }
 
-/// Returns the program's fault for refused traffic, with the fault line of `fault`. Returns `NoMemory` if memory runs out for the line.
+/// Returns the command's failure for refused traffic, with the fault line of `fault`. Returns `NoMemory` if memory runs out for the line.
 /// `check_and_report` and `parse_rows` call it.
 fn traffic_refusal(heap: Global, fault: &TrafficFault) -> Failure
     ensures { IsTrafficFailure fault.now result }
@@ -39,7 +39,7 @@ fn traffic_refusal(heap: Global, fault: &TrafficFault) -> Failure
     }
 }
 
-/// Returns the rows of a traffic file with the contents `text`. For refused contents, returns the program's fault with the fault line, or
+/// Returns the rows of a traffic file with the contents `text`. For refused contents, returns the command's failure with the fault line, or
 /// `NoMemory`. `read_rows` calls it.
 fn parse_rows<A: Allocator + Copy>(
     alloc: A,
@@ -107,7 +107,7 @@ fn report_traffic<A: Allocator + Copy>(
     Ok(TrafficReport { text, kept })
 }
 
-/// Returns the output for an accepted plan and traffic rows: lines of bounds, then lines of traffic. Returns the program's fault if a row
+/// Returns the output for an accepted plan and traffic rows: lines of bounds, then lines of traffic. Returns the command's failure if a row
 /// doesn't suit the plan. `traffic_job` calls it.
 fn check_and_report<A: Allocator + Copy>(
     alloc: A,
@@ -130,7 +130,7 @@ fn check_and_report<A: Allocator + Copy>(
 }
 
 /// Returns the output of `bounds --traffic`: lines of bounds, then a line for each queue of each row. Faults: plan, then traffic file, then
-/// rows compared with the plan.
+/// rows compared with the plan. `bound_rows` of `app_networks` calls it.
 pub fn traffic_job<R: Read + Drop, S: Read + Drop, A: Allocator + Copy>(
     alloc: A,
     heap: Global,

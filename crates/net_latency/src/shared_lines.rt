@@ -6,8 +6,8 @@ use bridge_groups::{SharedQueue, is_bounded_by_gates, least_shared_bound, padded
 use bridge_limits::NoMemory;
 use std::alloc::{AllocError, Allocator};
 
-/// Returns whether a queue may drop copies as full. `room` is the capacity that suffices (`None` if none is known), `capacity` the queue's
-/// own capacity. `push_limited_timing`, `push_shared_warning` and `shared_mark` call it.
+/// Returns whether a queue may drop copies as full. `room` is the capacity that suffices (`None` if no such capacity is known), `capacity`
+/// the queue's own capacity. `push_limited_timing`, `push_shared_warning` and `shared_mark` call it.
 pub(crate) fn is_lossy(room: Option<u16>, capacity: u16) -> bool
     ensures { result ≡ is_lossy room capacity }
 {
@@ -36,8 +36,8 @@ fn shared_mark(row: &SharedQueue) -> &'static str
     }
 }
 
-/// Appends `room`, the capacity that suffices for a queue, or `none` if none is known, and the queue's own capacity. `push_shared_line`
-/// calls it.
+/// Appends `room`, the capacity that suffices for a queue, or the word `none` if no such capacity is known, and the queue's own capacity.
+/// `push_shared_line` calls it.
 fn push_room<A: Allocator + Copy>(
     text: &mut String<A>,
     room: Option<u16>,

@@ -24,7 +24,7 @@ use net_model::Network;
 use std::alloc::Allocator;
 
 /// Returns for each plan the least delay bounds of its reachable queues, in the order of `plans`. `net check` computes them once for all
-/// streams.
+/// streams. Functions of `app_networks` and `net_check` call it.
 pub fn all_queue_bounds<A: Allocator + Copy>(
     alloc: A,
     plans: &[Accepted<A>],
@@ -67,7 +67,8 @@ fn filter_bound(filter: u32, rows: &[QueueBound]) -> u64
     greatest
 }
 
-/// Returns the delay bounds of the bridge with this index. Returns an empty list if the bridge is missing.
+/// Returns the delay bounds of the bridge with index `bridge`. Returns an empty list if the bridge is missing. `hop_bound`, `put_queues`
+/// and functions of `net_check` call it.
 pub fn bounds_of_bridge<'a, A: Allocator + Copy>(
     bounds: &'a [Vec<QueueBound, A>],
     bridge: u16,
@@ -87,7 +88,7 @@ fn hop_bound<A: Allocator + Copy>(bounds: &[Vec<QueueBound, A>], hop: (u16, u32)
     filter_bound(hop.1, bounds_of_bridge(bounds, hop.0))
 }
 
-/// Whether one of these hops is at the bridge. A hop is a pair: index of its bridge and number of its filter.
+/// Whether one of these hops is at the bridge. A hop is a pair: index of its bridge and number of its filter. `is_joining_link` calls it.
 fn has_hop_at_bridge(hops: &[(u16, u32)], bridge: u16) -> bool
     ensures { result ≡ has_hop_at_bridge hops.now bridge }
 {
@@ -242,7 +243,8 @@ fn arrival_word(passes: bool, course: Option<StreamLatency>) -> &'static str
     }
 }
 
-/// Writes the time between a deadline and a worst delay in ns: the margin, or what is lacking. Writes nothing without a deadline.
+/// Writes the time between a deadline and a worst delay in ns: the margin, or the missing time. Writes nothing without a deadline.
+/// `put_stream` calls it.
 fn put_margin<B: Allocator>(text: &mut TextBuilder<B>, deadline: Option<u64>, worst: u128)
     ensures { HasGrown text.old (spec.margin_words deadline worst) text.new }
 {
@@ -260,7 +262,7 @@ fn put_margin<B: Allocator>(text: &mut TextBuilder<B>, deadline: Option<u64>, wo
 }
 
 /// Whether each frame of a stream's periodic talker passes all hops. Returns true without a periodic talker, and false if its delays are
-/// unknown.
+/// unknown. `put_stream` calls it.
 fn is_passing(talker: Option<Talker>, course: Option<StreamLatency>) -> bool
     ensures { result ≡ spec.is_passing talker course }
 {
@@ -272,6 +274,7 @@ fn is_passing(talker: Option<Talker>, course: Option<StreamLatency>) -> bool
 }
 
 /// Whether each frame of a stream passes and meets its deadline. If the delays are unknown, the bound is compared with the deadline.
+/// `put_stream` calls it.
 fn is_in_time(
     passes: bool,
     course: Option<StreamLatency>,
@@ -292,7 +295,8 @@ pub struct StreamLines<B: Allocator> {
     pub kept: bool,
 }
 
-/// Writes the line of a stream with its delays and its margin. Returns whether the stream passes and meets its deadline.
+/// Writes the line of a stream with its delays and its margin. Returns whether the stream passes and meets its deadline. `stream_lines`
+/// calls it.
 fn put_stream<A: Allocator + Copy, B: Allocator>(
     text: &mut TextBuilder<B>,
     bounds: &[Vec<QueueBound, A>],

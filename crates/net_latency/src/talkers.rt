@@ -192,7 +192,7 @@ fn hop_queues<A: Allocator + Copy>(
 }
 
 /// Returns the delays of a talker's frames through these hops, or `None` if they are unknown. Explanations of `net check` pass a stream's
-/// first hops.
+/// first hops. `talker_latency` and functions of `net_check` call it.
 pub fn latency_through_hops<A: Allocator + Copy>(
     alloc: A,
     plans: &[Accepted<A>],

@@ -9,6 +9,8 @@ use std::rt::Files;
 
 /// Returns the contents of a file, read again for an explanation. Returns `None` if this fails or the file is a pipe, which gives its
 /// contents only once.
+///
+/// `explain_traffic` and functions of `app_networks` and `net_check` call it.
 pub fn reread_text<H: AllocGlobal + Files>(rt: &H, path: &str) -> Option<Vec<u8>> {
     if !fs::metadata(rt, path).ok()?.is_file() {
         return None;
@@ -30,6 +32,7 @@ pub struct NetworkText<'a> {
 
 impl<'a> NetworkText<'a> {
     /// Returns the bridge of the network file with index `place`, from 0, or `None` if the file lacks it. Explanations name bridges by it.
+    /// `explain_period`, `explain_hop_fault` and functions of `net_check` call it.
     pub fn bridge(self, place: u16) -> Option<&'a BridgeRow<Global>> {
         self.file.bridges().get(place as usize)
     }
@@ -48,7 +51,7 @@ impl<'a> NetworkText<'a> {
     }
 
     /// Returns the position of a key, or of the section's header if `key` is `None`. `index` counts the section's instances from 1. Returns
-    /// `None` if the document lacks it.
+    /// `None` if the document lacks it. `NetworkText::put_place` calls it.
     fn position(self, section: NetSection, index: usize, key: Option<&str>) -> Option<Position> {
         let instance = Instance {
             document: self.document,
@@ -60,6 +63,7 @@ impl<'a> NetworkText<'a> {
 }
 
 /// Appends the first 16 numbers with commas between them, then `..` if `numbers` has more. Explanations list filters and ports by it.
+/// `put_protected` and `put_grouped`, and `put_ports` of `net_check` call it.
 pub fn put_numbers(said: &mut TextBuilder<Global>, numbers: &[u64]) {
     let mut is_first = true;
     for number in numbers.iter().take(MOST_NUMBERS) {

@@ -50,8 +50,8 @@ fn suits_lists<A: Allocator + Copy>(period: u64, lists: &Option<Egress<A>>) -> b
     }
 }
 
-/// Returns whether a period is a multiple of the cycle times of the stream gate with this number. Returns true if the gate is missing.
-/// `suits` calls it.
+/// Returns whether a period is a multiple of the cycle times of the stream gate `gate`. Returns true if the gate is missing. `suits` calls
+/// it.
 fn suits_gate<A: Allocator + Copy>(plan: &Plan<A>, gate: u32, period: u64) -> bool
     ensures { result ≡ spec.suits_gate period (lookup (nat_eq gate) plan.now.gates) }
 {
@@ -99,7 +99,7 @@ fn suits_port<A: Allocator + Copy>(period: u64, port: Option<&PortPlan<A>>) -> b
     }
 }
 
-/// Returns whether the filter has a reachable queue at `port`, and the period isn't a multiple of this port's cycle times. `has_misfit`
+/// Returns whether the filter has a reachable queue at `port`, and the period isn't a multiple of the port's cycle times. `has_misfit`
 /// calls it.
 fn has_misfit_at_port<A: Allocator + Copy>(
     plan: &Plan<A>,

@@ -1,4 +1,4 @@
--- A stream alone on an idle network.
+-- Runs of a network in which only one stream sends frames.
 use Rattle.std.specs.Prelude.{◌≡◌, ℕ, true, Option, Some, None, List, ◌↔◌}
 use Rattle.bridge_limits.specs.Members.{IsMember, IsOrdered}
 use Rattle.bridge_capture.specs.Grammar.{CapturedFrame}

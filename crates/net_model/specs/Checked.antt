@@ -1,4 +1,4 @@
--- Properties of an accepted network.
+-- Properties of an accepted network, which its tests ensure.
 use Rattle.std.specs.Prelude.{Vec}
 use Rattle.bridge_limits.specs.Members.{IsMember}
 use Rattle.bridge_config.specs.Model.{Plan}

@@ -1,4 +1,4 @@
--- Numbers of the faults of a network.
+-- Numbers of the faults of a network, by which contracts compare faults.
 use Rattle.std.specs.Prelude.{ℕ}
 use Rattle.net_model.specs.declared.fault.NetworkFault.{NetworkFault}
 use Rattle.net_model.specs.declared.fault.NetworkFault.TheVariants as fault

@@ -1,4 +1,4 @@
--- Frames that may loop in a network.
+-- Frames that bridges may forward in a loop.
 use Rattle.std.specs.Prelude.{◌≡◌, ◌⊎◌, ℕ, List, [], ◌∷◌, ◌++◌, Option, None, Some}
 use Rattle.bridge_limits.specs.Members.{IsMember, IsOrdered}
 use Rattle.bridge_forward.specs.declared.StaticEntry.{StaticEntry}

@@ -23,7 +23,7 @@ is_same_destination None None = true
 is_same_destination (Some a) (Some b) = bytes_eq a b
 is_same_destination a b = false
 
--- True if two groups are equal.
+-- True if two groups of frames have the same VLAN and the same destination.
 abbrev pub is_same_group : FrameGroup → FrameGroup → Bool
 is_same_group a b = is_same_vlan a.vlan b.vlan && is_same_destination a.destination b.destination
 
@@ -31,7 +31,7 @@ is_same_group a b = is_same_vlan a.vlan b.vlan && is_same_destination a.destinat
 abbrev pub Differ : FrameGroup → FrameGroup → Type 0
 Differ g h = g ≢ h
 
--- True if `groups` contains group `g`.
+-- True if group `g` is already in the list `groups`, so that it isn't searched twice.
 abbrev pub has_group : List FrameGroup → FrameGroup → Bool
 has_group groups g = list_any (λ (h : FrameGroup). is_same_group h g) groups
 

@@ -14,11 +14,11 @@ is_same_port a b = nat_eq a.bridge b.bridge && nat_eq a.port b.port
 abbrev pub has_port : List BridgePort → BridgePort → Bool
 has_port places x = list_any (λ (y : BridgePort). is_same_port y x) places
 
--- True if a step begins at port `x`.
+-- True if one of the steps begins at port `x`; other ports are on no loop.
 abbrev pub has_outgoing_step : List Step → BridgePort → Bool
 has_outgoing_step steps x = list_any (λ (s : Step). is_same_port s.from x) steps
 
--- True if a step ends at port `x`.
+-- True if one of the steps ends at port `x`; other ports are on no loop.
 abbrev pub has_incoming_step : List Step → BridgePort → Bool
 has_incoming_step steps x = list_any (λ (s : Step). is_same_port s.to x) steps
 

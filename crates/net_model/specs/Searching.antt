@@ -7,7 +7,7 @@ use Rattle.net_model.specs.declared.step.Step.{Step}
 use Rattle.net_model.specs.Walks.{HasWalk, step}
 use Rattle.net_model.specs.Pruning.{has_port, is_same_port}
 
--- True if `x` is the start of the search or a reached port.
+-- True if port `x` is the start of the search for a loop, or was reached from it.
 abbrev pub is_reached : BridgePort → List BridgePort → BridgePort → Bool
 is_reached start reached x = is_same_port start x || has_port reached x
 

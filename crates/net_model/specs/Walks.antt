@@ -4,7 +4,7 @@ use Rattle.bridge_limits.specs.Members.{IsMember}
 use Rattle.net_model.specs.declared.links.BridgePort.{BridgePort}
 use Rattle.net_model.specs.declared.step.Step.{Step}
 
--- The step from port `x` to port `y`.
+-- The step by which a frame goes from port `x` to port `y`.
 abbrev pub step : BridgePort → BridgePort → Step
 step x y = record { from = x; to = y }
 

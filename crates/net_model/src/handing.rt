@@ -248,6 +248,8 @@ fn receives_every_frame<A: Allocator + Copy>(
 
 /// Returns whether each frame of `hop` that leaves by `port` gets filter `taker` at `end`, the link's other end. False if a bridge or port
 /// is missing. Delays of talkers need this.
+///
+/// `is_handed` of `net_latency` calls it.
 pub fn is_received_by_next_hop<A: Allocator + Copy>(
     plans: &[Accepted<A>],
     hop: StreamHop,

@@ -31,8 +31,8 @@ ghost use Rattle.net_model.specs.declared.sending_port.FrameQuery.TheVariants.{S
 
 use std::alloc::Allocator;
 
-/// In every complete run of an accepted network, each hop of a closed stream has the record that it would have if the stream were alone on
-/// an idle network.
+/// In a complete run of an accepted network, each hop of a closed stream has its record of an idle network. There, only this stream sends
+/// frames. docs/NETWORK_PROOF.md cites it.
 pub fn stream_alone<A: Allocator + Copy>()
     ensures { (n : Network A) (stream : List (ℕ × ℕ)) (commands : ℕ → List Input) (captures : ℕ → ℕ
         → List CapturedFrame)
@@ -44,7 +44,8 @@ pub fn stream_alone<A: Allocator + Copy>()
         → IsAlone n commands captures stream (λ (h : Hop A). lookup (nat_eq h.number) (o h.bridge).filters.items) }
 {}
 
-/// If a stream is alone on an idle network, its inputs from outside determine the record of each of its hops, even if links form a cycle.
+/// If a stream is alone on an idle network, its inputs from outside determine the records of its hops. Links may form a cycle.
+/// docs/NETWORK_PROOF.md cites it.
 pub fn stream_alone_has_one_result<A: Allocator + Copy>()
     ensures { (n : Network A) (stream : List (ℕ × ℕ)) (commands others : ℕ → List Input)
         (captures frames : ℕ → ℕ → List CapturedFrame) (tells says : Hop A → Option (View A)) (h : Hop A) (u v : View A)
@@ -58,7 +59,7 @@ pub fn stream_alone_has_one_result<A: Allocator + Copy>()
 {}
 
 /// Other traffic can't change the records of a closed stream. If two complete runs have equal inputs of the stream from outside, each hop
-/// of the stream has equal records in both.
+/// of the stream has equal records in both. docs/NETWORK_PROOF.md cites it.
 pub fn other_traffic_changes_nothing<A: Allocator + Copy>()
     ensures { (n : Network A) (stream : List (ℕ × ℕ)) (commands others : ℕ → List Input)
         (captures frames : ℕ → ℕ → List CapturedFrame) (o r : ℕ → Outcome A) (h : Hop A) (u v : View A)
@@ -75,8 +76,8 @@ pub fn other_traffic_changes_nothing<A: Allocator + Copy>()
         → AreSameViews u v }
 {}
 
-/// If `takes_only` holds for the plans at a link's ends, the hop's filter accepts over this link only frames of the stream, whatever the
-/// sending bridge receives.
+/// If `takes_only` holds for the plans at a link's ends, the hop's filter accepts over this link only frames of the stream. The sending
+/// bridge may receive anything. docs/NETWORK_PROOF.md cites it.
 pub fn only_stream_is_taken<A: Allocator + Copy>()
     ensures { (p next : Plan A) (is_of_stream : ℕ → Bool) (q r n t : ℕ) (f : FilterPlan) (out on : PortPlan A)
         (es : List Event) (o : Offer)
@@ -93,7 +94,8 @@ pub fn only_stream_is_taken<A: Allocator + Copy>()
         → (m : ℕ × FilterPlan) × IsMember m p.filters × (is_of_stream m.0 ≡ true) × (o.item.flow ≡ Some m.0) }
 {}
 
-/// A stream of an accepted network is closed if each of its hops passes the test `hop_passes`, which needs only the plans and links.
+/// A stream of an accepted network is closed if each of its hops passes the test `hop_passes`, which needs only the plans and links. The
+/// isolation of streams rests on it.
 pub fn tested_stream_is_closed<A: Allocator + Copy>()
     ensures { (n : Network A) (stream : List (ℕ × ℕ))
         → IsNetwork n
@@ -102,6 +104,7 @@ pub fn tested_stream_is_closed<A: Allocator + Copy>()
 {}
 
 /// Complete runs of single bridges are a run of the network if each linked port receives exactly the frames that its other end sent.
+/// docs/NETWORK_PROOF.md cites it.
 pub fn consistent_runs_are_network_run<A: Allocator + Copy>()
     ensures { (n : Network A) (commands : ℕ → List Input) (captures : ℕ → ℕ → List CapturedFrame) (o : ℕ → Outcome A)
         → HasConsistentRuns n commands captures o
@@ -109,14 +112,17 @@ pub fn consistent_runs_are_network_run<A: Allocator + Copy>()
 {}
 
 /// The search for stray frames (`first_taken`) finds none exactly if the test `takes_only` holds for the sending port and the hop's filter.
+/// So each refusal of a stream has an example frame.
 pub fn stray_exists_if_test_fails<A: Allocator + Copy>()
     ensures { (p next : Plan A) (is_of_stream : ℕ → Bool) (q n : ℕ) (on : PortPlan A)
         → IsPlan p
         → (first_taken Strays p is_of_stream q next on n ≡ None) ↔ (takes_only p is_of_stream q next on n ≡ true) }
 {}
 
-/// If `hands_all` holds for the plans at a link's ends, filter `n` at the receiving end gets each copy of filter `m` that arrives over the
-/// link and that the bridge there forwards.
+/// If `hands_all` holds for the plans at a link's ends, filter `n` at the receiving end misses no copy. It gets each copy of filter `m`
+/// that arrives over the link and is forwarded there.
+///
+/// So no frame of a stream is lost between hops.
 pub fn each_is_handed<A: Allocator + Copy>()
     ensures { (p next : Plan A) (q r m n t set : ℕ) (f : FilterPlan) (call : FilterInput) (out on : PortPlan A)
         (es : List Event) (o : Offer)

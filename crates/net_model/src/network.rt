@@ -37,7 +37,8 @@ impl<A: Allocator + Copy> Model for Network<A> {
 }
 
 impl<A: Allocator + Copy> Network<A> {
-    /// Returns the bridges' plans. Links and hops name a bridge by its index in this list.
+    /// Returns the bridges' plans. Links and hops name a bridge by its index in this list. Functions of `app_networks`, `net_check`,
+    /// `net_latency` and other crates call it.
     pub fn plans(&self) -> &[Accepted<A>]
         ensures plans { result.now ≡ self.now.plans }
         ensures network { IsNetwork (network_value self.now) }
@@ -103,7 +104,7 @@ fn first_fault<A: Allocator + Copy>(
 }
 
 /// Accepts a network that passes all tests of its links and streams. Otherwise returns the first fault and the unchanged parts. Allocates
-/// no memory. `check_network_file` calls it.
+/// no memory. `check_network_file` of `net_check` calls it.
 pub fn check_network<A: Allocator + Copy>(
     plans: Vec<Accepted<A>, A>,
     links: Vec<Link, A>,

@@ -51,7 +51,8 @@ pub(crate) struct TestedNetwork<'a, A: Allocator + Copy> {
     pub streams: &'a [Vec<StreamHop, A>],
 }
 
-/// Returns the plan of the bridge with index `place`, from 0. Returns `None` if the network has no such bridge.
+/// Returns the plan of the bridge with index `place`, from 0. Returns `None` if the network has no such bridge. `is_received_by_next_hop`,
+/// `end_port` and functions of `net_check` and `net_latency` call it.
 pub fn find_plan<'a, A: Allocator + Copy>(
     plans: &'a [Accepted<A>],
     place: u16,
@@ -127,7 +128,7 @@ fn has_one_speed<A: Allocator + Copy>(plans: &[Accepted<A>], link: &Link) -> boo
     }
 }
 
-/// Returns whether a plan has a protected filter with this number. `is_protected_hop` calls it.
+/// Returns whether a plan has a protected filter with number `number`. `is_protected_hop` calls it.
 fn is_protected<A: Allocator + Copy>(plan: &Plan<A>, number: u32) -> bool
     ensures { result ≡ is_protected plan.now number }
 {
@@ -164,7 +165,7 @@ fn is_repeated_hop<A: Allocator + Copy>(
 }
 
 /// Returns the stream handle of the protected filter with number `number`. Returns `None` if the filter is missing, unprotected or names no
-/// handle.
+/// handle. `receives_every_frame`, `hop_test_fault_in_plan` and functions of `net_latency` call it.
 pub fn protected_handle(filters: &[(u32, FilterPlan)], number: u32) -> Option<u32>
     ensures { result ≡ spec.protected_handle filters.now number }
 {
@@ -177,6 +178,7 @@ pub fn protected_handle(filters: &[(u32, FilterPlan)], number: u32) -> Option<u3
 }
 
 /// Returns whether the plan has a stream entry with handle `handle` on port `port`. Without such an entry, no frame gets the handle there.
+/// `is_entry_port` and `enters` of `net_latency` call it.
 pub fn has_entry<A: Allocator + Copy>(plan: &Plan<A>, port: u8, handle: u32) -> bool
     ensures { result ≡ spec.has_entry plan.now port handle }
 {
@@ -297,6 +299,8 @@ impl<'a, A: Allocator + Copy> TestedHop<'a, A> {
 
     /// Returns `before` if it has frames, otherwise an example of frames at port `j` + 1. The port needs an entry of the hop's handle: the
     /// hop gets no frames at other ports.
+    ///
+    /// `first_frame_by_port` calls it.
     fn first_or_frame_on_port(
         &self,
         before: Option<(u8, FoundFrames)>,

@@ -63,7 +63,8 @@ pub(crate) fn accepts_tag(kind: TagKind, tag: Option<Tag>) -> bool
     }
 }
 
-/// Returns the VLAN in which `port` classifies a frame with tag `tag`; `None` stands for an untagged frame.
+/// Returns the VLAN in which `port` classifies a frame with tag `tag`; `None` stands for an untagged frame. `is_forwarded`, `gives_all` and
+/// others call it.
 pub(crate) fn classified_vid<A: Allocator + Copy>(port: &PortPlan<A>, tag: Option<Tag>) -> u16
     ensures { result ≡ classified.frame_vid port.now tag }
 {
@@ -84,7 +85,8 @@ pub(crate) fn frame_priority<A: Allocator + Copy>(port: &PortPlan<A>, tag: Optio
     }
 }
 
-/// Returns whether both entries compare the destination address, or both the source address.
+/// Returns whether both entries compare the destination address, or both the source address. `gives_all`, `can_match` and `first_by_handle`
+/// call it.
 pub(crate) fn is_same_kind(a: Kind, b: Kind) -> bool
     ensures { result ≡ feeding.is_same_kind a b }
 {
@@ -293,8 +295,8 @@ impl<'a, A: Allocator + Copy> SendingPort<'a, A> {
         }
     }
 
-    /// Returns an example: the filter of frames with this handle and priority, and their ingress port `from`. Returns `None` if the search
-    /// doesn't look for frames of this filter. `first_by_handle` calls it.
+    /// Returns an example: the filter of frames with handle `handle` and priority `priority`, and their ingress port `from`. Returns `None`
+    /// if the search doesn't look for frames of this filter. `first_by_handle` calls it.
     fn find_frames(&self, from: u8, priority: u8, handle: Option<u32>) -> Option<FoundFrames>
         requires { IsSendingPort self.now }
         ensures { result ≡ frames_from_port self.now from priority handle }

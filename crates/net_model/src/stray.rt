@@ -69,8 +69,8 @@ impl<'a, A: Allocator + Copy> TakingFilter<'a, A> {
         None
     }
 
-    /// Returns an example of frames with the address of `entry`, or `None`. Entries of another port or another handle than the hop's filter
-    /// have none. `first_sample` calls it.
+    /// Returns an example of frames with the address of `entry`, or `None`. Entries of another port, or with another handle than the hop's
+    /// filter, have no example. `first_sample` calls it.
     fn entry_sample(&self, entry: &StreamEntry) -> Option<StrayFrame>
         requires { IsTakingFilter self.now }
         ensures asked { IfSome result (IsSample self.now) }
@@ -228,7 +228,7 @@ fn first_stray_on_port_number<A: Allocator + Copy>(
 }
 
 /// Returns example frames that a hop accepts at a port over its link although they belong to no hop of the stream. Returns frames exactly
-/// if the test `Closed` finds stray frames at this port.
+/// if the test `Closed` finds stray frames at port `port`.
 ///
 /// `explain_open_stream` of `net_check` calls it.
 pub fn find_stray<A: Allocator + Copy>(

@@ -29,6 +29,8 @@ pub(crate) struct TakingFilter<'a, A: Allocator + Copy> {
 impl<'a, A: Allocator + Copy> TakingFilter<'a, A> {
     /// Returns the first example among frames with this tag and the address of `entry`. Returns `None` without an example, or if the entry
     /// doesn't give such frames to the filter.
+    ///
+    /// `sample_of_entry`, `first_or_frame_with_tag` and `first_frame_of_matching_entry` call it.
     pub(crate) fn first_frame_with_tag(
         &self,
         entry: &StreamEntry,
@@ -105,8 +107,8 @@ impl<'a, A: Allocator + Copy> TakingFilter<'a, A> {
         self.first_or_frame_by_priority(alone, entry, entry.vid)
     }
 
-    /// Returns the first example among frames with the address of `entry`, or `None`. Entries of another port or another handle have none.
-    /// `first_taken_frame` calls it.
+    /// Returns the first example among frames with the address of `entry`, or `None`. Entries of another port or with another handle have
+    /// no example. `first_taken_frame` calls it.
     fn first_frame_of_entry(&self, entry: &StreamEntry) -> Option<FoundFrames>
         requires { IsTakingFilter self.now }
         ensures { result ≡ find_first (first_frame_with_tag self.now entry.now) (possible_tags entry.now.vid) }

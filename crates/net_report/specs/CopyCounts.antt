@@ -1,4 +1,5 @@
--- Counts of a frame's copies: delivered, lost or astray.
+-- Counts of the copies of a first-hop frame: delivered; lost, which means refused by a filter or dropped by a queue; or
+-- astray.
 use Rattle.std.specs.Prelude.{ℕ, ◌-◌, Bool, ◌&&◌, nat_eq, nat_le, nat_lt}
 use Rattle.net_report.specs.declared.copy_counting.CopyCounts.{CopyCounts}
 

@@ -25,8 +25,7 @@ add_fate t fate.Refused = record t { refused = saturating_increment t.refused }
 add_fate t fate.Forwarded = record t { sent_on = saturating_increment t.sent_on }
 add_fate t fate.Arrived = record t { taken = saturating_increment t.taken }
 
--- The list of counts with one more of fate `f` at index `k`, where `Some t` are the counts at this index; unchanged for
--- `None`.
+-- The list of counts with one more copy of fate `f` at index `k`. `Some t` are the counts at this index; for `None`, the list is unchanged.
 abbrev pub set_counts_if_any : List CopyCounts → ℕ → CopyFate → Option CopyCounts → List CopyCounts
 set_counts_if_any ts k f None = ts
 set_counts_if_any ts k f (Some t) = slice_set ts k (add_fate t f)
@@ -40,7 +39,7 @@ abbrev pub count_frame : CopyFate → List CopyCounts → Option SourceFrame →
 count_frame f ts None = ts
 count_frame f ts (Some r) = if nat_eq r.number 0 then ts else count_at_index ts (r.number - 1) f
 
--- The fate of a copy that left: forwarded if `ways` says that its port leads to a hop, otherwise delivered.
+-- The fate of a copy that left: forwarded if its port leads to a hop (`ways`), otherwise delivered.
 abbrev pub departure_fate : List Bool → Departure → CopyFate
 departure_fate ways d = if is_onward ways d.port then fate.Forwarded else fate.Delivered
 
@@ -98,7 +97,7 @@ abbrev pub frame_count : {A : Type 0} → List (HopRun A) → ℕ
 frame_count [] = 0
 frame_count (h ∷ hs) = length h.view.now.origins.items
 
--- Counts of zero, one item for each of `n` first-hop frames.
+-- Copy counts before the first copy is counted: all 0, one item for each of the `n` first-hop frames.
 abbrev pub zero_counts : ℕ → List CopyCounts
 zero_counts n = replicate n (record { delivered = 0; refused = 0; sent_on = 0; taken = 0 })
 

@@ -36,7 +36,7 @@ is_nowhere t = nat_eq t.delivered 0 && (nat_eq t.refused 0 && nat_le t.sent_on t
 unfoldable pub why_words : {A : Type 0} → List CopyCounts → List (HopLosses A) → List ℕ
 why_words tallies hops = flat_map hop_words hops ++ (reason_words [] (codes "astray") (sum_by astray tallies) ++ reason_words [] (codes "nowhere") (count_by is_nowhere tallies))
 
--- The line of a stream that lost frames.
+-- The line of `net --strict` about a stream that lost frames: numbers and causes.
 unfoldable pub lost_words : {A : Type 0} → List ℕ → List CopyCounts → List (HopLosses A) → List ℕ
 lost_words stream tallies hops = codes "lost: stream " ++ (stream ++ (codes ", " ++ (decimal (length tallies - delivered_frames tallies) ++ (codes " of "
     ++ (decimal (length tallies) ++ (codes " frames" ++ (why_words tallies hops ++ codes "\n")))))))

@@ -17,11 +17,11 @@ pub record Trace : Type 0 where
   pub origins : List Origin
   pub departures : List Departure
 
--- The part of hop `h` that the search uses.
+-- The part of hop `h` that the search for sources uses.
 abbrev pub trace_of : {A : Type 0} → HopRun A → Trace
 trace_of h = record { bridge = h.bridge; origins = h.view.now.origins.items; departures = h.view.now.departures.items }
 
--- The parts of all hops that the search uses.
+-- The parts of all hops that the search for sources uses.
 abbrev pub traces : {A : Type 0} → List (HopRun A) → List Trace
 traces hops = map trace_of hops
 

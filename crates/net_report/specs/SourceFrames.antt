@@ -13,7 +13,7 @@ use Rattle.net_report.specs.declared.sources.SourceFrame.{SourceFrame}
 abbrev pub is_due : ℕ → ℕ → ℕ → Departure → Bool
 is_due q delay at d = nat_eq d.port q && nat_le at (d.done + delay)
 
--- The list of copies, without those before the first one that left by port `q` and arrives `delay` ns later, at time `at` or after.
+-- The list of copies from the first copy on that left by port `q` and arrives at time `at` or later. The link's delay is `delay` ns.
 abbrev pub due_departures : ℕ → ℕ → ℕ → List Departure → List Departure
 due_departures q delay at [] = []
 due_departures q delay at (d ∷ ds) = if is_due q delay at d then d ∷ ds else due_departures q delay at ds
@@ -132,7 +132,7 @@ pub record AreFirstHopSources (origins : List Origin) (roots : List (Option Sour
   pub many : length roots ≡ length origins
   pub each : AreOwnSources origins roots
 
--- Holds if the source of each frame is unknown.
+-- Holds if no frame of a hop has a known source yet.
 abbrev pub AreUnknown : List (Option SourceFrame) → Type 0
 AreUnknown roots = (k : ℕ) (r : SourceFrame) → ¬ (slice_get roots k ≡ Some (Some r))
 

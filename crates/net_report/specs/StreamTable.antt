@@ -10,7 +10,7 @@ abbrev pub statistics_words : Option DelayStatistics → List ℕ
 statistics_words None = codes ",,,,"
 statistics_words (Some f) = decimal f.least ++ (codes "," ++ (decimal f.mean ++ (codes "," ++ (decimal f.greatest ++ (codes "," ++ (decimal f.jitter ++ codes ","))))))
 
--- Number of frames and copies that a hop lost.
+-- Number of frames that a hop's filter refused, plus copies that its ports dropped.
 abbrev pub lost_copies : HopCounts → ℕ
 lost_copies c = c.blocked + c.oversize + c.gate_closed + (c.shut_rx + c.shut_octets) + (c.octets_exceeded + c.red) + (c.yellow_dropped + c.full + c.never)
 
@@ -42,7 +42,7 @@ unfoldable pub stream_start : List ℕ → List CopyCounts → List ℕ
 stream_start stream tallies = stream ++ (codes ",all," ++ (decimal (length tallies) ++ (codes "," ++ (decimal (delivered_frames tallies) ++ (codes ","
     ++ (decimal (length tallies - delivered_frames tallies) ++ (codes ",,,,,,,,,,," ++ (decimal (sum_by astray tallies) ++ codes ","))))))))
 
--- True if no copy's delay exceeds a deadline.
+-- True if no copy's delay exceeds the deadline `deadline`; also without any delay.
 abbrev pub is_below_deadline : Option DelayStatistics → ℕ → Bool
 is_below_deadline None deadline = true
 is_below_deadline (Some f) deadline = nat_le f.greatest deadline

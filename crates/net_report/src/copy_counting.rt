@@ -82,7 +82,7 @@ fn count_at_index(tallies: &mut [CopyCounts], place: usize, fate: CopyFate)
 }
 
 /// Counts one copy or frame with fate `fate` for its source, the first-hop frame `root`. Does nothing if the source is unknown (`None`) or
-/// has number 0.
+/// has number 0. `count_departures`, `count_drops` and others call it.
 fn count_frame(tallies: &mut [CopyCounts], root: Option<SourceFrame>, fate: CopyFate)
     ensures { tallies.new ≡ spec.count_frame fate tallies.old root }
 {
@@ -272,6 +272,8 @@ fn count_hops<A: Allocator + Copy>(
 
 /// Returns the counts of each first-hop frame's copies over all hops. `all` has the source of each frame of each hop. The tables and the
 /// lines about lost frames use the counts.
+///
+/// `put_stream_lines` and `put_stream_rows` of `app_networks` call it.
 pub fn count_copies<A: Allocator + Copy>(
     alloc: A,
     links: &[Link],

@@ -16,8 +16,10 @@ const WINDOW_WORDS: &str = "port {0} opens class {1}";
 const HATCH_WORDS: &str =
     "port {0}, class {1}: windows drawn: {2} of {3}, none of those after {4} ns";
 
-/// Draws a window of a queue (port and class), from time `from` to time `to` in ns, in the row at height `y`. Counts it as drawn unless the
-/// picture is full.
+/// Draws a window of a queue (port and class), from time `from` to time `to` in ns, in the row `y` pixels from the top. Counts it as drawn
+/// unless the picture is full.
+///
+/// `put_windows` and `RunPicture::put_open_windows` call it.
 pub(crate) fn put_window(picture: &mut RunPicture, y: u64, queue: (u8, u8), from: u64, to: u64) {
     let (port, class) = (u64::from(queue.0), u64::from(queue.1));
     let bar = bar_x_and_width(picture, from, to, y.saturating_sub(10), 20);
@@ -28,8 +30,8 @@ pub(crate) fn put_window(picture: &mut RunPicture, y: u64, queue: (u8, u8), from
     }
 }
 
-/// Hatches the row at height `y` from time `from` on: later windows aren't drawn. The title has the queue and `all`, the number of its
-/// windows. `put_windows` calls it.
+/// Hatches the row `y` pixels from the top from time `from` (ns) on: later windows aren't drawn. The title has the queue and `all`, the
+/// number of its windows. `put_windows` calls it.
 fn put_hatch(picture: &mut RunPicture, y: u64, queue: (u8, u8), from: u64, all: u64) {
     let (port, class) = (u64::from(queue.0), u64::from(queue.1));
     let to = picture.span.to;
@@ -38,8 +40,8 @@ fn put_hatch(picture: &mut RunPicture, y: u64, queue: (u8, u8), from: u64, all: 
     put_titled(picture, "hatch", bar, HATCH_WORDS, &numbers, "");
 }
 
-/// Draws the first 500 windows of a queue (port and class) in the picture's time span, in the row at height `y`. If there are more, hatches
-/// the rest. `put_open_windows` calls it.
+/// Draws the first 500 windows of a queue (port and class) in the picture's time span, in the row `y` pixels from the top. If there are
+/// more, hatches the rest. `put_open_windows` calls it.
 pub(crate) fn put_windows<A: Allocator + Copy>(
     picture: &mut RunPicture,
     y: u64,

@@ -19,7 +19,7 @@ pub struct HopLosses<A: Allocator> {
     pub counts: HopCounts,
 }
 
-/// Returns the numbers of refused frames and dropped copies of a hop, in the form in which `bridge_report` writes losses. `put_hop` calls
+/// Returns the numbers of refused frames and dropped copies of a hop, in the form in which `bridge_report` writes losses. `put_hop_losses` calls
 /// it.
 fn hop_losses(counts: &HopCounts) -> Losses
     ensures { result ≡ spec.losses_at counts.now }
@@ -40,18 +40,18 @@ fn hop_losses(counts: &HopCounts) -> Losses
 
 /// Writes the words for the causes of losses at a hop, with the hop's name. `put_losses` leaves out causes without loss. `put_hops` calls
 /// it.
-fn put_hop<A: Allocator>(text: &mut TextBuilder<A>, hop: &HopLosses<A>)
+fn put_hop_losses<A: Allocator>(text: &mut TextBuilder<A>, hop: &HopLosses<A>)
     ensures { HasGrown text.old (spec.hop_words hop.now) text.new }
 {
     put_losses(text, hop.place.as_str(), &hop_losses(&hop.counts));
 }
 
-/// Writes the words for the causes of losses at all hops. `put_why` calls it.
+/// Writes the words for the causes of losses at all hops. `put_loss_causes` calls it.
 fn put_hops<A: Allocator>(text: &mut TextBuilder<A>, hops: &[HopLosses<A>])
     ensures { HasGrown text.old (flat_map spec.hop_words hops.now) text.new }
 {
     for hop in hops {
-        put_hop(text, hop);
+        put_hop_losses(text, hop);
     }
 }
 
@@ -63,7 +63,7 @@ fn is_nowhere(tally: &CopyCounts) -> bool
     tally.delivered == 0 && tally.refused == 0 && tally.sent_on <= tally.taken
 }
 
-/// Returns the number of first-hop frames that were forwarded to no port (`is_nowhere`). `put_why` calls it.
+/// Returns the number of first-hop frames that were forwarded to no port (`is_nowhere`). `put_loss_causes` calls it.
 fn count_not_forwarded(tallies: &[CopyCounts]) -> usize
     ensures { result ≡ count_by spec.is_nowhere tallies.now }
 {
@@ -72,7 +72,11 @@ fn count_not_forwarded(tallies: &[CopyCounts]) -> usize
 
 /// Writes why a stream lost frames: causes at its hops, number of astray copies, and number of frames that were forwarded to no port.
 /// `put_lost` calls it.
-fn put_why<A: Allocator>(text: &mut TextBuilder<A>, tallies: &[CopyCounts], hops: &[HopLosses<A>])
+fn put_loss_causes<A: Allocator>(
+    text: &mut TextBuilder<A>,
+    tallies: &[CopyCounts],
+    hops: &[HopLosses<A>],
+)
     ensures { HasGrown text.old (spec.why_words tallies.now hops.now) text.new }
 {
     put_hops(text, hops);
@@ -98,7 +102,7 @@ fn put_lost<A: Allocator>(
     text.put(" of ");
     text.put_number(frames as u64);
     text.put(" frames");
-    put_why(text, tallies, hops);
+    put_loss_causes(text, tallies, hops);
     text.put("\n");
 }
 
@@ -159,6 +163,8 @@ fn put_late_if<A: Allocator>(
 
 /// Writes a line if the stream lost frames, and a line if a delivered copy missed the deadline. `delays` has the delivered copies' delays
 /// in ns. `net --strict` prints the lines.
+///
+/// `put_stream_lines` of `app_networks` calls it.
 pub fn put_faults<A: Allocator>(
     text: &mut TextBuilder<A>,
     stream: &str,

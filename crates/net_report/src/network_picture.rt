@@ -37,14 +37,15 @@ const HOP: &str = "{a}.{0}";
 const STREAM_BOUND: &str = "bound {a} ns";
 
 /// Draws a text at a point: `form` with `word` for its mark `{a}`. `style` names a class of `STYLES`; an empty text stands for none.
-/// `put_bridge` and `put_stream` call it.
+/// `put_bridge` and `put_stream_row` call it.
 fn put_text(shapes: &mut Shapes, style: &str, at: Point, form: &str, word: &str) {
     shapes.begin_text(style, at);
     shapes.add_piece(form, &[], &[word]);
     shapes.end_text();
 }
 
-/// Returns the middle of the column of the bridge with index `place`, in pixels. Links, boxes and hops are drawn there.
+/// Returns the middle of the column of the bridge with index `place`, in pixels. Links, boxes and hops are drawn there. `put_link`,
+/// `put_bridge` and others call it.
 fn column_middle(place: u16) -> u64 {
     LEFT_MARGIN + COLUMN_WIDTH * u64::from(place) + COLUMN_WIDTH / 2
 }
@@ -76,7 +77,7 @@ fn tallest_arc(links: &[LinkRow]) -> u64 {
     most
 }
 
-/// Returns the name of the bridge with index `place`, or an empty text if it is missing. `put_hop` and `put_link` call it.
+/// Returns the name of the bridge with index `place`, or an empty text if it is missing. `put_hop_dot` and `put_link` call it.
 fn bridge_name<'a, A: Allocator + Copy>(bridges: &'a [BridgeRow<A>], place: u16) -> &'a str {
     match bridges.get(place as usize) {
         Some(bridge) => bridge.name(),
@@ -84,7 +85,8 @@ fn bridge_name<'a, A: Allocator + Copy>(bridges: &'a [BridgeRow<A>], place: u16)
     }
 }
 
-/// Draws the arc of a link, with a title that shows its ports and its delay. `top` is the upper edge of the boxes. `put_all` calls it.
+/// Draws the arc of a link, with a title that shows its ports and its delay. `top` is the upper edge of the boxes, in pixels from the top.
+/// `put_network` calls it.
 fn put_link<A: Allocator + Copy>(
     shapes: &mut Shapes,
     bridges: &[BridgeRow<A>],
@@ -106,7 +108,8 @@ fn put_link<A: Allocator + Copy>(
     shapes.end_shape();
 }
 
-/// Draws the box of the bridge with index `place`, with its name. `top` is its upper edge. `put_all` calls it.
+/// Draws the box of the bridge with index `place`, with its name. `top` is the upper edge of the boxes, in pixels from the top.
+/// `put_network` calls it.
 fn put_bridge<A: Allocator + Copy>(
     shapes: &mut Shapes,
     bridge: &BridgeRow<A>,
@@ -131,9 +134,10 @@ fn put_bridge<A: Allocator + Copy>(
     shapes.end_shape();
 }
 
-/// Draws a hop of a stream at height `y`, with its filter as title, and the line from the hop before, whose x is `before`. `None` stands
-/// for the first hop. `put_stream` calls it.
-fn put_hop<A: Allocator + Copy>(
+/// Draws the dot of a hop, `y` pixels from the top, with its filter as title, and the line from the hop before.
+///
+/// `before` is that hop's distance from the left in pixels; `None` stands for the first hop. `put_stream_row` calls it.
+fn put_hop_dot<A: Allocator + Copy>(
     shapes: &mut Shapes,
     bridges: &[BridgeRow<A>],
     before: Option<u64>,
@@ -151,8 +155,8 @@ fn put_hop<A: Allocator + Copy>(
     shapes.end_shape();
 }
 
-/// Draws the row of a stream at height `y`: its name, its hops and, if known, its delay bound in ns. `put_all` calls it.
-fn put_stream<A: Allocator + Copy>(
+/// Draws the row of a stream, `y` pixels from the top: its name, its hops and, if known, its delay bound in ns. `put_network` calls it.
+fn put_stream_row<A: Allocator + Copy>(
     alloc: Global,
     shapes: &mut Shapes,
     bridges: &[BridgeRow<A>],
@@ -164,7 +168,7 @@ fn put_stream<A: Allocator + Copy>(
     put_text(shapes, "", (10, line), "{a}", stream.name());
     let mut before = None;
     for hop in stream.hops() {
-        put_hop(shapes, bridges, before, *hop, y);
+        put_hop_dot(shapes, bridges, before, *hop, y);
         before = Some(column_middle(hop.0));
     }
     if let Some(bound) = bound {
@@ -176,21 +180,22 @@ fn put_stream<A: Allocator + Copy>(
     Ok(())
 }
 
-/// Returns the width in pixels of the picture of a network with `bridges` bridges. `draw_network` and `put_stream` call it.
+/// Returns the width in pixels of the picture of a network with `bridges` bridges. `draw_network` and `put_stream_row` call it.
 fn picture_width(bridges: usize) -> u64 {
     let columns = (bridges as u64).min(65_536);
     LEFT_MARGIN + COLUMN_WIDTH * columns + 170
 }
 
 /// Returns the position of the row of the stream with index `place`, in pixels from the top of the picture. Rows are below the bridges'
-/// boxes. `draw_network` and `put_all` call it.
+/// boxes. `draw_network` and `put_network` call it.
 fn stream_y(top: u64, place: usize) -> u64 {
     top.saturating_add(BOX_HEIGHT + 30)
         .saturating_add(ROW_HEIGHT.saturating_mul(place as u64))
 }
 
-/// Draws all links, bridges and streams, with the streams' delay bounds. `top` is the upper edge of the boxes. `draw_network` calls it.
-fn put_all<A: Allocator + Copy>(
+/// Draws all links, bridges and streams, with the streams' delay bounds. `top` is the upper edge of the boxes, in pixels from the top.
+/// `draw_network` calls it.
+fn put_network<A: Allocator + Copy>(
     alloc: Global,
     shapes: &mut Shapes,
     bridges: &[BridgeRow<A>],
@@ -209,13 +214,13 @@ fn put_all<A: Allocator + Copy>(
     }
     for i in 0..streams.len() {
         let bound = bounds.get(i).copied();
-        put_stream(alloc, shapes, bridges, &streams[i], bound, stream_y(top, i))?;
+        put_stream_row(alloc, shapes, bridges, &streams[i], bound, stream_y(top, i))?;
     }
     Ok(())
 }
 
 /// Returns a network's picture as SVG of at most 2,000,000 octets, for `picture NET`. `bounds` has the streams' delay bounds in ns. A note
-/// counts omitted shapes.
+/// counts omitted shapes. `draw_with_bounds` of `app_networks` calls it.
 pub fn draw_network<A: Allocator + Copy>(
     alloc: Global,
     bridges: &[BridgeRow<A>],
@@ -227,7 +232,7 @@ pub fn draw_network<A: Allocator + Copy>(
 {
     let top = tallest_arc(links).saturating_add(20);
     let mut shapes = Shapes::new(alloc);
-    put_all(alloc, &mut shapes, bridges, links, streams, bounds, top)?;
+    put_network(alloc, &mut shapes, bridges, links, streams, bounds, top)?;
     let height = stream_y(top, streams.len()).saturating_add(30);
     let width = picture_width(bridges.len());
     let head = picture_head(

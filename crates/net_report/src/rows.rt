@@ -35,7 +35,7 @@ fn arrival_time_or(origins: &[StoredOrigin], own: u64, other: u64) -> u64 {
 }
 
 /// Draws the line of a copy that crosses a link, from its end of transmission to its arrival at the next hop. `put_link` calls it.
-fn put_line(picture: &mut RunPicture, from: Point, to: Point) {
+fn put_crossing(picture: &mut RunPicture, from: Point, to: Point) {
     picture.shapes.draw("link", Element::Line(from, to));
     picture.shapes.end_shape();
 }
@@ -74,8 +74,10 @@ fn hop_reached<A: Allocator>(
     None
 }
 
-/// Draws the line of a copy from bridge `bridge` over its link, from the row at height `y` to the accepting hop's row. Draws it only if a
-/// hop accepted the copy. `put_hop` calls it.
+/// Draws the line of a copy from bridge `bridge` over its link, from the row `y` pixels from the top to the accepting hop's row. Draws it
+/// only if a hop accepted the copy.
+///
+/// `put_hop_row` calls it.
 fn put_link<A: Allocator>(
     picture: &mut RunPicture,
     links: &[Link],
@@ -94,10 +96,11 @@ fn put_link<A: Allocator>(
     let from = (time_x(picture, departure.done), y);
     let below = row_y(picture.rows.saturating_add(place as u64));
     let to = (time_x(picture, at), below);
-    put_line(picture, from, to);
+    put_crossing(picture, from, to);
 }
 
-/// Draws a copy that left a hop, in the row at height `y`. One bar shows its waiting time, one its transmission time. `put_hop` calls it.
+/// Draws a copy that left a hop, in the row `y` pixels from the top. One bar shows its waiting time, one its transmission time.
+/// `put_hop_row` calls it.
 fn put_departure(
     picture: &mut RunPicture,
     origins: &[StoredOrigin],
@@ -119,8 +122,8 @@ fn put_departure(
     put_titled(picture, "out", sends, LEFT_WORDS, &numbers, "");
 }
 
-/// Returns a triangle at time `at` in the row at height `y`. The tip is up for a refused frame (`is_refused`), and down for a dropped copy.
-/// `put_dropped` and `put_refused` call it.
+/// Returns a triangle at time `at` (ns) in the row `y` pixels from the top. The tip is up for a refused frame (`is_refused`), and down for
+/// a dropped copy. `put_dropped` and `put_refused` call it.
 fn time_mark(picture: &RunPicture, at: u64, y: u64, is_refused: bool) -> Element {
     let x = time_x(picture, at);
     let (above, below) = (y.saturating_sub(HALF), y.saturating_add(HALF));
@@ -138,7 +141,8 @@ fn time_mark(picture: &RunPicture, at: u64, y: u64, is_refused: bool) -> Element
     })
 }
 
-/// Draws a triangle at the arrival time of each frame that the filter of a hop refused, in the row at height `y`. `put_hop` calls it.
+/// Draws a triangle at the arrival time of each frame that the filter of a hop refused, in the row `y` pixels from the top. `put_hop_row`
+/// calls it.
 fn put_refused<A: Allocator>(picture: &mut RunPicture, view: &View<A>, y: u64) {
     let mut own = 0u64;
     for stored in &view.verdicts {
@@ -153,7 +157,8 @@ fn put_refused<A: Allocator>(picture: &mut RunPicture, view: &View<A>, y: u64) {
     }
 }
 
-/// Draws a triangle at the frame's arrival time for each copy that a port of a hop dropped, in the row at height `y`. `put_hop` calls it.
+/// Draws a triangle for each copy that a port of a hop dropped, in the row `y` pixels from the top. The triangle is at the frame's arrival
+/// time. `put_hop_row` calls it.
 fn put_dropped<A: Allocator>(picture: &mut RunPicture, view: &View<A>, y: u64) {
     for stored in &view.drops {
         let dropped = stored.dropped_copy();
@@ -165,9 +170,9 @@ fn put_dropped<A: Allocator>(picture: &mut RunPicture, view: &View<A>, y: u64) {
     }
 }
 
-/// Draws the row of a hop at height `y`: its name, copies that left with lines to the next hops, dropped copies and refused frames.
-/// `put_stream` of `RunPicture` calls it.
-pub(crate) fn put_hop<A: Allocator>(
+/// Draws the row of a hop, `y` pixels from the top. It shows its name, copies that left with lines to the next hops, dropped copies and
+/// refused frames. `RunPicture::put_stream` calls it.
+pub(crate) fn put_hop_row<A: Allocator>(
     picture: &mut RunPicture,
     links: &[Link],
     hops: &[HopRun<'_, A>],

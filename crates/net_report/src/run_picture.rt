@@ -3,7 +3,7 @@ ghost use Rattle.std.specs.Prelude.{◌≤◌, IfOk, length, string_bytes};
 
 use crate::copy_counting::HopRun;
 use crate::lanes::{put_window, put_windows};
-use crate::rows::put_hop;
+use crate::rows::put_hop_row;
 use bridge_cycle::Egress;
 use bridge_limits::NoMemory;
 use bridge_semantics::View;
@@ -84,6 +84,8 @@ pub(crate) fn time_x(picture: &RunPicture, moment: u64) -> u64 {
 
 /// Draws an element with a title, which browsers show when the pointer rests on it. The title is `words` with `numbers` and `word` at its
 /// marks. Rows and windows are drawn by it.
+///
+/// `put_window`, `put_hatch` and others call it.
 pub(crate) fn put_titled(
     picture: &mut RunPicture,
     style: &str,
@@ -99,7 +101,8 @@ pub(crate) fn put_titled(
     shapes.end_shape();
 }
 
-/// Returns the position of the row with index `row`, in pixels from the top of the picture.
+/// Returns the position of the row with index `row`, in pixels from the top of the picture. `put_link`, `RunPicture::put_open_windows` and
+/// others call it.
 pub(crate) fn row_y(row: u64) -> u64 {
     row.saturating_mul(ROW_HEIGHT).saturating_add(TOP_MARGIN)
 }
@@ -123,7 +126,7 @@ pub(crate) fn bar_x_and_width(
 }
 
 impl RunPicture {
-    /// Returns an empty picture, whose span is empty until `include_stream` widens it.
+    /// Returns an empty picture, whose span is empty until `include_stream` widens it. `draw_run` of `app_networks` calls it.
     pub fn new(alloc: Global) -> RunPicture {
         RunPicture {
             span: Span {
@@ -178,7 +181,7 @@ impl RunPicture {
                 return;
             }
             let y = row_y(self.rows.saturating_add(place as u64));
-            put_hop(self, links, hops, &hops[place], y, names[place].as_str());
+            put_hop_row(self, links, hops, &hops[place], y, names[place].as_str());
         }
         self.rows = self.rows.saturating_add(hops.len() as u64);
     }
@@ -201,6 +204,8 @@ impl RunPicture {
 
     /// Returns the picture as SVG of at most 2,000,000 octets. Bars show waiting (yellow), transmission (blue) and windows (green); red
     /// triangles show refused frames and dropped copies.
+    ///
+    /// `draw_run` of `app_networks` calls it after the last stream.
     pub fn finish(self, alloc: Global) -> Result<String, NoMemory>
         ensures { IfOk result (λ text. length (string_bytes text) ≤ 2000000) }
     {

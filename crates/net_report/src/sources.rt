@@ -98,8 +98,8 @@ fn is_due(departure: &Departure, port: u8, delay: u64, at: u64) -> bool
     departure.port == port && at as u128 <= departure.done as u128 + delay as u128
 }
 
-/// Returns the rest of `departures` from the first copy on that left by `port` and arrives `delay` ns later, at time `at` or after.
-/// `resume_due_departures` calls it.
+/// Returns the rest of `departures` from the first copy on that left by `port` and arrives at time `at` or later. The link's delay is
+/// `delay` ns. `resume_due_departures` calls it.
 fn due_departures(
     departures: &[StoredDeparture],
     port: u8,
@@ -119,6 +119,7 @@ fn due_departures(
 }
 
 /// Returns the source of a hop's frame with number `own`, from 1. Returns `None` if the frame is missing or its source unknown.
+/// `count_departures`, `count_drops` and others call it.
 pub fn source_frame(roots: &[Option<SourceFrame>], own: u64) -> Option<SourceFrame>
     ensures { result ≡ spec.source_frame roots.now own }
 {
@@ -302,7 +303,7 @@ fn trace_pair<A: Allocator + Copy>(
 }
 
 /// Returns whether `one` or `other` is true. Loops over hops and ports combine by it whether they found more sources. Their proofs need the
-/// contract, which `||` lacks.
+/// contract, which `||` lacks. `trace_sender`, `trace_hop` and `trace_all` call it.
 fn either(one: bool, other: bool) -> bool
     ensures one { result ≡ false → one ≡ false }
     ensures other { result ≡ false → other ≡ false }
@@ -427,7 +428,7 @@ fn trace_all<A: Allocator + Copy>(
 /// Returns the source of each frame of each hop, or `None` for a frame without source. A frame from a link has the source of the copy that
 /// ended one delay before.
 ///
-/// `put_stream` of `app_networks` calls it.
+/// `put_stream_lines` and `put_stream_rows` of `app_networks` call it.
 pub fn trace_source_frames<A: Allocator + Copy>(
     alloc: A,
     links: &[Link],

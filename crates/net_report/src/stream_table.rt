@@ -125,14 +125,15 @@ pub fn hop_line<A: Allocator + Copy>(
     text.finish()
 }
 
-/// Returns the number of delivered first-hop frames: a copy was delivered, and no copy was refused, dropped or astray.
+/// Returns the number of delivered first-hop frames: a copy was delivered, and no copy was refused, dropped or astray. `put_lost`,
+/// `put_lost_if` and functions of `app_networks` call it.
 pub fn delivered_frames(tallies: &[CopyCounts]) -> usize
     ensures { result ≡ spec.delivered_frames tallies.now }
 {
     tallies.iter().filter(|tally| tally.is_delivered()).count()
 }
 
-/// Returns the number of astray copies of all frames of a stream. `put_stream_start` and `put_why` call it.
+/// Returns the number of astray copies of all frames of a stream. `put_stream_start` and `put_loss_causes` call it.
 pub(crate) fn total_astray(tallies: &[CopyCounts]) -> u128
     ensures { result ≡ sum_by astray tallies.now }
 {
@@ -261,7 +262,7 @@ pub fn stream_line<A: Allocator + Copy>(
     text.finish()
 }
 
-/// Writes a number and a suffix, such as the comma after a field.
+/// Writes a number and a suffix, such as the comma after a field. `put_source_frame`, `put_line_start` and others call it.
 pub(crate) fn put_number_with_suffix<A: Allocator>(
     text: &mut TextBuilder<A>,
     number: u64,
@@ -273,7 +274,7 @@ pub(crate) fn put_number_with_suffix<A: Allocator>(
     text.put(end);
 }
 
-/// Writes a number of 128 bits and a suffix, such as the comma after a field.
+/// Writes a number of 128 bits and a suffix, such as the comma after a field. `put_statistics`, `put_hop_start` and others call it.
 pub(crate) fn put_wide_with_suffix<A: Allocator>(text: &mut TextBuilder<A>, number: u128, end: &str)
     ensures { HasGrown text.old (decimal number ++ end.now) text.new }
 {

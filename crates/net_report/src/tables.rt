@@ -179,6 +179,8 @@ fn push_delays<A: Allocator + Copy>(
 
 /// Returns the delays in ns of a stream's delivered copies, from arrival at the first hop, in the order of hops. Rows of streams and late
 /// lines use them.
+///
+/// `write_stream` and `put_stream_lines` of `app_networks` call it.
 pub fn stream_delays<A: Allocator + Copy>(
     alloc: A,
     links: &[Link],

@@ -1,4 +1,4 @@
--- Bridges of a network between two rounds: their inputs, sent frames and results, and what a round changes.
+-- Bridges of a network between two rounds: their inputs, sent frames and results, and the changes of a round.
 use Rattle.std.specs.Prelude.{◌≡◌, ◌≢◌, ◌<◌, ℕ, All, Option, Some, None, is_some, option_map, nat_eq, List, [], ◌∷◌, length, map, slice_get, Vec, if◌then◌else◌}
 use Rattle.bridge_capture.specs.declared.capture_fault.CaptureFault.TheVariants as faults
 use Rattle.bridge_capture.specs.Grammar.{CapturedFrame, IsCapture, AtEnd}
@@ -140,7 +140,7 @@ pub record IsInitialRun {A : Type 0} (p : Plan A) (links : List Link) (b : ℕ) 
 
 -- ARRIVALS OVER LINKS
 
--- Holds if `text` has the frames of the sent capture `tap`, each `delay` ns later, but at most at the end of time.
+-- Holds if `text` has the frames of the sent capture `tap`, each delayed by `delay` ns, but at most to the end of time.
 abbrev pub IsDelayedCapture : ℕ → List ℕ → List ℕ → Type 0
 IsDelayedCapture delay tap text = (frames : List CapturedFrame) → IsCaptureOfFrames frames tap → text ≡ written_text (map (delayed delay) frames)
 

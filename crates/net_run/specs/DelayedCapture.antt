@@ -10,7 +10,7 @@ use Rattle.bridge_core.specs.CaptureWriters.{FitsRecord}
 abbrev pub delayed_time : ℕ → ℕ → ℕ
 delayed_time t delay = min (t + delay) END_OF_TIME
 
--- The frame `c` with its time `delay` ns later, but at most at the end of time.
+-- The frame `c` with its time delayed by `delay` ns, but at most to the end of time.
 abbrev pub delayed : ℕ → CapturedFrame → CapturedFrame
 delayed delay c = record { time = delayed_time c.time delay; len = c.len; octets = c.octets }
 
@@ -22,8 +22,8 @@ IsWord octets at word = word ≡ from_le_bytes w32 (take 4 (drop at octets))
 unfoldable pub time_words : ℕ → List ℕ
 time_words t = to_le_bytes w32 (t / 10 ^ 9) ++ to_le_bytes w32 (t % 10 ^ 9)
 
--- Holds if, for `octets` that begin with a frame's record, `new` is `old` and this record, `delay` ns later. Then `rest` has the octets
--- after the record.
+-- Holds if, for `octets` that begin with a frame's record, `new` is `old` and this record, delayed by `delay` ns. Then `rest` has the
+-- octets after the record.
 abbrev pub AppendsDelayedRecord : ℕ → List ℕ → List ℕ → List ℕ → Option (List ℕ) → Type 0
 AppendsDelayedRecord delay octets old new rest =
     (c : CapturedFrame) (more : List ℕ) → FitsRecord c → octets ≡ written_frame c ++ more
@@ -33,34 +33,34 @@ AppendsDelayedRecord delay octets old new rest =
 abbrev pub word_at : List ℕ → ℕ → ℕ
 word_at octets at = from_le_bytes w32 (take 4 (drop at octets))
 
--- The first record of `octets` with its time `delay` ns later. The rest of the record stays: two words after the time, and the `captured`
--- octets.
+-- The first record of `octets` with its time delayed by `delay` ns. The rest of the record stays: two words after the time, and the
+-- `captured` octets.
 abbrev pub delayed_octets : ℕ → ℕ → List ℕ → List ℕ
 delayed_octets delay captured octets = time_words (delayed_time (word_at octets 0 * 1000000000 + word_at octets 4) delay) ++ take (16 + captured - 8) (drop 8 octets)
 
--- The first record of `octets`, `delay` ns later, and the octets after it; `None` if no whole record is left.
+-- The first record of `octets`, delayed by `delay` ns, and the octets after it; `None` if no whole record is left.
 abbrev pub delayed_record : ℕ → List ℕ → Option (List ℕ × List ℕ)
 delayed_record delay octets =
     if nat_lt (length octets) 16 then None else
     if nat_lt (length octets) (16 + word_at octets 8) then None else
     Some (delayed_octets delay (word_at octets 8) octets, drop (16 + word_at octets 8) octets)
 
--- The found record, followed by what `more` makes of the octets after it; empty if no record was found.
+-- The found record, and after it the result of `more` for the octets after the record; empty if no record was found.
 abbrev pub record_and_more : (List ℕ → List ℕ) → Option (List ℕ × List ℕ) → List ℕ
 record_and_more more None = []
 record_and_more more (Some found) = found.0 ++ more found.1
 
--- The records of `octets`, `delay` ns later, but at most `most` records.
+-- The records of `octets`, delayed by `delay` ns, but at most `most` records.
 abbrev pub delayed_records : ℕ → ℕ → List ℕ → List ℕ
 delayed_records zero delay octets = []
 delayed_records (suc most) delay octets = record_and_more (delayed_records most delay) (delayed_record delay octets)
 
--- The capture `text` with each record `delay` ns later; empty if `text` has no whole header.
+-- The capture `text` with each record delayed by `delay` ns; empty if `text` has no whole header.
 abbrev pub delayed_text : ℕ → List ℕ → List ℕ
 delayed_text delay text = if nat_lt (length text) 24 then [] else take 24 text ++ delayed_records (length (drop 24 text)) delay (drop 24 text)
 
--- Holds if `new` is `old` with the first record of `octets`, `delay` ns later, and `rest` has the octets after it. Without a whole record,
--- `rest` is `None`.
+-- Holds if `new` is `old` with the first record of `octets`, delayed by `delay` ns, and `rest` has the octets after it. Without a whole
+-- record, `rest` is `None`.
 abbrev pub IsRecordAppended : ℕ → List ℕ → List ℕ → List ℕ → Option (List ℕ) → Type 0
 IsRecordAppended delay octets old new None = delayed_record delay octets ≡ None
 IsRecordAppended delay octets old new (Some rest) = (first : List ℕ) × (delayed_record delay octets ≡ Some (first, rest)) × (new ≡ old ++ first)

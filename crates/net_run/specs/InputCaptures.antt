@@ -3,7 +3,8 @@ use Rattle.std.specs.Prelude.{ℕ, List, [], Option, Some, None}
 use Rattle.bridge_capture.specs.Memory.{MemoryDevice}
 use Rattle.net_run.specs.DelayedCapture.{delayed_text}
 
--- The octets of an input capture: what the sender sent, `delay` ns later, or without a sender its own octets.
+-- The octets of a port's input capture: with a sender, the octets `sent` by it, delayed by `delay` ns; otherwise the
+-- port's own octets.
 abbrev pub input_octets : List ℕ → Option MemoryDevice → ℕ → List ℕ
 input_octets octets None delay = octets
 input_octets octets (Some sent) delay = delayed_text delay sent.octets

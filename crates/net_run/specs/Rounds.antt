@@ -1,4 +1,4 @@
--- Complete runs of networks in rounds.
+-- Complete runs of networks: rounds until no input changes.
 use Rattle.std.specs.Prelude.{◌≡◌, ◌≢◌, ◌<◌, ◌≤◌, ℕ, zero, suc, Some, None, List, [], ◌∷◌, length, map, slice_get, Vec, nat_eq}
 use Rattle.std.specs.Map.{lookup}
 use Rattle.bridge_limits.specs.Members.{IsMember}

@@ -335,7 +335,7 @@ impl<'a, A: Allocator + Copy> BridgeRun<'a, A> {
         self.ports.len()
     }
 
-    /// Returns the number of the port with index `place`.
+    /// Returns the number of the port with index `place`. `deliver_capture` returns it if the port's input changed.
     pub(crate) fn port(&self, place: usize) -> u8
         requires { place < length self.now.ports }
         ensures { slice_get self.now.ports place ≡ Some result }
@@ -344,6 +344,7 @@ impl<'a, A: Allocator + Copy> BridgeRun<'a, A> {
     }
 
     /// Returns the sender of the port with index `place`: the port at the other end of its link. Returns `None` for an open port.
+    /// `feed_port` calls it.
     pub(crate) fn sender(&self, place: usize) -> Option<Sender>
         requires { place < length self.now.ports }
         ensures { slice_get self.now.senders place ≡ Some (option_map sender_value result) }
@@ -359,8 +360,8 @@ impl<'a, A: Allocator + Copy> BridgeRun<'a, A> {
         &self.texts[place]
     }
 
-    /// Returns the input capture for the port at the other end of a link: the frames that `port` sent, `delay` ns later. The capture is
-    /// empty if the port is missing. `capture_over_link` calls it.
+    /// Returns the input capture for the port at the other end of a link: the frames that `port` sent, delayed by `delay` ns. The capture
+    /// is empty if the port is missing. `capture_over_link` calls it.
     pub(crate) fn delivered_capture(
         &self,
         alloc: A,

@@ -53,8 +53,8 @@ fn time_words(moment: u64) -> [u8; 8]
     ]
 }
 
-/// Appends to `text` the first record of `octets`, with its time `delay` ns later. Returns the octets after this record, or `None` if no
-/// whole record is left. `append_delayed_records` calls it.
+/// Appends to `text` the first record of `octets`, with its time delayed by `delay` ns. Returns the octets after this record, or `None` if
+/// no whole record is left. `append_delayed_records` calls it.
 fn append_delayed_record<'a, A: Allocator>(
     octets: &'a [u8],
     delay: u64,
@@ -81,8 +81,8 @@ fn append_delayed_record<'a, A: Allocator>(
     Ok(Some(&octets[end..]))
 }
 
-/// Appends to `text` each record of `octets`, with its time `delay` ns later. Stops where no whole record is left. `delay_capture` calls
-/// it.
+/// Appends to `text` each record of `octets`, with its time delayed by `delay` ns. Stops at the first record that isn't whole.
+/// `delay_capture` calls it.
 fn append_delayed_records<A: Allocator>(
     octets: &[u8],
     delay: u64,

@@ -28,6 +28,7 @@ impl<A: Allocator + Copy> Model for SharedCapture<A> {
 
 impl<A: Allocator + Copy> SharedCapture<A> {
     /// Returns a capture that inputs can share. Its copy of the octets has no spare capacity, unlike the sink that grew frame by frame.
+    /// `share_captures` calls it.
     fn new(alloc: A, sink: VecSink<A>) -> Result<SharedCapture<A>, NoMemory>
         ensures { IfOk result (λ shared. shared.octets ≡ sink.octets) }
     {
@@ -38,7 +39,7 @@ impl<A: Allocator + Copy> SharedCapture<A> {
         })
     }
 
-    /// Returns the octets of the capture.
+    /// Returns the octets of the capture. The input of the linked port is made from them.
     pub(crate) fn octets(&self) -> &[u8]
         ensures { result.now ≡ self.now.octets }
     {

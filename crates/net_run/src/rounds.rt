@@ -169,7 +169,7 @@ fn with_bridge(bridge: usize, port: Option<u8>) -> Option<(usize, u8)>
 }
 
 /// Delivers to every linked port the frames sent to it in this round (`ran`). Returns the first bridge and port whose input changed, or
-/// `None` if none changed. `run_round` calls it.
+/// `None` if no input changed. `run_round` calls it.
 fn feed_bridges<A: Allocator + Copy>(
     alloc: A,
     stations: &mut [BridgeRun<'_, A>],
@@ -365,6 +365,8 @@ fn assert_network<A: Allocator + Copy>(network: &Network<A>)
 
 /// Runs a network in at most `rounds` rounds, until each link delivers exactly the frames that its sender sent. `watch` gets a report
 /// before each bridge's run. `net` runs networks by it.
+///
+/// `run_network_folders` of `app_networks` calls it.
 pub fn run_network<A: Allocator + Copy, W: RoundObserver>(
     alloc: A,
     network: &Network<A>,

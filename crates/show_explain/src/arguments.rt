@@ -9,6 +9,7 @@ use bridge_text::{Said, TextBuilder, fill_with_word, finish_with_path, nearest_n
 use std::alloc::Global;
 
 /// Returns the name of an option, with its `--` and without `=` and its value. Returns `None` if the argument isn't an option.
+/// `unknown_option`, `first_operand` and others call it.
 fn option_name(word: &str) -> Option<&str> {
     if !word.starts_with("--") || word == "--" {
         return None;
@@ -38,7 +39,7 @@ const PART_OF_NETWORK: &str =
     ": This file describes a network. The options --from, --to and --ports are for plans: `tsnbridge picture PLAN FILE` and `tsnbridge run PLAN IN OUT --picture FILE` take them.\nWithout these options, `tsnbridge picture {a} FILE` draws the network.\n";
 
 /// Explains why `picture` refuses to draw part of a network: only plans have the options for a part. The explanation begins with `path`.
-/// `explain_picture_fault` calls it.
+/// `explain_picture_fault` of `app_networks` calls it.
 pub fn explain_part(alloc: Global, path: &str) -> Result<String, NoMemory>
     ensures { IfOk result (λ said. StartsWithName path.now (string_bytes said)) }
 {
@@ -47,7 +48,8 @@ pub fn explain_part(alloc: Global, path: &str) -> Result<String, NoMemory>
     finish_with_path(alloc, path, said)
 }
 
-/// Returns whether option `name`, with its `--`, needs a value. Returns `None` if no command has such an option.
+/// Returns whether option `name`, with its `--`, needs a value. Returns `None` if no command has such an option. `unknown_option`,
+/// `count_operands` and `option_fault` call it.
 fn has_option_value(name: &str) -> Option<bool> {
     match name.strip_prefix("--") {
         Some(name) => has_value(name),
@@ -96,8 +98,8 @@ fn put_unknown_option(alloc: Global, said: &mut Said, name: &str) {
     }
 }
 
-/// Writes that the command `word` is unknown, or missing if `None`, and the usage of the nearest command. Writes all usages if none is
-/// near. `explain_arguments` and `put_command_refusal` call it.
+/// Writes that the command `word` is unknown, or missing if `None`, and the usage of the nearest command. Writes all usages if no command
+/// is near. `explain_arguments` and `put_command_refusal` call it.
 fn put_usages(alloc: Global, said: &mut Said, word: Option<&str>) {
     let Ok(names) = command_names(alloc) else {
         return said.discard();

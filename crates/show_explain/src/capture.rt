@@ -21,8 +21,8 @@ fn is_text(octets: &[u8]) -> bool {
     true
 }
 
-/// Returns the kind of a file by its first octets, if another program can convert it. Returns `None` for other files. `capture_sentence`
-/// and `explain_capture` call it.
+/// Returns the kind of a file whose contents begin with `octets`, if another program can convert it to a capture. Returns `None` for other
+/// files. `capture_sentence` and `explain_capture` call it.
 fn file_kind(octets: &[u8]) -> Option<&'static str> {
     match octets {
         [0x0A, 0x0D, 0x0D, 0x0A, ..] => Some("a pcapng file"),
@@ -33,8 +33,8 @@ fn file_kind(octets: &[u8]) -> Option<&'static str> {
     }
 }
 
-/// Explains why a capture is refused, by its first octets and the fault: the file's kind, and a command that converts it. The explanation
-/// begins with `path`. `app_commands` calls it.
+/// Explains why the capture at `path` is refused by `fault`: the kind of the file, and a command that converts it. `octets` are the file's
+/// first octets. The explanation begins with `path`. `app_commands` calls it.
 pub fn explain_capture(
     alloc: Global,
     path: &str,
@@ -126,8 +126,8 @@ fn link_type(octets: &[u8]) -> (u64, u64) {
     }
 }
 
-/// Returns whether numbers in the headers of the capture `octets` begin with their lowest octet, by the first octet of the file.
-/// `link_type` and `read_u16` call it.
+/// Returns whether the numbers in the headers of the capture `octets` are little-endian; its first octet shows this. `link_type` and
+/// `read_u16` call it.
 fn is_little_endian(octets: &[u8]) -> bool {
     octets.first() == Some(&0xD4) || octets.first() == Some(&0x4D)
 }

@@ -50,8 +50,8 @@ fn cause_sentence(cause: Cause) -> &'static str {
     }
 }
 
-/// Writes a warning that the run doesn't read a capture in its folder, because the plan lacks port `port`. `warn_if_capture_unread` calls
-/// it.
+/// Writes a warning that the run doesn't read a capture in its folder, because the plan lacks port `port`. `warn_if_capture_unread` of
+/// `app_commands` calls it.
 pub fn warn_unread_capture<A: Allocator>(said: &mut TextBuilder<A>, path: &str, port: u8) {
     said.put_template(
         "Warning: {a} is not read: the plan has no port {0}.\n",

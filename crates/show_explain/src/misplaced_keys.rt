@@ -22,8 +22,8 @@ pub(crate) fn find_key(keys: &'static [KeyRule], name: &str) -> Option<&'static 
     None
 }
 
-/// Writes the key in `keys` that is nearest to `word`, or all keys if none is near. `put_misplaced_entry_key` and `put_misplaced_table_key`
-/// call it.
+/// Writes the key in `keys` that is nearest to `word`, or all keys if no key is near. `put_misplaced_entry_key` and
+/// `put_misplaced_table_key` call it.
 fn put_nearest_key(alloc: Global, said: &mut Said, word: &str, keys: &'static [KeyRule]) {
     let (mut names, mut is_refused) = (Vec::new(alloc), false);
     for key in keys {
@@ -35,7 +35,7 @@ fn put_nearest_key(alloc: Global, said: &mut Said, word: &str, keys: &'static [K
     put_nearest(alloc, said, word, &names, KEYS);
 }
 
-/// Writes which key at the top of a plan or of commands is unknown, and the nearest section. Both functions `put_fault` call it.
+/// Writes which key at the top of a plan or of commands is unknown, and the nearest section. `put_fault` calls it.
 pub(crate) fn put_top_key(alloc: Global, said: &mut Said, source: SourceText<'_>) {
     let sections: &'static [Section] = if source.is_commands {
         &COMMAND_SECTIONS
@@ -71,8 +71,8 @@ fn first_misplaced_key<'a>(
     None
 }
 
-/// Returns the position, from 1, of the first entry with a key that isn't allowed there, and the key. Returns `None` if all entries are
-/// sound. `put_misplaced_entry_key` calls it.
+/// Returns the number in the list, from 1, of the first entry with a key that isn't allowed there, and the key. Returns `None` if all keys
+/// are allowed. `put_misplaced_entry_key` calls it.
 fn first_misplaced_entry_key<'a>(
     keys: &'static [KeyRule],
     table: &'a Table,

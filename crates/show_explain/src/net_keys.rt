@@ -11,7 +11,8 @@ use net_file::{
 };
 use toml::Value;
 
-/// Returns instance `index`, counted from 1, of a section of a network or traffic file.
+/// Returns instance `index`, counted from 1, of a section of a network or traffic file. `put_net_place`, `put_unknown_bridge` and others
+/// call it.
 pub(crate) fn net_instance<'a>(
     document: Document<'a>,
     section: NetSection,
@@ -25,7 +26,7 @@ pub(crate) fn net_instance<'a>(
 }
 
 /// Writes the position of instance `index`, from 1, of a section, or of its key `key`, and the instance's name, ends or filter.
-/// Explanations in `network` begin with it.
+/// Explanations in `network` begin with it. `put_net_fault`, `put_stray_key` and others call it.
 pub(crate) fn put_net_place(
     said: &mut Said,
     document: Document<'_>,

@@ -76,7 +76,7 @@ fn bridge_part(text: &str) -> &str {
     }
 }
 
-/// Writes which bridge an instance's key names although the network lacks it, the nearest bridge, and what to do. `put_fault` calls it.
+/// Writes which bridge an instance's key names although the network lacks it, the nearest bridge, and what to do. `put_net_fault` calls it.
 pub(crate) fn put_unknown_bridge(
     alloc: Global,
     said: &mut Said,

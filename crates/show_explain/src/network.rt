@@ -21,7 +21,7 @@ use std::alloc::Global;
 use toml::{Table, Value};
 
 /// Explains why a network file is refused: position of the fault, value there, allowed values, and what to change. The explanation begins
-/// with `path`. `explain_refused_network` calls it.
+/// with `path`. `explain_refused_network` of `app_networks` calls it.
 pub fn explain_network_text(
     alloc: Global,
     path: &str,
@@ -38,7 +38,7 @@ pub fn explain_network_text(
 }
 
 /// Explains why a traffic file is refused: position of the fault, value there, allowed values, and what to change. The explanation begins
-/// with `path`. `explain_refused_traffic` calls it.
+/// with `path`. `explain_refused_traffic` of `app_networks` calls it.
 pub fn explain_traffic_text(
     alloc: Global,
     path: &str,
@@ -78,7 +78,7 @@ fn file_explanation(
                     text,
                     table: &table,
                 };
-                put_fault(alloc, &mut said, document, kind, fault);
+                put_net_fault(alloc, &mut said, document, kind, fault);
             }
         }
     }
@@ -87,7 +87,7 @@ fn file_explanation(
 
 /// Writes the explanation of a network or traffic file's fault, to follow the path. Calls the function for its kind. `file_explanation`
 /// calls it.
-fn put_fault(
+fn put_net_fault(
     alloc: Global,
     said: &mut Said,
     document: Document<'_>,
@@ -130,7 +130,7 @@ fn put_fault(
     }
 }
 
-/// Writes which key at the top level is unknown, and the nearest section of this kind of file. `put_fault` calls it.
+/// Writes which key at the top level is unknown, and the nearest section of this kind of file. `put_net_fault` calls it.
 fn put_top_key(alloc: Global, said: &mut Said, document: Document<'_>, kind: FileKind) {
     let (bridge, link, stream) = (
         NetSection::Bridge.name(),
@@ -159,7 +159,7 @@ fn is_known(keys: &[NetField], word: &str) -> bool {
 }
 
 /// Writes which key of instance `index` is unknown, and the nearest key. If all keys are known, writes which key another one excludes.
-/// `put_fault` calls it.
+/// `put_net_fault` calls it.
 fn put_stray_key(
     alloc: Global,
     said: &mut Said,
@@ -231,7 +231,7 @@ fn first_present(table: &Table, keys: &[NetField]) -> Option<NetField> {
     None
 }
 
-/// Writes the key in `keys` that is nearest to `word`, or all keys if none is near. `put_stray_key` calls it.
+/// Writes the key in `keys` that is nearest to `word`, or all keys if no key is near. `put_stray_key` calls it.
 fn put_nearest_key(alloc: Global, said: &mut Said, word: &str, keys: &[NetField]) {
     let (mut names, mut is_refused) = (Vec::new(alloc), false);
     for key in keys {
@@ -244,7 +244,7 @@ fn put_nearest_key(alloc: Global, said: &mut Said, word: &str, keys: &[NetField]
 }
 
 /// Writes the position and value of an instance's key with the allowed values. For an array of hops, writes its first wrong hop.
-/// `put_fault` calls it.
+/// `put_net_fault` calls it.
 fn put_key_explanation(said: &mut Said, document: Document<'_>, place: NetKeyLocation) {
     let key = place.field.key();
     put_net_place(said, document, place.section, place.index, Some(key));
@@ -255,7 +255,7 @@ fn put_key_explanation(said: &mut Said, document: Document<'_>, place: NetKeyLoc
     }
 }
 
-/// Writes which earlier instance of the section has the name or filter of instance `index`. `put_fault` calls it.
+/// Writes which earlier instance of the section has the name or filter of instance `index`. `put_net_fault` calls it.
 fn put_duplicate(said: &mut Said, document: Document<'_>, section: NetSection, index: u32) {
     let key = match section {
         NetSection::Traffic => NetField::Filter.key(),

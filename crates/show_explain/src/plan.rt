@@ -11,7 +11,7 @@ use bridge_text::{FileKind, Said, TextBuilder, finish_with_path, put_other_kind}
 use std::alloc::Global;
 
 /// Explains why a file isn't a plan: position of the fault, value there, allowed values. The explanation begins with `path`. `--explain`
-/// prints it.
+/// prints it. `explain_plan_fault` of `app_commands` calls it.
 pub fn explain_plan(
     alloc: Global,
     path: &str,

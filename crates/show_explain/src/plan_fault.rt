@@ -163,7 +163,7 @@ fn allowed_sentence(allowed: AllowedValue) -> &'static str {
     }
 }
 
-/// Writes the sentence for the allowed values of a key.
+/// Writes the sentence for the allowed values of a key. `put_flaw` and `put_allowed_instances` call it.
 pub(crate) fn put_allowed(said: &mut Said, allowed: AllowedValue) {
     let (low, high) = match allowed {
         AllowedValue::Between(range) | AllowedValue::Set(range) | AllowedValue::Eight(range) => (
@@ -180,8 +180,8 @@ pub(crate) fn put_allowed(said: &mut Said, allowed: AllowedValue) {
     );
 }
 
-/// Returns the section to whose instances a value must refer, or `None` if it refers to none. `put_allowed` and `put_allowed_instances`
-/// call it.
+/// Returns the section to whose instances a value must refer, or `None` if the value needn't refer to an instance. `put_allowed` and
+/// `put_allowed_instances` call it.
 fn referenced_section(allowed: AllowedValue) -> Option<Section> {
     match allowed {
         AllowedValue::InstanceNumber(section) => Some(section),

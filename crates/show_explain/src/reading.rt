@@ -5,8 +5,10 @@ use std::alloc::Global;
 use toml::Table;
 use toml::de::Error;
 
-/// Returns the text and the document in these octets. If they aren't UTF-8 or TOML, writes where and why, and returns `None`. Explanations
-/// of all such files begin with it. `file_explanation` and `put_document_fault` call it.
+/// Returns the text and the document in these octets. If they aren't UTF-8 or TOML, writes the position and the reason, and returns `None`.
+/// Explanations of all such files begin with it.
+///
+/// `file_explanation` and `put_document_fault` call it.
 pub(crate) fn read_document<'a>(
     alloc: Global,
     said: &mut Said,
@@ -29,8 +31,8 @@ pub(crate) fn read_document<'a>(
     }
 }
 
-/// Writes where and why a text isn't a TOML document. Adds a hint if a word stands where a value is expected, or a key is repeated.
-/// `read_document` calls it.
+/// Writes the position at which a text isn't a TOML document, and the reason. Adds a hint if a word stands where a value is expected, or a
+/// key is repeated. `read_document` calls it.
 fn put_syntax_error(said: &mut Said, text: &str, error: &Error) {
     let message = error.message();
     let Some(span) = error.span() else {

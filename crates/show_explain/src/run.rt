@@ -9,8 +9,8 @@ use bridge_limits::NoMemory;
 use bridge_text::text_with_path;
 use std::alloc::Global;
 
-/// Explains why a run stopped, by the path and first octets of the capture at fault. The explanation begins with `path`. `--explain` prints
-/// it.
+/// Explains why a run stopped at the capture with path `path` and first octets `octets`. The explanation begins with `path`. `app_commands`
+/// calls it for `--explain`.
 pub fn explain_run(
     alloc: Global,
     path: &str,

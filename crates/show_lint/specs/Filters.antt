@@ -1,4 +1,4 @@
--- Filters compared with other filters.
+-- Filters that match all frames of another filter, for warnings.
 use Rattle.std.specs.Prelude.{ℕ, Bool, true, false, not, ◌&&◌, ◌||◌, List, [], ◌∷◌, Option, Some, None, nat_eq, nat_lt, if◌then◌else◌}
 use Rattle.bridge_filter.specs.declared.FilterPlan.{FilterPlan}
 use Rattle.bridge_filter.specs.Verdicts.{is_priority_match}
@@ -19,17 +19,17 @@ abbrev pub first_hiding_filter : FilterPlan → ℕ → List (ℕ × FilterPlan)
 first_hiding_filter filter n [] = None
 first_hiding_filter filter n (f ∷ fs) = if nat_lt f.0 n && covers_filter f.1 filter then Some f.0 else first_hiding_filter filter n fs
 
--- The number of the first filter other than `n` for which `test` is true, or `None`.
+-- The number of the first filter for which `test` is true, apart from filter `n`; `None` if it is true for no other filter.
 abbrev pub first_other_filter : (FilterPlan → Bool) → ℕ → List (ℕ × FilterPlan) → Option ℕ
 first_other_filter test n [] = None
 first_other_filter test n (f ∷ fs) = if not (nat_eq f.0 n) && test f.1 then Some f.0 else first_other_filter test n fs
 
--- True if an optional meter number is `m`.
+-- True if an optional meter number, such as that of a filter, is `m`.
 abbrev pub is_meter : ℕ → Option ℕ → Bool
 is_meter m None = false
 is_meter m (Some own) = nat_eq own m
 
--- True if filter `f` uses meter `m`.
+-- True if filter `f` uses flow meter `m`.
 abbrev pub has_meter : ℕ → FilterPlan → Bool
 has_meter m f = is_meter m f.meter
 
@@ -42,7 +42,7 @@ abbrev pub taker_at : FilterPlan → ℕ → ℕ → List (ℕ × FilterPlan) �
 taker_at filter n k [] = None
 taker_at filter n k (f ∷ fs) = if nat_lt f.0 n && takes_at k f.1 filter then Some f.0 else taker_at filter n k fs
 
--- True if an optional number is present.
+-- True if an optional number, such as that of a filter, is present.
 abbrev pub is_number : Option ℕ → Bool
 is_number None = false
 is_number (Some n) = true
@@ -61,7 +61,7 @@ abbrev pub tested_with : ℕ → List (ℕ × FilterPlan) → Option ℕ
 tested_with gate [] = None
 tested_with gate (f ∷ fs) = if nat_eq f.1.gate gate && is_tested f.1 then Some f.0 else tested_with gate fs
 
--- True if a filter uses stream gate `gate`.
+-- True if one of the filters uses stream gate `gate`; otherwise the gate gets a warning.
 abbrev pub is_used : ℕ → List (ℕ × FilterPlan) → Bool
 is_used gate [] = false
 is_used gate (f ∷ fs) = nat_eq f.1.gate gate || is_used gate fs

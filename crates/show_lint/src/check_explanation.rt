@@ -56,6 +56,8 @@ const TOO_LONG: &str =
 
 /// Explains why a plan isn't accepted: `fault`, then every other failed test, and what to change. Each finding begins with `path` and the
 /// filter's line, if known. `check --explain` prints it.
+///
+/// `explain_check_fault` of `app_commands` calls it.
 pub fn explain_check(
     alloc: Global,
     path: &str,
@@ -109,8 +111,10 @@ fn filter_position(text: &[u8], filters: &[(u32, FilterPlan)], number: u32) -> O
     None
 }
 
-/// Writes the finding of a failed test, which follows the path of the plan: the filter's position and the explanation. Without the filter,
-/// writes only its position. `explain_check` and `put_other_findings` call it.
+/// Writes the finding of a failed test, which follows the path of the plan: line and column of the filter, and the explanation. Writes only
+/// the position if the plan lacks the filter.
+///
+/// `explain_check` and `put_other_findings` call it.
 fn put_finding<A: Allocator + Copy>(
     said: &mut LintText,
     text: &[u8],
@@ -227,7 +231,8 @@ fn greatest_filter_number(filters: &[(u32, FilterPlan)]) -> u32 {
     last
 }
 
-/// Returns the word for a filter's kind: `protected`, `grouped` or `unprotected`.
+/// Returns the word for a filter's kind: `protected`, `grouped` or `unprotected`. `put_check`, `kind_of_number` and `put_shared_queue` call
+/// it.
 fn kind_word(filter: &FilterPlan) -> &'static str {
     if filter.protected {
         "protected"
@@ -256,7 +261,7 @@ fn kind_of_number(filters: &[(u32, FilterPlan)], number: u32) -> &'static str {
 }
 
 /// Writes the sentence of `template` about filters `number` and `other`, with their kinds. `own` is the stream gate or meter that both use,
-/// or 0 for none.
+/// or 0 for none. `put_no_catch_all`, `put_shared_gate` and `put_shared_meter` call it.
 fn put_shared_part(
     said: &mut LintText,
     filters: &[(u32, FilterPlan)],
@@ -366,8 +371,9 @@ fn shared_state<A: Allocator + Copy>(port: &PortPlan<A>, class: u8, at: u64) -> 
     }
 }
 
-/// Returns the result of `shared_state` at offset `at` for port `port` of the plan. Returns `None` if the plan lacks the port, or if
-/// `class` is above 7. `put_window` calls it.
+/// Returns the gate state at offset `at` ns of port `port` that opens `class` and another class, and whether only the new list has it.
+///
+/// `put_window` calls it; for `None` (no such port, list, entry or class) it writes that the port has no gate control list.
 fn shared_state_of_port<A: Allocator + Copy>(
     plan: &Plan<A>,
     port: u8,

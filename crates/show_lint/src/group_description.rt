@@ -57,7 +57,7 @@ const NO_ROOM: &str =
 /// What the filters that share a queue can send: the sums of their meters, and their longest frame.
 #[derive(Clone, Copy)]
 struct Sharers {
-    /// Number of filters.
+    /// Number of filters that share the queue.
     count: u64,
     /// Greatest `max_sdu` in octets.
     sdu: u32,
@@ -70,7 +70,8 @@ struct Sharers {
 }
 
 impl Sharers {
-    /// Adds what filter `number` can send by its meter, and its longest frame.
+    /// Adds a filter's share: the octets and the rate that its meter passes, and its longest frame. `number` is the filter's number.
+    /// `queue_sharers` calls it for each filter that shares the queue.
     fn add<A: Allocator + Copy>(&mut self, plan: &Plan<A>, number: u32, filter: &FilterPlan) {
         self.count = self.count.saturating_add(1);
         self.sdu = self.sdu.max(filter.max_sdu.unwrap_or(0));
@@ -91,7 +92,7 @@ impl Sharers {
     }
 }
 
-/// Returns what the filters that share the queue of `row` can send together.
+/// Returns the sums of the meters of all filters that share the queue of `row`, and their longest frame. `put_shared_queue` calls it.
 fn queue_sharers<A: Allocator + Copy>(plan: &Plan<A>, row: &SharedQueue) -> Sharers
     requires from { 1 ≤ row.now.port }
     requires to { row.now.port ≤ 16 }
@@ -112,7 +113,7 @@ fn queue_sharers<A: Allocator + Copy>(plan: &Plan<A>, row: &SharedQueue) -> Shar
     sharers
 }
 
-/// Whether a filter is in the group.
+/// Whether a filter is in the group. `queue_sharers`, `first_of_group` and `put_group` call it.
 fn is_in_group(filter: &FilterPlan, group: u32) -> bool {
     match filter.group {
         Some(own) => own == group,
@@ -130,7 +131,9 @@ pub(crate) fn first_of_group(filters: &[(u32, FilterPlan)], group: u32) -> u32 {
     0
 }
 
-/// Writes the filters of a group, and the queues that they share. `rows` has the shared queues of all groups. `put_filters` calls it.
+/// Writes the filters of group `group`, and its shared queues with windows, bound and capacity, for the description of an accepted plan.
+///
+/// `put_filters` calls it once for each group; `rows` has the shared queues of all groups.
 pub(crate) fn put_group<A: Allocator + Copy>(
     said: &mut LintText,
     plan: &Plan<A>,
@@ -152,7 +155,7 @@ pub(crate) fn put_group<A: Allocator + Copy>(
     }
 }
 
-/// Writes the windows, the bound, the meters and the capacity of a shared queue.
+/// Writes the windows, the bound, the meters and the capacity of a shared queue. `put_group` calls it.
 fn put_shared_queue<A: Allocator + Copy>(said: &mut LintText, plan: &Plan<A>, row: &SharedQueue) {
     if row.port < 1 || row.port > 16 || row.class > 7 {
         return;
@@ -166,7 +169,8 @@ fn put_shared_queue<A: Allocator + Copy>(said: &mut LintText, plan: &Plan<A>, ro
     put_capacity(said, row);
 }
 
-/// Writes the delay bound of a shared queue, and what the meters pass, or why the bound doesn't follow from the meters.
+/// Writes the delay bound of a shared queue, and its filters' meters, or why the bound doesn't follow from meters. `put_shared_queue` calls
+/// it.
 fn put_bound<A: Allocator + Copy>(
     said: &mut LintText,
     port: &PortPlan<A>,
@@ -210,7 +214,7 @@ fn put_cause(said: &mut LintText, row: &SharedQueue, sharers: &Sharers) {
 }
 
 /// Writes whether the queue's capacity suffices to drop no frame. Writes nothing if the bound doesn't follow from the meters: then no
-/// capacity is known to suffice.
+/// capacity is known to suffice. `put_shared_queue` calls it.
 fn put_capacity(said: &mut LintText, row: &SharedQueue) {
     let capacity = u64::from(row.capacity);
     match row.room {

@@ -92,8 +92,8 @@ pub fn hide_together(earlier: &[StreamEntry], other: &StreamEntry) -> bool
     covers(earlier, other, true) && covers(earlier, other, false)
 }
 
-/// Returns which tags frames have that an entry can match on its port, whose default VLAN is `own`. Returns `None` if it can match no
-/// frame. `find_unmatched` calls it.
+/// Returns which tags frames have that `stream` can match on its port, whose default VLAN is `own`. Returns `None` if no frame can match.
+/// `find_unmatched` calls it.
 fn port_tags(own: u16, stream: &StreamEntry) -> Option<TagKind>
     ensures { result ≡ spec.tag_on own stream.now }
 {
@@ -106,7 +106,8 @@ fn port_tags(own: u16, stream: &StreamEntry) -> Option<TagKind>
     }
 }
 
-/// Returns the position, from 1, and the handle of the first earlier entry that hides `stream`, or `None`. `find_hiders` calls it.
+/// Returns the number in the plan, from 1, and the handle of the first earlier entry that hides `stream`; `None` if no entry hides it.
+/// `find_hiders` calls it.
 fn first_hiding_stream(earlier: &[StreamEntry], stream: &StreamEntry) -> Option<(usize, u32)> {
     let mut place = 0usize;
     for one in earlier {
@@ -118,8 +119,8 @@ fn first_hiding_stream(earlier: &[StreamEntry], stream: &StreamEntry) -> Option<
     None
 }
 
-/// Returns the position, from 1, of the first earlier entry that matches each frame of `stream` with a VLAN (`named`) or without. Returns 0
-/// without such an entry. `find_hiders` calls it.
+/// Returns the number in the plan, from 1, of the first earlier entry that matches each frame of `stream` with a VLAN (`named`) or without.
+/// Returns 0 if no entry matches them. `find_hiders` calls it.
 fn first_covering_entry(earlier: &[StreamEntry], stream: &StreamEntry, named: bool) -> usize {
     let mut place = 0usize;
     for one in earlier {
@@ -131,7 +132,7 @@ fn first_covering_entry(earlier: &[StreamEntry], stream: &StreamEntry, named: bo
     0
 }
 
-/// Adds a warning if earlier streams match all frames of the stream at position `place`, counted from 1. `find_unmatched` calls it.
+/// Adds a warning if earlier streams match all frames of `stream`, which has number `place` in the plan, from 1. `find_unmatched` calls it.
 fn find_hiders(
     found: &mut Vec<Warning>,
     earlier: &[StreamEntry],
@@ -160,7 +161,7 @@ fn find_hiders(
     push_warning(found, Warning::HiddenTogether(hidden))
 }
 
-/// Adds a warning if the stream at position `place`, from 1, matches no frame, because of its port's VLAN `own` or of earlier streams.
+/// Adds a warning if `stream`, number `place` of the plan from 1, matches no frame. The cause is its port's VLAN `own`, or earlier streams.
 /// `find_hidden_streams` calls it.
 fn find_unmatched(
     found: &mut Vec<Warning>,

@@ -21,20 +21,25 @@ fn greatest_common_divisor(one: u64, other: u64) -> u64 {
     larger
 }
 
-/// Returns after how many cycles of `cycle` ns such a cycle and a cycle of `round` ns begin together again. Returns 0 if both are 0.
+/// Returns after how many cycles of `cycle` ns such a cycle and a cycle of `port_cycle` ns begin together again; 0 if both are 0.
 /// `aligned_period` and `waits_by_cycle` call it.
-pub(crate) fn cycles_until_aligned(round: u64, cycle: u64) -> u64 {
-    let divisor = greatest_common_divisor(round, cycle);
-    if divisor == 0 { 0 } else { round / divisor }
+pub(crate) fn cycles_until_aligned(port_cycle: u64, cycle: u64) -> u64 {
+    let divisor = greatest_common_divisor(port_cycle, cycle);
+    if divisor == 0 {
+        0
+    } else {
+        port_cycle / divisor
+    }
 }
 
-/// Returns the time in ns after which cycles of `cycle` and `round` ns begin together again. Returns `None` if one cycle is a multiple of
-/// the other, or 0. `find_cycles` calls it.
-pub(crate) fn aligned_period(cycle: u64, round: u64) -> Option<u64> {
-    if cycle == 0 || round == 0 || cycle % round == 0 || round % cycle == 0 {
+/// Returns the least common multiple of the cycle times `cycle` and `port_cycle` in ns, at most 2^64 - 1, for a warning about cycles.
+///
+/// `find_cycles` calls it, and adds no warning for `None`: one cycle time is a multiple of the other, or 0.
+pub(crate) fn aligned_period(cycle: u64, port_cycle: u64) -> Option<u64> {
+    if cycle == 0 || port_cycle == 0 || cycle % port_cycle == 0 || port_cycle % cycle == 0 {
         return None;
     }
-    Some(cycles_until_aligned(round, cycle).saturating_mul(cycle))
+    Some(cycles_until_aligned(port_cycle, cycle).saturating_mul(cycle))
 }
 
 /// Time `length` in ns after which all lists of a plan begin together again: 0 without lists, at most 2^64 - 1. `change` is the time of the
@@ -46,7 +51,8 @@ pub struct Hypercycle {
 }
 
 impl Hypercycle {
-    /// Computes the hypercycle of a plan's lists: pictures of plans show this time by default.
+    /// Computes the hypercycle of a plan's lists: pictures of plans show this time by default. `idle_change` and functions of
+    /// `app_commands` and `show_picture` call it.
     pub fn from_plan<A: Allocator + Copy>(plan: &Plan<A>) -> Hypercycle {
         let mut times = Hypercycle {
             length: 0,

@@ -24,7 +24,8 @@ pub fn is_not_forwarded<A: Allocator + Copy>(plan: &Plan<A>, stream: &StreamEntr
         .is_empty()
 }
 
-/// Returns the ports of the static entry for VLAN `vid` and an address, or `None` without such an entry.
+/// Returns the ports of the static entry for VLAN `vid` and an address, or `None` without such an entry. `not_forwarded_cause`,
+/// `find_non_member_ports` and `find_flooded` call it.
 fn static_ports(statics: &[StaticEntry], vid: u16, address: [u8; 6]) -> Option<PortSet>
     ensures { result ≡ static_ports statics.now vid address }
 {
@@ -36,13 +37,13 @@ fn static_ports(statics: &[StaticEntry], vid: u16, address: [u8; 6]) -> Option<P
     None
 }
 
-/// Returns whether no bridge forwards frames to this address: 01-80-C2-00-00-00 to 01-80-C2-00-00-0F. `not_forwarded_cause` calls it.
+/// Returns whether no bridge forwards frames to `address`: 01-80-C2-00-00-00 to 01-80-C2-00-00-0F. `not_forwarded_cause` calls it.
 fn is_reserved(address: [u8; 6]) -> bool {
     let [a, b, c, d, e, last] = address;
     [a, b, c, d, e] == RESERVED && last <= 15
 }
 
-/// Returns the first port of `set` other than `own`, or `None`.
+/// Returns the first port of `set` other than `own`, or `None`. `vlan_cause`, `static_entry_cause` and `are_several` call it.
 fn other_port(set: PortSet, own: u8) -> Option<u8> {
     for port in 1..17u8 {
         if port != own && set.has(port) {
@@ -124,7 +125,7 @@ fn stream_cause<A: Allocator + Copy>(
 }
 
 /// Adds a warning about filter `filter` for each port of the stream's static entry that isn't a member of its VLAN. `place` is the stream's
-/// position, from 1. `find_ways` calls it.
+/// number in the plan, from 1. `find_egress_warnings` calls it.
 fn find_non_member_ports<A: Allocator + Copy>(
     found: &mut Vec<Warning>,
     plan: &Plan<A>,
@@ -161,7 +162,7 @@ fn are_several(set: PortSet) -> bool {
 }
 
 /// Adds a warning about filter `filter` if the stream's frames leave by several ports because no static entry has their address. `place` is
-/// the stream's position, from 1. `find_ways` calls it.
+/// the stream's number in the plan, from 1. `find_egress_warnings` calls it.
 fn find_flooded<A: Allocator + Copy>(
     found: &mut Vec<Warning>,
     plan: &Plan<A>,
@@ -182,9 +183,10 @@ fn find_flooded<A: Allocator + Copy>(
     push_warning(found, Warning::Flooded(Flooded { filter, place, vid }))
 }
 
-/// Adds warnings about egress ports of a forwarded stream of filter `filter`: ports that its VLAN lacks, and flooding. `place` is the
-/// stream's position, from 1. `find_stream_warnings` calls it.
-fn find_ways<A: Allocator + Copy>(
+/// Adds warnings about the egress ports of a forwarded stream: static-entry ports that aren't members of its VLAN, and flooding.
+///
+/// `find_stream_warnings` calls it for streams identified by destination; `place` is the stream's number in the plan, from 1.
+fn find_egress_warnings<A: Allocator + Copy>(
     found: &mut Vec<Warning>,
     plan: &Plan<A>,
     filter: u32,
@@ -198,8 +200,8 @@ fn find_ways<A: Allocator + Copy>(
     find_flooded(found, plan, filter, place, stream)
 }
 
-/// Adds warnings about a stream of a protected filter: it isn't forwarded, or has doubtful egress ports. `place` is its position, from 1.
-/// `find_not_forwarded` calls it.
+/// Adds warnings about a stream of protected filter `filter`: it isn't forwarded, or has doubtful egress ports. `place` is the stream's
+/// number in the plan, from 1. `find_not_forwarded` calls it.
 fn find_stream_warnings<A: Allocator + Copy>(
     found: &mut Vec<Warning>,
     plan: &Plan<A>,
@@ -222,7 +224,7 @@ fn find_stream_warnings<A: Allocator + Copy>(
             };
             push_warning(found, Warning::NotForwarded(stuck))
         }
-        (None, Kind::Null) => find_ways(found, plan, filter, place, stream),
+        (None, Kind::Null) => find_egress_warnings(found, plan, filter, place, stream),
         (None, Kind::Source) => Ok(()),
     }
 }

@@ -25,6 +25,8 @@ const PADDED: &str = "For frames of at least 60 octets the bound is {0} ns.\n";
 
 /// Describes an accepted plan: the queues of each protected filter and group, with windows, longest fitting frame and delay bound, then all
 /// warnings. `idle` is the line of a schedule change without effect (`idle_change`).
+///
+/// `warnings_of_run` and `plan_notes` of `app_commands` call it.
 pub fn describe_plan(
     alloc: Global,
     accepted: &Accepted<Global>,
@@ -174,7 +176,7 @@ fn put_bound<A: Allocator + Copy>(
     }
 }
 
-/// Writes the bounds by octet limits that are below `bound`, the bound by capacity: one for any capture, one for frames of at least 60
+/// Writes the bounds by octet limits that are below `bound`, the bound by capacity. One is for any capture, one for frames of at least 60
 /// octets. `put_classes` calls it for each reachable queue.
 fn put_gate_bounds<A: Allocator + Copy>(
     said: &mut LintText,

@@ -29,8 +29,8 @@ const ENTRY: &str = "`stream` {1} leads filter {0} to port {2} by a `static` ent
 const FLOOD: &str =
     "`stream` {1} leads filter {0} to port {2}. VLAN {3} has no `static` entry for its address, so its frames go to all members.\n";
 
-/// Returns whether VLAN `vid` has a static entry for an address. Without such an entry, frames to this address flood the VLAN.
-/// `route_cause` calls it.
+/// Returns whether VLAN `vid` has a static entry for an address. Without such an entry, frames to `address` flood the VLAN. `route_cause`
+/// calls it.
 fn has_entry(statics: &[StaticEntry], vid: u16, address: [u8; 6]) -> bool {
     statics
         .iter()
@@ -66,7 +66,8 @@ fn route_cause<A: Allocator + Copy>(
     }
 }
 
-/// Writes why frames of filter `number` can reach port `port`, by the first stream that leads there. `check_explanation` calls it.
+/// Writes why frames of filter `number` can reach port `port`: the first stream that leads there, or that any frame can.
+/// `check_explanation` calls it.
 pub(crate) fn put_route<A: Allocator + Copy>(
     said: &mut LintText,
     plan: &Plan<A>,
@@ -94,8 +95,9 @@ const NEED_ENTRY: &str =
 const NEED_KIND: &str =
     "Identify `stream` {0} by its destination address (`kind = \"null\"`), and add a `static` entry for this address that names only its egress ports.\n";
 
-/// Returns the position, from 1, and the cause of the first stream that leads frames of `handle` to `port`. `None` if a `static` entry
-/// leads there, as intended. `put_other_way` calls it.
+/// Returns the number in the plan, from 1, and the cause of the first stream that leads frames of `handle` to `port`.
+///
+/// `None` if no stream leads there, or one does by a `static` entry, as intended. `put_other_way` calls it.
 fn other_way<A: Allocator + Copy>(
     plan: &Plan<A>,
     handle: u32,
@@ -138,7 +140,7 @@ pub(crate) fn put_other_way<A: Allocator + Copy>(
     true
 }
 
-/// Writes the sentence of a cause about filter `number`, the stream at position `place` (0 for none), port `port` and VLAN `vid`.
+/// Writes the sentence of a cause about filter `number`, stream `place` of the plan (from 1; 0 for no stream), port `port` and VLAN `vid`.
 /// `put_route` calls it.
 fn put_route_sentence(
     said: &mut LintText,

@@ -21,9 +21,9 @@ pub enum Warning {
     NoTokenRefill { meter: u32 },
     /// A filter names a handle that no stream has.
     NoStream { filter: u32, handle: u32 },
-    /// A filter with a lower number matches all frames of a filter.
+    /// A filter gets no frame: a filter with a lower number matches all its frames.
     HiddenFilter(HiddenFilter),
-    /// Filters with lower numbers together match all frames of a filter.
+    /// A filter gets no frame: several filters with lower numbers together match all its frames.
     TakenTogether(TakenTogether),
     /// The largest SDU of a filter is less than the SDU of every frame.
     NoLength { filter: u32, sdu: u32 },

@@ -72,7 +72,7 @@ pub(crate) struct FrameSelection {
     pass: Pass,
     /// Time span of the picture.
     pub span: Span,
-    /// Frames that left.
+    /// Frames that left and are drawn.
     pub left: DrawnGroup,
     /// Refused and dropped frames.
     pub marks: DrawnGroup,
@@ -94,7 +94,7 @@ fn refusal_cause(verdict: Verdict) -> &'static str {
 }
 
 impl DrawnGroup {
-    /// Returns a group without frames. If memory runs out, `is_refused` is set, and `draw_run` fails.
+    /// Returns a group without frames. If memory runs out, `is_refused` is set, and `draw_run` fails. `select_frames` calls it.
     fn new(alloc: Global) -> DrawnGroup {
         let none = Share { left: 0, room: 0 };
         let (shares, is_refused) = match Vec::from_elem(alloc, none, 17 * TIME_PARTS) {
@@ -163,7 +163,7 @@ impl DrawnGroup {
 
 impl Picture {
     /// Hatches the parts of a port's time axis with omitted frames of `group`. `put_port_link` calls it. Bars start `by` below the page's
-    /// lower end, and are `high` high, in tenths of a pixel.
+    /// lower end; `high` is their height, both in tenths of a pixel.
     pub(crate) fn put_hatches(&mut self, group: &DrawnGroup, port: u8, by: u64, high: u64) {
         let (first, mut x) = (usize::from(port) * TIME_PARTS, AXIS_LEFT);
         for place in 0..TIME_PARTS {
@@ -275,8 +275,8 @@ impl FrameSelection {
     }
 }
 
-/// Selects what a run's picture draws, for `draw_run`: the span that `part` requests, by default all frames. At most 2,400 frames that
-/// left, and 1,600 refused or dropped frames.
+/// Selects the frames that a run's picture draws: those in the span that `part` requests, by default all. It draws at most 2,400 frames
+/// that left, and 1,600 refused or dropped frames. `draw_run` calls it.
 pub(crate) fn select_frames<B: Allocator>(
     alloc: Global,
     outcome: &Outcome<B>,

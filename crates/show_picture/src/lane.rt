@@ -18,7 +18,7 @@ pub(crate) const MAX_GATES: usize = 128;
 /// Height of the bars in a lane, in tenths of a pixel.
 const BAR_HEIGHT: u64 = 130;
 
-/// Subject of a lane: a class of a port, a port that is always open, or a stream gate by its number.
+/// Subject of a lane: a class of a port, a port that is always open, or the stream gate with a given number.
 #[derive(Clone, Copy)]
 enum Lane {
     Class(u8, u8),

@@ -1,4 +1,4 @@
-//! Legend of a picture of a plan or run: what lanes, colours and marks mean.
+//! Legend of a picture of a plan or run: meanings of lanes, colours and marks.
 use crate::lane::digit_count;
 use crate::picture::Picture;
 use bridge_text::{LegendRow, Sample};
@@ -11,7 +11,7 @@ const EDGED: [&str; 8] = [
     "c0 e", "c1 e", "c2 e", "c3 e", "c4 e", "c5 e", "c6 e", "c7 e",
 ];
 
-/// Returns the style of a filter's colour. `is_edged` is true for protected filters.
+/// Returns the style of a filter's colour. `is_edged` is true for protected filters. `put_filter_legend`, `put_wait` and others call it.
 pub(crate) fn colour_style(colour: u64, is_edged: bool) -> &'static str {
     let place = (colour % 8) as usize;
     if is_edged {

@@ -32,8 +32,8 @@ const SHARED_WINDOW: &str =
 const NEVER_FITS: &str =
     "refused: the longest frame of filter {0} never fits in class {2} of port {3}";
 
-/// Returns a template that explains a fault, and three numbers: `{1}` the other filter, `{2}` the class and `{3}` the port (0 if the fault
-/// has none). `{0}` in the template is the faulty filter.
+/// Returns a template that explains a fault, and three numbers: the other filter `{1}`, the class `{2}` and the port `{3}`. Missing numbers
+/// are 0. `{0}` in the template is the faulty filter.
 ///
 /// `put_fault` calls it.
 fn fault_template(fault: CheckFault) -> (&'static str, u32, u8, u8) {
@@ -141,6 +141,8 @@ impl Picture {
 
     /// Draws the parts below the head: the legend, each port's windows, frames and stream gates, and the time axis. `rows` has the shared
     /// queues of all groups, for the frames of a run.
+    ///
+    /// `draw_plan` and `draw_run` call it.
     pub(crate) fn put_ports<A: Allocator + Copy>(
         &mut self,
         plan: &Plan<A>,
@@ -178,8 +180,8 @@ impl Picture {
         self.finish_ports(top);
     }
 
-    /// Draws the time axis below the lanes, and writes above them how many lanes are hatched. `top` is the upper edge of the lanes.
-    /// `put_ports` calls it.
+    /// Draws the time axis below the lanes, and writes above them how many lanes are hatched. `top` is the upper edge of the lanes, in
+    /// tenths of a pixel. `put_ports` calls it.
     fn finish_ports(&mut self, top: u64) {
         self.page.put_axis(self.span, top, self.change);
         if self.hatched_lanes > 0 {
@@ -194,6 +196,8 @@ impl Picture {
 
 /// Returns a plan's picture as SVG text of at most 2,000,000 octets: windows and open stream gates, by default over one hypercycle. A
 /// refused plan's fault is in the head. Hatches windows beyond a limit.
+///
+/// `draw_checked` and `draw_selected_plan` of `app_commands` call it.
 pub fn draw_plan<A: Allocator + Copy>(
     alloc: Global,
     checked: &Result<Accepted<A>, Refused<A>>,

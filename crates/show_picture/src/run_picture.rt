@@ -27,6 +27,8 @@ const MARK: &str = "filter {0} frame {1}, arrived at {2} ns: {a}";
 
 /// Returns the longest delay bound in ns of a filter's queues at `port`, for the latest ends that `put_frame` draws. `rows` has the shared
 /// queues of all groups. Returns `None` without a bound.
+///
+/// `put_port_link` calls it.
 fn longest_delay<A: Allocator + Copy>(
     accepted: &Accepted<A>,
     rows: &[SharedQueue],
@@ -217,6 +219,8 @@ impl Picture {
 
 /// Returns a run's picture as SVG text of at most 2,000,000 octets: windows, stream gates, frames that left, and marks of refused and
 /// dropped ones. Omits unfiltered frames, and hatches frames beyond a limit.
+///
+/// `draw_selected_run` of `app_commands` calls it.
 pub fn draw_run<B: Allocator>(
     alloc: Global,
     accepted: &Accepted<Global>,

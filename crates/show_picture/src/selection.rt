@@ -16,12 +16,14 @@ pub struct Selection<'a> {
 }
 
 impl Selection<'_> {
-    /// Returns whether the picture shows port `port`: the arguments name it, or they name no port. Pictures leave out other ports.
+    /// Returns whether the picture shows port `port`: the arguments name it, or they name no port. Drawing functions leave out other ports,
+    /// because they ask this first.
     pub(crate) fn has_port(&self, port: u8) -> bool {
         self.ports.is_empty() || self.ports.contains(&u32::from(port))
     }
 
-    /// Returns whether the picture shows filter `filter`: the arguments name it, or they name no filter. Pictures leave out other filters.
+    /// Returns whether the picture shows filter `filter`: the arguments name it, or they name no filter. Drawing functions leave out other
+    /// filters, because they ask this first.
     pub(crate) fn has_filter(&self, filter: u32) -> bool {
         self.filters.is_empty() || self.filters.contains(&filter)
     }

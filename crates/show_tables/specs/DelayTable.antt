@@ -12,7 +12,7 @@ use Rattle.show_tables.specs.Losses.{count_full_on_port, loss_fields, count_neve
 use Rattle.show_tables.specs.PortBounds.{bound_by_port}
 use Rattle.show_tables.specs.GroupBounds.{AreFilterBounds}
 
--- The header line of the table of delays.
+-- The header line of the table that `run --delays` writes.
 abbrev pub delays_header : List ℕ
 delays_header = codes "filter,port,frames,least,mean,greatest,jitter,bound,blocked,oversize,gate-closed,shut-rx,shut-octets,octets-exceeded,red,yellow-dropped,full,never\n"
 

@@ -1,4 +1,4 @@
--- Computed examples of rows of both tables.
+-- Computed examples of rows of the tables of delays and frames.
 use Rattle.std.specs.Prelude.{◌≡◌, ℕ, true, false, None, Some, List, [], ◌∷◌, codes, refl}
 use Rattle.std.specs.Fmt.{digits}
 use Rattle.bridge_filter.specs.declared.Verdict.TheVariants as verdict

@@ -9,11 +9,11 @@ use Rattle.bridge_semantics.specs.declared.outcome.View.{View}
 use Rattle.bridge_report.specs.Words.{refusal_word, verdict_word}
 use Rattle.show_tables.specs.declared.frame_rows.FilterFrame.{FilterFrame}
 
--- A field: the number `n` and a comma.
+-- A field of the table: the number `n` in decimal and a comma.
 abbrev pub field : ℕ → List ℕ
 field n = decimal n ++ codes ","
 
--- The header line of the table of frames.
+-- The header line of the table that `run --frames` writes.
 abbrev pub frames_header : List ℕ
 frames_header = codes "filter,frame,ingress,arrival,verdict,port,start,done,delay,refusal\n"
 
@@ -41,11 +41,11 @@ port_departure_row f port d = if nat_eq d.port port then departure_row f d else 
 abbrev pub port_drop_row : FilterFrame → ℕ → Dropped → List ℕ
 port_drop_row f port d = if nat_eq d.port port then drop_row f d else []
 
--- The rows of the copies that left by `port`.
+-- The rows of a frame's copies that left by port `port`.
 abbrev pub departure_rows : FilterFrame → ℕ → List Departure → List ℕ
 departure_rows f port departures = flat_map (port_departure_row f port) departures
 
--- The rows of the copies that `port` dropped.
+-- The rows of a frame's copies that port `port` dropped.
 abbrev pub drop_rows : FilterFrame → ℕ → List Dropped → List ℕ
 drop_rows f port drops = flat_map (port_drop_row f port) drops
 
@@ -88,7 +88,7 @@ frames_rows filter departures drops own [] verdicts = []
 frames_rows filter departures drops own (o ∷ os) [] = []
 frames_rows filter departures drops own (o ∷ os) (v ∷ vs) = frame_rows (make_frame filter own o v) departures drops ++ frames_rows filter departures drops (own + 1) os vs
 
--- The rows of a filter's frames, from its record.
+-- The rows of the table of frames for all frames of a filter, from its record.
 abbrev pub filter_rows : {A : Type 0} → ℕ → View A → List ℕ
 filter_rows filter view = frames_rows filter view.departures.items view.drops.items 1 view.origins.items view.verdicts.items
 

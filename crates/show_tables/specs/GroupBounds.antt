@@ -21,7 +21,7 @@ bound_at group q s = if nat_eq s.group group && nat_eq s.port q then Some (least
 abbrev pub greater_at : ℕ → ℕ → Option ℕ → SharedQueue → Option ℕ
 greater_at group q bound s = greater_bound bound (bound_at group q s)
 
--- The greatest bound in ns of the queues that the group shares at port `q`; `None` if it shares none there.
+-- The greatest bound in ns of the queues that the group shares at port `q`; `None` if the group shares no queue there.
 abbrev pub group_bound : List SharedQueue → ℕ → ℕ → Option ℕ
 group_bound queues group q = fold (greater_at group q) None queues
 

@@ -73,7 +73,7 @@ fn put_unsent_row<A: Allocator>(text: &mut TextBuilder<A>, filter: u32, view: &V
     );
 }
 
-/// Writes the row of a filter at a port with delay bound `bound`, if copies of its frames left by this port (`delays` has items).
+/// Writes the row of a filter at a port with delay bound `bound`, if copies of its frames left by port `port` (`delays` has items).
 /// `put_row_of_port` calls it.
 fn put_row_if_any<A: Allocator>(
     text: &mut TextBuilder<A>,
@@ -191,7 +191,7 @@ fn put_filters<A: Allocator + Copy>(
 }
 
 /// Returns the table of `run --delays` as CSV: a header line, then rows by filter and port. A filter with frames but without departures has
-/// one row.
+/// one row. `write_delay_table` of `app_commands` calls it.
 pub fn delay_table<A: Allocator + Copy>(
     alloc: A,
     accepted: &Accepted<A>,

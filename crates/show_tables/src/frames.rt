@@ -110,6 +110,7 @@ fn put_filter_frames<A: Allocator + Copy>(
 }
 
 /// Returns the table of `run --frames` as CSV: a header line, then rows by filter, frame and port. A frame without copies has one row.
+/// `write_frame_table` of `app_commands` calls it.
 pub fn frame_table<A: Allocator + Copy>(
     alloc: A,
     outcome: &Outcome<A>,

@@ -33,8 +33,8 @@ fn bound_at(queue: &SharedQueue, group: u32, port: u8) -> Option<u64>
     }
 }
 
-/// Returns the greatest bound in ns of the queues that a group shares at `port`; `None` if it shares no queue there. `group_bounds` calls
-/// it.
+/// Returns the greatest bound in ns of the queues that a group shares at `port`; `None` if the group shares no queue there. `group_bounds`
+/// calls it.
 fn group_bound(queues: &[SharedQueue], group: u32, port: u8) -> Option<u64>
     ensures { result ≡ spec.group_bound queues.now group port }
 {

@@ -19,7 +19,7 @@ fn main(rt: HostRuntime) -> ExitCode {
     }
 }
 
-/// Carries out the arguments, and prints the text for standard output.
+/// Carries out the arguments, and prints the text for standard output. `main` calls it.
 fn run<H: Input + AllocGlobal + Clock + Print + Eprint + Files>(
     rt: &H,
     words: &[String],

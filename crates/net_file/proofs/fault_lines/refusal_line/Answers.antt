@@ -11,7 +11,7 @@ pub returns-in-UnknownKey : goal.returns-in-UnknownKey
 returns-in-UnknownKey g c = rw c.in-UnknownKey.is c.instance_refusal.ensures
 
 pub returns-in-NotAList : goal.returns-in-NotAList
-returns-in-NotAList g c = rw (c.in-NotAList.is, sym c.name.ensures.name) c.refusal_with_detail.ensures
+returns-in-NotAList g c = rw (c.in-NotAList.is, sym c.name.ensures.name) c.located_refusal.ensures
 
 pub returns-in-Missing : goal.returns-in-Missing
 returns-in-Missing g c = rw c.in-Missing.is c.key_refusal.ensures
@@ -29,7 +29,7 @@ pub returns-in-Unresolved : goal.returns-in-Unresolved
 returns-in-Unresolved g c = rw c.in-Unresolved.is c.key_refusal-in-Unresolved.ensures
 
 pub returns-in-TooMany : goal.returns-in-TooMany
-returns-in-TooMany g c = rw (c.in-TooMany.is, sym c.name-in-TooMany.ensures.name) c.refusal_with_detail-in-TooMany.ensures
+returns-in-TooMany g c = rw (c.in-TooMany.is, sym c.name-in-TooMany.ensures.name) c.located_refusal-in-TooMany.ensures
 
 pub returns-in-NoMemory : goal.returns-in-NoMemory
 returns-in-NoMemory g c = rw c.in-NoMemory.is c.no_memory_line.ensures

@@ -3,7 +3,7 @@ use Rattle.std.specs.Prelude.{codes}
 use Rattle.bridge_report.specs.Losses.{reason_words}
 use Rattle.net_report.specs.Losing.{why_words}
 use Rattle.bridge_text.proofs.Puts.{put_as, put_piece}
-use Rattle.net_report.proofs.losing.put_why.Goals as goal
+use Rattle.net_report.proofs.losing.put_loss_causes.Goals as goal
 
 pub returns : goal.returns
 unfolding why_words

@@ -5,7 +5,7 @@ use Rattle.net_report.specs.declared.copy_counting.CopyCounts.{CopyCounts}
 use Rattle.net_report.specs.declared.sources.SourceFrame.{SourceFrame}
 use Rattle.app_networks.proofs.Rows.{heading_is, tabled}
 use Rattle.app_networks.proofs.Told.{count_is}
-use Rattle.app_networks.proofs.tables.put_stream.Goals as goal
+use Rattle.app_networks.proofs.tables.put_stream_rows.Goals as goal
 
 pub returns : goal.returns
 returns g c =

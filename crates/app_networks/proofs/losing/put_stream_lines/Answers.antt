@@ -6,7 +6,7 @@ use Rattle.net_report.specs.Tables.{AreDelays}
 use Rattle.app_networks.specs.Losing.{AreLosses}
 use Rattle.app_networks.proofs.Losses.{grown_as, stream_told}
 use Rattle.app_networks.proofs.Told.{count_is}
-use Rattle.app_networks.proofs.losing.put_stream.Goals as goal
+use Rattle.app_networks.proofs.losing.put_stream_lines.Goals as goal
 
 pub returns : goal.returns
 returns c =
