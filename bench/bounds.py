@@ -1,9 +1,10 @@
 #!/usr/bin/env python3
-"""Looks for delays near the printed bounds: bounds.py [PLANS TRIES SEED]
+"""Looks for delays near the printed bounds: bounds.py [--groups] [PLANS TRIES SEED]
 
 Makes random plans (20 by default), each with windows of class 7 at an egress port and a stream gate with octet limits in some
-plans, asks `tsnbridge bounds` for `bound` and `padded`, and runs random captures of a babbling talker (60 by default for each
-bound). It prints a line for each plan, and the nearest delays at the end. The status is 1 if a delay exceeds its bound.
+plans, asks `tsnbridge bounds` for `bound` and `padded`, and runs random captures of babbling talkers (60 by default for each
+bound). With --groups, two to five streams without meters share class 7, and each stream gate has octet limits. It prints a line for
+each plan, and the nearest delays at the end. The status is 1 if a delay exceeds its bound.
 """
 import os
 import random
@@ -16,17 +17,18 @@ import tempfile
 TOP = os.path.dirname(os.path.dirname(os.path.abspath(__file__)))
 BUILT = os.path.join(TOP, "crates", "tsnbridge", "out", "tsnbridge")
 PROGRAM = BUILT if os.path.exists(BUILT) else os.path.join(TOP, "release", "tsnbridge")
-ADDRESS = bytes.fromhex("02000000000a")
+ADDRESS = bytes.fromhex("0200000000")
 SOURCE = bytes.fromhex("020000000001")
 
 
 class Plan:
-    """A random plan: port 1 receives, class 7 of port 3 has windows of its own, stream gate 1 is open in some intervals."""
+    """A random plan: ports 1 and 2 receive, class 7 of port 3 has windows of its own, each stream's gate is open in some intervals."""
 
-    def __init__(self, draw):
+    def __init__(self, draw, grouped):
+        self.count = draw.randint(2, 5) if grouped else 1
         self.mbps = draw.choice([100, 1000])
         self.unit = 1000 if self.mbps == 1000 else 10_000
-        self.room = draw.choice([1, 2, 4, 8])
+        self.room = draw.choice([8, 64, 200]) if grouped else draw.choice([1, 2, 4, 8])
         self.sdu = draw.choice([60, 200, 500])
         longest = -(-(self.sdu + 16 + 24) * 8000 // self.mbps)
         self.windows = [draw.randint(longest, longest * 4) for _ in range(draw.randint(1, 3))]
@@ -37,8 +39,8 @@ class Plan:
             self.pauses[0] += parts - self.cycle % parts
             self.cycle = sum(self.windows) + sum(self.pauses)
         self.gate_cycle = self.cycle // parts * whole
-        self.limited = draw.random() < 0.6
-        self.entries = self.gate_entries(draw)
+        self.limited = grouped or draw.random() < 0.6
+        self.gates = [self.gate_entries(draw) for _ in range(self.count)]
         self.base = draw.randint(0, self.cycle - 1)
 
     def gate_entries(self, draw):
@@ -59,8 +61,18 @@ class Plan:
         gates = ", ".join(f"{{ open = [7], ns = {w} }}, {{ open = [0, 1, 2, 3, 4, 5, 6], ns = {p} }}" for w, p in zip(self.windows, self.pauses))
         rooms = ", ".join([str(self.room)] * 8)
         ports.append(f"[[port]]\nnumber = 3\nmbps = {self.mbps}\nrooms = [{rooms}]\ncycle = {self.cycle}\nbase = {self.base}\ngates = [{gates}]\n")
+        streams = "".join(self.stream(place) for place in range(self.count))
+        vlan = "[[vlan]]\nvid = 10\nmembers = [1, 2, 3]\n"
+        return "".join(ports) + vlan + streams + '[[gate]]\nnumber = 99\nstate = "open"\nipv = 0\n[[filter]]\nnumber = 99\ngate = 99\n'
+
+    def ingress(self, place):
+        """The port at which the talker of a stream is."""
+        return place % 2 + 1
+
+    def stream(self, place):
+        """The tables of a stream: its address, entry, gate and filter."""
         rows, at = [], 0
-        for start, length, octets in self.entries:
+        for start, length, octets in self.gates[place]:
             if start > at:
                 rows.append(f"{{ open = false, ns = {start - at} }}")
             limit = f", octets = {octets}" if octets else ""
@@ -68,18 +80,19 @@ class Plan:
             at = start + length
         if at < self.gate_cycle:
             rows.append(f"{{ open = false, ns = {self.gate_cycle - at} }}")
-        return "".join(ports) + (
-            '[[vlan]]\nvid = 10\nmembers = [1, 2, 3]\n[[static]]\nvid = 10\naddress = "02-00-00-00-00-0A"\nports = [3]\n'
-            '[[stream]]\nhandle = 1\nport = 1\nkind = "null"\naddress = "02-00-00-00-00-0A"\nvid = 10\ntag = "tagged"\n'
-            f"[[gate]]\nnumber = 1\ncycle = {self.gate_cycle}\nentries = [{', '.join(rows)}]\n"
-            '[[gate]]\nnumber = 99\nstate = "open"\nipv = 0\n'
-            f"[[filter]]\nnumber = 10\nhandle = 1\ngate = 1\nmax_sdu = {self.sdu}\nprotected = true\n[[filter]]\nnumber = 99\ngate = 99\n"
+        address = f"02-00-00-00-00-{place + 10:02X}"
+        kind = "group = 1" if self.count > 1 else "protected = true"
+        return (
+            f'[[static]]\nvid = 10\naddress = "{address}"\nports = [3]\n'
+            f'[[stream]]\nhandle = {place + 1}\nport = {self.ingress(place)}\nkind = "null"\naddress = "{address}"\nvid = 10\ntag = "tagged"\n'
+            f"[[gate]]\nnumber = {place + 1}\ncycle = {self.gate_cycle}\nentries = [{', '.join(rows)}]\n"
+            f"[[filter]]\nnumber = {place + 10}\nhandle = {place + 1}\ngate = {place + 1}\nmax_sdu = {self.sdu}\n{kind}\n"
         )
 
 
-def record(time, sdu, captured):
-    """A record of a frame with so many SDU octets; only its first octets are captured."""
-    frame = ADDRESS + SOURCE + struct.pack(">HHH", 0x8100, 7 << 13 | 10, 0x88B5)
+def record(time, place, sdu, captured):
+    """A record of a stream's frame with `sdu` SDU octets; only its first octets are captured."""
+    frame = ADDRESS + bytes([place + 10]) + SOURCE + struct.pack(">HHH", 0x8100, 7 << 13 | 10, 0x88B5)
     length = sdu + 16
     octets = frame[: min(len(frame), length)]
     if captured and length < 18:
@@ -93,32 +106,32 @@ def arrivals(draw, plan, least):
     found, sizes = [], sorted({least, max(least, 44), plan.sdu // 2 + 1, plan.sdu})
     sizes = [it for it in sizes if least <= it <= plan.sdu]
     way, size = draw.choice(["start", "end", "any", "spread"]), draw.choice(sizes)
+    most = min(2 * plan.room + 4, 60)
     for cycle in range(draw.randint(1, 6)):
-        for start, length, octets in plan.entries:
-            begin = cycle * plan.gate_cycle + start
-            for _ in range(draw.randint(0, 2 * plan.room + 4)):
-                at = {"start": begin, "end": begin + length - 1}.get(way)
-                if at is None or draw.random() < 0.1:
-                    at = begin + draw.randint(0, length - 1)
-                found.append((at, size if draw.random() < 0.9 else draw.choice(sizes)))
+        for place, entries in enumerate(plan.gates):
+            for start, length, octets in entries:
+                begin = cycle * plan.gate_cycle + start
+                for _ in range(draw.randint(0, most)):
+                    at = {"start": begin, "end": begin + length - 1}.get(way)
+                    if at is None or draw.random() < 0.1:
+                        at = begin + draw.randint(0, length - 1)
+                    found.append((at, place, size if draw.random() < 0.9 else draw.choice(sizes)))
     return sorted(found)
 
 
 def longest_delay(folder, plan, frames, cut):
-    """The longest delay of filter 10 in a run of these arrivals."""
+    """The longest delay of the streams in a run of these arrivals."""
     header = struct.pack("<IHHiIII", 0xA1B23C4D, 2, 4, 0, 0, 65535, 1)
     for port in (1, 2, 3):
         with open(f"{folder}/in/{port}.pcap", "wb") as file:
             file.write(header)
-            if port == 1:
-                file.write(b"".join(record(at, sdu, cut) for at, sdu in frames))
+            file.write(b"".join(record(at, place, sdu, cut) for at, place, sdu in frames if plan.ingress(place) == port))
     ran = subprocess.run([PROGRAM, "run", f"{folder}/plan.toml", f"{folder}/in", f"{folder}/out"], capture_output=True, text=True)
     if ran.returncode:
         sys.exit(f"run: {ran.stdout}{ran.stderr}")
     with open(f"{folder}/out/report.txt", encoding="ascii") as file:
-        section = file.read().split("filter 99")[0]
-    found = re.search(r"^delay (\d+)$", section, re.M)
-    return int(found.group(1)) if found else 0
+        sections = file.read().split("filter 99")[0]
+    return max([int(it) for it in re.findall(r"^delay (\d+)$", sections, re.M)], default=0)
 
 
 def search(draw, folder, plan, least, tries):
@@ -127,14 +140,16 @@ def search(draw, folder, plan, least, tries):
 
 
 def main():
-    plans, tries, seed = [int(it) for it in sys.argv[1:4]] + [20, 60, 1][len(sys.argv) - 1 :]
+    numbers = [it for it in sys.argv[1:] if it != "--groups"]
+    grouped = len(numbers) < len(sys.argv) - 1
+    plans, tries, seed = [int(it) for it in numbers] + [20, 60, 1][len(numbers) :]
     draw, nearest, exceeded = random.Random(seed), {}, 0
     with tempfile.TemporaryDirectory() as folder:
         os.mkdir(f"{folder}/in")
         os.mkdir(f"{folder}/out")
         made = 0
         while made < plans:
-            plan = Plan(draw)
+            plan = Plan(draw, grouped)
             with open(f"{folder}/plan.toml", "w", encoding="ascii") as file:
                 file.write(plan.text())
             ran = subprocess.run([PROGRAM, "bounds", f"{folder}/plan.toml"], capture_output=True, text=True)
@@ -143,7 +158,7 @@ def main():
                     continue
                 sys.exit(f"bounds: {ran.stdout}{ran.stderr}")
             made += 1
-            said = re.search(r"filter 10 port 3 class 7( coarse)? bound (\d+)(?: padded (\d+))?", ran.stdout)
+            said = re.search(r"(?:filter 10|group 1) port 3 class 7( coarse| unmetered| lossy)? bound (\d+)(?: padded (\d+))?", ran.stdout)
             bounds = {"bound": (int(said.group(2)), 2)}
             if said.group(3):
                 bounds["padded"] = (int(said.group(3)), 44)
