@@ -215,8 +215,8 @@ fn run_network_request<H: AllocGlobal + Eprint + Files>(
     run_network(files, &request, flags)
 }
 
-/// Draws the file at `path`: a network, a plan, or the requested part of a plan. Returns the output of `picture`. A part of a network is
-/// refused. `run_request` calls it.
+/// Draws the network or plan at `path` into `file`, or to standard output for `-`. Refuses the arguments if they request a part of a
+/// network. `run_request` calls it.
 fn draw<H: AllocGlobal + Files>(
     files: &mut CommandFiles<'_, H>,
     path: &String,

@@ -1,4 +1,4 @@
-//! Bounds that count all arrival times because two lists have no common cycle.
+//! Finds coarse delay bounds: they assume arrivals at any time, because the lists of stream gate and port have no common cycle.
 ghost use Rattle.std.specs.Prelude.{◌≡◌, ◌↔◌, ◌≤◌, true};
 ghost use Rattle.bridge_bounds.specs.Bounds.{IsCoarse, LackCommonCycle};
 ghost use Rattle.bridge_bounds.specs.declared.common_cycle.TheConstants.{MAX_INTERVALS};

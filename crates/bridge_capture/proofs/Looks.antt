@@ -18,7 +18,7 @@ use Rattle.bridge_capture.specs.Devices.{HasFailed, AreUnfailing}
 use Rattle.bridge_capture.specs.CaptureReaders.{AreOneAhead, AreReaders, HaveRests, HaveTexts, AreUnread, HasSoundStart, FailsAtFirst, FailsToBegin, run_fault, FindsNext, IsOneAhead, IsReader, FailsAtPort, port_numbers, frames_left, total_frames_left}
 use Rattle.bridge_capture.specs.declared.capture_reader.CaptureReader.{CaptureReader}
 
--- Statement: The captures of the first ports were begun, and their readers agree with the sources.
+-- Holds if the captures of the first ports were begun, and their readers agree with the sources.
 pub record HasLooked {A R : Type 0} (remaining : R → Option (List ℕ)) (never_fails : R → Bool) (ports : List ℕ) (olds news : List R) (lanes : List (CaptureReader A)) : Type 0 where
   pub numbered : (i : ℕ) (lane : CaptureReader A) → slice_get lanes i ≡ Some lane → slice_get ports i ≡ Some lane.number
   pub each : AreReaders lanes
@@ -27,7 +27,7 @@ pub record HasLooked {A R : Type 0} (remaining : R → Option (List ℕ)) (never
   pub behind : (i : ℕ) → length lanes ≤ i → slice_get news i ≡ slice_get olds i
   pub lasts : AreUnfailing never_fails olds → AreUnfailing never_fails news
 
--- Statement: The first read of one capture agrees with its source before and after.
+-- Holds if the first read of one capture agrees with its source before and after.
 pub record LooksAt {A R : Type 0} (remaining : R → Option (List ℕ)) (never_fails : R → Bool) (q : ℕ) (old new : R) (lane : CaptureReader A) : Type 0 where
   pub number : lane.number ≡ q
   pub each : IsReader lane

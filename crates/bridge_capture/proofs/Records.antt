@@ -9,7 +9,7 @@ use Rattle.bridge_capture.proofs.Again.{words_length, words_captured, record_len
 use Rattle.bridge_capture.proofs.Fronts.{captured_front}
 use Rattle.bridge_capture.specs.HexLines.{hex_line, hex_text}
 
--- Statement: The number of captured octets fits 32 bits.
+-- Holds if the number of captured octets fits 32 bits.
 abbrev pub HasWordLength : CapturedFrame → Type 0
 HasWordLength frame = length frame.octets < 2 ^ 32
 
@@ -26,7 +26,7 @@ frame_line frame = hex_line (written_frame frame)
 abbrev Left : List ℕ → List ℕ → List CapturedFrame → List CapturedFrame → Type 0
 Left text rest frames left = All HasWordLength left × (rest ≡ flat_map written_frame left) × (text ++ flat_map frame_line left ≡ hex_text frames)
 
--- Statement: The text so far, followed by the lines of the rest, is the text of the capture.
+-- Holds if the text so far, followed by the lines of the rest, is the text of the capture.
 abbrev pub LinesSoFar : List ℕ → List ℕ → List ℕ → Type 0
 LinesSoFar capture text rest = (frames : List CapturedFrame) → All HasWordLength frames → capture ≡ written_text frames → (left : List CapturedFrame) × Left text rest frames left
 

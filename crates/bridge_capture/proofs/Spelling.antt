@@ -19,7 +19,7 @@ before_one octets octet (Err fault) = refl
 in_limit : (text : List ℕ) (answer : Result (List ℕ) HexFault) → length text ≤ 4194304 → octets_with_room 1048576 text ≡ answer → spelled_octets text ≡ answer
 in_limit text answer short e = rw (le-ltb 4194304 (length text) short) e
 
--- Statement: The octets so far, followed by the octets of the rest, are the result for the whole text.
+-- Holds if the octets so far, followed by the octets of the rest, are the result for the whole text.
 abbrev pub SpelledSoFar : List ℕ → List ℕ → ℕ → List ℕ → Type 0
 SpelledSoFar text octets room rest = octets_with_room 1048576 text ≡ before octets (octets_with_room room rest)
 

@@ -136,31 +136,31 @@ pub data CaptureEnding : Type 0 where
   AtEnd : CaptureEnding
   AtFault : CaptureFault → CaptureEnding
 
--- Statement: Reading stops here with `ending`: AtEnd if no octets remain, or AtFault with the fault found; false if a
+-- Holds if reading stops here with `ending`: AtEnd if no octets remain, or AtFault with the fault found; false if a
 -- frame was read.
 abbrev pub IsEnding : FrontItem → CaptureEnding → Type 0
 IsEnding Nothing ending = ending ≡ AtEnd
 IsEnding (Fault fault) ending = ending ≡ AtFault fault
 IsEnding (Record captured rest) ending = ⊥
 
--- Statement: The octets from the position `place` on hold exactly the captured frames of the list, in order, and then
+-- Holds if the octets from the position `place` on hold exactly the captured frames of the list, in order, and then
 -- reading stops with `ending`.
 abbrev pub ReadsFrames : CaptureFormat → RecordPosition → List ℕ → List CapturedFrame → CaptureEnding → Type 0
 ReadsFrames form place octets [] ending = IsEnding (front_item form place octets) ending
 ReadsFrames form place octets (captured ∷ more) ending = (rest : List ℕ) × (front_item form place octets ≡ Record captured rest) × ReadsFrames form (next_position place captured) rest more ending
 
--- Statement: From position `place` on, the octets begin with these frames; position `next` and the octets `rest` follow.
+-- Holds if from position `place` on, the octets begin with these frames; position `next` and the octets `rest` follow.
 abbrev pub ReadsPrefix : CaptureFormat → RecordPosition → List ℕ → List CapturedFrame → RecordPosition → List ℕ → Type 0
 ReadsPrefix form place octets [] next rest = (next ≡ place) × (rest ≡ octets)
 ReadsPrefix form place octets (captured ∷ more) next rest = (mid : List ℕ) × (front_item form place octets ≡ Record captured mid) × ReadsPrefix form (next_position place captured) mid more next rest
 
--- Statement: With a valid header, the records after it give `frames` and `ending`; with a header fault, `frames` is
+-- Holds if with a valid header, the records after it give `frames` and `ending`; with a header fault, `frames` is
 -- empty and `ending` is the fault.
 abbrev pub ReadsBody : Result CaptureFormat CaptureFault → List ℕ → List CapturedFrame → CaptureEnding → Type 0
 ReadsBody (Ok form) text frames ending = ReadsFrames form first_position (drop 24 text) frames ending
 ReadsBody (Err fault) text frames ending = (frames ≡ []) × (ending ≡ AtFault fault)
 
--- Statement: Reading the file contents `text` as a capture gives exactly the frames `frames`, in list order, and then
+-- Holds if reading the file contents `text` as a capture gives exactly the frames `frames`, in list order, and then
 -- the ending `ending`.
 abbrev pub IsCapture : List ℕ → List CapturedFrame → CaptureEnding → Type 0
 IsCapture text frames ending = ReadsBody (header_format text) text frames ending

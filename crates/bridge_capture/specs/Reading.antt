@@ -21,37 +21,37 @@ packet_result octets (Ok (Some stamp)) = Ok (Some (record { time = stamp.time; l
 packet_result octets (Ok None) = Ok None
 packet_result octets (Err fault) = Err fault
 
--- Statement: If the call returned a packet, the packet has the property.
+-- Holds if the call returned no packet, or a packet with the property.
 abbrev pub IfPacket : {A : Type 0} → Result (Option (Packet A)) CaptureFault → (Packet A → Type 0) → Type 0
 IfPacket (Ok (Some packet)) P = P packet
 IfPacket (Ok None) P = Unit {0}
 IfPacket (Err fault) P = Unit {0}
 
--- Statement: The fault is the one at the front of the octets, or means that the source failed or memory ran out.
+-- Holds if the fault is the one at the front of the octets, or means that the source failed or memory ran out.
 abbrev pub IsFaultOfFront : CaptureFault → FrontItem → Type 0
 IsFaultOfFront faults.Read front = Unit {0}
 IsFaultOfFront faults.NoMemory front = Unit {0}
 IsFaultOfFront fault front = front ≡ Fault fault
 
--- Statement: The result agrees with the front of the octets: no packet at the end, a record's packet, or a fault.
+-- Holds if the result agrees with the front of the octets: no packet at the end, a record's packet, or a fault.
 abbrev pub TakesFront : {A : Type 0} → FrontItem → Option (List ℕ) → Result (Option (Packet A)) CaptureFault → Type 0
 TakesFront front rest (Ok None) = front ≡ Nothing
 TakesFront front rest (Ok (Some p)) = (more : List ℕ) × (front ≡ Record (packet_frame p) more) × (rest ≡ Some more)
 TakesFront front rest (Err fault) = IsFaultOfFront fault front
 
--- Statement: A record's octets are cut, or the source failed before they were complete, or memory ran out before the
+-- Holds if a record's octets are cut, or the source failed before they were complete, or memory ran out before the
 -- first octet.
 abbrev pub CutsOctets : ℕ → ℕ → Option (List ℕ) → Option (List ℕ) → CaptureFault → Type 0
 CutsOctets number count old new faults.Read = TakesFewer count old new
 CutsOctets number count old new faults.NoMemory = new ≡ old
 CutsOctets number count old new fault = (fault ≡ faults.RecordCut number) × (IsAtEnd new × ((octets : List ℕ) × (length octets < count) × Consumes old new octets))
 
--- Statement: The call took `count` octets of a record, or ended with a fault.
+-- Holds if the call took `count` octets of a record, or ended with a fault.
 abbrev pub TakesOctets : ℕ → ℕ → Option (List ℕ) → Option (List ℕ) → List ℕ → Result ⊤ CaptureFault → Type 0
 TakesOctets number count old new octets (Ok done) = (length octets ≡ count) × Consumes old new octets
 TakesOctets number count old new octets (Err fault) = CutsOctets number count old new fault
 
--- Statement: The fault is one that a record's header can have: too large, crossed lengths, or a time that is too late or too early.
+-- Holds if the fault is one that a record's header can have: too large, crossed lengths, or a time that is too late or too early.
 abbrev pub IsRecordHeaderFault : CaptureFault → Type 0
 IsRecordHeaderFault (faults.RecordTooLarge number) = Unit {0}
 IsRecordHeaderFault (faults.LengthsCross number) = Unit {0}
@@ -59,14 +59,14 @@ IsRecordHeaderFault (faults.TimeTooLate number) = Unit {0}
 IsRecordHeaderFault (faults.TimeBack number) = Unit {0}
 IsRecordHeaderFault fault = ⊥
 
--- Statement: The fault belongs to a complete header of a capture.
+-- Holds if the fault belongs to a complete header of a capture.
 abbrev pub IsHeaderFault : CaptureFault → Type 0
 IsHeaderFault faults.BadMagic = Unit {0}
 IsHeaderFault faults.BadVersion = Unit {0}
 IsHeaderFault faults.BadLinkType = Unit {0}
 IsHeaderFault fault = ⊥
 
--- Statement: Guarantees for a packet that was read as record `number`, after a record at time `earliest`, for any source.
+-- Holds if guarantees for a packet that was read as record `number`, after a record at time `earliest`, for any source.
 pub record IsInBounds {A : Type 0} (number earliest : ℕ) (packet : Packet A) : Type 0 where
   pub few : number ≤ MAX_RECORDS
   pub early : packet.time < END_OF_TIME
@@ -74,7 +74,8 @@ pub record IsInBounds {A : Type 0} (number earliest : ℕ) (packet : Packet A) :
   pub small : length packet.octets.items ≤ MAX_CAPTURED_OCTETS
   pub within : length packet.octets.items ≤ packet.len
 
--- Statement: The result is a read fault exactly if the source has failed, and never a write fault.
+-- Holds if a read fault occurs only if the source has failed, and always if it had failed before. A write fault never occurs. A source
+-- that never fails gives no read fault, and still never fails.
 pub record AgreesWithSource {S X : Type 0} (has_failed never_fails : S → Bool) (old new : S) (result : Result X CaptureFault) : Type 0 where
   pub failed : result ≡ Err faults.Read → has_failed new ≡ true
   pub sure : never_fails old ≡ true → result ≢ Err faults.Read

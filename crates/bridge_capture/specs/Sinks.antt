@@ -2,6 +2,6 @@
 use Rattle.std.specs.Prelude.{ℕ, ◌≤◌, Option, List, length, take}
 use Rattle.std.specs.Io.KnownBytes.{Appends}
 
--- Statement: The sink's contents, if known, grew by a prefix of `octets`.
+-- Holds if the sink's contents, if known, grew by a prefix of `octets`.
 abbrev pub AppendsPrefix : Option (List ℕ) → Option (List ℕ) → List ℕ → Type 0
 AppendsPrefix old new octets = (n : ℕ) × (n ≤ length octets) × Appends old new (take n octets)

@@ -26,23 +26,23 @@ read_position capture = record { number = capture.records + 1; earliest = captur
 abbrev pub records_left : CaptureState → ℕ
 records_left capture = MAX_RECORDS - capture.records
 
--- Statement: The capture has neither ended nor been refused, so records can follow.
+-- Holds if the capture has neither ended nor been refused, so records can follow.
 abbrev pub IsReading : CaptureState → Type 0
 IsReading capture = capture.progress ≡ Reading
 
--- Statement: All records were returned, and the capture has ended without a fault.
+-- Holds if all records were returned, and the capture has ended without a fault.
 abbrev pub HasEnded : CaptureState → Type 0
 HasEnded capture = capture.progress ≡ Ended
 
--- Statement: The reading of the capture has stopped, because the capture was refused with the given fault.
+-- Holds if the reading of the capture has stopped, because the capture was refused with the given fault.
 abbrev pub HasRefused : CaptureState → CaptureFault → Type 0
 HasRefused capture fault = capture.progress ≡ Refused fault
 
--- Statement: The capture `text` begins with the frames that were read so far.
+-- Holds if the capture `text` begins with the frames that were read so far.
 abbrev pub HasReadFrames : List ℕ → List CapturedFrame → Type 0
 HasReadFrames text given = (form : CaptureFormat) × (next : RecordPosition) × (rest : List ℕ) × (header_format text ≡ Ok form) × ReadsPrefix form first_position (drop 24 text) given next rest
 
--- Statement: The file contents begin with these frames, and the next record was begun. Then the source failed or memory ran out.
+-- Holds if the file contents begin with these frames, and the next record was begun. Then the source failed or memory ran out.
 pub record StopsInRecord (fault : CaptureFault) (remaining : Option (List ℕ)) (text : List ℕ) (given : List CapturedFrame) : Type 0 where
   pub form : CaptureFormat
   pub next : RecordPosition
@@ -51,36 +51,36 @@ pub record StopsInRecord (fault : CaptureFault) (remaining : Option (List ℕ)) 
   pub begins : ReadsPrefix form first_position (drop 24 text) given next rest
   pub taken : TakesRefusedRecord form next (Some rest) remaining fault
 
--- Statement: After these frames, the file contents have this fault; or the source failed or memory ran out in the next record.
+-- Holds if, after these frames, the file contents have this fault; or the source failed or memory ran out in the next record.
 abbrev pub IsRefusal : CaptureFault → Option (List ℕ) → List ℕ → List CapturedFrame → Type 0
 IsRefusal faults.Read remaining text given = StopsInRecord faults.Read remaining text given
 IsRefusal faults.Write remaining text given = ⊥
 IsRefusal faults.NoMemory remaining text given = StopsInRecord faults.NoMemory remaining text given
 IsRefusal fault remaining text given = IsCapture text given (AtFault fault)
 
--- Statement: The capture stands for these frames of the file contents, according to its progress.
+-- Holds if the capture stands for these frames of the file contents, according to its progress.
 abbrev pub StandsForProgress : Progress → CaptureState → Option (List ℕ) → List ℕ → List CapturedFrame → Type 0
 StandsForProgress Reading capture remaining text given = (rest : List ℕ) × (remaining ≡ Some rest) × (header_format text ≡ Ok capture.form) × ReadsPrefix capture.form first_position (drop 24 text) given (read_position capture) rest
 StandsForProgress Ended capture remaining text given = IsCapture text given AtEnd
 StandsForProgress (Refused fault) capture remaining text given = IsRefusal fault remaining text given
 
--- Statement: The capture returned these frames of the file contents, and its source has the rest.
+-- Holds if the capture returned these frames of the file contents, and its source has the rest.
 abbrev pub StandsFor : CaptureState → Option (List ℕ) → List ℕ → List CapturedFrame → Type 0
 StandsFor capture remaining text given = StandsForProgress capture.progress capture remaining text given
 
--- Statement: The header gives a capture, or its fault; or the source failed within the header.
+-- Holds if the header gives a capture, or its fault; or the source failed within the header.
 abbrev pub BeginsCapture : List ℕ → Option (List ℕ) → Result CaptureState CaptureFault → Type 0
 BeginsCapture text remaining (Ok capture) = StandsFor capture remaining text []
 BeginsCapture text remaining (Err faults.Read) = TakesFewer 24 (Some text) remaining
 BeginsCapture text remaining (Err fault) = IsCapture text [] (AtFault fault)
 
--- Statement: The call returned the next frame, the end or a fault, and the capture stands for the frames so far.
+-- Holds if the call returned the next frame, the end or a fault, and the capture stands for the frames so far.
 abbrev pub AnswersNext : {A : Type 0} → CaptureState → Option (List ℕ) → List ℕ → List CapturedFrame → Result (Option (Packet A)) CaptureFault → Type 0
 AnswersNext capture remaining text given (Ok (Some packet)) = StandsFor capture remaining text (given ++ packet_frame packet ∷ []) × HasReadFrames text (given ++ packet_frame packet ∷ [])
 AnswersNext capture remaining text given (Ok None) = StandsFor capture remaining text given × IsCapture text given AtEnd
 AnswersNext capture remaining text given (Err fault) = StandsFor capture remaining text given × IsRefusal fault remaining text given
 
--- Statement: If the next record was refused with `fault`, the call took the octets that `TakesRefusedRecord` states.
+-- Holds if a call that refused the next record with `fault` took the octets that `TakesRefusedRecord` states.
 abbrev pub TakesRefusedNext : CaptureState → Option (List ℕ) → Option (List ℕ) → CaptureFault → Type 0
 TakesRefusedNext capture old new fault = TakesRefusedRecord capture.form (read_position capture) old new fault
 

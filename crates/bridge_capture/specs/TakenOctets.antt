@@ -7,34 +7,34 @@ use Rattle.bridge_capture.specs.declared.capture_fault.CaptureFault.{CaptureFaul
 use Rattle.bridge_capture.specs.declared.capture_fault.CaptureFault.TheVariants as faults
 use Rattle.bridge_capture.specs.Grammar.{RecordPosition, record_time, captured_length, original_length, record_header_fault}
 
--- Statement: Exactly `count` octets were taken from a source: `old` are its octets before, `new` after.
+-- Holds if exactly `count` octets were taken from a source: `old` are its octets before, `new` after.
 abbrev pub TakesExactly : ℕ → Option (List ℕ) → Option (List ℕ) → Type 0
 TakesExactly count old new = (octets : List ℕ) × (length octets ≡ count) × Consumes old new octets
 
--- Statement: Fewer than `count` octets were taken from a source: `old` are its octets before, `new` after.
+-- Holds if fewer than `count` octets were taken from a source: `old` are its octets before, `new` after.
 abbrev pub TakesFewer : ℕ → Option (List ℕ) → Option (List ℕ) → Type 0
 TakesFewer count old new = (octets : List ℕ) × (length octets < count) × Consumes old new octets
 
--- Statement: After a refused header, 24 octets were taken; fewer if the source failed or ended.
+-- Holds if, after a refused header, 24 octets were taken; fewer if the source failed or ended.
 abbrev pub TakesRefusedHeader : Option (List ℕ) → Option (List ℕ) → CaptureFault → Type 0
 TakesRefusedHeader old new faults.Read = TakesFewer 24 old new
 TakesRefusedHeader old new faults.HeaderCut = TakesFewer 24 old new
 TakesRefusedHeader old new fault = TakesExactly 24 old new
 
--- Statement: The record at this position of a capture has a header without fault.
+-- Holds if the record at this position of a capture has a header without fault.
 abbrev pub HasSoundHeader : CaptureFormat → RecordPosition → List ℕ → Type 0
 HasSoundHeader form place octets = record_header_fault place (record_time form octets) (captured_length form octets) (original_length form octets) ≡ None
 
--- Statement: The octets are an incomplete record: an incomplete header, or a sound header without all its octets.
+-- Holds if the octets are an incomplete record: an incomplete header, or a sound header without all its octets.
 abbrev pub IsCutRecord : CaptureFormat → RecordPosition → List ℕ → Type 0
 IsCutRecord form place octets = (length octets < 16) ⊎ (HasSoundHeader form place octets × (length octets < 16 + captured_length form octets))
 
--- Statement: The octets that a failing source gave: an incomplete record, or nothing after the last allowed record.
+-- Holds if the octets that a failing source gave: an incomplete record, or nothing after the last allowed record.
 abbrev pub IsReadPart : CaptureFormat → RecordPosition → List ℕ → Type 0
 IsReadPart form place octets = (MAX_RECORDS < place.number → octets ≡ []) × IsCutRecord form place octets
 
--- Statement: After a refused record, its header was taken; after too many records, one octet. If the source failed or ended, an incomplete record was
--- taken.
+-- Holds if, after a refused record, its header was taken; after too many records, one octet. If the source failed or
+-- ended, an incomplete record was taken.
 abbrev pub TakesRefusedRecord : CaptureFormat → RecordPosition → Option (List ℕ) → Option (List ℕ) → CaptureFault → Type 0
 TakesRefusedRecord form place old new faults.Read = (octets : List ℕ) × IsReadPart form place octets × Consumes old new octets
 TakesRefusedRecord form place old new (faults.RecordCut number) = (octets : List ℕ) × IsCutRecord form place octets × Consumes old new octets

@@ -36,7 +36,8 @@ written_frame captured = written_record captured.time captured.len captured.octe
 abbrev pub written_text : List CapturedFrame → List ℕ
 written_text frames = written_header ++ flat_map written_frame frames
 
--- Statement: From this record number and time on, the frames can be written and read again. Their number, times and lengths are within the limits.
+-- Holds if from this record number and time on, the frames can be written and read again. Their number, times and
+-- lengths are within the limits.
 abbrev pub AreWritable : ℕ → ℕ → List CapturedFrame → Type 0
 AreWritable number earliest [] = Unit {0}
 AreWritable number earliest (captured ∷ more) = (number ≤ MAX_RECORDS) × (earliest ≤ captured.time) × (captured.time < END_OF_TIME) × (length captured.octets ≤ SNAP_LENGTH) × (length captured.octets ≤ captured.len) × (captured.len < 2 ^ 32) × AreWritable (number + 1) captured.time more

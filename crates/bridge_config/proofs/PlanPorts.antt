@@ -22,7 +22,7 @@ use Rattle.bridge_config.specs.Rules.{ArePorts, IsPlan, IsPort, IsVlan, find_por
 
 -- Look-up by number.
 
--- Statement: The port is in the list and has the number `n`.
+-- Holds if the port is in the list and has the number `n`.
 pub record IsAt {A : Type 0} (ports : List (PortPlan A)) (n : ℕ) (p : PortPlan A) : Type 0 where
   pub listed : IsMember p ports
   pub number : p.number ≡ n

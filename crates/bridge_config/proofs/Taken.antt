@@ -15,7 +15,7 @@ use Rattle.bridge_schema.proofs.Faults.{fails_on, handed_on, unless_holds}
 pub fails_of : {B : Type 0} (e : PlanFault) (whole : Result B PlanFault) → whole ≡ Err e → IsReadFault e whole
 fails_of e whole is = unless_holds (is_no_memory e) is
 
--- Statement: Without a fault, the result of the whole is the result of the remaining readers.
+-- Holds if without a fault, the result of the whole is the result of the remaining readers.
 abbrev pub StandsBy : {A : Type 0} → Option PlanFault → Result A PlanFault → Result A PlanFault → Type 0
 StandsBy None rest whole = whole ≡ rest
 StandsBy (Some e) rest whole = IsReadFault e whole

@@ -18,7 +18,7 @@ array_items a = record {
   filters = items_view a.filters.now;
 }
 
--- Statement: Each array is within the limit of its section, and there is a port.
+-- Holds if each array is within the limit of its section, and there is a port.
 pub record AreWithinLimits (a : SectionArrays) : Type 0 where
   pub some_port : 0 < length a.ports.now
   pub tables : are_tables (items_view a.ports.now) ≡ true

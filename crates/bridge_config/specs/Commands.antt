@@ -26,7 +26,7 @@ has_instance p clear.Rx n = is_listed n p.gates
 has_instance p clear.Octets n = is_listed n p.gates
 has_instance p clear.Red n = is_listed n p.meters
 
--- Statement: The times of the commands never fall, and the plan has the filter, gate or meter that each command names.
+-- Holds if the times of the commands never fall, and the plan has the filter, gate or meter that each command names.
 pub record AreCommands {A : Type 0} (p : Plan A) (commands : List Command) : Type 0 where
   pub rise : IsOrdered (λ a b. a.at ≤ b.at) commands
   pub instances : (c : Command) → IsMember c commands → IsTrue (has_instance p c.clear c.number)

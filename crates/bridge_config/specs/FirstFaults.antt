@@ -30,28 +30,28 @@ abbrev pub unless_fault : {A : Type 0} → Option PlanFault → A → Result A P
 unless_fault None x = Ok x
 unless_fault (Some e) x = Err e
 
--- Statement: The first fault `new` is the earlier fault `old`, or else the fault of `read`. The value `x` is the read
+-- Holds if the first fault `new` is the earlier fault `old`, or else the fault of `read`. The value `x` is the read
 -- value, or `other` if `read` is a fault.
 pub record TakesRead {A : Type 0} (old : Option PlanFault) (other : A) (read : Result A PlanFault) (new : Option PlanFault) (x : A) : Type 0 where
   pub fault : new ≡ first_fault old (read_fault read)
   pub value : x ≡ value_or other read
 
--- Statement: The first fault `new` is the earlier fault `old` if there is one, otherwise `e` if `holds` is false,
+-- Holds if the first fault `new` is the earlier fault `old` if there is one, otherwise `e` if `holds` is false,
 -- otherwise `None`.
 pub record Expects (old : Option PlanFault) (holds : Bool) (e : PlanFault) (new : Option PlanFault) : Type 0 where
   pub fault : new ≡ first_fault old (if holds then None else Some e)
 
--- Statement: The result of reading a table is the first fault; without a fault, the value.
+-- Holds if the result of reading a table is the first fault; without a fault, the value.
 pub record EndsReading {A : Type 0} (fault : Option PlanFault) (x : A) (r : Result A PlanFault) : Type 0 where
   pub is : r ≡ unless_fault fault x
 
--- Statement: An earlier fault stays. Otherwise `x` is the value of `read`, or the new fault is the fault of `read`,
+-- Holds if an earlier fault stays. Otherwise `x` is the value of `read`, or the new fault is the fault of `read`,
 -- unless memory ran out.
 abbrev pub ReadsUnlessFault : {A : Type 0} → Option PlanFault → Result A PlanFault → Option PlanFault → A → Type 0
 ReadsUnlessFault (Some e) read new x = new ≡ Some e
 ReadsUnlessFault None read None x = read ≡ Ok x
 ReadsUnlessFault None read (Some e) x = IsReadFault e read
 
--- Statement: `ReadsUnlessFault` holds. Contracts of `take_port_lists` and `take_gate_lists` state it.
+-- Holds if `ReadsUnlessFault` holds. Contracts of `take_port_lists` and `take_gate_lists` state it.
 pub record ReadsLists {A : Type 0} (old : Option PlanFault) (read : Result A PlanFault) (new : Option PlanFault) (x : A) : Type 0 where
   pub reads : ReadsUnlessFault old read new x

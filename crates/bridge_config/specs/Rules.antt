@@ -22,12 +22,12 @@ use Rattle.bridge_schema.specs.Readers.{are_numbers_in_range, is_subset, add_to_
 use Rattle.bridge_config.specs.declared.ports.PortPlan.{PortPlan}
 use Rattle.bridge_config.specs.Model.{Policing, Plan}
 
--- Statement: The list `ns` contains exactly the numbers of the list `all`, each once, in strictly increasing order.
+-- Holds if the list `ns` contains exactly the numbers of the list `all`, each once, in strictly increasing order.
 pub record IsSortedCopy (all ns : List ℕ) : Type 0 where
   pub rises : IsStrictlyIncreasing ns
   pub same : IsPermutation all ns
 
--- Statement: The time of the schedule change, if there is one, is before END_OF_TIME.
+-- Holds if the time of the schedule change, if there is one, is before END_OF_TIME.
 abbrev pub IsChangeInTime : Option ℕ → Type 0
 IsChangeInTime change = ForSome change (λ t. t < END_OF_TIME)
 
@@ -40,18 +40,18 @@ abbrev pub find_port : {A : Type 0} → List (PortPlan A) → ℕ → Option (Po
 find_port [] n = None
 find_port (p ∷ ps) n = if nat_eq p.number n then Some p else find_port ps n
 
--- Statement: The gate control list is valid, and each gate state is a number below 256; bit c of a state opens class c.
+-- Holds if the gate control list is valid, and each gate state is a number below 256; bit c of a state opens class c.
 pub record IsPortList (l : Cyclic ℕ) : Type 0 where
   pub lawful : IsLawful l
   pub classes : All (λ e. e.0 < 256) l.entries
 
--- Statement: The property `P` holds for each gate control list of the port: the only list, or both the old and the new
+-- Holds if the property `P` holds for each gate control list of the port: the only list, or both the old and the new
 -- list.
 abbrev pub HoldsOfLists : {A : Type 0} → (Cyclic ℕ → Type 0) → Egress A → Type 0
 HoldsOfLists P (egress.Cyclic l) = P l
 HoldsOfLists P (egress.Joined j) = P j.old × P j.new
 
--- Statement: The port's number, VLAN, priority, eight classes, eight queue capacities and gate control lists are within
+-- Holds if the port's number, VLAN, priority, eight classes, eight queue capacities and gate control lists are within
 -- the bounds that the fields state.
 pub record IsPort {A : Type 0} (p : PortPlan A) : Type 0 where
   pub number_from : 1 ≤ p.number
@@ -65,7 +65,7 @@ pub record IsPort {A : Type 0} (p : PortPlan A) : Type 0 where
   pub eight_rooms : length p.rooms ≡ 8
   pub list : ForSome p.list (HoldsOfLists IsPortList)
 
--- Statement: Each port follows IsPort, and no two ports have the same number.
+-- Holds if each port follows IsPort, and no two ports have the same number.
 pub record ArePorts {A : Type 0} (ports : List (PortPlan A)) : Type 0 where
   pub each : All IsPort ports
   pub own : has_no_duplicate (λ p q. nat_eq p.number q.number) ports ≡ true
@@ -78,13 +78,13 @@ port_set ports = add_to_set 1 0 (map (λ p. p.number) ports)
 abbrev pub has_vlan : List Vlan → ℕ → Bool
 has_vlan vlans n = list_any (λ v. nat_eq v.vid n) vlans
 
--- Statement: The VLAN identifier is 1 to 4094, and every member port is in `all`, the set of the plan's ports.
+-- Holds if the VLAN identifier is 1 to 4094, and every member port is in `all`, the set of the plan's ports.
 pub record IsVlan (all : ℕ) (v : Vlan) : Type 0 where
   pub vid_from : 1 ≤ v.vid
   pub vid_to : v.vid ≤ 4094
   pub members : is_subset v.members all ≡ true
 
--- Statement: Each VLAN follows IsVlan for `all`, the set of the plan's ports, and no two VLANs have the same
+-- Holds if each VLAN follows IsVlan for `all`, the set of the plan's ports, and no two VLANs have the same
 -- identifier.
 pub record AreVlans (all : ℕ) (vlans : List Vlan) : Type 0 where
   pub each : All (IsVlan all) vlans
@@ -94,19 +94,19 @@ pub record AreVlans (all : ℕ) (vlans : List Vlan) : Type 0 where
 abbrev pub has_static : List StaticEntry → ℕ → List ℕ → Bool
 has_static statics vid address = list_any (λ s. nat_eq s.vid vid && bytes_eq s.address address) statics
 
--- Statement: The static entry has a VLAN of the plan, an address of six octets, and only ports of the plan (the set
+-- Holds if the static entry has a VLAN of the plan, an address of six octets, and only ports of the plan (the set
 -- `all`).
 pub record IsStatic (all : ℕ) (vlans : List Vlan) (s : StaticEntry) : Type 0 where
   pub vlan : has_vlan vlans s.vid ≡ true
   pub address : length s.address ≡ 6
   pub ports : is_subset s.ports all ≡ true
 
--- Statement: Each static entry follows IsStatic, and no two entries have the same VLAN and the same address.
+-- Holds if each static entry follows IsStatic, and no two entries have the same VLAN and the same address.
 pub record AreStatics (all : ℕ) (vlans : List Vlan) (statics : List StaticEntry) : Type 0 where
   pub each : All (IsStatic all vlans) statics
   pub own : has_no_duplicate (λ s t. nat_eq s.vid t.vid && bytes_eq s.address t.address) statics ≡ true
 
--- Statement: The stream entry has a port of the plan, a VLAN identifier from 1 to 4094, and an address of six octets.
+-- Holds if the stream entry has a port of the plan, a VLAN identifier from 1 to 4094, and an address of six octets.
 pub record IsStream {A : Type 0} (ports : List (PortPlan A)) (s : StreamEntry) : Type 0 where
   pub port_from : 1 ≤ s.port
   pub port_to : s.port ≤ 16
@@ -115,37 +115,37 @@ pub record IsStream {A : Type 0} (ports : List (PortPlan A)) (s : StreamEntry) :
   pub vid_to : s.vid ≤ 4094
   pub address : length s.address ≡ 6
 
--- Statement: The gate's list is valid, and its internal priority values are 0 to 7 or absent.
+-- Holds if the gate's list is valid, and its internal priority values are 0 to 7 or absent.
 pub record IsGateList (l : Cyclic GateEntry) : Type 0 where
   pub lawful : IsLawful l
   pub priorities : All (λ e. schedules.is_valid_priority e.0.ipv ≡ true) l.entries
 
--- Statement: The stream gates have different numbers, valid schedules, and internal priority values that are absent
+-- Holds if the stream gates have different numbers, valid schedules, and internal priority values that are absent
 -- (`None`) or at most 7.
 pub record AreGates {A : Type 0} (gates : List (ℕ × GatePlan A)) : Type 0 where
   pub own : IsTrue (are_numbers_distinct gates)
   pub priorities : IsTrue (all_have_priorities gates)
   pub lawful : All (λ g. schedules.IsLawful g.1.schedule) gates
 
--- Statement: The meters have different numbers, rates up to 100 Gbit/s and burst sizes below 2^32 octets.
+-- Holds if the meters have different numbers, rates up to 100 Gbit/s and burst sizes below 2^32 octets.
 pub record AreMeters (meters : List (ℕ × MeterPlan)) : Type 0 where
   pub own : IsTrue (are_numbers_distinct meters)
   pub limits : IsTrue (all_within_limits meters)
 
--- Statement: The filter's priority is at most 7, and its maximum SDU is at most 65,535 octets; an absent value (`None`)
+-- Holds if the filter's priority is at most 7, and its maximum SDU is at most 65,535 octets; an absent value (`None`)
 -- is allowed.
 pub record IsFilter (f : ℕ × FilterPlan) : Type 0 where
   pub priority : ForSome f.1.priority (λ n. n ≤ 7)
   pub max_sdu : ForSome f.1.max_sdu (λ n. n ≤ 65535)
 
--- Statement: The filters follow IsFilter and have different numbers, and the plan has every gate and meter that a
+-- Holds if the filters follow IsFilter and have different numbers, and the plan has every gate and meter that a
 -- filter names.
 pub record AreFilters {A : Type 0} (gates : List (ℕ × GatePlan A)) (meters : List (ℕ × MeterPlan)) (filters : List (ℕ × FilterPlan)) : Type 0 where
   pub each : All IsFilter filters
   pub own : IsTrue (are_numbers_distinct filters)
   pub instances : IsTrue (have_instances filters gates meters)
 
--- Statement: The gates, meters and filters follow their rules, and there are at most 1,024 of each.
+-- Holds if the gates, meters and filters follow their rules, and there are at most 1,024 of each.
 pub record IsPolicing {A : Type 0} (p : Policing A) : Type 0 where
   pub few_gates : length p.gates ≤ 1024
   pub few_meters : length p.meters ≤ 1024
@@ -154,7 +154,7 @@ pub record IsPolicing {A : Type 0} (p : Policing A) : Type 0 where
   pub meters : AreMeters p.meters
   pub filters : AreFilters p.gates p.meters p.filters
 
--- Statement: The plan has 1 to 16 ports, no section has more instances than its limit, and each section follows its
+-- Holds if the plan has 1 to 16 ports, no section has more instances than its limit, and each section follows its
 -- rules.
 pub record IsPlan {A : Type 0} (p : Plan A) : Type 0 where
   pub some_port : 0 < length p.ports

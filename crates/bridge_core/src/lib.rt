@@ -1,5 +1,5 @@
 #![tactic(auto)]
-//! Runs time-aware bridges: a bridge that receives frames and commands one by one, and whole runs of captures and commands.
+//! A time-aware bridge that handles frames and commands one by one (`Bridge`), and whole runs of captures and commands (`simulate`).
 //!
 //! A run reads each capture one record ahead.
 

@@ -7,7 +7,7 @@ use Rattle.bridge_cycle.specs.Fits.{Fits, IsPeriodic}
 use Rattle.bridge_cycle.specs.Runs.{IsLongestFit}
 use Rattle.bridge_cycle.proofs.Repeats.{turns, fits_near}
 
--- Statement: Up to time `seen`, the class was open without a break for at most `longest` ns, and for the last `run` ns.
+-- Holds if up to time `seen`, the class was open without a break for at most `longest` ns, and for the last `run` ns.
 pub record Ran (opens : ℕ → Bool) (longest run seen : ℕ) : Type 0 where
   pub fits : (t : ℕ) × Fits opens longest t
   pub most : (occ t : ℕ) → t + occ ≤ seen → Fits opens occ t → occ ≤ longest

@@ -2,7 +2,7 @@ use Rattle.std.proofs.Common.{◌≡◌, ℕ, Bool, true, false, ◌+◌, ◌<�
 use Rattle.std.proofs.lemmas.Bool.{cases_lt, both_ways}
 use Rattle.bridge_cycle.specs.Fits.{Fits, IsFirstFit}
 
--- Statement: No time before `start` fits, and the class is open from `start` to `seen`.
+-- Holds if no time before `start` fits, and the class is open from `start` to `seen`.
 pub record Searched (opens : ℕ → Bool) (occ from start seen : ℕ) : Type 0 where
   pub after : from ≤ start
   pub upto : start ≤ seen

@@ -31,7 +31,7 @@ turn_by_time j t = if nat_lt t j.at then clip_end j.at (cyclic.turn_by_time j.ol
 abbrev pub cycle_length : {S : Type 0} → Joined S → ℕ
 cycle_length j = max j.old.cycle j.new.cycle
 
--- Statement: Both lists of the schedule change, the old and the new list, have valid sizes, intervals, cycle times and
+-- Holds if both lists of the schedule change, the old and the new list, have valid sizes, intervals, cycle times and
 -- base times.
 pub record IsLawful {S : Type 0} (j : Joined S) : Type 0 where
   pub old : cyclic.IsLawful j.old

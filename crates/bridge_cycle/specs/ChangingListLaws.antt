@@ -14,7 +14,7 @@ use Rattle.bridge_cycle.specs.CyclicLaws.{cyclic_turn_is_exact, cyclic_turn_exis
 use Rattle.bridge_cycle.specs.CyclicLaws as laws
 use Rattle.bridge_cycle.specs.ChangingList.{Joined, clip_end, clip_start, turn_by_time, cycle_length, IsLawful}
 
--- Statement: Interval `x` contains time `t`, ends within `cycle` ns of `t`, and is the interval of each time within it.
+-- Holds if interval `x` contains time `t`, ends within `cycle` ns of `t`, and is the interval of each time within it.
 pub record IsTimelineTurn {S : Type 0} (turns : ℕ → Option (Turn S)) (cycle t : ℕ) (x : Turn S) : Type 0 where
   pub begins : x.start ≤ℤ pos t
   pub ends : t < x.end

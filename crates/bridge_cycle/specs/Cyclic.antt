@@ -25,8 +25,8 @@ pub record EntryInterval (S : Type 0) : Type 0 where
   pub start : ℕ
   pub end : ℕ
 
--- Entry in force at offset `p` ns of the cycle; `None` without entries. The first entry starts at `start`, each other entry after its predecessor.
--- The last entry lasts until the cycle ends.
+-- Entry in force at offset `p` ns of the cycle; `None` without entries. The first entry starts at `start`, each other
+-- entry after its predecessor. The last entry lasts until the cycle ends.
 abbrev pub entry_interval : {S : Type 0} → List (S × ℕ) → ℕ → ℕ → ℕ → Option (EntryInterval S)
 entry_interval [] start cycle p = None
 entry_interval (e ∷ []) start cycle p = Some (record { state = e.0; start = start; end = cycle })
@@ -71,7 +71,7 @@ fault_code CycleOutOfRange = 4
 fault_code TooManyEntries = 5
 fault_code NoMemory = 6
 
--- Statement: The list has 1 to 256 entries, a cycle time up to 1 s, and a base time before END_OF_TIME. Its intervals are positive, and
+-- Holds if the list has 1 to 256 entries, a cycle time up to 1 s, and a base time before END_OF_TIME. Its intervals are positive, and
 -- their sum is at most the cycle time.
 pub record IsLawful {S : Type 0} (l : Cyclic S) : Type 0 where
   pub some : 0 < length l.entries

@@ -19,7 +19,7 @@ place_here e f es start cycle p h = grind (arith, nat_tests)
 pub place_next : {S : Type 0} (e f : S × ℕ) (es : List (S × ℕ)) (start cycle p : ℕ) → start + e.1 ≤ p → entry_interval (e ∷ f ∷ es) start cycle p ≡ entry_interval (f ∷ es) (start + e.1) cycle p
 place_next e f es start cycle p h = grind (arith, nat_tests)
 
--- Statement: The interval of the entry in force at offset `p` contains `p` and lies within the cycle. It is the interval of each offset
+-- Holds if the interval of the entry in force at offset `p` contains `p` and lies within the cycle. It is the interval of each offset
 -- within it.
 pub record IsEntryInterval {S : Type 0} (es : List (S × ℕ)) (start cycle p : ℕ) (x : EntryInterval S) : Type 0 where
   pub begins : x.start ≤ p
@@ -54,7 +54,7 @@ phase_moves base cycle t u q c l h =
     let e : u + k ≡ (t + k) / cycle * cycle + q = grind arith in
     ap (λ n. n % cycle) e ∙ mod-mul-add ((t + k) / cycle) cycle q l
 
--- Statement: Interval `x` contains time `t`, ends within a cycle of `t`, and is the interval of each time within it.
+-- Holds if interval `x` contains time `t`, ends within a cycle of `t`, and is the interval of each time within it.
 pub record IsTurn {S : Type 0} (l : Cyclic S) (t : ℕ) (x : Turn S) : Type 0 where
   pub begins : x.start ≤ℤ pos t
   pub ends : t < x.end

@@ -16,7 +16,7 @@ abbrev pub cycle_length : {A : Type 0} → Egress A → ℕ
 cycle_length (Cyclic l) = l.cycle
 cycle_length (Joined j) = joined.cycle_length j
 
--- Statement: Each list has valid sizes, intervals, cycle time and base time.
+-- Holds if each list has valid sizes, intervals, cycle time and base time.
 abbrev pub IsLawful : {A : Type 0} → Egress A → Type 0
 IsLawful (Cyclic l) = cyclic.IsLawful l
 IsLawful (Joined j) = joined.IsLawful j

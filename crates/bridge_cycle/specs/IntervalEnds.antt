@@ -2,12 +2,12 @@
 use Rattle.std.specs.Prelude.{◌≡◌, ℕ, ◌<◌, ◌≤◌, ◌+◌, ◌-◌, List, length, take, slice_index}
 use Rattle.bridge_cycle.specs.Cyclic.{interval_sum}
 
--- Statement: For each entry, `ends` has the offset in the cycle at which its interval ends.
+-- Holds if for each entry, `ends` has the offset in the cycle at which its interval ends.
 pub record AreIntervalEnds {S : Type 0} (entries : List (S × ℕ)) (ends : List ℕ) : Type 0 where
   pub as_many : length ends ≡ length entries
   pub sums : (k : ℕ) → k < length entries → slice_index ends k ≡ interval_sum (take (k + 1) entries)
 
--- Statement: `place` is the index of the entry in force at offset `phase`. The last entry lasts until the cycle ends.
+-- Holds if `place` is the index of the entry in force at offset `phase`. The last entry lasts until the cycle ends.
 pub record IsEntryIndex (ends : List ℕ) (phase place : ℕ) : Type 0 where
   pub within : place < length ends
   pub begun : 0 < place → slice_index ends (place - 1) ≤ phase

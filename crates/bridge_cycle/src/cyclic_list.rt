@@ -138,7 +138,8 @@ impl<S: Copy, A: Allocator + Copy> CyclicList<S, A> {
         })
     }
 
-    /// Returns the states with their intervals in ns, from the start of a cycle. Checks and delay bounds examine each entry.
+    /// Returns the entries from the start of a cycle: each state with its duration in ns. Ports, checks, delay bounds and warnings examine
+    /// them.
     pub fn entries(&self) -> &[(S, u64)]
         ensures entries { result.now ≡ self.now.entries }
         ensures lawful { cyclic.IsLawful self.now }

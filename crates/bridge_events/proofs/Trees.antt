@@ -11,7 +11,7 @@ use Rattle.bridge_limits.proofs.Cases.{by_bool}
 use Rattle.bridge_limits.proofs.Options.{none_of}
 use Rattle.bridge_events.proofs.Rows.{none_some, some_is}
 
--- Statement: `key` is the least key of the indices from `a` to `b` - 1, and one of these indices has it.
+-- Holds if `key` is the least key of the indices from `a` to `b` - 1, and one of these indices has it.
 record IsLeastKey (keys : List ℕ) (a b key : ℕ) : Type 0 where
   place : ℕ
   from : a ≤ place

@@ -25,7 +25,7 @@ lesser_cases false f g x h differ = absurd (differ (same_Some f x h))
 head_apart : {X : Type 0} (x : ℕ × X) (xs : List (ℕ × X)) → are_numbers_distinct (x ∷ xs) ≡ true → (is_listed x.0 xs ≡ false) × (are_numbers_distinct xs ≡ true)
 head_apart x xs h = by_bool (is_listed x.0 xs) (λ e. absurd (let z = rw e at h in cc)) (λ e. (e, rw e at h))
 
--- Statement: Looking up the number of a member gives the member.
+-- Holds if looking up the number of a member gives the member.
 pub record IsFound (fs : List (ℕ × FilterPlan)) (x : ℕ × FilterPlan) : Type 0 where
   pub found : lookup (nat_eq x.0) fs ≡ Some x.1
 
@@ -56,7 +56,7 @@ flow_found (f ∷ fs) c x distinct h =
     (λ e. let k : lesser_filter f (frame_filter fs c) ≡ Some x = rw e at h in found_lesser f x fs (frame_filter fs c) (same_eq f.0) distinct ih k)
     (λ e. let k : frame_filter fs c ≡ Some x = rw e at h in found_later f x fs distinct (ih x k))
 
--- Statement: The frame's filter has the number `n`.
+-- Holds if the frame's filter has the number `n`.
 pub record IsFlow (fs : List (ℕ × FilterPlan)) (c : FilterInput) (n : ℕ) : Type 0 where
   pub plan : FilterPlan
   pub is : frame_filter fs c ≡ Some (n, plan)

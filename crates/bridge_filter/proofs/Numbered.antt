@@ -16,7 +16,7 @@ use Rattle.bridge_limits.proofs.Cases.{by_bool}
 apart : (n k : ℕ) → (k ≡ n → ⊥) → nat_eq n k ≡ false
 apart n k differ = by_bool (nat_eq n k) (λ e. absurd (differ (sym (eqb-true n k e)))) (λ e. e)
 
--- Statement: The two lists differ only in the value of number `n`: `x` became `y`.
+-- Holds if the two lists differ only in the value of number `n`: `x` became `y`.
 pub record Changes {X : Type 0} (old new : List (ℕ × X)) (n : ℕ) (x y : X) : Type 0 where
   pub there : lookup (nat_eq n) old ≡ Some x
   pub own : lookup (nat_eq n) new ≡ Some y

@@ -14,7 +14,7 @@ use Rattle.bridge_gate.specs.declared.stream_gate.GateAnswer.TheVariants as gate
 use Rattle.bridge_filter.specs.Verdicts.{PolicePlans, FilterInput, FilterEvent, Arrived, Cleared, FilterStep, Unfiltered, Judged, Commanded, gate_share, meter_share, is_blocked, is_meter, is_match, lesser_filter, frame_filter, frame_verdict, input_step, filter_steps, is_above_max, answer_verdict, meter_verdict, gate_answer}
 use Rattle.bridge_filter.specs.OwnEvents.{own_filter_events, is_own_command, is_own_step, own_steps, HasOwnInstances}
 
--- Statement: A judged frame has a filter of the plan.
+-- Holds if a judged frame has a filter of the plan.
 abbrev pub IsListed : PolicePlans → FilterStep → Type 0
 IsListed p (Judged c n g v) = IsMember (n, g) p.filters
 IsListed p x = Unit {0}

@@ -72,7 +72,7 @@ passes_found test (x ∷ xs) n y h k =
     (λ e. let it : x.1 ≡ y = same_Some x.1 y (rw e at k) in subst (λ (z : _). test z ≡ true) it p.0)
     (λ e. let later : lookup (nat_eq n) xs ≡ Some y = rw e at k in passes_found test xs n y p.1 later)
 
--- Statement: A new filter has the plan that its number has in the list.
+-- Holds if a new filter has the plan that its number has in the list.
 pub record IsNewOf (fs : List (ℕ × FilterPlan)) (n : ℕ) (f : FilterState) : Type 0 where
   pub plan : FilterPlan
   pub found : lookup (nat_eq n) fs ≡ Some plan

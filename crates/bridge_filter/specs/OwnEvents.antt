@@ -36,7 +36,7 @@ abbrev pub own_steps : ℕ → FilterPlan → List FilterStep → List FilterSte
 own_steps s f [] = []
 own_steps s f (x ∷ xs) = if is_own_step s f x then x ∷ own_steps s f xs else own_steps s f xs
 
--- Statement: Only the filter `f` has the number `s`, and no other filter uses its gate or its meter.
+-- Holds if only the filter `f` has the number `s`, and no other filter uses its gate or its meter.
 pub record HasOwnInstances (p : PolicePlans) (s : ℕ) (f : FilterPlan) : Type 0 where
   pub one : (g : FilterPlan) → IsMember (s, g) p.filters → f ≡ g
   pub gate : (n : ℕ) (g : FilterPlan) → IsMember (n, g) p.filters → g.gate ≡ f.gate → n ≡ s

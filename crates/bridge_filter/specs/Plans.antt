@@ -15,7 +15,7 @@ use Rattle.bridge_filter.specs.Verdicts.{PolicePlans}
 abbrev pub is_listed : {X : Type 0} → ℕ → List (ℕ × X) → Bool
 is_listed n xs = is_some (lookup (nat_eq n) xs)
 
--- Statement: Each number of the first list is in the second list.
+-- Holds if each number of the first list is in the second list.
 abbrev pub KeepsNumbers : {X Y : Type 0} → List (ℕ × X) → List (ℕ × Y) → Type 0
 KeepsNumbers xs ys = (n : ℕ) → is_listed n xs ≡ true → is_listed n ys ≡ true
 

@@ -58,45 +58,46 @@ abbrev pub find_row : List (ℕ × List (Option Route)) → List (Option Route) 
 find_row rows any None = any
 find_row rows any (Some h) = unwrap_or (lookup (nat_eq h) rows) any
 
--- Statement: The default row has the least numbers of the filters without a handle.
+-- Holds if the default row has the least numbers of the filters without a handle.
 abbrev pub IsDefaultRow : List (Option Route) → List (ℕ × FilterPlan) → Type 0
 IsDefaultRow any fs = (k : ℕ) → k < 8 → slot_number any k ≡ least_unnamed k fs
 
--- Statement: The row of each handle has the lesser number of the default row and of the filters with exactly this handle.
+-- Holds if the row of each handle has the lesser number of the default row and of the filters with exactly this handle.
 abbrev pub AreHandleRows : List (ℕ × List (Option Route)) → List (Option Route) → List (ℕ × FilterPlan) → Type 0
 AreHandleRows rows any fs = (h k : ℕ) → k < 8 → slot_number (find_row rows any (Some h)) k ≡ lesser_number (least_named h k fs) (slot_number any k)
 
--- Statement: For each handle and priority, the row has the least number of the matching filters.
+-- Holds if for each handle and priority, the row has the least number of the matching filters.
 abbrev pub AreRouteRows : List (ℕ × List (Option Route)) → List (Option Route) → List (ℕ × FilterPlan) → Type 0
 AreRouteRows rows any fs = (handle : Option ℕ) (k : ℕ) → k < 8 → slot_number (find_row rows any handle) k ≡ least_match handle k fs
 
--- Statement: The optional index is the index of the optional number, and `None` exactly if there is no number.
+-- Holds if the optional index is the index of the optional number, and `None` exactly if there is no number.
 abbrev pub IsOptionalIndex : List ℕ → Option ℕ → Option ℕ → Type 0
 IsOptionalIndex numbers None None = Unit {0}
 IsOptionalIndex numbers None (Some i) = ⊥
 IsOptionalIndex numbers (Some n) None = ⊥
 IsOptionalIndex numbers (Some n) (Some i) = slice_get numbers i ≡ Some n
 
--- Statement: The route has the indexes of the filter's gate and meter.
+-- Holds if the route has the indexes of the filter's gate and meter.
 pub record HasInstanceIndices (f : FilterPlan) (gates meters : List ℕ) (r : Route) : Type 0 where
   pub gate : slice_get gates r.gate ≡ Some f.gate
   pub meter : IsOptionalIndex meters f.meter r.meter
 
--- Statement: The route has the number and index of a filter, and the indexes of its gate and meter.
+-- Holds if the route has the number and index of a filter, and the indexes of its gate and meter.
 pub record IsRoute (fs : List (ℕ × FilterPlan)) (gates meters : List ℕ) (r : Route) : Type 0 where
   pub plan : FilterPlan
   pub filter : slice_get fs r.filter ≡ Some (r.number, plan)
   pub served : HasInstanceIndices plan gates meters r
 
--- Statement: Each route of the row has the properties of `IsRoute`. A row has the routes of one handle by priority.
+-- Holds if each route of the row has the properties of `IsRoute`. A row has the routes of one handle by priority.
 abbrev pub HasRoutes : List (Option Route) → List (ℕ × FilterPlan) → List ℕ → List ℕ → Type 0
 HasRoutes row fs gates meters = (k : ℕ) → k < 8 → IfSome (slot row k) (IsRoute fs gates meters)
 
--- Statement: Each route of all rows has the properties of `IsRoute`.
+-- Holds if each route of all rows has the properties of `IsRoute`.
 abbrev pub HaveRoutes : List (ℕ × List (Option Route)) → List (Option Route) → List (ℕ × FilterPlan) → List ℕ → List ℕ → Type 0
 HaveRoutes rows any fs gates meters = (handle : Option ℕ) → HasRoutes (find_row rows any handle) fs gates meters
 
--- Statement: The optional route is the route of frames with this handle and priority: it names their filter, and is `None` if no filter matches.
+-- Holds if the optional route is the route of frames with this handle and priority: it names their filter, and is
+-- `None` if no filter matches.
 pub record IsFoundRoute {A : Type 0} (s : PoliceState A) (handle : Option ℕ) (priority : ℕ) (o : Option Route) : Type 0 where
   pub number : (at sdu octets : ℕ) (dei : Bool) → option_map (λ r. r.number) o ≡ option_map (λ f. f.0) (frame_filter s.filters (filter_input at handle priority dei sdu octets))
   pub route : IfSome o (IsRoute s.filters (keys_of s.gates) (keys_of s.meters))

@@ -75,24 +75,24 @@ state_filter_flags n s = option_map (state_flags s) (lookup (nat_eq n) s.kept)
 abbrev pub state_buckets : {A : Type 0} → ℕ → PoliceState A → Option Buckets
 state_buckets n s = option_and_then (λ f. optional_buckets f.plan.meter s.meters) (lookup (nat_eq n) s.kept)
 
--- Statement: Each stream gate stands for its share of the events: gate `n` for the list `share n`.
+-- Holds if each stream gate stands for its share of the events: gate `n` for the list `share n`.
 abbrev pub GatesStand : {A : Type 0} → (ℕ → GateRules) → List (ℕ × gate.GateState A) → (ℕ → List GateEvent) → Type 0
 GatesStand {A} rules gates share = (n : ℕ) (g : gate.GateState A) → lookup (nat_eq n) gates ≡ Some g → gate.StandsFor (rules n) g (share n)
 
--- Statement: Each meter stands for its share of the events: meter `n` for the list `share n`.
+-- Holds if each meter stands for its share of the events: meter `n` for the list `share n`.
 abbrev pub MetersStand : (ℕ → MeterPlan) → List (ℕ × meter.MeterState) → (ℕ → List MeterEvent) → Type 0
 MetersStand plans meters share = (n : ℕ) (m : meter.MeterState) → lookup (nat_eq n) meters ≡ Some m → meter.StandsFor (plans n) m (share n)
 
--- Statement: The filter's counters and blocked flag follow from its verdicts.
+-- Holds if the filter's counters and blocked flag follow from its verdicts.
 pub record HasVerdictState (n : ℕ) (f : FilterState) (ss : List FilterStep) : Type 0 where
   pub counters : f.counters ≡ verdict_counters (filter_verdicts n ss)
   pub blocked : f.blocked ≡ f.plan.block_oversize && is_blocked n ss
 
--- Statement: The counters and the blocked flag of each filter follow from its verdicts.
+-- Holds if the counters and the blocked flag of each filter follow from its verdicts.
 abbrev pub HaveVerdictStates : List (ℕ × FilterState) → List FilterStep → Type 0
 HaveVerdictStates kept ss = (n : ℕ) (f : FilterState) → lookup (nat_eq n) kept ≡ Some f → HasVerdictState n f ss
 
--- Statement: The police has these plans, and its state follows from the events, newest first.
+-- Holds if the police has these plans, and its state follows from the events, newest first.
 pub record StandsFor {A : Type 0} (p : PolicePlans) (s : PoliceState A) (es : List FilterEvent) : Type 0 where
   pub filters : s.filters ≡ p.filters
   pub kept : HaveVerdictStates s.kept (filter_steps p es)

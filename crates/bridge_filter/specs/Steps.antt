@@ -44,7 +44,7 @@ counters_with_verdict c v = record {
 abbrev pub state_with_verdict : FilterState → Verdict → FilterState
 state_with_verdict f v = record f { counters = counters_with_verdict f.counters v; blocked = f.blocked || (f.plan.block_oversize && is_oversize v) }
 
--- Statement: No counter of a filter exceeds `n`, so counting on can't overflow.
+-- Holds if no counter of a filter exceeds `n`, so counting on can't overflow.
 pub record AreBounded (c : Counters) (n : ℕ) : Type 0 where
   pub matching : c.matching ≤ n
   pub sdu_passed : c.sdu_passed ≤ n
@@ -53,50 +53,50 @@ pub record AreBounded (c : Counters) (n : ℕ) : Type 0 where
   pub gate_refused : c.gate_refused ≤ n
   pub red : c.red ≤ n
 
--- Statement: No gate answered a frame later than time `t`.
+-- Holds if no gate answered a frame later than time `t`.
 abbrev pub NoGateAskedLater : {A : Type 0} → List (ℕ × gate.GateState A) → ℕ → Type 0
 NoGateAskedLater {A} gates t = (n : ℕ) (g : gate.GateState A) → lookup (nat_eq n) gates ≡ Some g → g.earliest ≤ t
 
--- Statement: No meter judged a frame later than time `t`.
+-- Holds if no meter judged a frame later than time `t`.
 abbrev pub NoMeterUsedLater : List (ℕ × meter.MeterState) → ℕ → Type 0
 NoMeterUsedLater meters t = (n : ℕ) (m : meter.MeterState) → lookup (nat_eq n) meters ≡ Some m → m.buckets.at ≤ t
 
--- Statement: Each gate and each meter stands for its share of the results `ss`.
+-- Holds if each gate and each meter stands for its share of the results `ss`.
 pub record StandForShares {A : Type 0} (p : PolicePlans) (gates : List (ℕ × gate.GateState A)) (meters : List (ℕ × meter.MeterState)) (ss : List FilterStep) : Type 0 where
   pub gates_stand : GatesStand p.gates gates (λ n. gate_share n ss)
   pub meters_stand : MetersStand p.meters meters (λ n. meter_share n ss)
 
--- Statement: The meter with the optional number exists, or there is no number (`None`).
+-- Holds if the meter with the optional number exists, or there is no number (`None`).
 abbrev pub HasMeter : {X : Type 0} → Option ℕ → List (ℕ × X) → Type 0
 HasMeter None meters = Unit {0}
 HasMeter (Some n) meters = IsSome (lookup (nat_eq n) meters)
 
--- Statement: The filter's gate and meter exist, and its counters are at most `calls`.
+-- Holds if the filter's gate and meter exist, and its counters are at most `calls`.
 pub record HasInstances {A : Type 0} (f : FilterState) (gates : List (ℕ × gate.GateState A)) (meters : List (ℕ × meter.MeterState)) (calls : ℕ) : Type 0 where
   pub gate : IsSome (lookup (nat_eq f.plan.gate) gates)
   pub meter : HasMeter f.plan.meter meters
   pub few : AreBounded f.counters calls
 
--- Statement: For each filter, its gate and meter exist, and its counters are at most `calls`.
+-- Holds if for each filter, its gate and meter exist, and its counters are at most `calls`.
 abbrev pub HaveInstances : {A : Type 0} → List (ℕ × FilterState) → List (ℕ × gate.GateState A) → List (ℕ × meter.MeterState) → ℕ → Type 0
 HaveInstances filters gates meters calls = (n : ℕ) (f : FilterState) → lookup (nat_eq n) filters ≡ Some f → HasInstances f gates meters calls
 
--- Statement: Each filter's stream gate is among the gates, so that a verdict can be given.
+-- Holds if each filter's stream gate is among the gates, so that a verdict can be given.
 abbrev pub HaveGates : {X : Type 0} → List (ℕ × FilterState) → List (ℕ × X) → Type 0
 HaveGates filters gates = (n : ℕ) (f : FilterState) → lookup (nat_eq n) filters ≡ Some f → IsSome (lookup (nat_eq f.plan.gate) gates)
 
--- Statement: The meter of each filter with a meter exists.
+-- Holds if the meter of each filter with a meter exists.
 abbrev pub HaveMeters : {X : Type 0} → List (ℕ × FilterState) → List (ℕ × X) → Type 0
 HaveMeters filters meters = (n : ℕ) (f : FilterState) → lookup (nat_eq n) filters ≡ Some f → HasMeter f.plan.meter meters
 
--- Statement: Filter `n`, whose state is now `g`, had an equal plan and equal counters in the list `old`.
+-- Holds if filter `n`, whose state is now `g`, had an equal plan and equal counters in the list `old`.
 pub record IsSameFilter (old : List (ℕ × FilterState)) (n : ℕ) (g : FilterState) : Type 0 where
   pub was : FilterState
   pub found : lookup (nat_eq n) old ≡ Some was
   pub plan : g.plan ≡ was.plan
   pub counters : g.counters ≡ was.counters
 
--- Statement: Each filter has the plan and counters that it had before.
+-- Holds if each filter has the plan and counters that it had before.
 abbrev pub InstancesUnchanged : List (ℕ × FilterState) → List (ℕ × FilterState) → Type 0
 InstancesUnchanged old new = (n : ℕ) (g : FilterState) → lookup (nat_eq n) new ≡ Some g → IsSameFilter old n g
 
@@ -104,8 +104,8 @@ InstancesUnchanged old new = (n : ℕ) (g : FilterState) → lookup (nat_eq n) n
 abbrev pub filter_plans : List (ℕ × FilterState) → List (ℕ × FilterPlan)
 filter_plans fs = map (λ f. (f.0, f.1.plan)) fs
 
--- Statement: The parts of the police are consistent: distinct numbers, right rows and routes, existing gates and meters, and no later event than
--- `earliest`.
+-- Holds if the parts of the police are consistent: distinct numbers, right rows and routes, existing gates and meters,
+-- and no later event than `earliest`.
 pub record IsSound {A : Type 0} (filters : List (ℕ × FilterState)) (rows : List (ℕ × List (Option Route))) (any : List (Option Route)) (gates : List (ℕ × gate.GateState A)) (meters : List (ℕ × meter.MeterState)) (calls earliest : ℕ) : Type 0 where
   pub distinct : are_numbers_distinct (filter_plans filters) ≡ true
   pub found : AreRouteRows rows any (filter_plans filters)
@@ -114,23 +114,23 @@ pub record IsSound {A : Type 0} (filters : List (ℕ × FilterState)) (rows : Li
   pub asked : NoGateAskedLater gates earliest
   pub judged : NoMeterUsedLater meters earliest
 
--- Statement: An instance exists exactly if its plan exists, and has the relation `R` to the plan.
+-- Holds if an instance exists exactly if its plan exists, and has the relation `R` to the plan.
 abbrev pub IsMadeIfAny : {P X : Type 0} → (P → X → Type 0) → Option P → Option X → Type 0
 IsMadeIfAny R None None = Unit {0}
 IsMadeIfAny R None (Some x) = ⊥
 IsMadeIfAny R (Some p) None = ⊥
 IsMadeIfAny R (Some p) (Some x) = R p x
 
--- Statement: Each number with a plan has an instance with the relation `R` to the plan, and no other number has one.
+-- Holds if each number with a plan has an instance with the relation `R` to the plan, and no other number has one.
 abbrev pub AreMade : {P X : Type 0} → (P → X → Type 0) → List (ℕ × P) → List (ℕ × X) → Type 0
 AreMade R plans made = (n : ℕ) → IsMadeIfAny R (lookup (nat_eq n) plans) (lookup (nat_eq n) made)
 
--- Statement: Stream gate `g` has the plan `plan` and has handled no event yet.
+-- Holds if stream gate `g` has the plan `plan` and has handled no event yet.
 pub record IsNewGate {A : Type 0} (plan : GatePlan A) (g : gate.GateState A) : Type 0 where
   pub stands : gate.StandsFor (gate_rules plan) g []
   pub earliest : g.earliest ≡ 0
 
--- Statement: Meter `m` has the plan `plan` and has handled no event yet.
+-- Holds if meter `m` has the plan `plan` and has handled no event yet.
 pub record IsNewMeter (plan : MeterPlan) (m : meter.MeterState) : Type 0 where
   pub stands : meter.StandsFor plan m []
 

@@ -81,7 +81,7 @@ has_passed_gate verdict.YellowDropped = true
 has_passed_gate (verdict.Pass ipv eligible) = true
 has_passed_gate v = false
 
--- Statement: The internal priority value of the verdict is 0 to 7 or absent.
+-- Holds if the internal priority value of the verdict is 0 to 7 or absent.
 abbrev pub HasValidPriority : Verdict → Type 0
 HasValidPriority (verdict.Pass (Some ipv) eligible) = ipv ≤ 7
 HasValidPriority v = Unit {0}

@@ -10,7 +10,7 @@ use Rattle.bridge_forward.specs.Database.{vlan_members, static_ports}
 abbrev pub vlan_slot : List (Option ℕ) → ℕ → Option ℕ
 vlan_slot sets place = unwrap_or (slice_get sets place) None
 
--- Statement: Look-ups in both tables give the results of searches in the lists of VLANs and static entries.
+-- Holds if look-ups in both tables give the results of searches in the lists of VLANs and static entries.
 pub record HasTables {T : Type 0} (vlans : List Vlan) (statics : List StaticEntry) (members : List (Option ℕ)) (entries : IndexMap ℕ ℕ T) : Type 0 where
   pub members_found : (vid : ℕ) → vlan_slot members vid ≡ vlan_members vlans vid
   pub entry_found : (vid : ℕ) (address : List ℕ) → IsKey vid address → get nat_eq entries (address_key vid address) ≡ static_ports statics vid address

@@ -10,6 +10,6 @@ has_port set port = nat_eq (bit_at set (port - 1)) 1
 abbrev pub without_port : ℕ → ℕ → ℕ
 without_port set port = bit_and set (65535 - 2 ^ (port - 1))
 
--- Statement: The set contains none of the ports 1 to 16.
+-- Holds if the set contains none of the ports 1 to 16.
 abbrev pub IsEmpty : ℕ → Type 0
 IsEmpty set = (q : ℕ) → 1 ≤ q → q ≤ 16 → has_port set q ≡ false

@@ -15,8 +15,8 @@ use bridge_limits::NoMemory;
 use std::alloc::Allocator;
 use std::marker::Model;
 
-/// Whether an address is 01-80-C2-00-00-00 to 01-80-C2-00-00-0F. The first octet already excludes most addresses. Frames to these addresses
-/// aren't forwarded. `Forwarding::forward` calls it.
+/// Whether `da` is a reserved address (01-80-C2-00-00-00 to 01-80-C2-00-00-0F), so that its frames aren't forwarded. The first octet
+/// already excludes most other addresses. `Forwarding::forward` calls it.
 #[inline(always)]
 #[tactic(auto, using(crate::proofs::Reserved::is_not_reserved))]
 fn is_reserved(da: &[u8; 6]) -> bool
@@ -50,7 +50,8 @@ fn output_ports(members: Option<PortSet>, entry: Option<PortSet>, port: u8) -> P
     }
 }
 
-/// Filtering database: VLANs and static filtering entries. Contracts see two lists.
+/// Filtering database: VLANs and static filtering entries. Contracts mention only `vlans` and `statics`; the other fields speed up
+/// look-ups.
 #[derive(Drop)]
 pub struct Forwarding<A: Allocator + Copy> {
     /// VLANs in the given order.

@@ -9,7 +9,7 @@ use Rattle.bridge_frame.specs.declared.Tag.{Tag}
 use Rattle.bridge_frame.specs.declared.FrameFault.TheVariants.{TooShort, TooLong}
 use Rattle.bridge_frame.specs.Frames.{parsed_head, head_octets, is_tagged, sdu_octets, frame_tag}
 
--- Statement: The priority code point fits 3 bits, and the VLAN identifier fits 12 bits.
+-- Holds if the priority code point fits 3 bits, and the VLAN identifier fits 12 bits.
 abbrev pub HasWidths : Tag → Type 0
 HasWidths t = (t.pcp ≤ 7) × (t.vid ≤ 4095)
 

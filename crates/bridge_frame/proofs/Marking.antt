@@ -9,7 +9,7 @@ use Rattle.bridge_frame.specs.declared.FrameFault.{FrameFault}
 use Rattle.bridge_frame.specs.declared.FrameFault.TheVariants.{TooShort, TooLong}
 use Rattle.bridge_frame.specs.Frames.{parsed_head, head_octets, is_tagged, sdu_octets, frame_tag, has_tag, drop_eligible_frame, drop_eligible_octet, drop_eligible_head}
 
--- Statement: Octet `m` is octet `n` with its drop eligible bit set.
+-- Holds if octet `m` is octet `n` with its drop eligible bit set.
 record IsSet (n m : ℕ) : Type 0 where
   pcp : m / 32 % 8 ≡ n / 32 % 8
   dei : m / 16 % 2 ≡ 1

@@ -6,7 +6,7 @@ use Rattle.std.specs.Int.{w16, w64, to_be_bytes, from_be_bytes}
 unfoldable pub address_key : ℕ → List ℕ → ℕ
 address_key vid address = from_be_bytes w64 (to_be_bytes w16 vid ++ address)
 
--- Statement: The VLAN identifier has 16 bits, the address has 6 octets, and their key fits 64 bits.
+-- Holds if the VLAN identifier has 16 bits, the address has 6 octets, and their key fits 64 bits.
 pub record IsKey (vid : ℕ) (address : List ℕ) : Type 0 where
   pub short : vid < 2 ^ 16
   pub six : length address ≡ 6

@@ -21,7 +21,7 @@ use Rattle.bridge_gate.specs.Schedules.{turn_by_time, IsScheduleTurn, IsLawful, 
 le_or : (a b : ℤ) → (a ≤ℤ b) ⊎ (b <ℤ a)
 le_or a b = by_bool (le_z a b) (λ e. inl (grind (arith, ints))) (λ e. inr (grind (arith, ints)))
 
--- Statement: Intervals are in order, and two intervals with one start are equal.
+-- Holds if intervals are in order, and two intervals with one start are equal.
 pub record IsOrdered (turn_by_time : ℕ → Option (Turn GateEntry)) : Type 0 where
   pub rises : (t u : ℕ) (x y : Turn GateEntry) → turn_by_time t ≡ Some x → turn_by_time u ≡ Some y → t ≤ u → x.start ≤ℤ y.start
   pub one : (t u : ℕ) (x y : Turn GateEntry) → turn_by_time t ≡ Some x → turn_by_time u ≡ Some y → t ≤ u → x.start ≡ y.start → x ≡ y

@@ -22,14 +22,14 @@ turn_by_time (Joined j) t = joined.turn_by_time j t
 abbrev pub gate_rules : {A : Type 0} → GatePlan A → GateRules
 gate_rules p = record { turn_at = turn_by_time p.schedule; shut_on_rx = p.shut_on_rx; shut_on_octets = p.shut_on_octets }
 
--- Statement: Each list in the stream gate's schedule has a valid size, intervals, cycle time and base time; a fixed
+-- Holds if each list in the stream gate's schedule has a valid size, intervals, cycle time and base time; a fixed
 -- state is always valid.
 abbrev pub IsLawful : {A : Type 0} → Schedule A → Type 0
 IsLawful (Fixed lets ipv) = Unit {0}
 IsLawful (Cyclic l) = cyclic.IsLawful l
 IsLawful (Joined j) = joined.IsLawful j
 
--- Statement: Interval `x` is the interval of each time within it, and the schedule is lawful.
+-- Holds if interval `x` is the interval of each time within it, and the schedule is lawful.
 pub record IsScheduleTurn {A : Type 0} (s : Schedule A) (x : Turn GateEntry) : Type 0 where
   pub lawful : IsLawful s
   pub same : (u : ℕ) → x.start ≤ℤ pos u → u < x.end → turn_by_time s u ≡ Some x

@@ -9,7 +9,8 @@ use Rattle.bridge_gate.specs.declared.stream_gate.GateAnswer.TheVariants.{Throug
 use Rattle.bridge_gate.specs.Gates.{GateRules, GateEvent, is_shut_by_rx, is_shut_by_octets, octets_in_turn, is_over_limit, gate_steps, last_frame_time}
 use Rattle.bridge_gate.specs.Schedules.{gate_rules}
 
--- State of a stream gate: plan, receive flag, octets flag, SDU octets `count` passed in the interval that started at `start`, and last arrival time.
+-- State of a stream gate: plan, receive flag, octets flag, SDU octets `count` passed in the interval that started at
+-- `start`, and last arrival time.
 pub record GateState (A : Type 0) : Type 0 where
   pub plan : GatePlan A
   pub rx : Bool
@@ -22,7 +23,7 @@ pub record GateState (A : Type 0) : Type 0 where
 abbrev pub counted_octets : {A : Type 0} → GateState A → ℤ → ℕ
 counted_octets g z = if int_eq g.start z then g.count else 0
 
--- Statement: The gate has these rules, and its flags, count and last arrival time are the result of the events, newest first.
+-- Holds if the gate has these rules, and its flags, count and last arrival time are the result of the events, newest first.
 pub record StandsFor {A : Type 0} (r : GateRules) (g : GateState A) (es : List GateEvent) : Type 0 where
   pub rules_are : gate_rules g.plan ≡ r
   pub rx : g.rx ≡ r.shut_on_rx && is_shut_by_rx (gate_steps r es)

@@ -38,7 +38,7 @@ abbrev pub first_handle : List StreamEntry → ℕ → Head → ℕ → Option �
 first_handle [] port head vid = None
 first_handle (e ∷ es) port head vid = if is_match e port head vid then Some e.handle else first_handle es port head vid
 
--- Statement: An entry of the table matches the frame and gives the handle `h`.
+-- Holds if an entry of the table matches the frame and gives the handle `h`.
 pub record HasEntry (entries : List StreamEntry) (port : ℕ) (head : Head) (vid h : ℕ) : Type 0 where
   pub entry : StreamEntry
   pub listed : IsMember entry entries

@@ -33,7 +33,8 @@ is_of_kind kind tagged e = is_same_kind e.kind kind && accepts_tagged e.tag tagg
 abbrev pub has_key : StreamEntry → ℕ → ℕ → List ℕ → Bool
 has_key e port vid address = nat_eq e.port port && nat_eq e.vid vid && bytes_eq e.address address
 
--- First entry of this kind with this port, VLAN identifier and address that accepts these frames: its index, counted from `n`, and its handle.
+-- First entry of this kind with this port, VLAN identifier and address that accepts these frames: its index, counted
+-- from `n`, and its handle.
 abbrev pub first_entry : Kind → Bool → ℕ → List StreamEntry → ℕ → ℕ → List ℕ → Option FirstEntry
 first_entry kind tagged n [] port vid address = None
 first_entry kind tagged n (e ∷ es) port vid address = if is_of_kind kind tagged e && has_key e port vid address then Some (record { place = n; handle = e.handle }) else first_entry kind tagged (n + 1) es port vid address
@@ -48,15 +49,15 @@ earlier_entry (Some d) (Some s) = if nat_lt s.place d.place then Some s else Som
 unfoldable pub entry_key : ℕ → ℕ → List ℕ → ℕ
 entry_key port vid address = port * 2 ^ 64 + address_key vid address
 
--- Statement: The table `firsts` gives the first entry of this kind for each key.
+-- Holds if the table `firsts` gives the first entry of this kind for each key.
 pub record HasFirstEntries {T : Type 0} (kind : Kind) (tagged : Bool) (entries : List StreamEntry) (firsts : IndexMap ℕ FirstEntry T) : Type 0 where
   pub found : (port vid : ℕ) (address : List ℕ) → IsKey vid address → get nat_eq firsts (entry_key port vid address) ≡ first_entry kind tagged 0 entries port vid address
 
--- Statement: For each key in the table, the last octet of the key is marked.
+-- Holds if for each key in the table, the last octet of the key is marked.
 abbrev pub HasMarks : {T : Type 0} → IndexMap ℕ FirstEntry T → List Bool → Type 0
 HasMarks firsts marks = (key : ℕ) (first : FirstEntry) → get nat_eq firsts key ≡ Some first → slice_get marks (key % 256) ≡ Some true
 
--- Statement: Both tables give the first entries of their kind, and all their keys are marked.
+-- Holds if both tables give the first entries of their kind, and all their keys are marked.
 pub record HasAddressEntries {T : Type 0} (tagged : Bool) (entries : List StreamEntry) (destinations : IndexMap ℕ FirstEntry T) (destination_marks : List Bool) (sources : IndexMap ℕ FirstEntry T) (source_marks : List Bool) : Type 0 where
   pub by_destination : HasFirstEntries Null tagged entries destinations
   pub destinations_marked : HasMarks destinations destination_marks

@@ -93,7 +93,7 @@ if_true b x y r = let P : Bool → Type 0 = λ z. (if z then x else y) ≡ x in 
 if_false : {A : Type 0} (b : Bool) (x y : A) → b ≡ false → (if b then x else y) ≡ y
 if_false b x y r = let P : Bool → Type 0 = λ z. (if z then x else y) ≡ y in subst P (sym r) refl
 
--- Statement: After a frame, the meter has the buckets that the definitions give, and its answer is their colour.
+-- Holds if, after a frame, the meter has the buckets that the definitions give, and its answer is their colour.
 pub record Follows (m : MeterState) (x : MeterHistory) (at octets : ℕ) (dei : Bool) : Type 0 where
   pub buckets : (meter_step m at octets dei).buckets ≡ history_buckets m.plan (history_with_frame m.plan x at octets dei)
   pub in_order : AreInOrder (history_with_frame m.plan x at octets dei).judged

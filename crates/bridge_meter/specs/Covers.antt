@@ -2,18 +2,18 @@
 use Rattle.std.specs.Prelude.{ℕ, ◌+◌, ◌-◌, ◌*◌, ◌≤◌, List, [], ◌∷◌}
 use Rattle.bridge_meter.specs.Bounds.{JudgedFrame, Limits, committed, overflow, coupled_overflow, excess}
 
--- Statement: No judged frame is later than `now`, and no bound of the committed bucket stops at 0.
+-- Holds if no judged frame is later than `now`, and no bound of the committed bucket stops at 0.
 abbrev pub IsGreenCovered : Limits → ℕ → ℕ → List JudgedFrame → Type 0
 IsGreenCovered l now green [] = Unit {0}
 IsGreenCovered l now green (f ∷ fs) = (f.at ≤ now) × (green + f.green ≤ l.cbs + l.cir * (now - f.at)) × IsGreenCovered l now (green + f.green) fs
 
--- Statement: At time `now`, no overflow and no bound of the excess bucket stops at 0.
+-- Holds if at time `now`, no overflow and no bound of the excess bucket stops at 0.
 abbrev pub IsYellowCovered : Limits → ℕ → ℕ → ℕ → ℕ → List JudgedFrame → Type 0
 IsYellowCovered l now held green yellow [] = Unit {0}
 IsYellowCovered l now held green yellow (f ∷ fs) =
     (green + f.green + held ≤ committed l f.at fs + l.cir * (now - f.at)) × (yellow + f.yellow ≤ l.ebs + l.eir * (now - f.at) + coupled_overflow l (overflow l f.at (committed l f.at fs) (green + f.green) now held)) × IsYellowCovered l now held (green + f.green) (yellow + f.yellow) fs
 
--- Statement: At the newest judged frame, no subtraction of the definitions stops at 0, even after the frame took its
+-- Holds if at the newest judged frame, no subtraction of the definitions stops at 0, even after the frame took its
 -- units.
 abbrev pub IsCovered : Limits → List JudgedFrame → Type 0
 IsCovered l [] = Unit {0}

@@ -15,13 +15,13 @@ abbrev pub newest_time : List JudgedFrame → ℕ
 newest_time [] = 0
 newest_time (f ∷ fs) = f.at
 
--- Statement: The arrival times of judged frames, listed newest first, never fall.
+-- Holds if the arrival times of judged frames, listed newest first, never fall.
 abbrev pub AreInOrder : List JudgedFrame → Type 0
 AreInOrder [] = Unit {0}
 AreInOrder (f ∷ fs) = (newest_time fs ≤ f.at) × AreInOrder fs
 
--- Statement: The meter has this plan and the buckets that the events give. The events are newest first, and arrival times of judged frames never
--- fall.
+-- Holds if the meter has this plan and the buckets that the events give. The events are newest first, and arrival times
+-- of judged frames never fall.
 pub record StandsFor (plan : MeterPlan) (meter : MeterState) (events : List MeterEvent) : Type 0 where
   pub plan_is : meter.plan ≡ plan
   pub buckets_are : meter.buckets ≡ history_buckets plan (meter_history plan events)

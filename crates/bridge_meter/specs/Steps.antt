@@ -9,7 +9,7 @@ use Rattle.bridge_meter.specs.Bounds.{Limits, coupled_overflow}
 use Rattle.bridge_meter.specs.Colours.{octet_units, meter_limits, colour_by_contents, is_red}
 use Rattle.bridge_meter.specs.StandsFor.{MeterState}
 
--- Statement: Both rates of the plan are at most 100 Gbit/s, and both bursts are below 2^32 octets.
+-- Holds if both rates of the plan are at most 100 Gbit/s, and both bursts are below 2^32 octets.
 pub record IsWithinLimits (p : MeterPlan) : Type 0 where
   pub cir : p.cir ≤ HIGHEST_RATE
   pub eir : p.eir ≤ HIGHEST_RATE

@@ -72,7 +72,7 @@ pub nothing_queued : {T : Type 0} (list : GateSchedule) (speed : Speed) (from c 
 nothing_queued list speed from c [] i = refl
 nothing_queued list speed from c (x ∷ q) i = absurd i
 
--- Statement: The queue has a head, and `k` is its fit.
+-- Holds if the queue has a head, and `k` is its fit.
 record HeadFits {T : Type 0} (list : GateSchedule) (speed : Speed) (from c : ℕ) (q : List (Item T)) (k : ℕ) : Type 0 where
   pub item : Item T
   pub rest : List (Item T)
@@ -84,7 +84,7 @@ head_fits : {T : Type 0} (list : GateSchedule) (speed : Speed) (from c : ℕ) (q
 head_fits list speed from c [] k i = absurd i
 head_fits list speed from c (x ∷ rest) k i = record { item = x; rest = rest; is_head = refl; first = i.0; soon = i.1 }
 
--- Statement: The head has the fit `f`, at time `at`.
+-- Holds if the head has the fit `f`, at time `at`.
 pub record FitOfHead {T : Type 0} (list : GateSchedule) (speed : Speed) (from c : ℕ) (x : Item T) (f : Option ℕ) : Type 0 where
   pub at : ℕ
   pub is : f ≡ Some at
@@ -134,7 +134,7 @@ best_same fits others n (Some p) same b = record {
   highest = λ d l e. b.highest d l (sym (same d l) ∙ e);
 }
 
--- Statement: Class `c` gains the fit `k`, and the other fits stay.
+-- Holds if class `c` gains the fit `k`, and the other fits stay.
 record GainsFit (fits others : List (Option ℕ)) (n m k c : ℕ) : Type 0 where
   pub below : c < m
   pub more : n ≤ m

@@ -170,7 +170,7 @@ first_of_until opens occ from stop t is l = record {
 
 -- Schedule changes.
 
--- Statement: `h` equals `f` before time `at`, and equals `g` from `at` on.
+-- Holds if `h` equals `f` before time `at`, and equals `g` from `at` on.
 pub record IsOver (f g h : ℕ → Bool) (at : ℕ) : Type 0 where
   pub before : (u : ℕ) → u < at → h u ≡ f u
   pub after : (u : ℕ) → at ≤ u → h u ≡ g u

@@ -24,7 +24,7 @@ pub starts_later : {X : Type 0} (r : PortRules X) (h k : ℕ) (xs : List (Copy X
 starts_later r h k [] l s = tt
 starts_later r h k (x ∷ xs) l s = (start_later r h k x x.fate l s.0, starts_later r h k xs l s.1)
 
--- Statement: At each free time from `h` to `k`, no head fits.
+-- Holds if at each free time from `h` to `k`, no head fits.
 abbrev pub Idle : {X : Type 0} → PortRules X → ℕ → ℕ → List (Copy X) → Type 0
 Idle {X} r h k xs = (u : ℕ) → h ≤ u → u < k → is_link_free r u xs ≡ true → (c : ℕ) (p : ℕ × X) → queue_head c u xs ≡ Some p → ¬ Fits (r.opens c) (r.occ p.1) u
 
@@ -41,7 +41,7 @@ lawful_later r h k xs l w idle =
 
 -- An earlier time after the last start, and not before the last offer.
 
--- Statement: Every start is before time `k`.
+-- Holds if every start is before time `k`.
 abbrev pub StartsBefore : {X : Type 0} → ℕ → List (Copy X) → Type 0
 StartsBefore {X} k xs = (s : ℕ) (x : Copy X) → IsMember x xs → x.fate ≡ Started s → s < k
 

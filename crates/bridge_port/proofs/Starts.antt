@@ -13,7 +13,7 @@ answer_same r x xs ys Full e a = rw e a
 answer_same r x xs ys Queued e a = rw e a
 answer_same r x xs ys (Started t) e a = rw e a
 
--- Statement: A copy that started has left by time `s`.
+-- Holds if a copy that started has left by time `s`.
 abbrev pub IsDone : ℕ → ℕ → Fate → Type 0
 IsDone s n (Started t) = t + n ≤ s
 IsDone s n f = Unit {0}
@@ -22,7 +22,7 @@ abbrev pub AllDone : {X : Type 0} → PortRules X → ℕ → List (Copy X) → 
 AllDone r s [] = Unit {0}
 AllDone r s (x ∷ xs) = IsDone s (r.occ x.item) x.fate × AllDone r s xs
 
--- Statement: A start is before time `s`.
+-- Holds if a start is before time `s`.
 abbrev pub IsStarted : ℕ → Fate → Type 0
 IsStarted s (Started t) = t < s
 IsStarted s f = Unit {0}
@@ -188,7 +188,7 @@ is_it_queued Full q = absurd (cc)
 is_it_queued Queued q = refl
 is_it_queued (Started t) q = absurd (cc)
 
--- Statement: The head of class `c` at time `u` is the head of its queue.
+-- Holds if the head of class `c` at time `u` is the head of its queue.
 pub record IsFront {X : Type 0} (c s u : ℕ) (xs : List (Copy X)) : Type 0 where
   pub place : ℕ
   pub item : X

@@ -56,7 +56,7 @@ lists_open list = opens (gate_schedule list)
 abbrev pub lists_can_fit : {A : Type 0} → Option (Egress A) → ℕ → ℕ → Bool
 lists_can_fit list = can_fit (gate_schedule list)
 
--- Statement: Each list has valid sizes, intervals, cycle time and base time.
+-- Holds if each list has valid sizes, intervals, cycle time and base time.
 abbrev pub HasLawfulLists : GateSchedule → Type 0
 HasLawfulLists Always = Unit {0}
 HasLawfulLists (One l) = cyclic.IsLawful l
@@ -66,20 +66,20 @@ HasLawfulLists (Changing j) = joined.IsLawful j
 abbrev pub are_valid_rooms : List ℕ → Bool
 are_valid_rooms rooms = list_all (λ n. nat_le 1 n && nat_le n LARGEST_ROOM) rooms
 
--- Statement: For each of the eight classes, the run allows exactly the lengths in ns for which `test` is true.
+-- Holds if for each of the eight classes, the run allows exactly the lengths in ns for which `test` is true.
 abbrev pub RunsMatchTest : (ℕ → ℕ → Bool) → List Run → Type 0
 RunsMatchTest test runs = (c : ℕ) → c < 8 → (n : ℕ) → Allows (slice_index_or runs c Never) n ↔ (test c n ≡ true)
 
--- Statement: The lists are lawful, and the runs match them.
+-- Holds if the lists are lawful, and the runs match them.
 pub record HasRuns (list : GateSchedule) (runs : List Run) : Type 0 where
   pub made : HasLawfulLists list
   pub allow : RunsMatchTest (can_fit list) runs
 
--- Statement: At each time within interval `x`, the port's lists have exactly this interval.
+-- Holds if at each time within interval `x`, the port's lists have exactly this interval.
 abbrev pub IsListsTurn : {A : Type 0} → Egress A → Turn ℕ → Type 0
 IsListsTurn list x = (u : ℕ) → x.start ≤ℤ pos u → u < x.end → egress.turn_by_time list u ≡ Some x
 
--- Statement: The kept interval is an interval of the port's lists, if the port has lists.
+-- Holds if the kept interval is an interval of the port's lists, if the port has lists.
 abbrev pub KeepsTurn : {A : Type 0} → Option (Egress A) → Turn ℕ → Type 0
 KeepsTurn None x = Unit {0}
 KeepsTurn (Some list) x = IsListsTurn list x

@@ -15,7 +15,7 @@ map_copies g (x ∷ xs) = map_copy g x ∷ map_copies g xs
 abbrev pub map_rules : {X Y : Type 0} → PortRules X → (Y → ℕ) → (ℕ → ℕ) → PortRules Y
 map_rules r occ room = record { opens = r.opens; ever = r.ever; room = room; occ = occ }
 
--- Statement: For the class of each copy, the queue capacities by `room` and by `other` are equal.
+-- Holds if for the class of each copy, the queue capacities by `room` and by `other` are equal.
 abbrev pub SameRooms : {X : Type 0} → (ℕ → ℕ) → (ℕ → ℕ) → List (Copy X) → Type 0
 SameRooms room other [] = Unit {0}
 SameRooms room other (x ∷ xs) = (room x.class ≡ other x.class) × SameRooms room other xs

@@ -50,13 +50,13 @@ is_on_link u n Full = false
 is_on_link u n Queued = false
 is_on_link u n (Started s) = nat_lt s u && nat_lt u (s + n)
 
--- Statement: The transmissions of two copies, `n` ns and `m` ns long, don't overlap; this holds if either copy has not
+-- Holds if the transmissions of two copies, `n` ns and `m` ns long, don't overlap; this holds if either copy has not
 -- started.
 abbrev pub AreDisjoint : ℕ → Fate → ℕ → Fate → Type 0
 AreDisjoint n (Started s) m (Started t) = (s + n ≤ t) ⊎ (t + m ≤ s)
 AreDisjoint n f m g = Unit {0}
 
--- Statement: If the newer of two copies (first argument) has started, the older copy was dropped or started earlier.
+-- Holds if the newer of two copies (first argument) hasn't started, or the older copy was dropped or started earlier.
 abbrev pub AreStartsInOrder : Fate → Fate → Type 0
 AreStartsInOrder (Started s) Queued = ⊥
 AreStartsInOrder (Started s) (Started t) = t < s
@@ -111,7 +111,7 @@ module _ {X : Type 0} where
   fate_by_index i [] = None
   fate_by_index i (x ∷ xs) = if nat_eq i (length xs) then Some x.fate else fate_by_index i xs
 
-  -- Statement: The fate of copy `x` is Never if it can never fit, otherwise Full if at least `room` copies wait,
+  -- Holds if the fate of copy `x` is Never if it can never fit, otherwise Full if at least `room` copies wait,
   -- otherwise Queued or Started.
   -- The list holds the copies that were offered before `x`.
   abbrev pub IsAnswer : PortRules X → Copy X → List (Copy X) → Fate → Type 0
@@ -120,13 +120,13 @@ module _ {X : Type 0} where
   IsAnswer r x xs Queued = (r.ever x.class (r.occ x.item) ≡ true) × (count_waiting x.class x.at xs < r.room x.class)
   IsAnswer r x xs (Started s) = (r.ever x.class (r.occ x.item) ≡ true) × (count_waiting x.class x.at xs < r.room x.class)
 
-  -- Statement: Each copy of the list was dropped or queued by the rule IsAnswer, applied to the copies that were
+  -- Holds if each copy of the list was dropped or queued by the rule IsAnswer, applied to the copies that were
   -- offered before it.
   abbrev pub AreAnswered : PortRules X → List (Copy X) → Type 0
   AreAnswered r [] = Unit {0}
   AreAnswered r (x ∷ xs) = IsAnswer r x xs x.fate × AreAnswered r xs
 
-  -- Statement: If copy `x` started at time `s`, then `s` is before `h`, and not before the offer. Its class stays open
+  -- Holds if copy `x` didn't start, or started before time `h` and not before its offer. Its class then stays open
   -- for the transmission.
   abbrev pub IsLawfulStart : PortRules X → ℕ → Copy X → Fate → Type 0
   IsLawfulStart r h x Never = Unit {0}
@@ -134,39 +134,39 @@ module _ {X : Type 0} where
   IsLawfulStart r h x Queued = Unit {0}
   IsLawfulStart r h x (Started s) = (s < h) × (x.at ≤ s) × Fits (r.opens x.class) (r.occ x.item) s
 
-  -- Statement: Each copy that started did so before `h`, at or after its offer, while its class was open for the whole
+  -- Holds if each copy that started did so before `h`, at or after its offer, while its class was open for the whole
   -- transmission.
   abbrev pub AreLawfulStarts : PortRules X → ℕ → List (Copy X) → Type 0
   AreLawfulStarts r h [] = Unit {0}
   AreLawfulStarts r h (x ∷ xs) = IsLawfulStart r h x x.fate × AreLawfulStarts r h xs
 
-  -- Statement: The transmission of copy `x` overlaps with no transmission of the copies in the list.
+  -- Holds if the transmission of copy `x` overlaps with no transmission of the copies in the list.
   abbrev pub IsDisjointCopy : PortRules X → Copy X → List (Copy X) → Type 0
   IsDisjointCopy r x [] = Unit {0}
   IsDisjointCopy r x (y ∷ ys) = AreDisjoint (r.occ x.item) x.fate (r.occ y.item) y.fate × IsDisjointCopy r x ys
 
-  -- Statement: All transmissions of copies in the list are apart on the link: no two of them overlap.
+  -- Holds if all transmissions of copies in the list are apart on the link: no two of them overlap.
   abbrev pub AreAllDisjoint : PortRules X → List (Copy X) → Type 0
   AreAllDisjoint r [] = Unit {0}
   AreAllDisjoint r (x ∷ xs) = IsDisjointCopy r x xs × AreAllDisjoint r xs
 
-  -- Statement: If copy `x` has started, each older copy of its class in the list was dropped or started earlier.
+  -- Holds if copy `x` hasn't started, or each older copy of its class in the list was dropped or started earlier.
   abbrev pub StartsAfterOlder : Copy X → List (Copy X) → Type 0
   StartsAfterOlder x [] = Unit {0}
   StartsAfterOlder x (y ∷ ys) = (x.class ≡ y.class → AreStartsInOrder x.fate y.fate) × StartsAfterOlder x ys
 
-  -- Statement: In each class, copies start in the order in which they were offered.
+  -- Holds if in each class, copies start in the order in which they were offered.
   abbrev pub AllStartInOrder : List (Copy X) → Type 0
   AllStartInOrder [] = Unit {0}
   AllStartInOrder (x ∷ xs) = StartsAfterOlder x xs × AllStartInOrder xs
 
-  -- Statement: The list is newest first by the times of the offers, and the newest copy was offered at time `h` or
+  -- Holds if the list is newest first by the times of the offers, and the newest copy was offered at time `h` or
   -- earlier.
   abbrev pub AreOffersInOrder : ℕ → List (Copy X) → Type 0
   AreOffersInOrder h [] = Unit {0}
   AreOffersInOrder h (x ∷ xs) = (x.at ≤ h) × AreOffersInOrder x.at xs
 
-  -- Statement: At time `u` the oldest waiting copy of some class, `c` or higher, starts, and this class stays open for
+  -- Holds if at time `u` the oldest waiting copy of some class, `c` or higher, starts, and this class stays open for
   -- its transmission.
   pub record ServesHighest (r : PortRules X) (xs : List (Copy X)) (u c : ℕ) : Type 0 where
     pub class : ℕ
@@ -177,12 +177,12 @@ module _ {X : Type 0} where
     pub fits : Fits (r.opens class) (r.occ item) u
     pub highest : c ≤ class
 
-  -- Statement: Whenever the link is free before `h` and a class's oldest waiting copy fits, that copy or one of a
+  -- Holds if whenever the link is free before `h` and a class's oldest waiting copy fits, that copy or one of a
   -- higher class starts.
   abbrev pub MissesNoStart : PortRules X → ℕ → List (Copy X) → Type 0
   MissesNoStart r h xs = (u : ℕ) → u < h → is_link_free r u xs ≡ true → (c : ℕ) (p : ℕ × X) → queue_head c u xs ≡ Some p → Fits (r.opens c) (r.occ p.1) u → ServesHighest r xs u c
 
-  -- Statement: The copies `xs` of a port, newest first, follow all rules of queues and transmission up to time `h`
+  -- Holds if the copies `xs` of a port, newest first, follow all rules of queues and transmission up to time `h`
   -- (IEEE 802.1Q-2018, 8.6.8).
   pub record IsLawful (r : PortRules X) (h : ℕ) (xs : List (Copy X)) : Type 0 where
     pub offers : AreOffersInOrder h xs

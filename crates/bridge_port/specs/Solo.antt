@@ -21,7 +21,7 @@ module _ {X : Type 0} where
   last_done_time r [] = 0
   last_done_time r (x ∷ xs) = done_time_or x.fate (r.occ x.item) (last_done_time r xs)
 
-  -- Statement: Copy `x` was dropped as IsAnswer states, or started at the first fitting time, once it was offered and
+  -- Holds if copy `x` was dropped as IsAnswer states, or started at the first fitting time, once it was offered and
   -- the previous transmission had ended.
   abbrev pub IsSoloFate : PortRules X → Copy X → List (Copy X) → Fate → Type 0
   IsSoloFate r x xs Never = r.ever x.class (r.occ x.item) ≡ false
@@ -29,22 +29,22 @@ module _ {X : Type 0} where
   IsSoloFate r x xs Queued = ⊥
   IsSoloFate r x xs (Started s) = (r.ever x.class (r.occ x.item) ≡ true) × (count_waiting x.class x.at xs < r.room x.class) × IsFirstFit (r.opens x.class) (r.occ x.item) (max x.at (last_done_time r xs)) s
 
-  -- Statement: Each copy has the fate that IsSoloFate gives, as if the port served only the copies of this list.
+  -- Holds if each copy has the fate that IsSoloFate gives, as if the port served only the copies of this list.
   abbrev pub IsSolo : PortRules X → List (Copy X) → Type 0
   IsSolo r [] = Unit {0}
   IsSolo r (x ∷ xs) = IsSoloFate r x xs x.fate × IsSolo r xs
 
-  -- Statement: No copy of the list is still queued; each copy was dropped or has started.
+  -- Holds if no copy of the list is still queued; each copy was dropped or has started.
   abbrev pub IsFinished : List (Copy X) → Type 0
   IsFinished [] = Unit {0}
   IsFinished (x ∷ xs) = (is_queued x.fate ≡ false) × IsFinished xs
 
-  -- Statement: While class `c` is open, no other class is open.
+  -- Holds if no other class is open while class `c` is open.
   abbrev pub HasOwnWindow : PortRules X → ℕ → Type 0
   HasOwnWindow r c = (d u : ℕ) → r.opens c u ≡ true → r.opens d u ≡ true → d ≡ c
 
 module _ {X : Type 0} where
-  -- Statement: Both lists have equal offers: times, classes and items. Fates may differ.
+  -- Holds if both lists have equal offers: times, classes and items. Fates may differ.
   abbrev pub HaveSameOffers : List (Copy X) → List (Copy X) → Type 0
   HaveSameOffers [] [] = Unit {0}
   HaveSameOffers [] (y ∷ ys) = ⊥

@@ -7,26 +7,26 @@ use Rattle.bridge_cycle.specs.declared.run.Run.{Run}
 use Rattle.bridge_port.specs.GateSchedule.{RunsMatchTest, list_can_fit, list_opens}
 use Rattle.bridge_port.specs.declared.spans.OpenSpan.{OpenSpan}
 
--- Statement: The class is open from time `m` up to, not including, time `n`.
+-- Holds if the class is open from time `m` up to, not including, time `n`.
 abbrev pub IsOpenThroughout : (ℕ → Bool) → ℕ → ℕ → Type 0
 IsOpenThroughout opens m n = (u : ℕ) → m ≤ u → u < n → opens u ≡ true
 
--- Statement: The class is closed from time `m` up to, not including, time `n`.
+-- Holds if the class is closed from time `m` up to, not including, time `n`.
 abbrev pub IsShutThroughout : (ℕ → Bool) → ℕ → ℕ → Type 0
 IsShutThroughout opens m n = (u : ℕ) → m ≤ u → u < n → opens u ≡ false
 
--- Statement: The class is closed from `m` to the start of the span, open during the span, and closed at its end.
+-- Holds if the class is closed from `m` to the start of the span, open during the span, and closed at its end.
 pub record IsSpan (opens : ℕ → Bool) (m : ℕ) (x : OpenSpan) : Type 0 where
   pub shut : IsShutThroughout opens m x.start
   pub opened : IsOpenThroughout opens x.start x.end
   pub ends : opens x.end ≡ false
 
--- Statement: The consecutive spans cover all open times from `m` up to `n`.
+-- Holds if the consecutive spans cover all open times from `m` up to `n`.
 abbrev pub AreSpans : (ℕ → Bool) → ℕ → List OpenSpan → ℕ → Type 0
 AreSpans opens m [] n = IsShutThroughout opens m n
 AreSpans opens m (x ∷ xs) n = IsSpan opens m x × AreSpans opens x.end xs n
 
--- Statement: The spans cover all open times from 0 up to some time.
+-- Holds if the spans cover all open times from 0 up to some time.
 pub record HasSpans (opens : ℕ → Bool) (spans : List OpenSpan) : Type 0 where
   pub upto : ℕ
   pub are : AreSpans opens 0 spans upto
@@ -52,19 +52,19 @@ class_spans [] c = []
 class_spans (v ∷ vs) zero = v.items
 class_spans (v ∷ vs) (suc c) = class_spans vs c
 
--- Statement: For each of the eight classes, the runs and spans match the list.
+-- Holds if for each of the eight classes, the runs and spans match the list.
 pub record AreListSpans {A : Type 0} (l : Cyclic ℕ) (runs : List Run) (spans : List (Vec OpenSpan A)) : Type 0 where
   pub made : IsLawful l
   pub allow : RunsMatchTest (list_can_fit l) runs
   pub eight : length spans ≡ 8
   pub each : (c : ℕ) → c < 8 → HasSpans (list_opens l c) (class_spans spans c)
 
--- Statement: The runs and spans match the port's only list, or its old and its new list.
+-- Holds if the runs and spans match the port's only list, or its old and its new list.
 abbrev pub AreGateSpans : {A : Type 0} → Egress A → List Run → List (Vec OpenSpan A) → List Run → List (Vec OpenSpan A) → Type 0
 AreGateSpans (egress.Cyclic l) runs spans new_runs new_spans = AreListSpans l runs spans
 AreGateSpans (egress.Joined j) runs spans new_runs new_spans = AreListSpans j.old runs spans × AreListSpans j.new new_runs new_spans
 
--- Statement: The runs and spans match the port's lists, if it has lists.
+-- Holds if the runs and spans match the port's lists, if it has lists.
 abbrev pub AreOptionalSpans : {A : Type 0} → Option (Egress A) → List Run → List (Vec OpenSpan A) → List Run → List (Vec OpenSpan A) → Type 0
 AreOptionalSpans None runs spans new_runs new_spans = Unit {0}
 AreOptionalSpans (Some list) runs spans new_runs new_spans = AreGateSpans list runs spans new_runs new_spans

@@ -12,8 +12,8 @@ use Rattle.bridge_port.specs.Rings.{ring_queues, ring_rooms}
 use Rattle.circular_buffer.specs.Buffer.{Buffer}
 use Rattle.bridge_port.specs.Schedule.{Fate, Never, Full, Queued, Copy, PortRules, IsLawful, count_started, is_link_free, earliest_offer, queued_items, StartsOldest}
 
--- State of a port: speed, gates, queue capacities, and queues by class (oldest item first). Also the time from which the link is free, the earliest
--- next offer, and counts.
+-- State of a port: speed, gates, queue capacities, and queues by class (oldest item first). Also the time from which
+-- the link is free, the earliest next offer, and counts.
 pub record EgressState (T : Type 0) : Type 0 where
   pub speed : Speed
   pub list : GateSchedule
@@ -40,7 +40,7 @@ state_rules p = record { opens = opens p.list; ever = can_fit p.list; room = λ 
 abbrev pub class_queue : {T : Type 0} → EgressState T → ℕ → List (Item T)
 class_queue p c = slice_index_or p.queues c []
 
--- Statement: The port was offered these copies, newest first. Their schedule is lawful, and the port's queues, link and
+-- Holds if the port was offered these copies, newest first. Their schedule is lawful, and the port's queues, link and
 -- counts follow from it.
 pub record StandsFor {T : Type 0} (p : EgressState T) (xs : List (Copy (Item T))) : Type 0 where
   pub lawful : IsLawful (state_rules p) p.earliest xs
@@ -50,11 +50,11 @@ pub record StandsFor {T : Type 0} (p : EgressState T) (xs : List (Copy (Item T))
   pub started : p.started ≡ count_started xs
   pub earliest : p.earliest ≡ earliest_offer xs
 
--- Statement: No queued frame of the port can start before time `t` (ns).
+-- Holds if no queued frame of the port can start before time `t` (ns).
 abbrev pub HasNoStartEarlier : {T : Type 0} → EgressState T → ℕ → Type 0
 HasNoStartEarlier {T} p t = (c : ℕ) (x : Item T) (rest : List (Item T)) → class_queue p c ≡ x ∷ rest → (u : ℕ) → p.earliest ≤ u → p.free ≤ u → u < t → ¬ Fits (opens p.list c) (transmission_time x.len p.speed) u
 
--- Statement: The next start is at time `k`: the head `x` of class `c`. No head can start earlier, and no head of a higher class fits at `k`.
+-- Holds if the next start is at time `k`: the head `x` of class `c`. No head can start earlier, and no head of a higher class fits at `k`.
 pub record IsNextStart {T : Type 0} (p : EgressState T) (k c : ℕ) (x : Item T) : Type 0 where
   pub rest : List (Item T)
   pub is_head : class_queue p c ≡ x ∷ rest
@@ -64,11 +64,11 @@ pub record IsNextStart {T : Type 0} (p : EgressState T) (k c : ℕ) (x : Item T)
   pub least : HasNoStartEarlier p k
   pub highest : (d : ℕ) (y : Item T) (others : List (Item T)) → class_queue p d ≡ y ∷ others → Fits (opens p.list d) (transmission_time y.len p.speed) k → d ≤ c
 
--- Statement: All queues of the port are empty.
+-- Holds if all queues of the port are empty.
 abbrev pub IsIdle : {T : Type 0} → EgressState T → Type 0
 IsIdle p = (c : ℕ) → class_queue p c ≡ []
 
--- Statement: Without further offers, the next start is at time `k`. `None` if all queues are empty.
+-- Holds if without further offers, the next start is at time `k`. `None` if all queues are empty.
 abbrev pub IsNextStartTime : {T : Type 0} → EgressState T → Option ℕ → Type 0
 IsNextStartTime p None = IsIdle p
 IsNextStartTime {T} p (Some k) = (c : ℕ) × (x : Item T) × IsNextStart p k c x
@@ -113,7 +113,7 @@ offered_copy p t c x = record { at = t; class = c; item = x; fate = refusal_fate
 abbrev pub started_state : {T : Type 0} → EgressState T → ℕ → ℕ → Item T → EgressState T
 started_state p k c x = record p { queues = slice_set p.queues c (drop 1 (class_queue p c)); free = k + transmission_time x.len p.speed; earliest = k + 1; started = p.started + 1 }
 
--- Statement: The oldest queued copy of class `c` started at time `k`, and the port stands for the list with this start.
+-- Holds if the oldest queued copy of class `c` started at time `k`, and the port stands for the list with this start.
 pub record HasStartedOldest {T : Type 0} (p : EgressState T) (c k : ℕ) (x : Item T) (xs : List (Copy (Item T))) : Type 0 where
   pub place : ℕ
   pub after : List (Copy (Item T))
@@ -128,12 +128,12 @@ count_queued f p = sum_by (count_by f) p.queues
 abbrev pub time_limit : ℕ → ℕ
 time_limit started = END_OF_TIME + 3 * 10 ^ 9 * started
 
--- Statement: Each of these items can fit under each list, and is at most as long as the longest frame.
+-- Holds if each of these items can fit under each list, and is at most as long as the longest frame.
 abbrev pub AreStartable : {T : Type 0} → GateSchedule → Speed → ℕ → List (Item T) → Type 0
 AreStartable list speed c [] = Unit {0}
 AreStartable list speed c (x ∷ xs) = ((can_fit list c (transmission_time x.len speed) ≡ true) × (x.len ≤ LONGEST_FRAME)) × AreStartable list speed c xs
 
--- Statement: A port's state is consistent: it has eight queues, and each queued item can start under each list.
+-- Holds if a port's state is consistent: it has eight queues, and each queued item can start under each list.
 pub record IsStateSound {T : Type 0} (p : EgressState T) : Type 0 where
   pub queues : length p.queues ≡ 8
   pub rooms : length p.rooms ≡ 8

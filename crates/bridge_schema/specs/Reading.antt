@@ -14,22 +14,22 @@ abbrev pub ◌>>=◌ : {A B E : Type 0} → Result A E → (A → Result B E) �
 (Ok x) >>= f = f x
 (Err e) >>= f = Err e
 
--- Statement: The property holds, or the flag is true. A true flag means that memory ran out.
+-- Holds if the property holds, or the flag is true. A true flag means that memory ran out.
 abbrev pub Unless : Bool → Type 0 → Type 0
 Unless true Holds = Unit {0}
 Unless false Holds = Holds
 
--- Statement: The fault `e` of a reader is the fault of its definition `read`, unless `e` means that memory ran out.
+-- Holds if the fault `e` of a reader is the fault of its definition `read`, unless `e` means that memory ran out.
 abbrev pub Fails : {Y E : Type 0} → (E → Bool) → E → Result Y E → Type 0
 Fails is_memory e read = Unless (is_memory e) (read ≡ Err e)
 
--- Statement: The result of a reader, its value mapped by `view`, is the result `read` of its definition, unless memory
+-- Holds if the result of a reader, its value mapped by `view`, is the result `read` of its definition, unless memory
 -- ran out.
 abbrev pub GivesAs : {X Y E : Type 0} → (E → Bool) → (X → Y) → Result X E → Result Y E → Type 0
 GivesAs is_memory view (Ok x) read = read ≡ Ok (view x)
 GivesAs is_memory view (Err e) read = Fails is_memory e read
 
--- Statement: The result of a reader is the result of its definition, unless memory ran out.
+-- Holds if the result of a reader is the result of its definition, unless memory ran out.
 abbrev pub Gives : {X E : Type 0} → (E → Bool) → Result X E → Result X E → Type 0
 Gives is_memory = GivesAs is_memory (λ x. x)
 

@@ -147,7 +147,7 @@ within_none : (b c : Bool) → c ≡ false → ◌≡◌ {A = ℕ} (if b && c th
 within_none true c e = rw e refl
 within_none false c e = refl
 
--- Statement: Departures before a frame changed only the queue, the link and the sink.
+-- Holds if departures before a frame changed only the queue, the link and the sink.
 pub record HasGone {A : Type 0} (old mid : EgressState (Vec ℕ A)) (now after : Option (List ℕ)) : Type 0 where
   pub list : mid.list ≡ old.list
   pub speed : mid.speed ≡ old.speed
@@ -177,7 +177,7 @@ running_malformed {A} speed room frames old mid count began now after c e later 
       few = let z = r.few in let y = gone.offered in omega arith;
     }
 
--- Statement: The offer of a frame moved the port.
+-- Holds if the offer of a frame moved the port.
 pub record HasOffered {A : Type 0} (mid new : EgressState (Vec ℕ A)) (t : ℕ) (x : Item (Vec ℕ A)) : Type 0 where
   pub moved : new ≡ offered_state mid t 0 x
   pub stands : (xs : List (Copy (Item (Vec ℕ A)))) → StandsFor mid xs → StandsFor new (offered_copy mid t 0 x ∷ xs)

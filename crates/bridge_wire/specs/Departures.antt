@@ -28,19 +28,19 @@ item_frame item = record { len = item.len; octets = item.load.items }
 abbrev pub is_overlong : {A : Type 0} → Item (Vec ℕ A) → Bool
 is_overlong item = nat_lt item.len (length item.load.items)
 
--- Statement: All copies have class `c`. A port with one queue uses only class 0.
+-- Holds if all copies have class `c`. A port with one queue uses only class 0.
 abbrev pub HaveClass : {X : Type 0} → ℕ → List (Copy X) → Type 0
 HaveClass c [] = Unit {0}
 HaveClass c (x ∷ xs) = (x.class ≡ c) × HaveClass c xs
 
--- Statement: The port has no list, this speed, and this capacity for class 0. Its queued frames have at most their lengths in octets.
+-- Holds if the port has no list, this speed, and this capacity for class 0. Its queued frames have at most their lengths in octets.
 pub record IsOneQueue {A : Type 0} (speed : Speed) (room : ℕ) (p : EgressState (Vec ℕ A)) : Type 0 where
   pub list : p.list ≡ Always
   pub pace : p.speed ≡ speed
   pub places : slice_index_or p.rooms 0 0 ≡ room
   pub within : count_queued is_overlong p ≡ 0
 
--- Statement: The port received these offers, accepted `sent` copies and dropped `full` copies, and the frames `left` have left.
+-- Holds if the port received these offers, accepted `sent` copies and dropped `full` copies, and the frames `left` have left.
 pub record HasSent {A : Type 0} (p : EgressState (Vec ℕ A)) (offers : List Offer) (sent full : ℕ) (left : List CapturedFrame) : Type 0 where
   pub copies : List (Copy (Item (Vec ℕ A)))
   pub stands : StandsFor p copies
@@ -52,17 +52,17 @@ pub record HasSent {A : Type 0} (p : EgressState (Vec ℕ A)) (offers : List Off
   pub short : All IsWritable left
   pub free : (d : CapturedFrame) → IsMember d left → d.time ≤ p.free
 
--- Statement: Further frames left, and the sink has their records, or after a failure a prefix of them.
+-- Holds if further frames left, and the sink has their records, or after a failure a prefix of them.
 abbrev pub WritesDepartures : {A : Type 0} → EgressState (Vec ℕ A) → List Offer → ℕ → ℕ → List CapturedFrame → Option (List ℕ) → Option (List ℕ) → Result (Unit {0}) RunFault → Type 0
 WritesDepartures p offers sent full left old new (Ok u) = (gone : List CapturedFrame) × HasSent p offers sent full (left ++ gone) × Appends old new (flat_map written_frame gone)
 WritesDepartures p offers sent full left old new (Err e) = (gone : List CapturedFrame) × HasSent p offers sent full (left ++ gone) × AppendsPrefix old new (flat_map written_frame gone)
 
--- Statement: Time `t` isn't after the optional time, which is before END_OF_SENDING.
+-- Holds if time `t` isn't after the optional time, which is before END_OF_SENDING.
 abbrev pub IsNotEarlier : ℕ → Option ℕ → Type 0
 IsNotEarlier t None = Unit {0}
 IsNotEarlier t (Some k) = (t ≤ k) × (k < END_OF_SENDING)
 
--- Statement: After these frames of a capture, the port, the counts and the sink agree with the frames that left.
+-- Holds if, after these frames of a capture, the port, the counts and the sink agree with the frames that left.
 pub record IsRunning {A : Type 0} (speed : Speed) (room : ℕ) (frames : List CapturedFrame) (p : EgressState (Vec ℕ A)) (count : WireCount) (began now : Option (List ℕ)) : Type 0 where
   pub left : List CapturedFrame
   pub queue : IsOneQueue speed room p
@@ -75,7 +75,7 @@ pub record IsRunning {A : Type 0} (speed : Speed) (room : ℕ) (frames : List Ca
   pub calm : HasNoStartEarlier p (last_time 0 frames)
   pub few : p.offered ≤ count.frames
 
--- Statement: The sink failed while these frames passed the port, at a time between the last frame and `moment`.
+-- Holds if the sink failed while these frames passed the port, at a time between the last frame and `moment`.
 pub record StopsAtSink (speed : Speed) (room : ℕ) (frames : List CapturedFrame) (moment : ℕ) (began now : Option (List ℕ)) : Type 0 where
   pub copies : List (Copy Frame)
   pub left : List CapturedFrame
@@ -84,7 +84,7 @@ pub record StopsAtSink (speed : Speed) (room : ℕ) (frames : List CapturedFrame
   pub within : goes.until ≤ moment
   pub writes : AppendsPrefix began now (written_text left)
 
--- Statement: The frame `next` was offered or only counted, or the sink failed before that.
+-- Holds if the frame `next` was offered or only counted, or the sink failed before that.
 abbrev pub RunsOneMore : {A : Type 0} → Speed → ℕ → List CapturedFrame → CapturedFrame → EgressState (Vec ℕ A) → WireCount → Option (List ℕ) → Option (List ℕ) → Result (Unit {0}) RunFault → Type 0
 RunsOneMore speed room frames next p count began now (Ok u) = IsRunning speed room (frames ++ next ∷ []) p count began now
 RunsOneMore speed room frames next p count began now (Err e) = StopsAtSink speed room frames next.time began now
@@ -93,14 +93,14 @@ RunsOneMore speed room frames next p count began now (Err e) = StopsAtSink speed
 abbrev pub no_count : WireCount
 no_count = record { frames = 0; malformed = 0; sent = 0; full = 0 }
 
--- Statement: A run is in progress: frames of the capture were taken, the next record is ahead, and the frames that left
+-- Holds if a run is in progress: frames of the capture were taken, the next record is ahead, and the frames that left
 -- are written.
 pub record IsUnderWay {A : Type 0} (speed : Speed) (room : ℕ) (text : List ℕ) (remaining : Option (List ℕ)) (lane : CaptureReader A) (p : EgressState (Vec ℕ A)) (count : WireCount) (began now : Option (List ℕ)) : Type 0 where
   pub frames : List CapturedFrame
   pub ahead : IsOneAhead lane remaining text frames
   pub running : IsRunning speed room frames p count began now
 
--- Statement: The result is Ok and the run is complete, or the result is the fault with which the run stopped.
+-- Holds if the result is Ok and the run is complete, or the result is the fault with which the run stopped.
 abbrev pub EndsOrStops : Speed → ℕ → List ℕ → Option (List ℕ) → Option (List ℕ) → Option (List ℕ) → Result WireCount RunFault → Type 0
 EndsOrStops speed room text rest old new (Ok count) = WiresText speed room text old new count
 EndsOrStops speed room text rest old new (Err fault) = StopsRun speed room text rest old new fault

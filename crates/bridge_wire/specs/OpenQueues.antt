@@ -34,7 +34,7 @@ packet_ahead (Some time) place = option_map (λ x. record { time = time; len = x
 abbrev pub queue_reader : {A : Type 0} → CaptureState → Option ℕ → OpenQueue A → CaptureReader A
 queue_reader capture time q = record { number = 1; capture = capture; ahead = packet_ahead time (place_ahead q) }
 
--- Statement: Reading into the place ahead finds the next frame, the end or a fault.
+-- Holds if reading into the place ahead finds the next frame, the end or a fault.
 abbrev pub ReadsPlace : {A : Type 0} → CaptureState → OpenQueue A → Option (List ℕ) → List ℕ → List CapturedFrame → Result (Option ℕ) CaptureFault → Type 0
 ReadsPlace capture q remaining text taken (Ok time) = IsOneAhead (queue_reader capture time q) remaining text taken
 ReadsPlace capture q remaining text taken (Err fault) = IsRefusal fault remaining text taken
@@ -43,7 +43,7 @@ ReadsPlace capture q remaining text taken (Err fault) = IsRefusal fault remainin
 abbrev pub arrived_frame : {A : Type 0} → ℕ → Item (Vec ℕ A) → CapturedFrame
 arrived_frame time x = record { time = time; len = x.len; octets = x.load.items }
 
--- Statement: The result is Ok and the run continues with the frame ahead, or the result is the fault with which the run stopped.
+-- Holds if the result is Ok and the run continues with the frame ahead, or the result is the fault with which the run stopped.
 abbrev pub ContinuesOrStops : {A : Type 0} → Speed → ℕ → List ℕ → Option (List ℕ) → CaptureState → OpenQueue A → WireCount → Option (List ℕ) → Option (List ℕ) → Result (Option ℕ) RunFault → Type 0
 ContinuesOrStops speed room text remaining capture q count began now (Ok time) = IsUnderWay speed room text remaining (queue_reader capture time q) (queue_state q) count began now
 ContinuesOrStops speed room text remaining capture q count began now (Err fault) = StopsRun speed room text remaining began now fault

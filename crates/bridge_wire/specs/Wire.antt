@@ -54,7 +54,7 @@ copy_offers copies = map (λ x. record { at = x.at; class = x.class; frame = x.i
 abbrev pub departure : Speed → ℕ → Frame → CapturedFrame
 departure speed start frame = record { time = start + transmission_time frame.len speed; len = frame.len; octets = frame.octets }
 
--- Statement: The frame that left is a copy that started.
+-- Holds if the frame that left is a copy that started.
 pub record IsDeparture (speed : Speed) (copies : List (Copy Frame)) (left : CapturedFrame) : Type 0 where
   pub copy : Copy Frame
   pub start : ℕ
@@ -62,29 +62,29 @@ pub record IsDeparture (speed : Speed) (copies : List (Copy Frame)) (left : Capt
   pub started : copy.fate ≡ Started start
   pub is : left ≡ departure speed start copy.item
 
--- Statement: Each time is later than the time before it.
+-- Holds if each time is later than the time before it.
 abbrev pub HasRisingTimes : List CapturedFrame → Type 0
 HasRisingTimes [] = Unit {0}
 HasRisingTimes (c ∷ []) = Unit {0}
 HasRisingTimes (c ∷ d ∷ more) = (c.time < d.time) × HasRisingTimes (d ∷ more)
 
--- Statement: The frames `left` are the copies that started, by rising time.
+-- Holds if the frames `left` are the copies that started, by rising time.
 pub record IsOutput (speed : Speed) (copies : List (Copy Frame)) (left : List CapturedFrame) : Type 0 where
   pub rises : HasRisingTimes left
   pub members : (d : CapturedFrame) → IsMember d left ↔ IsDeparture speed copies d
 
--- Statement: The frame is at most as long as the longest frame, and has at most its length in octets.
+-- Holds if the frame is at most as long as the longest frame, and has at most its length in octets.
 abbrev pub IsWritable : CapturedFrame → Type 0
 IsWritable c = (c.len ≤ LONGEST_FRAME) × (length c.octets ≤ c.len)
 
--- Statement: The frames passed one queue up to some time, and the frames `left` have left.
+-- Holds if the frames passed one queue up to some time, and the frames `left` have left.
 pub record PassesQueue (speed : Speed) (room : ℕ) (frames : List CapturedFrame) (copies : List (Copy Frame)) (left : List CapturedFrame) : Type 0 where
   pub offers : copy_offers copies ≡ frame_offers frames
   pub until : ℕ
   pub lawful : IsLawful (one_queue speed room) until copies
   pub output : IsOutput speed copies left
 
--- Statement: Whole run: every accepted frame has left, and the counts match the frames and their copies.
+-- Holds if whole run: every accepted frame has left, and the counts match the frames and their copies.
 pub record IsWireRun (speed : Speed) (room : ℕ) (frames : List CapturedFrame) (left : List CapturedFrame) (count : WireCount) : Type 0 where
   pub copies : List (Copy Frame)
   pub goes : PassesQueue speed room frames copies left
@@ -95,7 +95,7 @@ pub record IsWireRun (speed : Speed) (room : ℕ) (frames : List CapturedFrame) 
   pub sent : count.sent ≡ count_by (λ x. is_accepted x.fate) copies
   pub full : count.full ≡ count_by (λ x. not (is_accepted x.fate)) copies
 
--- Statement: The file contents are a complete capture, and the sink has the capture of the frames that left.
+-- Holds if the file contents are a complete capture, and the sink has the capture of the frames that left.
 pub record WiresText (speed : Speed) (room : ℕ) (text : List ℕ) (old new : Option (List ℕ)) (count : WireCount) : Type 0 where
   pub frames : List CapturedFrame
   pub left : List CapturedFrame
@@ -103,11 +103,11 @@ pub record WiresText (speed : Speed) (room : ℕ) (text : List ℕ) (old new : O
   pub runs : IsWireRun speed room frames left count
   pub writes : Appends old new (written_text left)
 
--- Statement: After these frames, the capture ends or its next frame arrives at time `until` or later.
+-- Holds if, after these frames, the capture ends or its next frame arrives at time `until` or later.
 abbrev pub EndsOrContinues : ℕ → List ℕ → List CapturedFrame → Type 0
 EndsOrContinues until text frames = IsCapture text frames AtEnd ⊎ ((next : CapturedFrame) × HasReadFrames text (frames ++ next ∷ []) × (until ≤ next.time))
 
--- Statement: The frames passed one queue up to the arrival of the last one, and the sink has the capture of the frames that left.
+-- Holds if the frames passed one queue up to the arrival of the last one, and the sink has the capture of the frames that left.
 pub record RunsToLastFrame (speed : Speed) (room : ℕ) (frames : List CapturedFrame) (old new : Option (List ℕ)) : Type 0 where
   pub copies : List (Copy Frame)
   pub left : List CapturedFrame
@@ -115,19 +115,19 @@ pub record RunsToLastFrame (speed : Speed) (room : ℕ) (frames : List CapturedF
   pub last : goes.until ≡ last_time 0 frames
   pub writes : Appends old new (written_text left)
 
--- Statement: After at least one frame, the capture was refused.
+-- Holds if, after at least one frame, the capture was refused.
 pub record StopsInText (speed : Speed) (room : ℕ) (text : List ℕ) (rest : Option (List ℕ)) (old new : Option (List ℕ)) (fault : CaptureFault) : Type 0 where
   pub frames : List CapturedFrame
   pub some : 1 ≤ length frames
   pub refused : IsRefusal fault rest text frames
   pub up : RunsToLastFrame speed room frames old new
 
--- Statement: The capture was refused before its first frame, and nothing was written.
+-- Holds if the capture was refused before its first frame, and nothing was written.
 pub record FailsAtStart (text : List ℕ) (rest : Option (List ℕ)) (old new : Option (List ℕ)) (fault : CaptureFault) : Type 0 where
   pub looks : FailsAtFirst fault rest text
   pub untouched : Keeps old new
 
--- Statement: The sink failed at a time between the last frame and the next one. It has a prefix of the capture of the frames that left.
+-- Holds if the sink failed at a time between the last frame and the next one. It has a prefix of the capture of the frames that left.
 pub record StopsWriting (speed : Speed) (room : ℕ) (text : List ℕ) (old new : Option (List ℕ)) : Type 0 where
   pub frames : List CapturedFrame
   pub copies : List (Copy Frame)
@@ -137,22 +137,22 @@ pub record StopsWriting (speed : Speed) (room : ℕ) (text : List ℕ) (old new 
   pub looks : EndsOrContinues goes.until text frames
   pub writes : AppendsPrefix old new (written_text left)
 
--- Statement: The fault is neither lack of memory nor a failed write.
+-- Holds if the fault is neither lack of memory nor a failed write.
 abbrev pub IsCaptureFault : CaptureFault → Type 0
 IsCaptureFault fault = (fault ≢ faults.NoMemory) × (fault ≢ faults.Write)
 
--- Statement: Memory ran out before, in or right after the read of the first record, and nothing was written.
+-- Holds if memory ran out before, in or right after the read of the first record, and nothing was written.
 pub record LacksMemory (text : List ℕ) (rest old new : Option (List ℕ)) : Type 0 where
   pub looks : (rest ≡ Some text) ⊎ FailsAtFirst faults.NoMemory rest text ⊎ HasSoundStart text
   pub untouched : Keeps old new
 
--- Statement: The run stopped for the reason that this fault states; the source still has the octets `rest`.
+-- Holds if the run stopped for the reason that this fault states; the source still has the octets `rest`.
 abbrev pub StopsRun : Speed → ℕ → List ℕ → Option (List ℕ) → Option (List ℕ) → Option (List ℕ) → RunFault → Type 0
 StopsRun speed room text rest old new (run.Capture port fault) = IsCaptureFault fault × (FailsAtStart text rest old new fault ⊎ StopsInText speed room text rest old new fault)
 StopsRun speed room text rest old new (run.Write port) = StopsWriting speed room text old new
 StopsRun speed room text rest old new run.NoMemory = LacksMemory text rest old new ⊎ StopsInText speed room text rest old new faults.NoMemory
 
--- Statement: A capture fault or a write fault names port 1.
+-- Holds if a capture fault or a write fault names port 1.
 abbrev pub NamesPortOne : RunFault → Type 0
 NamesPortOne (run.Capture port fault) = port ≡ 1
 NamesPortOne (run.Write port) = port ≡ 1

@@ -179,7 +179,7 @@ fn send_all<R: ByteSource, W: ByteSink, A: Allocator + Copy>(
     if let Err(fault) = send_due_frames(u64::MAX, queue, writer, sink) {
         return Err(fault);
     }
-    // Each frame has one of the other counts, so the loop needs no count of all frames.
+    // Each frame adds 1 to exactly one of these three counts, so the loop doesn't count all frames.
     count.frames = count.malformed + count.sent + count.full;
     Ok(count)
 }

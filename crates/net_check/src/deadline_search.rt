@@ -74,8 +74,8 @@ fn searched_streams(
     Some(searched)
 }
 
-/// Returns whether the search may change a stream. Its talker is periodic, it has at most 64 hops and known delays, all its frames pass,
-/// and it can meet its deadline. False without memory.
+/// Returns whether the search may change a stream. This needs a periodic talker whose frames all pass, at most 64 hops, known delays, and a
+/// deadline that the stream can meet. Returns false if memory runs out.
 ///
 /// `searched_streams` calls it.
 fn is_searched(

@@ -321,11 +321,11 @@ fn put_remedies<A: Allocator + Copy>(
     let (first, last) = match open.filter {
         Some(_) => (
             "  close the gate of filter {0}, which then passes no frame;\n  remove port {1} from VLAN {2};\n",
-            "  add a `stream` entry on port {1} with a handle for strays; its filter has a closed gate and a number below {0}.\n",
+            "  add a `stream` entry on port {1} with another handle, whose filter has a closed gate and a number below {0}.\n",
         ),
         None => (
             "  remove port {1} from VLAN {2};\n",
-            "  add a `stream` entry on port {1} with a handle for strays; its filter has a closed gate.\n",
+            "  add a `stream` entry on port {1} with another handle, whose filter has a closed gate.\n",
         ),
     };
     said.put_template(first, &[filter, from, vid], &[]);

@@ -79,7 +79,7 @@ pub enum NetField {
 }
 
 impl NetField {
-    /// Returns the key as files and fault lines spell it. `NetField::spell` calls it.
+    /// Returns the key as files and fault lines spell it. Readers, fault lines and explanations call it.
     pub fn key(self) -> &'static str
         ensures spelling { result.now ≡ key_name self }
     {

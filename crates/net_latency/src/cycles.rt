@@ -179,6 +179,10 @@ fn explain_limited_row(
             "`filter` of `traffic` {0} is {1}, a protected filter of the plan {a}. No capacity of its queues is known to suffice for bursts.\n",
             "Give `period`, `from` and `to`, or put the filter into a `group` instead of `protected = true`.\n",
         ),
+        Some(filter) if filter.handle.is_none() => (
+            "`filter` of `traffic` {0} is {1}, but this filter of the plan {a} has no `handle`, so it can't be in a group.\n",
+            "Correct the number, or add a filter with `handle` and `group` for this talker.\n",
+        ),
         Some(_) => (
             "`filter` of `traffic` {0} is {1}, but the plan {a} puts this filter into no group, so it has no delay bound.\n",
             "Correct the number, or put the filter into a `group`.\n",
@@ -206,6 +210,10 @@ fn explain_unusable_filter(
     number: u32,
 ) -> Option<String> {
     let (template, remedy) = match find_filter(plan.filters(), number) {
+        Some(filter) if filter.handle.is_none() => (
+            "`filter` of `traffic` {0} is {1}, but this filter of the plan {a} has no `handle`, so it can't be protected and has no delay bound.\n",
+            "Correct the number, or add a protected filter with `handle` for this talker.\n",
+        ),
         Some(_) => (
             "`filter` of `traffic` {0} is {1}, but the plan {a} doesn't protect this filter, so it has no delay bound.\n",
             "Correct the number, or set `protected = true` in the filter.\n",
@@ -315,8 +323,8 @@ impl<'a> Cycles<'a> {
         }
     }
 
-    /// Appends the cycle times on the route of the frames of filter `number`: its stream gate, then its ports. Appends nothing if the
-    /// filter is missing. `explain_period` and `explain_row` call it.
+    /// Appends to `said` the cycle times on the route of filter `number` (its stream gate, then its ports), and updates `common`. Appends
+    /// nothing if the filter is missing. `explain_period` and `explain_row` call it.
     fn put_route(&mut self, said: &mut TextBuilder<Global>, plan: &Plan<Global>, number: u32) {
         if let Some(filter) = find_filter(plan.filters(), number) {
             self.put_gate(said, plan, filter.gate);

@@ -88,6 +88,10 @@ fn put_filters(
     found: RefusedHop<'_>,
 ) {
     let (template, remedy) = match find_filter(plan.filters(), found.hop.filter) {
+        Some(filter) if filter.handle.is_none() => (
+            "but filter {0} in the plan of {a} ({b}) has no `handle`, so it can't be protected.\n",
+            "Correct the hop, or add a protected filter with `handle` for the stream.\n",
+        ),
         Some(_) => (
             "but the plan of {a} ({b}) doesn't protect filter {0}.\n",
             "Correct the hop, or set `protected = true` in this filter.\n",
@@ -120,7 +124,7 @@ pub(crate) fn put_protected(
         }
     }
     if numbers.is_empty() {
-        return said.put("It has no protected filter.\n");
+        return said.put("The plan has no protected filter.\n");
     }
     said.put("Its protected filters: ");
     put_numbers(said, &numbers);
@@ -141,7 +145,7 @@ pub(crate) fn put_grouped(
         }
     }
     if numbers.is_empty() {
-        return said.put("It has no grouped filter.\n");
+        return said.put("The plan has no grouped filter.\n");
     }
     said.put("Its grouped filters: ");
     put_numbers(said, &numbers);

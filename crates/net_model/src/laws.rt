@@ -76,8 +76,8 @@ pub fn other_traffic_changes_nothing<A: Allocator + Copy>()
         → AreSameViews u v }
 {}
 
-/// If `takes_only` holds for the plans at a link's ends, the hop's filter accepts over this link only frames of the stream. The sending
-/// bridge may receive anything. docs/NETWORK_PROOF.md cites it.
+/// If `takes_only` holds, each copy from port `q` of plan `p` that gets protected filter `n` in plan `next` comes from a filter of the
+/// stream. The sending bridge may receive anything. docs/NETWORK_PROOF.md cites it.
 pub fn only_stream_is_taken<A: Allocator + Copy>()
     ensures { (p next : Plan A) (is_of_stream : ℕ → Bool) (q r n t : ℕ) (f : FilterPlan) (out on : PortPlan A)
         (es : List Event) (o : Offer)

@@ -297,8 +297,8 @@ impl<'a, A: Allocator + Copy> TestedHop<'a, A> {
         }
     }
 
-    /// Returns `before` if it has frames, otherwise an example of frames at port `j` + 1. The port needs an entry of the hop's handle: the
-    /// hop gets no frames at other ports.
+    /// Returns `before` if present, otherwise an example of the frames that `question` asks for at port `j` + 1. Returns `None` if no stream
+    /// entry gives the hop's handle there, or if no such frame exists.
     ///
     /// `first_frame_by_port` calls it.
     fn first_or_frame_on_port(

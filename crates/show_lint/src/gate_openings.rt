@@ -74,7 +74,7 @@ pub(crate) fn change_stages(is_changed: bool) -> &'static [ScheduleStage] {
 pub(crate) struct OfferedLoad {
     /// SDU octets of a longest frame.
     pub sdu: u32,
-    /// Length of a longest frame in octets.
+    /// Captured length of a longest frame in octets, without check sequence: `sdu` + 16, at most 9,216.
     pub length: u32,
     /// Transmission time in ns of a longest frame at each ingress port, from port 1; 0 if no stream of the filter enters there.
     pub times: [u64; 16],
