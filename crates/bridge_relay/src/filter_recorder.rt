@@ -14,10 +14,11 @@ use std::mem;
 /// Largest number of a filter's frames: frame numbers have 32 bits. A run has fewer frames.
 const MAX_FRAMES: usize = 4_294_967_295;
 
-/// A list with fewer items grows by half. A longer list doubles.
-const SHORT_LIST: usize = 1024;
+/// Least number of items by which a list grows.
+const LEAST_GROWTH: usize = 16;
 
-/// Reserves capacity for `more` further items of `list`. Short lists grow by half, because a run with many filters has many short lists.
+/// Reserves capacity for `more` further items of `list`. A full list doubles, so that growth copies at most one item
+/// for each item recorded.
 #[inline(always)]
 fn reserve_items<T, A: Allocator>(list: &mut Vec<T, A>, more: usize) -> Result<(), NoMemory>
     ensures items { list.new.items ≡ list.old.items }
@@ -40,12 +41,7 @@ fn grow_list<T, A: Allocator>(list: &mut Vec<T, A>, more: usize) -> Result<(), N
     ensures room { vec_capacity list.old ≤ vec_capacity list.new }
     ensures ok { OnOk result (vec_len list.new + more ≤ vec_capacity list.new) }
 {
-    let step = if list.len() < SHORT_LIST {
-        list.len() / 2
-    } else {
-        list.len()
-    };
-    match list.reserve_exact(step.max(more).max(4)) {
+    match list.reserve_exact(list.len().max(more).max(LEAST_GROWTH)) {
         Ok(()) => Ok(()),
         Err(_) => Err(NoMemory),
     }
