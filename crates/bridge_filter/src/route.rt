@@ -27,8 +27,8 @@ pub struct Route {
     pub(crate) meter: Option<usize>,
 }
 
-/// Indexes of the routes of frames in the list of all routes, by priority, from 0. If no filter matches the frames, the list has no route
-/// at the index. A row of indexes needs 64 octets, a sixth of a row of routes, so that the rows of 1,024 handles stay in the cache.
+/// Indexes of routes in the list of all routes, by a frame's priority, from 0. Past the list's end if no filter matches the frame. Small
+/// rows (64 octets) of many handles stay in the cache.
 pub(crate) type PriorityRow = [usize; 8];
 
 /// For each stream handle that a filter names, the row of its frames.

@@ -44,7 +44,8 @@ fn listed_route<A: Allocator + Copy>(
 ) -> (FilterPlan, Route)
     requires within { place < length filters.now.entries }
     requires routes { length routes.now ≡ length filters.now.entries }
-    ensures plan { (gates meters : List ℕ) → finding.AreRoutes routes.now (filter_plans filters.now.entries) gates meters
+    ensures plan { (gates meters : List ℕ)
+        → finding.AreRoutes routes.now (filter_plans filters.now.entries) gates meters
         → slice_get (filter_plans filters.now.entries) place ≡ Some (result.1.number, result.0) }
     ensures route { slice_get routes.now place ≡ Some result.1 }
 {
@@ -68,8 +69,8 @@ fn lesser_index(routes: &[Route], slot: usize, route: Route, place: usize) -> us
     }
 }
 
-/// Returns a row's index for `priority` after one more filter: the index of the lesser route of `slot` and `place` if the filter accepts the
-/// priority, otherwise `slot`. `asked` is the filter's priority; `None` accepts all. `route` is at `place`.
+/// Returns the index of the lesser route of `slot` and `place` if the filter accepts `priority`, otherwise `slot`. `asked` is the filter's
+/// priority; `None` accepts all. `route` is at `place`.
 fn add_to_slot(
     routes: &[Route],
     slot: usize,
@@ -175,8 +176,8 @@ fn add_to_handle_row<A: Allocator + Copy>(
     Ok(())
 }
 
-/// Makes one row for each handle that a filter names: for each priority, the index of the route of the matching filter with the lowest
-/// number. A row starts as a copy of the default row `any`.
+/// Makes one row for each handle that a filter names: by priority, the route of the matching filter with the lowest number. A row starts as
+/// a copy of the default row `any`.
 pub(crate) fn handle_rows<A: Allocator + Copy>(
     alloc: A,
     filters: &ByNumber<FilterState, A>,
