@@ -1,14 +1,19 @@
 -- Rows by which filters are found, extended by one filter at a time.
 use Rattle.std.proofs.Common.{◌≡◌, ◌≢◌, ℕ, Bool, true, false, List, [], ◌+◌, ◌<◌, ◌≤◌, arith, refl, ap, ◌∙◌, sym, subst, inl, inr, length, take, get_or, Option, Some, None, replicate, zero, suc, get_or-set_same, get_or-set_other, min}
-use Rattle.std.specs.Prelude.{◌&&◌, if◌then◌else◌, is_none, IfSome, nat_lt, slice_set, slice_get}
-use Rattle.std.specs.Option.{option_map}
+use Rattle.std.specs.Prelude.{◌&&◌, if◌then◌else◌, is_none, IfSome, nat_lt, slice_set, slice_get, slice_index, nat_eq, ◌∷◌, ◌++◌}
+use Rattle.std.specs.Option.{option_map, unwrap_or}
+use Rattle.std.specs.Map.{lookup}
 use Rattle.std.proofs.lemmas.Bool.{cases_lt}
 use Rattle.std.proofs.lemmas.Bool.Decides.{nat_tests}
-use Rattle.std.proofs.lemmas.Option.{slice_get_within, get_or_from_slice_get}
+use Rattle.std.proofs.lemmas.List.{length-append, length-map, map-set, get_or-map, take_all}
+use Rattle.std.proofs.lemmas.Map.Made.{lookup-map_values}
+use Rattle.std.proofs.lemmas.Option.{same_Some, slice_get_past, slice_get_within, get_or_from_slice_get}
 use Rattle.bridge_filter.specs.declared.FilterPlan.{FilterPlan}
+use Rattle.bridge_filter.specs.declared.filter_state.FilterState.{FilterState}
 use Rattle.bridge_filter.specs.declared.route.Route.{Route}
 use Rattle.bridge_filter.specs.Verdicts.{is_priority_match}
-use Rattle.bridge_filter.specs.Routes.{lesser_number, least_passing, least_named, is_named_handle, slot, slot_number, lesser_route, add_to_slot, find_row, IsDefaultRow, AreHandleRows, HasRoutes, HaveRoutes, IsRoute}
+use Rattle.bridge_filter.specs.Routes.{lesser_number, least_passing, least_named, is_named_handle, slot, slot_number, lesser_route, add_to_slot, find_row, read_row, read_rows, IsDefaultRow, AreHandleRows, HasRoutes, HaveRoutes, IsRoute, AreRoutes}
+use Rattle.bridge_filter.specs.Steps.{filter_plans}
 use Rattle.bridge_filter.proofs.Found.{first_lesser}
 use Rattle.bridge_filter.proofs.Made.{least_by-at}
 
@@ -120,3 +125,60 @@ empty_routes fs gates meters k l = subst (λ (o : Option Route). IfSome o (IsRou
 pub routes_start : (any : List (Option Route)) (fs : List (ℕ × FilterPlan)) (gates meters : List ℕ) → HasRoutes any fs gates meters → HaveRoutes [] any fs gates meters
 routes_start any fs gates meters have None k l = have k l
 routes_start any fs gates meters have (Some h) k l = have k l
+
+-- Rows of indexes, with the routes at these indexes.
+
+pub slot-read : (routes : List Route) (row : List ℕ) (k : ℕ) → k < length row → slot (read_row routes row) k ≡ slice_get routes (slice_index row k)
+slot-read routes row k l = get_or-map (λ (i : ℕ). slice_get routes i) row k 0 None l
+
+pub read-set : (routes : List Route) (row : List ℕ) (k i : ℕ) → read_row routes (slice_set row k i) ≡ slice_set (read_row routes row) k (slice_get routes i)
+read-set routes row k i = map-set (λ (j : ℕ). slice_get routes j) row k i
+
+read-unwrap_or : (routes : List Route) (o : Option (List ℕ)) (any : List ℕ) → unwrap_or (option_map (read_row routes) o) (read_row routes any) ≡ read_row routes (unwrap_or o any)
+read-unwrap_or routes None any = refl
+read-unwrap_or routes (Some row) any = refl
+
+pub find-read : (routes : List Route) (rows : List (ℕ × List ℕ)) (any : List ℕ) (handle : Option ℕ) → find_row (read_rows routes rows) (read_row routes any) handle ≡ read_row routes (find_row rows any handle)
+find-read routes rows any None = refl
+find-read routes rows any (Some h) = ap (λ (o : Option (List (Option Route))). unwrap_or o (read_row routes any)) (lookup-map_values (read_row routes) (nat_eq h) rows) ∙ read-unwrap_or routes (lookup (nat_eq h) rows) any
+
+-- A route that is read from the row of its handle.
+pub found_in_rows : (routes : List Route) (rows : List (ℕ × List ℕ)) (any : List ℕ) (handle : Option ℕ) (priority : ℕ) (row : List ℕ) (o : Option Route) → row ≡ find_row rows any handle → o ≡ slot (read_row routes row) priority → o ≡ slot (find_row (read_rows routes rows) (read_row routes any) handle) priority
+found_in_rows routes rows any handle priority row o e is = is ∙ ap (λ (r : List (Option Route)). slot r priority) (ap (read_row routes) e ∙ sym (find-read routes rows any handle))
+
+-- A row of indexes past the end has no routes.
+pub read-past : (routes : List Route) (n : ℕ) → read_row routes (replicate n (length routes)) ≡ replicate n None
+read-past routes zero = refl
+read-past routes (suc n) = rw (slice_get_past routes (length routes) (omega arith), read-past routes n) refl
+
+-- Extends the list of routes by one more route.
+pub listed_more : (P : ℕ → Route → Type 0) (routes : List Route) (r : Route) → P (length routes) r → ((i : ℕ) (q : Route) → slice_get routes i ≡ Some q → P i q) → (i : ℕ) (q : Route) → slice_get (routes ++ r ∷ []) i ≡ Some q → P i q
+listed_more P [] r here each zero q h = subst (P 0) (same_Some r q h) here
+listed_more P [] r here each (suc i) q h = absurd (cc)
+listed_more P (x ∷ routes) r here each zero q h = each zero q h
+listed_more P (x ∷ routes) r here each (suc i) q h = listed_more (λ j. P (suc j)) routes r here (λ j p k. each (suc j) p k) i q h
+
+-- The plans of the first filters are all plans, if the filters are no more.
+pub all_plans : (filters : List (ℕ × FilterState)) (n : ℕ) → length filters ≤ n → take n (filter_plans filters) ≡ filter_plans filters
+all_plans filters n l = take_all n (filter_plans filters) (subst (λ (m : ℕ). m ≤ n) (sym (length-map filters (λ (f : ℕ × FilterState). (f.0, f.1.plan)))) l)
+
+pub listed_push : (fs : List (ℕ × FilterPlan)) (gates meters : List ℕ) (routes new : List Route) (r : Route) (n : ℕ) → new ≡ routes ++ r ∷ [] → length routes ≡ n → r.filter ≡ n → IsRoute fs gates meters r → ((i : ℕ) (q : Route) → slice_get routes i ≡ Some q → q.filter ≡ i) → ((i : ℕ) (q : Route) → slice_get routes i ≡ Some q → IsRoute fs gates meters q) → (length new ≡ n + 1) × (((i : ℕ) (q : Route) → slice_get new i ≡ Some q → q.filter ≡ i) × ((i : ℕ) (q : Route) → slice_get new i ≡ Some q → IsRoute fs gates meters q))
+listed_push fs gates meters routes new r n e size place is places each = rw e (
+  (length-append routes (r ∷ []) ∙ ap (λ (m : ℕ). m + 1) size),
+  (listed_more (λ i q. q.filter ≡ i) routes r (place ∙ sym size) places, listed_more (λ i q. IsRoute fs gates meters q) routes r is each),
+)
+
+-- Statement: The rows with the routes at their indexes give the right filter for each frame.
+pub record AreNewRows (fs : List (ℕ × FilterPlan)) (gates meters : List ℕ) (routes : List Route) (any : List ℕ) (rows : List (ℕ × List ℕ)) : Type 0 where
+  pub numbers : IsDefaultRow (read_row routes any) fs
+  pub handles : AreHandleRows (read_rows routes rows) (read_row routes any) fs
+  pub routes_found : HaveRoutes (read_rows routes rows) (read_row routes any) fs gates meters
+
+-- Joins what the two functions that make rows promise. They got the list of routes as the slices `one` and `two`.
+pub new_rows : (fs : List (ℕ × FilterPlan)) (gates meters : List ℕ) (routes one two : List Route) (any : List ℕ) (rows : List (ℕ × List ℕ)) → one ≡ routes → two ≡ routes → AreRoutes routes fs gates meters → (AreRoutes one fs gates meters → IsDefaultRow (read_row one any) fs) → (AreRoutes one fs gates meters → HasRoutes (read_row one any) fs gates meters) → (AreRoutes two fs gates meters → AreHandleRows (read_rows two rows) (read_row two any) fs) → (AreRoutes two fs gates meters → HasRoutes (read_row two any) fs gates meters → HaveRoutes (read_rows two rows) (read_row two any) fs gates meters) → AreNewRows fs gates meters routes any rows
+new_rows fs gates meters routes one two any rows e k are numbers has handles have =
+    let a : IsDefaultRow (read_row routes any) fs = subst (λ (z : List Route). AreRoutes z fs gates meters → IsDefaultRow (read_row z any) fs) e numbers are in
+    let b : HasRoutes (read_row routes any) fs gates meters = subst (λ (z : List Route). AreRoutes z fs gates meters → HasRoutes (read_row z any) fs gates meters) e has are in
+    let c : AreHandleRows (read_rows routes rows) (read_row routes any) fs = subst (λ (z : List Route). AreRoutes z fs gates meters → AreHandleRows (read_rows z rows) (read_row z any) fs) k handles are in
+    let d : HaveRoutes (read_rows routes rows) (read_row routes any) fs gates meters = subst (λ (z : List Route). AreRoutes z fs gates meters → HasRoutes (read_row z any) fs gates meters → HaveRoutes (read_rows z rows) (read_row z any) fs gates meters) k have are b in
+    record { numbers = a; handles = c; routes_found = d }

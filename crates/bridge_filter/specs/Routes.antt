@@ -1,5 +1,5 @@
 -- How a frame's filter is found: each stream handle has a row with the least filter number for each priority.
-use Rattle.std.specs.Prelude.{◌≡◌, ℕ, ◌<◌, Bool, false, ◌&&◌, nat_eq, nat_lt, min, Option, Some, None, is_none, IfSome, List, [], ◌∷◌, if◌then◌else◌, slice_index_or, slice_get}
+use Rattle.std.specs.Prelude.{◌≡◌, ℕ, ◌<◌, Bool, false, ◌&&◌, nat_eq, nat_lt, min, Option, Some, None, is_none, IfSome, List, [], ◌∷◌, length, map, if◌then◌else◌, slice_index_or, slice_get}
 use Rattle.std.specs.Option.{option_map, unwrap_or}
 use Rattle.std.specs.Map.{lookup, keys_of}
 use Rattle.bridge_filter.specs.declared.FilterPlan.{FilterPlan}
@@ -54,9 +54,17 @@ abbrev pub add_to_slot : Option Route → Option ℕ → Route → ℕ → Optio
 add_to_slot o asked r priority = if is_priority_match asked priority then lesser_route r o else o
 
 -- Row of a frame's handle: the row of this handle, or the default row.
-abbrev pub find_row : List (ℕ × List (Option Route)) → List (Option Route) → Option ℕ → List (Option Route)
+abbrev pub find_row : {R : Type 0} → List (ℕ × R) → R → Option ℕ → R
 find_row rows any None = any
 find_row rows any (Some h) = unwrap_or (lookup (nat_eq h) rows) any
+
+-- Routes that a row has by their indexes in the list of all routes; `None` at an index without a route.
+abbrev pub read_row : List Route → List ℕ → List (Option Route)
+read_row routes row = map (λ i. slice_get routes i) row
+
+-- Rows by handle, with routes instead of indexes.
+abbrev pub read_rows : List Route → List (ℕ × List ℕ) → List (ℕ × List (Option Route))
+read_rows routes rows = map (λ r. (r.0, read_row routes r.1)) rows
 
 -- Holds if the default row has the least numbers of the filters without a handle.
 abbrev pub IsDefaultRow : List (Option Route) → List (ℕ × FilterPlan) → Type 0
@@ -87,6 +95,12 @@ pub record IsRoute (fs : List (ℕ × FilterPlan)) (gates meters : List ℕ) (r 
   pub plan : FilterPlan
   pub filter : slice_get fs r.filter ≡ Some (r.number, plan)
   pub served : HasInstanceIndices plan gates meters r
+
+-- Holds if the list has a route for each filter, with the filter's index.
+pub record AreRoutes (routes : List Route) (fs : List (ℕ × FilterPlan)) (gates meters : List ℕ) : Type 0 where
+  pub size : length routes ≡ length fs
+  pub places : (i : ℕ) (r : Route) → slice_get routes i ≡ Some r → r.filter ≡ i
+  pub each : (i : ℕ) (r : Route) → slice_get routes i ≡ Some r → IsRoute fs gates meters r
 
 -- Holds if each route of the row has the properties of `IsRoute`. A row has the routes of one handle by priority.
 abbrev pub HasRoutes : List (Option Route) → List (ℕ × FilterPlan) → List ℕ → List ℕ → Type 0

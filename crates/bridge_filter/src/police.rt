@@ -18,7 +18,7 @@ use crate::frame_verdict::judge_frame;
 use crate::gates_and_meters::{ByNumber, gate_flags, meter_buckets};
 use crate::make_instances::{make_filters, make_gates, make_meters};
 use crate::route::{HandleRows, PriorityRow, Route, look_up_route};
-use crate::route_rows::{default_row, handle_rows};
+use crate::route_rows::{default_row, handle_rows, make_routes};
 use crate::{Clear, Counters, FilterInput, FilterPlan, Flags, Ruling};
 use bridge_gate::{GatePlan, StreamGate};
 use bridge_limits::{END_OF_TIME, NoMemory};
@@ -31,9 +31,11 @@ use std::marker::Model;
 pub struct Police<A: Allocator + Copy> {
     /// Filters with their counters and blocked flags.
     filters: ByNumber<FilterState, A>,
-    /// Routes of frames whose handle a filter names: for each such handle, a route for each priority.
+    /// Routes of all filters, in the order of the filters.
+    routes: Vec<Route, A>,
+    /// Rows of frames whose handle a filter names: for each such handle, the index of a route for each priority.
     rows: HandleRows<A>,
-    /// Routes of all other frames: a route for each priority.
+    /// Row of all other frames.
     any: PriorityRow,
     /// Stream gates.
     gates: ByNumber<StreamGate<A>, A>,
@@ -47,6 +49,7 @@ pub struct Police<A: Allocator + Copy> {
 
 impl<A: Allocator + Copy> Model for Police<A> {
     ghost use Rattle.bridge_filter.specs.StandsFor.{PoliceState};
+    ghost use Rattle.bridge_filter.specs.Routes.{read_row, read_rows};
     ghost use Rattle.bridge_filter.specs.Steps.{IsSound, filter_plans};
 
     ghost Value = { PoliceState A };
@@ -60,8 +63,8 @@ impl<A: Allocator + Copy> Model for Police<A> {
       earliest = p.earliest;
     } };
 
-    ghost invariant = { λ p. IsSound p.filters.entries p.rows.entries p.any p.gates.entries p.meters.entries
-        p.calls p.earliest };
+    ghost invariant = { λ p. IsSound p.filters.entries (read_rows p.routes.items p.rows.entries)
+        (read_row p.routes.items p.any) p.gates.entries p.meters.entries p.calls p.earliest };
 }
 
 impl<A: Allocator + Copy> Police<A> {
@@ -96,15 +99,23 @@ impl<A: Allocator + Copy> Police<A> {
             drop(gates);
             return Err(NoMemory);
         };
-        let any = default_row(&filters, &gates, &meters);
-        let Ok(rows) = handle_rows(alloc, &filters, &gates, &meters, &any) else {
+        let Ok(routes) = make_routes(alloc, &filters, &gates, &meters) else {
             drop(filters);
             drop(gates);
             drop(meters);
             return Err(NoMemory);
         };
+        let any = default_row(&filters, &routes);
+        let Ok(rows) = handle_rows(alloc, &filters, &routes, &any) else {
+            drop(filters);
+            drop(gates);
+            drop(meters);
+            drop(routes);
+            return Err(NoMemory);
+        };
         Ok(Police {
             filters,
+            routes,
             rows,
             any,
             gates,
@@ -167,6 +178,7 @@ impl<A: Allocator + Copy> Police<A> {
             &self.filters,
             &self.gates,
             &self.meters,
+            &self.routes,
             &self.rows,
             &self.any,
             handle,

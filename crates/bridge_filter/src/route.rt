@@ -27,10 +27,11 @@ pub struct Route {
     pub(crate) meter: Option<usize>,
 }
 
-/// Routes of frames by priority, from 0; `None` if no filter matches the frames.
-pub(crate) type PriorityRow = [Option<Route>; 8];
+/// Indexes of routes in the list of all routes, by a frame's priority, from 0. Past the list's end if no filter matches the frame. Small
+/// rows (64 octets) of many handles stay in the cache.
+pub(crate) type PriorityRow = [usize; 8];
 
-/// For each stream handle that a filter names, the routes of its frames by priority.
+/// For each stream handle that a filter names, the row of its frames.
 pub(crate) type HandleRows<A> = ByNumber<PriorityRow, A>;
 
 /// Returns the route with the lower filter number. Of the filters that match a frame, the one with the lowest number judges it.
@@ -118,6 +119,18 @@ pub(crate) fn find_row<'a, A: Allocator + Copy>(
     }
 }
 
+/// Returns the route of frames with this priority in their row; `None` if no filter matches. `look_up_route` calls it.
+#[inline(always)]
+fn route_in_row(routes: &[Route], row: &PriorityRow, priority: u8) -> Option<Route>
+    requires { priority < 8 }
+    ensures { result ≡ finding.slot (finding.read_row routes.now row.now) priority }
+{
+    match routes.get(row[priority as usize]) {
+        Some(route) => Some(*route),
+        None => None,
+    }
+}
+
 /// Returns the index of the stream gate or meter `number`, which must exist. Routes store it, so that a frame needs no look-up.
 fn instance_index<T, A: Allocator + Copy>(instances: &ByNumber<T, A>, number: u32) -> usize
     requires { IsSome (lookup (nat_eq number) instances.now.entries) }
@@ -143,8 +156,7 @@ fn optional_index<T, A: Allocator + Copy>(
     }
 }
 
-/// Returns the plan of the filter at index `place`, and the route of its frames. `default_row`, `handle_rows` and `search_route` call it
-/// for each filter.
+/// Returns the plan of the filter at index `place`, and the route of its frames. `make_routes` and `search_route` call it for each filter.
 pub(crate) fn plan_and_route<A: Allocator + Copy>(
     filters: &ByNumber<FilterState, A>,
     gates: &ByNumber<StreamGate<A>, A>,
@@ -155,6 +167,7 @@ pub(crate) fn plan_and_route<A: Allocator + Copy>(
     requires gates { HaveGates filters.now.entries gates.now.entries }
     requires meters { HaveMeters filters.now.entries meters.now.entries }
     ensures plan { slice_get (filter_plans filters.now.entries) place ≡ Some (result.1.number, result.0) }
+    ensures place { result.1.filter ≡ place }
     ensures route { finding.IsRoute (filter_plans filters.now.entries) (keys_of gates.now.entries)
         (keys_of meters.now.entries) result.1 }
 {
@@ -224,13 +237,16 @@ pub(crate) fn look_up_route<A: Allocator + Copy>(
     filters: &ByNumber<FilterState, A>,
     gates: &ByNumber<StreamGate<A>, A>,
     meters: &ByNumber<Meter, A>,
+    routes: &[Route],
     rows: &HandleRows<A>,
     any: &PriorityRow,
     handle: Option<u32>,
     priority: u8,
 ) -> Option<Route>
-    requires rows { finding.AreRouteRows rows.now.entries any.now (filter_plans filters.now.entries) }
-    requires routes { finding.HaveRoutes rows.now.entries any.now (filter_plans filters.now.entries)
+    requires rows { finding.AreRouteRows (finding.read_rows routes.now rows.now.entries)
+        (finding.read_row routes.now any.now) (filter_plans filters.now.entries) }
+    requires routes { finding.HaveRoutes (finding.read_rows routes.now rows.now.entries)
+        (finding.read_row routes.now any.now) (filter_plans filters.now.entries)
         (keys_of gates.now.entries) (keys_of meters.now.entries) }
     requires gates { HaveGates filters.now.entries gates.now.entries }
     requires meters { HaveMeters filters.now.entries meters.now.entries }
@@ -242,7 +258,7 @@ pub(crate) fn look_up_route<A: Allocator + Copy>(
         (keys_of meters.now.entries)) }
 {
     if priority < 8 {
-        find_row(rows, any, handle)[priority as usize]
+        route_in_row(routes, find_row(rows, any, handle), priority)
     } else {
         // Copied, so that no pointer to the result stays, and the compiler can hold it in registers.
         match search_route(filters, gates, meters, handle, priority) {

@@ -28,7 +28,8 @@ pub fn explain_file(alloc: Global, path: &str, cause: Cause) -> Result<String, N
 /// Returns the sentence for a cause, about the file at the path `{a}`. `explain_file` calls it.
 fn cause_sentence(cause: Cause) -> &'static str {
     match cause {
-        Cause::NotFound => ": no such file. Check the spelling, and the folder at which the path starts.\n",
+        Cause::NotFound =>
+            ": no such file. Check the spelling, and the folder at which the path starts.\n",
         Cause::NoCapture =>
             ": no such file. Each port of the plan needs a capture. For a silent port, use an empty one, for example examples/alone/2.pcap.\n",
         Cause::Pcapng =>

@@ -2,6 +2,7 @@ use Rattle.std.proofs.Common.{sym, subst, refl}
 use Rattle.std.specs.Prelude.{IsTrue}
 use Rattle.bridge_filter.specs.Plans.{KeepsNumbers}
 use Rattle.bridge_filter.specs.Verdicts.{filter_steps}
+use Rattle.bridge_filter.specs.Routes.{read_row, read_rows}
 use Rattle.bridge_filter.specs.StandsFor.{PoliceState, StandsFor, has_instance}
 use Rattle.bridge_filter.specs.Steps.{filter_plans}
 use Rattle.bridge_filter.proofs.Numbered.{keeps_numbers}
@@ -15,7 +16,7 @@ pub invariant_of-self : goal.invariant_of-self
 invariant_of-self g c =
     let i = c.self.inside in
     let r = c.clear_blocked in
-    sound_filters i.filters.entries r.new.filters.entries i.rows.entries i.any i.gates.entries i.meters.entries i.calls i.earliest r.ensures.plans r.ensures.instances c.self.invariant
+    sound_filters i.filters.entries r.new.filters.entries (read_rows i.routes.items i.rows.entries) (read_row i.routes.items i.any) i.gates.entries i.meters.entries i.calls i.earliest r.ensures.plans r.ensures.instances c.self.invariant
 
 pub clear_rx-requires : goal.clear_rx-requires
 clear_rx-requires g c = gate_there_rx c.args.clear c.args.number _ c.in-Rx.is (subst (λ (z : PoliceState _). IsTrue (has_instance c.args.clear c.args.number z)) (sym c.self.view_is) c.requires)
@@ -24,7 +25,7 @@ pub invariant_of-self-in-Rx : goal.invariant_of-self-in-Rx
 invariant_of-self-in-Rx g c =
     let i = c.self.inside in
     let r = c.clear_rx in
-    sound_gates i.filters.entries i.rows.entries i.any i.gates.entries r.new.gates.entries i.meters.entries i.calls i.earliest r.ensures.same r.ensures.before c.self.invariant
+    sound_gates i.filters.entries (read_rows i.routes.items i.rows.entries) (read_row i.routes.items i.any) i.gates.entries r.new.gates.entries i.meters.entries i.calls i.earliest r.ensures.same r.ensures.before c.self.invariant
 
 pub clear_octets-requires : goal.clear_octets-requires
 clear_octets-requires g c = gate_there_octets c.args.clear c.args.number _ c.in-Octets.is (subst (λ (z : PoliceState _). IsTrue (has_instance c.args.clear c.args.number z)) (sym c.self.view_is) c.requires)
@@ -33,7 +34,7 @@ pub invariant_of-self-in-Octets : goal.invariant_of-self-in-Octets
 invariant_of-self-in-Octets g c =
     let i = c.self.inside in
     let r = c.clear_octets in
-    sound_gates i.filters.entries i.rows.entries i.any i.gates.entries r.new.gates.entries i.meters.entries i.calls i.earliest r.ensures.same r.ensures.before c.self.invariant
+    sound_gates i.filters.entries (read_rows i.routes.items i.rows.entries) (read_row i.routes.items i.any) i.gates.entries r.new.gates.entries i.meters.entries i.calls i.earliest r.ensures.same r.ensures.before c.self.invariant
 
 pub clear_red-requires : goal.clear_red-requires
 clear_red-requires g c = meter_there_red c.args.clear c.args.number _ c.in-Red.is (subst (λ (z : PoliceState _). IsTrue (has_instance c.args.clear c.args.number z)) (sym c.self.view_is) c.requires)
@@ -42,7 +43,7 @@ pub invariant_of-self-in-Red : goal.invariant_of-self-in-Red
 invariant_of-self-in-Red g c =
     let i = c.self.inside in
     let r = c.clear_red in
-    sound_meters i.filters.entries i.rows.entries i.any i.gates.entries i.meters.entries r.new.meters.entries i.calls i.earliest r.ensures.same r.ensures.before c.self.invariant
+    sound_meters i.filters.entries (read_rows i.routes.items i.rows.entries) (read_row i.routes.items i.any) i.gates.entries i.meters.entries r.new.meters.entries i.calls i.earliest r.ensures.same r.ensures.before c.self.invariant
 
 pub returns-in-Blocked-clause-stands : goal.returns-in-Blocked-clause-stands
 returns-in-Blocked-clause-stands g c = λ p es stands.

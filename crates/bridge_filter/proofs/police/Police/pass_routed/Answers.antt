@@ -4,7 +4,7 @@ use Rattle.bridge_filter.specs.declared.Ruling.{Ruling}
 use Rattle.bridge_filter.specs.Plans.{KeepsNumbers}
 use Rattle.bridge_filter.specs.Verdicts.{Unfiltered, Judged, filter_steps, step_ruling}
 use Rattle.bridge_filter.specs.StandsFor.{PoliceState, StandsFor}
-use Rattle.bridge_filter.specs.Routes.{IsFoundRoute}
+use Rattle.bridge_filter.specs.Routes.{IsFoundRoute, read_row, read_rows}
 use Rattle.bridge_filter.specs.Steps.{filter_plans}
 use Rattle.bridge_filter.proofs.Numbered.{keeps_numbers}
 use Rattle.bridge_filter.proofs.Flows.{flow_numbered, flow_none}
@@ -16,7 +16,7 @@ pub invariant_of-self : goal.invariant_of-self
 invariant_of-self g c =
     let i = c.self.inside in
     let le : i.earliest ≤ c.args.call.at = subst (λ (z : PoliceState _). z.earliest ≤ c.args.call.at) (sym c.self.view_is) c.requires.time in
-    sound_unfiltered i.filters.entries i.rows.entries i.any i.gates.entries i.meters.entries i.calls i.earliest c.args.call.at le c.self.invariant
+    sound_unfiltered i.filters.entries (read_rows i.routes.items i.rows.entries) (read_row i.routes.items i.any) i.gates.entries i.meters.entries i.calls i.earliest c.args.call.at le c.self.invariant
 
 pub returns-in_err-route-clause-stands : goal.returns-in_err-route-clause-stands
 returns-in_err-route-clause-stands g c = λ p es stands.
@@ -54,7 +54,7 @@ pub invariant_of-self-2 : goal.invariant_of-self-2
 invariant_of-self-2 g c =
     let i = c.self.inside in
     let r = c.judge_frame-verdict in
-    sound_judged i.filters.entries r.new.filters.entries i.rows.entries i.any i.gates.entries r.new.gates.entries i.meters.entries r.new.meters.entries i.calls i.earliest c.args.call.at c.self.invariant r.ensures.plans r.ensures.same_gates r.ensures.same_meters (r.ensures.instances i.calls c.self.invariant.instances) r.ensures.asked r.ensures.judged
+    sound_judged i.filters.entries r.new.filters.entries (read_rows i.routes.items i.rows.entries) (read_row i.routes.items i.any) i.gates.entries r.new.gates.entries i.meters.entries r.new.meters.entries i.calls i.earliest c.args.call.at c.self.invariant r.ensures.plans r.ensures.same_gates r.ensures.same_meters (r.ensures.instances i.calls c.self.invariant.instances) r.ensures.asked r.ensures.judged
 
 pub returns-clause-stands : goal.returns-clause-stands
 returns-clause-stands g c = λ p es stands.
