@@ -27,8 +27,8 @@ pub struct Route {
     pub(crate) meter: Option<usize>,
 }
 
-/// Indexes of routes in the list of all routes, by a frame's priority, from 0. Past the list's end if no filter matches the frame. Small
-/// rows (64 octets) of many handles stay in the cache.
+/// Indexes of routes in the list of all routes, by a frame's priority, from 0; past the list's end if no filter matches. Rows of 64
+/// octets stay in the cache.
 pub(crate) type PriorityRow = [usize; 8];
 
 /// For each stream handle that a filter names, the row of its frames.

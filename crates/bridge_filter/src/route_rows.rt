@@ -92,7 +92,9 @@ fn add_to_slot(
 }
 
 /// Enters the index `place` of a filter's route at each priority that the filter accepts, unless a filter with a lower number is there.
-/// `asked` is the filter's priority; `None` accepts all. `add_to_default_row` and `add_to_handle_row` call it.
+/// `asked` is the filter's priority; `None` accepts all.
+///
+/// `add_to_default_row` and `add_to_handle_row` call it.
 fn add_to_row(
     row: &mut PriorityRow,
     routes: &[Route],
@@ -178,7 +180,9 @@ fn add_to_handle_row<A: Allocator + Copy>(
 }
 
 /// Makes one row for each handle that a filter names: by priority, the route of the matching filter with the lowest number. A row starts as
-/// a copy of the default row `any`. `Police::new` calls it.
+/// a copy of the default row `any`.
+///
+/// `Police::new` calls it.
 pub(crate) fn handle_rows<A: Allocator + Copy>(
     alloc: A,
     filters: &ByNumber<FilterState, A>,

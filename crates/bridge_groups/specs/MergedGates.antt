@@ -34,8 +34,8 @@ first_end ls t until = fold (λ m l. min m (turn_end (turn_by_time l t))) until 
 abbrev pub entry_limit : GateEntry → ℕ
 entry_limit e = if e.lets then unwrap_or e.octets 0 else 0
 
--- Holds if the entries last from offset `from` to offset `until`, and each stands for all gates: it is open if a gate is open, has at
--- least the sum of their limits, and ends before an interval of a gate ends.
+-- Holds if the entries last from offset `from` to offset `until`, and each stands for all gates. An entry is open if a gate is open, has
+-- the sum of their limits, and ends with the first interval.
 abbrev pub AreMergedEntries : List (Cyclic GateEntry) → List (GateEntry × ℕ) → ℕ → ℕ → Type 0
 AreMergedEntries ls [] from until = from ≡ until
 AreMergedEntries ls (e ∷ es) from until = (1 ≤ e.1) × (is_any_open ls from ≡ true → e.0.lets ≡ true) × (limit_sum ls from ≤ entry_limit e.0) × ((l : Cyclic GateEntry) → IsMember l ls → from + e.1 ≤ turn_end (turn_by_time l from)) × AreMergedEntries ls es (from + e.1) until
@@ -62,8 +62,8 @@ AreGateLists p (g ∷ gs) [] = ⊥
 AreGateLists p [] (l ∷ ls) = ⊥
 AreGateLists p (g ∷ gs) (l ∷ ls) = IsGateList p g.1 l × AreGateLists p gs ls
 
--- Holds if `b` ns bounds the delays of the class-`c` queue at port `out` by the stream gates of the filters that share it. SDUs
--- have at least `k` octets, where `k` is 1 to 44.
+-- Holds if `b` ns bounds the delays of the class-`c` queue at port `out` by its filters' stream gates. SDUs have at least `k` octets,
+-- where `k` is 1 to 44.
 pub record IsGatesBound {A : Type 0} (p : Plan A) (out : PortPlan A) (sharers : List (ℕ × FilterPlan)) (c k b : ℕ) : Type 0 where
   pub some : 1 ≤ k
   pub few : k ≤ 44

@@ -20,8 +20,8 @@ const LEAST_GROWTH: usize = 16;
 /// A list with fewer items doubles. A longer list grows by half.
 const SHORT_LIST: usize = 1024;
 
-/// Reserves capacity for `more` further items of `list`. A short list doubles, so that growth copies at most one item for each item
-/// recorded. A long list grows by half, because the system moves its memory without copying. `reserve_room` calls it.
+/// Reserves capacity for `more` further items of `list`. A short list doubles, so that growth copies few items. A long list grows by half,
+/// because the system moves its memory. `reserve_room` calls it.
 #[inline(always)]
 fn reserve_items<T, A: Allocator>(list: &mut Vec<T, A>, more: usize) -> Result<(), NoMemory>
     ensures items { list.new.items ≡ list.old.items }

@@ -75,7 +75,7 @@ fn searched_streams(
 }
 
 /// Returns whether the search may change a stream. This needs a periodic talker whose frames all pass, at most 64 hops, known delays, and a
-/// deadline that the stream can meet. Returns false if memory runs out.
+/// deadline that the stream can meet. False without memory.
 ///
 /// `searched_streams` calls it.
 fn is_searched(

@@ -298,7 +298,7 @@ impl<'a, A: Allocator + Copy> TestedHop<'a, A> {
     }
 
     /// Returns `before` if present, otherwise an example of the frames that `question` asks for at port `j` + 1. Returns `None` if no stream
-    /// entry gives the hop's handle there, or if no such frame exists.
+    /// entry gives the hop's handle there, or no frame exists.
     ///
     /// `first_frame_by_port` calls it.
     fn first_or_frame_on_port(
