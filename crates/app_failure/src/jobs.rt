@@ -1,12 +1,11 @@
-//! Reads and checks plans from readers, and returns the line to print. Makes the faults of readers and of standard input and output.
+//! Reads and checks plans from readers, and returns the line to print.
 ghost use Rattle.std.specs.Prelude.{◌≡◌, ℕ, List, Some, Ok, IfOk, IfErr, string_bytes};
 ghost use Rattle.bridge_config.specs.Document.{text_plan};
 ghost use Rattle.app_failure.specs.Jobs.{Accepts, EndsCheck, EndsPlan, PrintsAccepted};
-ghost use Rattle.app_failure.specs.Reading.{IsFileFault, IsStandardStreamFault};
 
 use crate::accepting::{check_isolation, check_line};
-use crate::fault::Failure;
-use app_files::{Cause, FileError, ReadFault, read_text};
+use crate::fault::{Failure, file_failure};
+use app_files::read_named;
 use bridge_check::Accepted;
 use bridge_config::{Plan, plan_of};
 use std::alloc::{Allocator, Global};
@@ -47,12 +46,12 @@ pub fn read_plan<R: Read + Drop, A: Allocator + Copy>(
     ensures read { IfOk result (λ plan. (input : List ℕ) × (text_plan input ≡ Ok plan)) }
     ensures only { IfErr result (λ fault. (input : List ℕ) × EndsPlan A path.now input fault) }
 {
-    match read_text(alloc, reader) {
+    match read_named(alloc, heap, path, reader) {
         Ok(text) => match plan_of(alloc, heap, &text) {
             Ok(plan) => Ok(plan),
             Err(fault) => Err(Failure::Plan(fault)),
         },
-        Err(fault) => Err(read_failure(heap, path, fault)),
+        Err(fault) => Err(file_failure(fault)),
     }
 }
 
@@ -77,32 +76,5 @@ pub fn check_job<R: Read + Drop, A: Allocator + Copy>(
     match line {
         Ok(line) => Ok(line),
         Err(_) => Err(Failure::NoMemory),
-    }
-}
-
-/// Returns the fault of standard input or output: the file `-` failed.
-pub fn standard_stream_fault(alloc: Global) -> Failure
-    ensures { IsStandardStreamFault result }
-{
-    failed_file(alloc, "-", Cause::Standard)
-}
-
-/// Returns the fault of the file at `path`, by the fault of its reader.
-pub fn read_failure(alloc: Global, path: &str, fault: ReadFault) -> Failure
-    ensures { IsFileFault path.now result }
-{
-    match fault {
-        ReadFault::Broken => failed_file(alloc, path, Cause::Unknown),
-        ReadFault::NoMemory => Failure::NoMemory,
-    }
-}
-
-/// Returns the program's fault of the file at `path`. If memory for the path runs out, returns `NoMemory` instead.
-fn failed_file(alloc: Global, path: &str, cause: Cause) -> Failure
-    ensures { IsFileFault path.now result }
-{
-    match String::from_str(alloc, path) {
-        Ok(path) => Failure::File(FileError { path, cause }),
-        Err(_) => Failure::NoMemory,
     }
 }

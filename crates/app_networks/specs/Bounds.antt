@@ -2,6 +2,7 @@
 use Rattle.std.specs.Prelude.{◌≡◌, ◌⊎◌, ◌&&◌, ◌||◌, ◌++◌, ℕ, Bool, true, false, not, List, [], None, Some, Option, String, is_some, string_bytes}
 use Rattle.std.specs.declared.alloc.Global.{Global}
 use Rattle.bridge_config.specs.Model.{Plan}
+use Rattle.app_files.specs.declared.failed_file.Access.TheVariants.{Reading}
 use Rattle.app_failure.specs.declared.fault.Failure.{Failure}
 use Rattle.app_failure.specs.Jobs.{Accepts}
 use Rattle.app_failure.specs.Reading.{IsFileFault}
@@ -41,12 +42,16 @@ warnings_text (Some unprotected) shared = string_bytes unprotected ++ shared
 abbrev pub status_by : Bool → Bool → Bool → ℕ
 status_by kept strict warned = status_if (kept && not (strict && warned))
 
--- Holds if the program prints the delay bounds of an accepted plan, and its warnings, if any, to standard error. The status is 1 exactly if warnings are errors
--- and there is one.
-abbrev pub IsBoundsOutput : Bool → Bool → Output → Type 0
-IsBoundsOutput strict explained output =
-    (input : List ℕ) × (lines : List ℕ) × (unprotected : Option (String Global)) × (shared : List ℕ) × PrintsBounds Global input lines
+-- Holds if the program prints the delay bounds of the accepted plan in `input`, and its warnings, if any, to standard error. The status is 1 exactly if warnings
+-- are errors and there is one.
+abbrev pub IsBoundsOutputOf : List ℕ → Bool → Bool → Output → Type 0
+IsBoundsOutputOf input strict explained output =
+    (lines : List ℕ) × (unprotected : Option (String Global)) × (shared : List ℕ) × PrintsBounds Global input lines
     × WarnsBy strict explained input unprotected shared × Prints lines (warnings_text unprotected shared) (status_by true strict (is_warned unprotected shared)) output
+
+-- Holds if the program prints the delay bounds of some accepted plan.
+abbrev pub IsBoundsOutput : Bool → Bool → Output → Type 0
+IsBoundsOutput strict explained output = (input : List ℕ) × IsBoundsOutputOf input strict explained output
 
 -- Holds if `bounds --traffic` prints this output: bounds and traffic lines. Standard error has the requested reasons,
 -- then the warnings. The status is 0 exactly if all traffic is kept without a warning as error.
@@ -58,4 +63,4 @@ IsTrafficOutput strict explained output =
 
 -- Holds if fault `f` can end the bounds of a plan with traffic: an unreadable file, out of memory, or a fault of plan or traffic.
 abbrev pub FailsTraffic : List ℕ → List ℕ → Failure → Type 0
-FailsTraffic plan file f = ((input : List ℕ) × (words : List ℕ) × EndsTexts Global plan input file words f) ⊎ (IsFileFault plan f ⊎ IsFileFault file f)
+FailsTraffic plan file f = ((input : List ℕ) × (words : List ℕ) × EndsTexts Global plan input file words f) ⊎ (IsFileFault Reading plan f ⊎ IsFileFault Reading file f)

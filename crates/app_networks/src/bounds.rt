@@ -1,14 +1,15 @@
 //! The command `bounds`, with traffic or without: delay bounds of a plan's queues, delays of its talkers' frames, and warnings.
 ghost use Rattle.std.specs.Prelude.{[], ◌≡◌, ◌&&◌, ◌++◌, IfErr, IfOk, OnOk, false, not, string_bytes};
 ghost use Rattle.std.specs.declared.alloc.Global.{Global};
-ghost use Rattle.app_commands.specs.Checked.{EndsChecked};
+ghost use Rattle.app_failure.specs.Jobs.{EndsCheck};
+ghost use Rattle.app_commands.specs.ReadTexts.{HasTextAt};
 ghost use Rattle.app_commands.specs.Outputs.{Prints};
-ghost use Rattle.app_networks.specs.Bounds.{FailsTraffic, IsBoundsOutput, IsTrafficOutput, WarnsBy, WarnsOfPlan, WarnsOfText, is_warned, status_by, warnings_text};
+ghost use Rattle.app_networks.specs.Bounds.{FailsTraffic, IsBoundsOutputOf, IsTrafficOutput, WarnsBy, WarnsOfPlan, WarnsOfText, is_warned, status_by, warnings_text};
 
 use crate::again::can_read_traffic_again;
-use app_commands::{Flags, Output, Texts, status_if, unprotected_warning};
+use app_commands::{Flags, Output, Texts, read_file_text, status_if, unprotected_warning};
 use app_failure::{Failure, NoMemory, accepted_plan, file_failure};
-use app_files::{CommandFiles, MOST_TEXT, open_input, read_open, read_text_file};
+use app_files::{CommandFiles, MOST_TEXT, ReadFiles, open_input, read_open};
 use bridge_check::Accepted;
 use net_latency::{TrafficReport, bounds_job, explain_refusable, shared_warnings, traffic_job};
 use std::alloc::{AllocError, Global};
@@ -26,28 +27,34 @@ struct BoundsWarnings {
 
 /// Returns the output of `bounds` for a plan without traffic. The status is 1 if warnings are errors and the plan has one. Stores the
 /// plan's text in `texts` for an explanation.
-pub(crate) fn bound_plan<H: AllocGlobal + Files>(
-    files: &CommandFiles<'_, H>,
+pub(crate) fn bound_plan<F: ReadFiles>(
+    alloc: Global,
+    files: &mut F,
     plan: &str,
     flags: Flags,
     texts: &mut Texts,
 ) -> Result<Output, Failure>
-    ensures ok { IfOk result (IsBoundsOutput flags.is_strict flags.is_explained) }
-    ensures fails { IfErr result (EndsChecked Global plan.now) }
+    ensures ok { IfOk result (λ output. HasTextAt (F.octets_at files.old) plan.now
+        (λ text. IsBoundsOutputOf text flags.is_strict flags.is_explained output)) }
+    ensures fails { IfErr result (λ f. HasTextAt (F.octets_at files.old) plan.now
+        (λ text. EndsCheck Global plan.now text f)) }
 {
-    let text = match read_text_file(files.rt, plan) {
+    let text = match read_file_text(files, plan) {
         Ok(text) => text,
-        Err(fault) => return Err(file_failure(fault)),
+        Err(fault) => return Err(fault),
     };
-    let bounded = bound_text(files.alloc(), plan, &text, flags);
+    let bounded = bound_text(alloc, plan, &text, flags);
     texts.plan = text;
-    bounded
+    match bounded {
+        Ok(output) => Ok(output),
+        Err(fault) => Err(fault),
+    }
 }
 
 /// Returns the output of `bounds` for the plan in `text`. A fault names the path `plan`.
 fn bound_text(alloc: Global, plan: &str, text: &[u8], flags: Flags) -> Result<Output, Failure>
-    ensures ok { IfOk result (IsBoundsOutput flags.is_strict flags.is_explained) }
-    ensures fails { IfErr result (EndsChecked Global plan.now) }
+    ensures ok { IfOk result (IsBoundsOutputOf text.now flags.is_strict flags.is_explained) }
+    ensures fails { IfErr result (EndsCheck Global plan.now text.now) }
 {
     let lines = match bounds_job(alloc, alloc, plan, text) {
         Ok(lines) => lines,

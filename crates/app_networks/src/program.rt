@@ -187,7 +187,10 @@ fn bound<H: AllocGlobal + Files>(
 {
     match traffic {
         Some(file) => bound_traffic(files, plan.as_str(), file.as_str(), flags, texts),
-        None => bound_plan(files, plan.as_str(), flags, texts),
+        None => match bound_plan(files.alloc(), files, plan.as_str(), flags, texts) {
+            Ok(output) => Ok(output),
+            Err(fault) => Err(fault),
+        },
     }
 }
 
