@@ -14,13 +14,14 @@ use Rattle.app_failure.specs.Jobs.{EndsCheck, EndsPlan}
 use Rattle.app_failure.specs.Reading.{IsFileFault}
 use Rattle.app_commands.specs.RunFiles.{EndsReading, IsAcceptedPlan, IsCheckedPlan}
 use Rattle.app_commands.specs.ShownFiles.{EndsPicture}
-use Rattle.app_commands.specs.ReadTexts.{AreCommandsAt, EndsCommandsAt, EndsPictureAt, EndsReadingAt, HasTextAt, IsAcceptedAt, IsTextAt, IsTextIfAt}
+use Rattle.app_commands.specs.ReadTexts.{AreCommandsAt, EndsCommandsAt, EndsPictureAt, EndsReadingAt, HasTextAt, IsAcceptedAt, IsTextAt, IsTextIfAt, IsTextOf}
 
-text_of : (known : Option (List ℕ)) → (text : List ℕ) × ((octets : List ℕ) → known ≡ Some octets → text ≡ take 1048577 octets)
+-- Each file has a text that can be read, whether or not its octets are known.
+pub text_of : (known : Option (List ℕ)) → (text : List ℕ) × IsTextOf known text
 text_of None = ([], λ octets is. absurd (some_is_none octets (sym is)))
 text_of (Some all) = (take 1048577 all, λ octets is. ap (take 1048577) (same_Some all octets is))
 
--- Each file has a text that can be read from it.
+-- The file at each path has such a text.
 pub some_text : (octets_at : List ℕ → Option (List ℕ)) (path : List ℕ) → (text : List ℕ) × IsTextAt octets_at path text
 some_text octets_at path = text_of (octets_at path)
 

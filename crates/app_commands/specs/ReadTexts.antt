@@ -8,9 +8,13 @@ use Rattle.app_failure.specs.Commanding.{EndsCommanded, commands_for}
 use Rattle.app_failure.specs.Jobs.{Accepts, EndsPlan}
 use Rattle.app_commands.specs.ShownFiles.{IsOfPicture}
 
--- Holds if `text` was read from the file at `path`: it has the first 1,048,577 octets of the file. It is any text if the octets of this file are unknown.
+-- Holds if `text` was read from a file with these octets: it has the first 1,048,577 octets. It is any text if the octets are unknown.
+abbrev pub IsTextOf : Option (List ℕ) → List ℕ → Type 0
+IsTextOf known text = (octets : List ℕ) → known ≡ Some octets → text ≡ take 1048577 octets
+
+-- Holds if `text` was read from the file at `path`.
 abbrev pub IsTextAt : (List ℕ → Option (List ℕ)) → List ℕ → List ℕ → Type 0
-IsTextAt octets_at path text = (octets : List ℕ) → octets_at path ≡ Some octets → text ≡ take 1048577 octets
+IsTextAt octets_at path text = IsTextOf (octets_at path) text
 
 -- Holds if the text that was read from the file at `path` has a property.
 abbrev pub HasTextAt : (List ℕ → Option (List ℕ)) → List ℕ → (List ℕ → Type 0) → Type 0

@@ -214,6 +214,12 @@ impl<'a, H: AllocGlobal + Files> CommandFiles<'a, H> {
 impl<H: AllocGlobal + Files> ReadFiles for CommandFiles<'_, H> {
     ghost octets_at = { λ _ _. None };
 
+    type File = H::File;
+
+    fn open_file(&mut self, path: &str) -> Result<H::File, FileFault> {
+        self.open(path)
+    }
+
     fn read(&mut self, path: &str, most: u64) -> Result<Vec<u8>, FileFault> {
         let reader = self.open(path)?;
         read_open(self.rt, path, reader, most)
@@ -374,11 +380,21 @@ fn regular_file_id(rt: &impl Files, path: &str) -> Option<FileId> {
     }
 }
 
-/// Reading of whole files by path. Contracts over this trait can name the octets of each file; the octets of the system's files are
+/// Files that a command reads, by path. Contracts over this trait can name the octets of each file; the octets of the system's files are
 /// unknown.
 pub trait ReadFiles {
     /// Octets of the file at a path, if they are known.
     ghost octets_at: { Self → List ℕ → Option (List ℕ) };
+
+    /// An open file.
+    type File: Read + Drop;
+
+    /// Opens the file at `path` for reading.
+    fn open_file(&mut self, path: &str) -> Result<Self::File, FileFault>
+        ensures octets { (octets : List ℕ) → octets_at self.old path.now ≡ Some octets
+            → IfOk result (λ file. Self.File.remaining file ≡ Some octets) }
+        ensures fails { IfErr result (IsOfPath Reading path.now) }
+        ensures same { (path : List ℕ) → octets_at self.new path ≡ octets_at self.old path };
 
     /// Reads at most `most` octets of the file at `path`.
     fn read(&mut self, path: &str, most: u64) -> Result<Vec<u8>, FileFault>

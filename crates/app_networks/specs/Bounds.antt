@@ -6,6 +6,7 @@ use Rattle.app_files.specs.declared.failed_file.Access.TheVariants.{Reading}
 use Rattle.app_failure.specs.declared.fault.Failure.{Failure}
 use Rattle.app_failure.specs.Jobs.{Accepts}
 use Rattle.app_failure.specs.Reading.{IsFileFault}
+use Rattle.app_commands.specs.ReadTexts.{HasTextAt}
 use Rattle.app_commands.specs.declared.output.Output.{Output}
 use Rattle.app_commands.specs.Outputs.{Prints, has_text, status_if}
 use Rattle.app_commands.specs.Notes.{WarnsOfNone}
@@ -53,14 +54,23 @@ IsBoundsOutputOf input strict explained output =
 abbrev pub IsBoundsOutput : Bool → Bool → Output → Type 0
 IsBoundsOutput strict explained output = (input : List ℕ) × IsBoundsOutputOf input strict explained output
 
--- Holds if `bounds --traffic` prints this output: bounds and traffic lines. Standard error has the requested reasons,
--- then the warnings. The status is 0 exactly if all traffic is kept without a warning as error.
-abbrev pub IsTrafficOutput : Bool → Bool → Output → Type 0
-IsTrafficOutput strict explained output =
-    (input : List ℕ) × (words : List ℕ) × (lines : List ℕ) × (kept : Bool) × (reasons : List ℕ) × (unprotected : Option (String Global)) × (shared : List ℕ)
+-- Holds if `bounds --traffic` prints this output for these texts of plan and traffic. Standard error has reasons, then warnings. The status is 0 exactly if all
+-- traffic is kept without a warning as error.
+abbrev pub IsTrafficOutputOf : List ℕ → List ℕ → Bool → Bool → Output → Type 0
+IsTrafficOutputOf input words strict explained output =
+    (lines : List ℕ) × (kept : Bool) × (reasons : List ℕ) × (unprotected : Option (String Global)) × (shared : List ℕ)
     × PrintsRows Global input words lines kept × WarnsBy strict explained input unprotected shared × (explained && not kept ≡ false → reasons ≡ [])
     × Prints lines (reasons ++ warnings_text unprotected shared) (status_by kept strict (is_warned unprotected shared)) output
+
+-- Holds if `bounds --traffic` prints this output for some plan and some traffic.
+abbrev pub IsTrafficOutput : Bool → Bool → Output → Type 0
+IsTrafficOutput strict explained output = (input : List ℕ) × (words : List ℕ) × IsTrafficOutputOf input words strict explained output
 
 -- Holds if fault `f` can end the bounds of a plan with traffic: an unreadable file, out of memory, or a fault of plan or traffic.
 abbrev pub FailsTraffic : List ℕ → List ℕ → Failure → Type 0
 FailsTraffic plan file f = ((input : List ℕ) × (words : List ℕ) × EndsTexts Global plan input file words f) ⊎ (IsFileFault Reading plan f ⊎ IsFileFault Reading file f)
+
+-- Holds if fault `f` can end `bounds --traffic` over the files at `plan` and `file`: one of them can't be read, or `f` is a fault of their texts.
+abbrev pub FailsTrafficAt : (List ℕ → Option (List ℕ)) → List ℕ → List ℕ → Failure → Type 0
+FailsTrafficAt octets_at plan file f =
+    HasTextAt octets_at plan (λ input. HasTextAt octets_at file (λ words. EndsTexts Global plan input file words f)) ⊎ (IsFileFault Reading plan f ⊎ IsFileFault Reading file f)
