@@ -1,6 +1,5 @@
 -- The files that a fault of a network run names.
 use Rattle.std.proofs.Common.{◌≡◌, ℕ, zero, suc, List, [], ◌∷◌, ap, Global, Option, None, Some, String, inl, inr, option_map, refl, subst, sym, string_bytes, ◌∙◌}
-use Rattle.std.specs.Io.KnownBytes.{Appends, Keeps}
 use Rattle.std.specs.Prelude.{codes, false, is_some, map, slice_get}
 use Rattle.std.proofs.lemmas.Option.{same_Some}
 use Rattle.bridge_limits.specs.Members.{IsMember}
@@ -171,10 +170,3 @@ pub outputs_end : {A : Type 0} (n : NetworkParts A) (bridges listed : List Bridg
 outputs_end n bridges listed plans input output picture f are same h =
     written_ends n bridges input output picture f (written_output n.plans bridges output picture f
     (subst (λ (l : List Bridge). NamesFile Writing (IsOutputFile n.plans l output) f) same (subst (λ (ps : List (Plan _)). NamesFile Writing (IsOutputFile ps listed output) f) are h)))
-
--- Octets appended to contents that remained.
-pub appended_kept : (a b c : Option (List ℕ)) (octets : List ℕ) → Appends a b octets → Keeps b c → Appends a c octets
-appended_kept None b c octets appends keeps = tt
-appended_kept (Some x) None c octets appends keeps = absurd appends
-appended_kept (Some x) (Some y) None octets appends keeps = absurd keeps
-appended_kept (Some x) (Some y) (Some z) octets appends keeps = keeps ∙ appends

@@ -186,7 +186,14 @@ fn bound<H: AllocGlobal + Files>(
     ensures fails { IfErr result (FailsBounds (string_bytes plan.now) (option_map string_bytes traffic.now)) }
 {
     match traffic {
-        Some(file) => match bound_traffic(files.rt, files, plan.as_str(), file.as_str(), flags, texts) {
+        Some(file) => match bound_traffic(
+            files.rt,
+            files,
+            plan.as_str(),
+            file.as_str(),
+            flags,
+            texts,
+        ) {
             Ok(output) => Ok(output),
             Err(fault) => Err(fault),
         },

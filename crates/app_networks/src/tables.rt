@@ -339,7 +339,10 @@ pub(crate) fn put_tables<F: Write + OpenFile + Drop>(
         &mut streams,
         &mut frames,
     ) {
-        Ok(totals) => end_tables(alloc, folder, totals, streams, frames),
+        Ok(totals) => match end_tables(alloc, folder, totals, streams, frames) {
+            Ok(written) => Ok(written),
+            Err(fault) => Err(fault),
+        },
         Err(fault) => Err(give_up_tables(alloc, folder, fault, streams, frames)),
     }
 }
