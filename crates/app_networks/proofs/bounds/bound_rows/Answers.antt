@@ -8,6 +8,16 @@ returns-in-Err-clause-fails g c =
     let text = c.args.text.now in
     texts_end Global (g.R.Read.remaining c.args.rows) c.args.plan.now text c.args.file.now c.in-Err.fault (λ words told. c.in-Err.ensures.err text words refl told) (c.in-Err.ensures.refused text refl)
 
+pub returns-in_default-clause-fails : goal.returns-in_default-clause-fails
+returns-in_default-clause-fails g c =
+    let some = text_of (g.R.Read.remaining c.args.rows) in
+    (some.0, some.1, inl tt)
+
+pub returns-in-Err-bounds_output-clause-fails : goal.returns-in-Err-bounds_output-clause-fails
+returns-in-Err-bounds_output-clause-fails g c =
+    let some = text_of (g.R.Read.remaining c.args.rows) in
+    (some.0, some.1, inl tt)
+
 pub returns-in-Ok-bounds_output-clause-ok : goal.returns-in-Ok-bounds_output-clause-ok
 returns-in-Ok-bounds_output-clause-ok g c =
     let text = c.args.text.now in
@@ -16,13 +26,15 @@ returns-in-Ok-bounds_output-clause-ok g c =
     let warnings = c.in-Ok-warnings_if.warnings in (
       read.0,
       read.1,
-      string_bytes report.text,
-      report.kept,
-      string_bytes c.traffic_reasons-notes.result,
-      warnings.unprotected,
-      string_bytes warnings.shared,
-      read.2,
-      c.in-Ok-warnings_if.ensures,
-      c.traffic_reasons-notes.ensures,
-      c.in-Ok-bounds_output.ensures,
+      (
+        string_bytes report.text,
+        report.kept,
+        string_bytes c.traffic_reasons-notes.result,
+        warnings.unprotected,
+        string_bytes warnings.shared,
+        read.2,
+        c.in-Ok-warnings_if.ensures,
+        c.traffic_reasons-notes.ensures,
+        c.in-Ok-bounds_output.ensures,
+      ),
     )

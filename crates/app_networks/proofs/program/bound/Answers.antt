@@ -3,11 +3,11 @@ use Rattle.app_networks.proofs.ReadTraffic.{bounded_none, bounded_some, failed_n
 use Rattle.app_networks.proofs.program.bound.Goals as goal
 
 pub returns-in-Ok-clause-ok : goal.returns-in-Ok-clause-ok
-returns-in-Ok-clause-ok g c = bounded_some (λ _. None) c.args.traffic.now c.in-Some.file c.as_str.result.now c.as_str-2.result.now c.args.flags.is_strict c.args.flags.is_explained c.in-Ok.output c.in-Some.is c.in-Ok.ensures.ok
+returns-in-Ok-clause-ok g c = bounded_some (λ _. None) c.args.traffic.now c.in-Some.file c.as_str.result.now c.as_str-in-Some.result.now c.args.flags.is_strict c.args.flags.is_explained c.in-Ok.output c.in-Some.is c.in-Ok.ensures.ok
 
 pub returns-in-Err-clause-fails : goal.returns-in-Err-clause-fails
 returns-in-Err-clause-fails g c =
-    failed_some (λ _. None) c.args.traffic.now c.in-Some.file c.as_str.result.now (string_bytes c.args.plan.now) c.as_str-2.result.now c.in-Err.fault c.in-Some.is c.as_str.ensures.value c.as_str-2.ensures.value c.in-Err.ensures.fails
+    failed_some (λ _. None) c.args.traffic.now c.in-Some.file c.as_str.result.now (string_bytes c.args.plan.now) c.as_str-in-Some.result.now c.in-Err.fault c.in-Some.is c.as_str.ensures.value c.as_str-in-Some.ensures.value c.in-Err.ensures.fails
 
 pub returns-in-Ok-bound_plan-clause-ok : goal.returns-in-Ok-bound_plan-clause-ok
 returns-in-Ok-bound_plan-clause-ok g c =

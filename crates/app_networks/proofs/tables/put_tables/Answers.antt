@@ -4,8 +4,8 @@ use Rattle.app_networks.specs.Counted.{AreTotals}
 use Rattle.app_networks.specs.declared.tables.Totals.{Totals}
 use Rattle.app_networks.proofs.tables.put_tables.Goals as goal
 
-pub returns-in-Ok-end_tables-clause-counts : goal.returns-in-Ok-end_tables-clause-counts
-returns-in-Ok-end_tables-clause-counts g c =
+pub returns-in-Ok-end_tables-clause-ok : goal.returns-in-Ok-end_tables-clause-ok
+returns-in-Ok-end_tables-clause-ok g c =
     subst (λ (t : Totals). AreTotals c.args.links.now c.args.settled.now c.args.file.now.streams 0 0 t.frames t.delivered) (sym c.in-Ok-end_tables.ensures.totals) c.in-Ok.ensures.counts
 
 pub returns-in-Ok-end_tables-clause-written : goal.returns-in-Ok-end_tables-clause-written
