@@ -1,5 +1,5 @@
 -- Plans that can't be read, and faults of arguments.
-use Rattle.std.proofs.Common.{◌≡◌, ◌⊎◌, ◌++◌, ◌∷◌, ℕ, Bool, false, Err, Global, IfErr, IfOk, List, None, Ok, Option, Result, Some, String, [], inl, inr, refl, string_bytes, subst, sym}
+use Rattle.std.proofs.Common.{◌≡◌, ℕ, Bool, false, Err, Global, IfOk, List, None, Ok, Option, Result, Some, String, [], refl}
 use Rattle.bridge_limits.specs.declared.NoMemory.{NoMemory}
 use Rattle.bridge_limits.proofs.Options.{some_is_none}
 use Rattle.app_files.specs.declared.failed_file.Access.TheVariants.{Reading}

@@ -6,9 +6,6 @@ use Rattle.app_files.specs.declared.failed_file.Access.TheVariants.{Reading, Wri
 use Rattle.app_failure.specs.declared.fault.Failure.{Failure}
 use Rattle.app_failure.specs.declared.fault.Failure.TheVariants as fault
 use Rattle.bridge_core.specs.WholeRuns.{ArePortNumbers}
-use Rattle.app_failure.specs.Commanding.{EndsCommanded}
-use Rattle.app_failure.specs.Jobs.{Accepts}
-use Rattle.bridge_config.specs.Document.{text_plan}
 use Rattle.bridge_check.specs.Faults.{first_fault}
 use Rattle.app_failure.specs.Reading.{FailsCaptures, IsFileFault, LacksPath}
 use Rattle.app_commands.specs.RunFiles.{EndsReading, EndsRun, EndsSending, EndsWithCommands, IsAcceptedPlan, IsCheckedPlan, IsFileOfRun, IsOfOutputs, IsOfReport, IsPlanOfText}

@@ -1,5 +1,5 @@
 -- Texts of plan and traffic that `bounds --traffic` reads.
-use Rattle.std.proofs.Common.{◌≡◌, ◌⊎◌, ℕ, Bool, Global, List, [], None, Option, Some, String, ap, inl, inr, is_some, option_map, refl, string_bytes, subst, sym, take, ◌∙◌}
+use Rattle.std.proofs.Common.{◌≡◌, ℕ, Bool, Global, List, None, Option, Some, String, ap, inl, inr, is_some, option_map, refl, string_bytes, subst, sym, take}
 use Rattle.std.proofs.lemmas.Option.{same_Some}
 use Rattle.bridge_limits.proofs.Options.{some_is_none}
 use Rattle.app_failure.specs.declared.fault.Failure.{Failure}

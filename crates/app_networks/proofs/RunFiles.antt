@@ -1,5 +1,5 @@
 -- The files that a fault of a network run names.
-use Rattle.std.proofs.Common.{◌≡◌, ℕ, zero, suc, List, [], ◌∷◌, ap, Global, Option, None, Some, String, inl, inr, option_map, refl, subst, sym, string_bytes, ◌∙◌}
+use Rattle.std.proofs.Common.{◌≡◌, ℕ, zero, suc, List, [], ◌∷◌, ap, Global, Option, Some, String, inl, inr, option_map, refl, subst, sym, string_bytes, ◌∙◌}
 use Rattle.std.specs.Prelude.{codes, false, is_some, map, slice_get}
 use Rattle.std.proofs.lemmas.Option.{same_Some}
 use Rattle.bridge_limits.specs.Members.{IsMember}
@@ -19,7 +19,7 @@ use Rattle.app_files.specs.FailedFiles.{IsCapture}
 use Rattle.app_files.specs.Paths.{capture_path, report_path}
 use Rattle.app_networks.specs.OutputFiles.{folder_path}
 use Rattle.app_networks.specs.Folders.{EndsBridge, EndsCommands, EndsReading, EndsRun}
-use Rattle.app_networks.specs.RunFiles.{IsBridgeOutputFile, IsInputFile, IsOpenCapture, IsOutputFile, IsOutputOfBridges, IsPictureFile, IsTableFile, IsWrittenFile, NamesFile, commands_path, table_path}
+use Rattle.app_networks.specs.RunFiles.{IsBridgeOutputFile, IsOpenCapture, IsOutputFile, IsOutputOfBridges, IsPictureFile, IsTableFile, IsWrittenFile, NamesFile, commands_path, table_path}
 
 -- A fault names one of more files.
 pub wider : (P Q : List ℕ → Type 0) (f : Failure) → ((path : List ℕ) → P path → Q path) → NamesFile Writing P f → NamesFile Writing Q f

@@ -1,4 +1,4 @@
-use Rattle.std.proofs.Common.{inl, inr}
+use Rattle.std.proofs.Common.{inl}
 use Rattle.app_commands.proofs.run_files.create_outputs.Goals as goal
 
 pub returns-in-Err-clause-only : goal.returns-in-Err-clause-only
