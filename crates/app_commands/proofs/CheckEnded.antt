@@ -1,7 +1,8 @@
 -- Plans that can't be read, and faults of arguments.
-use Rattle.std.proofs.Common.{◌≡◌, ◌⊎◌, ◌++◌, ◌∷◌, ℕ, Bool, false, Err, Global, IfErr, IfOk, List, None, Ok, Option, Result, Some, String, [], inl, inr, refl, string_bytes, subst, sym}
+use Rattle.std.proofs.Common.{◌≡◌, ℕ, Bool, false, Err, Global, IfOk, List, None, Ok, Option, Result, Some, String, [], refl}
 use Rattle.bridge_limits.specs.declared.NoMemory.{NoMemory}
 use Rattle.bridge_limits.proofs.Options.{some_is_none}
+use Rattle.app_files.specs.declared.failed_file.Access.TheVariants.{Reading}
 use Rattle.app_failure.specs.declared.fault.Failure.{Failure}
 use Rattle.app_failure.specs.declared.fault.Failure.TheVariants as fault
 use Rattle.app_failure.specs.Jobs.{EndsCheck}
@@ -10,13 +11,13 @@ use Rattle.app_commands.specs.Checked.{EndsChecked}
 use Rattle.app_commands.specs.Outputs.{Reports, ReportsFault}
 use Rattle.app_commands.specs.declared.output.Output.{Output}
 
-of_file : (A : Type 0) (plan : List ℕ) (f : Failure) → IsFileFault plan f → EndsCheck A plan [] f
+of_file : (A : Type 0) (plan : List ℕ) (f : Failure) → IsFileFault Reading plan f → EndsCheck A plan [] f
 of_file A plan (fault.File e) h = h
 of_file A plan fault.NoMemory h = h
 of_file A plan f h = absurd h
 
 -- A plan that can't be read ends the check.
-pub not_checked : (A : Type 0) (plan : List ℕ) (f : Failure) → IsFileFault plan f → EndsChecked A plan f
+pub not_checked : (A : Type 0) (plan : List ℕ) (f : Failure) → IsFileFault Reading plan f → EndsChecked A plan f
 not_checked A plan f h = ([], of_file A plan f h)
 
 reported_with : (explained : Bool) (f : Failure) (explanation : Option (String Global)) (output : Output) → (explained ≡ false → explanation ≡ None) → ReportsFault f explanation output → Reports explained f output

@@ -7,3 +7,4 @@ pub mod Devices
 pub mod Ran
 pub mod ShownEnded
 pub mod CommandRan
+pub mod ReadTexts

@@ -7,6 +7,7 @@ use Rattle.bridge_capture.specs.declared.fault.RunFault.{RunFault}
 use Rattle.bridge_capture.specs.declared.fault.RunFault.TheVariants as run
 use Rattle.app_failure.specs.declared.fault.TextFault.{TextFault}
 use Rattle.app_failure.specs.declared.fault.TextFault.TheVariants as text
+use Rattle.app_files.specs.declared.failed_file.Access.TheVariants.{Reading}
 use Rattle.app_failure.specs.declared.fault.Failure.{Failure}
 use Rattle.app_failure.specs.declared.fault.Failure.TheVariants as fault
 use Rattle.app_failure.specs.Reading.{IsStandardStreamFault}
@@ -46,6 +47,6 @@ text_refused {X} looked input f r e is not_hex too_long ran spelled =
     refused_front input f (subst (λ (z : List ℕ). RefusesText z f) e told)
 
 -- A fault of standard input ends the job over a text.
-pub input_ends : (input : List ℕ) (f : Failure) → IsStandardStreamFault f → EndsText input f
+pub input_ends : (input : List ℕ) (f : Failure) → IsStandardStreamFault Reading f → EndsText input f
 input_ends input (fault.Text f) h = absurd h
 input_ends input f h = h

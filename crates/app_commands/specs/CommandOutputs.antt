@@ -1,10 +1,11 @@
 -- Outputs, exit statuses and faults of the commands for one bridge.
-use Rattle.std.specs.Prelude.{◌≡◌, ◌⊎◌, ◌++◌, ◌&&◌, ℕ, Bool, true, false, not, List, [], None, Option, Some, String, option_map, string_bytes}
+use Rattle.std.specs.Prelude.{◌≡◌, ◌⊎◌, ◌++◌, ◌&&◌, ℕ, Bool, true, false, not, List, [], None, Option, Some, String, string_bytes}
 use Rattle.std.specs.declared.alloc.Global.{Global}
 use Rattle.std.specs.Io.KnownBytes.{Appends}
 use Rattle.app_failure.specs.declared.fault.Failure.{Failure}
 use Rattle.app_failure.specs.Jobs.{PrintsAccepted}
 use Rattle.app_failure.specs.Reading.{IsStandardStreamFault}
+use Rattle.app_files.specs.declared.failed_file.Access.TheVariants.{Writing}
 use Rattle.app_files.specs.Folders.{HavePaths}
 use Rattle.app_files.specs.Said.{IsStandard}
 use Rattle.app_commands.specs.Jobs.{EndsText, IsCountsLine, PrintsText}
@@ -75,9 +76,9 @@ IsPictureOutput path output = (text : List ℕ) × (IsStandard path ⊎ (text �
 
 -- STANDARD OUTPUT
 
--- Holds if the program reports that standard input or output failed.
+-- Holds if the program reports that standard output failed.
 abbrev pub IsStandardFailure : Bool → Output → Type 0
-IsStandardFailure explained output = (f : Failure) × IsStandardStreamFault f × Reports explained f output
+IsStandardFailure explained output = (f : Failure) × IsStandardStreamFault Writing f × Reports explained f output
 
 -- Holds if `done` is the given output, and the writer received its text for standard output. Without a writer, `done` reports that standard output failed.
 abbrev pub IsPut : {W : Type 0} → (W → Option (List ℕ)) → W → Bool → Output → Output → Option W → Type 0

@@ -6,6 +6,7 @@ use Rattle.bridge_capture.specs.declared.hex_fault.HexFault.TheVariants as hex
 use Rattle.bridge_wire.specs.declared.wire_count.WireCount.{WireCount}
 use Rattle.bridge_capture.specs.declared.fault.RunFault.TheVariants as run
 use Rattle.bridge_wire.specs.Wire.{NamesPortOne, WiresText}
+use Rattle.app_files.specs.declared.failed_file.Access.TheVariants.{Reading}
 use Rattle.app_failure.specs.declared.fault.TextFault.{TextFault}
 use Rattle.app_failure.specs.declared.fault.TextFault.TheVariants as text
 use Rattle.app_failure.specs.declared.fault.Failure.{Failure}
@@ -29,7 +30,7 @@ RefusesText input (text.Run f) = (f ≡ run.NoMemory) ⊎ ((octets : List ℕ) �
 -- Holds if the failure can end the run of this hexadecimal text on standard input.
 abbrev pub EndsText : List ℕ → Failure → Type 0
 EndsText input (fault.Text f) = RefusesText input f
-EndsText input f = IsStandardStreamFault f
+EndsText input f = IsStandardStreamFault Reading f
 
 -- A CAPTURE THROUGH ONE QUEUE
 

@@ -11,3 +11,4 @@ pub mod Losing
 pub mod Notes
 pub mod CommandOutputs
 pub mod RunJobs
+pub mod ReadTexts

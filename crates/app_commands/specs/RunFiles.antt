@@ -13,17 +13,19 @@ use Rattle.bridge_report.specs.Summary.{summary_text}
 use Rattle.bridge_semantics.specs.declared.outcome.Outcome.{Outcome}
 use Rattle.bridge_core.specs.WholeRuns.{ArePortNumbers}
 use Rattle.app_failure.specs.Reading.{FailsCaptures, IsFileFault, LacksPath}
+use Rattle.app_files.specs.declared.failed_file.Access.{Access}
+use Rattle.app_files.specs.declared.failed_file.Access.TheVariants.{Reading, Writing}
 use Rattle.app_files.specs.FailedFiles.{IsCapture}
 use Rattle.app_files.specs.Folders.{HavePaths}
 use Rattle.app_files.specs.Paths.{report_path}
 
 -- Holds if the report in a folder failed, or memory ran out.
 abbrev pub IsOfReport : List ℕ → Failure → Type 0
-IsOfReport folder f = IsFileFault (report_path folder) f
+IsOfReport folder f = IsFileFault Writing (report_path folder) f
 
 -- Holds if an output in a folder failed, a capture of one of these ports or the report, or memory ran out.
 abbrev pub IsOfOutputs : List ℕ → List ℕ → Failure → Type 0
-IsOfOutputs folder ports f = FailsCaptures folder ports f ⊎ IsOfReport folder f
+IsOfOutputs folder ports f = FailsCaptures Writing folder ports f ⊎ IsOfReport folder f
 
 -- Holds if a file has the report of a run: the report was appended to some file, and this file is the result.
 abbrev pub HasReport : {A W : Type 0} → (W → Option (List ℕ)) → Outcome A → W → Type 0
@@ -49,19 +51,20 @@ EndsWithCommands p commands f = (text : Option (List ℕ)) × EndsCommanded p co
 abbrev pub EndsReading : (A : Type 0) → List ℕ → Option (List ℕ) → Failure → Type 0
 EndsReading A plan commands f = ((text : List ℕ) × EndsPlan A plan text f) ⊎ ((p : Plan A) × IsPlanOfText p × EndsWithCommands p commands f)
 
--- Holds if `path` is the capture of one of the plan's ports, in the input or the output folder.
-abbrev pub IsCaptureOfRun : {A : Type 0} → Plan A → List ℕ → List ℕ → List ℕ → Type 0
-IsCaptureOfRun p input output path = (ports : List ℕ) × ArePortNumbers p ports × (IsCapture input ports path ⊎ IsCapture output ports path)
+-- Holds if `path` is the capture of one of the plan's ports in a folder.
+abbrev pub IsCaptureOfRun : {A : Type 0} → Plan A → List ℕ → List ℕ → Type 0
+IsCaptureOfRun p folder path = (ports : List ℕ) × ArePortNumbers p ports × IsCapture folder ports path
 
--- Holds if a file fault of the run can name `path`: a capture, the report or the output folder. The fault names this
--- folder if input and output folder are one.
-abbrev pub IsFileOfRun : {A : Type 0} → Plan A → List ℕ → List ℕ → List ℕ → Type 0
-IsFileOfRun p input output path = IsCaptureOfRun p input output path ⊎ ((path ≡ output) ⊎ (path ≡ report_path output))
+-- Holds if a file fault of the run can name `path`. A read fault names an input capture, a write fault an output capture, the report, or the output folder (if
+-- it is the input folder).
+abbrev pub IsFileOfRun : {A : Type 0} → Plan A → List ℕ → List ℕ → Access → List ℕ → Type 0
+IsFileOfRun p input output Reading path = IsCaptureOfRun p input path
+IsFileOfRun p input output Writing path = IsCaptureOfRun p output path ⊎ ((path ≡ output) ⊎ (path ≡ report_path output))
 
 -- Holds if failure `f` can end a run under a plan between two folders. An empty path, a file of the run, or the run itself failed.
 abbrev pub EndsSending : {A : Type 0} → Plan A → List ℕ → List ℕ → Failure → Type 0
 EndsSending p input output (fault.File e) =
-    LacksPath input output (fault.File e) ⊎ (HavePaths input output × IsFileOfRun p input output (string_bytes e.path))
+    LacksPath input output (fault.File e) ⊎ (HavePaths input output × IsFileOfRun p input output e.access (string_bytes e.path))
 EndsSending p input output fault.NoMemory = Unit {0}
 EndsSending p input output (fault.Run f) = Unit {0}
 EndsSending p input output f = ⊥

@@ -5,6 +5,7 @@ use Rattle.std.specs.Io.KnownBytes.{Appends}
 use Rattle.bridge_config.specs.Model.{Plan}
 use Rattle.bridge_semantics.specs.declared.outcome.Outcome.{Outcome}
 use Rattle.show_tables.specs.FrameTable.{frame_table}
+use Rattle.app_files.specs.declared.failed_file.Access.TheVariants.{Writing}
 use Rattle.app_failure.specs.declared.fault.Failure.{Failure}
 use Rattle.app_failure.specs.declared.fault.Failure.TheVariants as fault
 use Rattle.app_failure.specs.Jobs.{EndsPlan}
@@ -13,7 +14,7 @@ use Rattle.app_commands.specs.RunFiles.{EndsRun, EndsSending}
 
 -- Holds if the picture at path `file` failed, or memory ran out.
 abbrev pub IsOfPicture : List ℕ → Failure → Type 0
-IsOfPicture file f = IsFileFault file f
+IsOfPicture file f = IsFileFault Writing file f
 
 -- Holds if failure `f` can end the picture of a plan: some plan text is refused, or a file failed.
 abbrev pub EndsPicture : (A : Type 0) → List ℕ → List ℕ → Failure → Type 0
@@ -37,7 +38,7 @@ EndsDrawn A plan commands input output (Some file) f = EndsRun A plan commands i
 -- Holds if the requested table failed, or memory ran out.
 abbrev pub IsOfTable : Option (List ℕ) → Failure → Type 0
 IsOfTable None f = ⊥
-IsOfTable (Some file) f = IsFileFault file f
+IsOfTable (Some file) f = IsFileFault Writing file f
 
 -- Holds if the requested table of delays or of frames failed, or memory ran out.
 abbrev pub IsOfTables : Option (List ℕ) → Option (List ℕ) → Failure → Type 0

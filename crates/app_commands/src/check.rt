@@ -4,6 +4,7 @@ ghost use Rattle.std.specs.declared.alloc.Global.{Global};
 ghost use Rattle.app_failure.specs.Accepting.{accepted_line};
 ghost use Rattle.app_failure.specs.Jobs.{EndsCheck, PrintsAccepted};
 ghost use Rattle.app_commands.specs.Checked.{EndsChecked};
+ghost use Rattle.app_commands.specs.ReadTexts.{HasTextAt};
 ghost use Rattle.app_commands.specs.Notes.{AreNotes};
 ghost use Rattle.app_commands.specs.Outputs.{status_if};
 ghost use Rattle.app_commands.specs.CommandOutputs.{IsCheckOutput};
@@ -11,9 +12,9 @@ ghost use Rattle.app_commands.specs.CommandOutputs.{IsCheckOutput};
 use crate::context::{Flags, Texts};
 use crate::notes::{idle_line, plan_notes};
 use crate::output::Output;
-use crate::plan::read_plan_text;
+use crate::plan::{read_file_text, read_standard_text};
 use app_failure::{Failure, NoMemory, check_line, read_accepted_plan};
-use app_files::CommandFiles;
+use app_files::{CommandFiles, MOST_TEXT, ReadFiles, is_standard};
 use bridge_check::Accepted;
 use std::alloc::Global;
 use std::rt::Files;
@@ -41,13 +42,7 @@ pub fn check_plan<H: Input + AllocGlobal + Files>(
     ensures ok { IfOk result (IsCheckOutput flags.is_strict flags.is_explained) }
     ensures fails { IfErr result (EndsChecked Global plan.now) }
 {
-    let text = match read_plan_text(files, plan) {
-        Ok(text) => text,
-        Err(fault) => return Err(fault),
-    };
-    let checked = check_text(files.alloc(), plan, &text, flags);
-    texts.plan = text;
-    match checked {
+    match check_input(files, plan, flags, texts) {
         Ok(
             CheckedPlan {
                 line,
@@ -63,8 +58,67 @@ pub fn check_plan<H: Input + AllocGlobal + Files>(
     }
 }
 
-/// Checks the plan in `text`, and returns its line and notes. A refused plan is a fault; a fault of reading names `path`. `check_plan`
+/// Checks the plan at path `plan`, or on standard input for `-`, and returns its line and notes. Stores its text in `texts`. `check_plan`
 /// calls it.
+fn check_input<H: Input + AllocGlobal + Files>(
+    files: &mut CommandFiles<'_, H>,
+    plan: &str,
+    flags: Flags,
+    texts: &mut Texts,
+) -> Result<CheckedPlan, Failure>
+    ensures ok { IfOk result (λ checked. (text : List ℕ) × PrintsAccepted Global text (string_bytes checked.line)) }
+    ensures notes { IfOk result (λ checked. AreNotes flags.is_strict flags.is_explained (string_bytes checked.notes)
+        checked.is_warned) }
+    ensures fails { IfErr result (EndsChecked Global plan.now) }
+{
+    let alloc = files.alloc();
+    if !is_standard(plan) {
+        return match check_file(alloc, files, plan, flags, texts) {
+            Ok(checked) => Ok(checked),
+            Err(fault) => Err(fault),
+        };
+    }
+    let text = match read_standard_text(alloc, files.rt.reader(), MOST_TEXT) {
+        Ok(text) => text,
+        Err(fault) => return Err(fault),
+    };
+    let checked = check_text(alloc, plan, &text, flags);
+    texts.plan = text;
+    match checked {
+        Ok(checked) => Ok(checked),
+        Err(fault) => Err(fault),
+    }
+}
+
+/// Checks the plan of the file at `path`, and returns its line and notes. Stores its text in `texts`. `check_input` calls it.
+fn check_file<F: ReadFiles>(
+    alloc: Global,
+    files: &mut F,
+    path: &str,
+    flags: Flags,
+    texts: &mut Texts,
+) -> Result<CheckedPlan, Failure>
+    ensures ok { IfOk result (λ checked. HasTextAt (F.octets_at files.old) path.now
+        (λ text. PrintsAccepted Global text (string_bytes checked.line))) }
+    ensures notes { IfOk result (λ checked. AreNotes flags.is_strict flags.is_explained (string_bytes checked.notes)
+        checked.is_warned) }
+    ensures err { IfErr result (λ f. HasTextAt (F.octets_at files.old) path.now
+        (λ text. EndsCheck Global path.now text f)) }
+{
+    let text = match read_file_text(files, path) {
+        Ok(text) => text,
+        Err(fault) => return Err(fault),
+    };
+    let checked = check_text(alloc, path, &text, flags);
+    texts.plan = text;
+    match checked {
+        Ok(checked) => Ok(checked),
+        Err(fault) => Err(fault),
+    }
+}
+
+/// Checks the plan in `text`, and returns its line and notes. A refused plan is a fault; a fault of reading names `path`. `check_input` and
+/// `check_file` call it.
 fn check_text(alloc: Global, path: &str, text: &[u8], flags: Flags) -> Result<CheckedPlan, Failure>
     ensures ok { IfOk result (λ checked. PrintsAccepted Global text.now (string_bytes checked.line)) }
     ensures notes { IfOk result (λ checked. AreNotes flags.is_strict flags.is_explained (string_bytes checked.notes)

@@ -4,7 +4,7 @@
 use crate::context::{RunRequest, Texts};
 use crate::late::{Last, put_late};
 use app_failure::Failure;
-use app_files::{Cause, FileError, capture_path, is_file, is_standard, read_at_most};
+use app_files::{Cause, capture_path, is_file, is_standard, read_at_most};
 use bridge_capture::{Capture, CaptureFault, MAX_RECORDS, ReadAhead, RunFault};
 use bridge_check::{Accepted, CheckFault};
 use bridge_config::{Command, plan_of};
@@ -37,11 +37,7 @@ pub fn explain_words_fault(alloc: Global, words: &[String], fault: &Failure) -> 
 /// `explain_words_fault`, `explain_plan_fault` and functions of `app_networks` call it.
 pub fn explain_file_fault(alloc: Global, fault: &Failure) -> Option<String> {
     match fault {
-        Failure::File(FileError { path, cause }) => explain_file_cause(
-            alloc,
-            path.as_str(),
-            *cause,
-        ),
+        Failure::File(error) => explain_file_cause(alloc, error.path(), error.cause()),
         _ => None,
     }
 }

@@ -8,8 +8,8 @@ use crate::jobs::wire_job;
 use crate::progress::{Progress, WatchedReader, input_octets};
 use app_failure::{Failure, file_failure};
 use app_files::{
-    Cause, FileId, Said, create_output, file_fault, is_same_file, is_standard, open_capture,
-    open_file_id, path_file_id,
+    Cause, FileId, Said, create_apart, is_standard, open_capture, open_file_id, path_file_id,
+    standard_output_fault,
 };
 use bridge_frame::Speed;
 use bridge_port::LARGEST_ROOM;
@@ -84,18 +84,13 @@ fn wire_to_output<R: Read + Drop, H: AllocGlobal + Print + Files>(
             Err(fault) => Err(fault),
         };
     }
-    let writer = match create_output(rt, output) {
+    let writer = match create_apart(rt, output, file) {
         Ok(writer) => writer,
         Err(fault) => {
             drop(reader);
             return Err(file_failure(fault));
         }
     };
-    if is_same_file(file, writer.id()) {
-        drop(reader);
-        drop(writer);
-        return Err(file_failure(file_fault(rt.alloc(), output, Cause::InUse)));
-    }
     match wire_streams(rt.alloc(), speed, room, reader, writer, output) {
         Ok((said, _)) => Ok(said),
         Err(fault) => Err(fault),
@@ -146,7 +141,7 @@ fn output_fault(alloc: Global, fault: Failure, output: &str) -> Failure
 {
     match fault {
         Failure::Run(RunFault::Write { .. }) if is_standard(output) => {
-            file_failure(file_fault(alloc, output, Cause::Standard))
+            file_failure(standard_output_fault(alloc))
         }
         fault => fault,
     }

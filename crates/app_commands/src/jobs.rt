@@ -4,10 +4,9 @@ ghost use Rattle.app_commands.specs.Jobs.{EndsText, EndsWire, IsCountsLine, IsOf
 
 use crate::captures::wire_capture;
 use crate::hexadecimal::wire_text;
-use crate::plan::input_fault;
+use crate::plan::read_standard_text;
 use crate::wire::wire_line;
 use app_failure::Failure;
-use app_files::read_at_most;
 use bridge_frame::Speed;
 use bridge_port::LARGEST_ROOM;
 use std::alloc::Global;
@@ -25,9 +24,9 @@ pub fn text_job<R: Read + Drop>(alloc: Global, reader: R) -> Result<String, Fail
     ensures read { IfOk result (λ lines. (input : List ℕ) × PrintsText input (string_bytes lines)) }
     ensures only { IfErr result (λ fault. (input : List ℕ) × EndsText input fault) }
 {
-    let text = match read_at_most(alloc, reader, MOST_INPUT) {
+    let text = match read_standard_text(alloc, reader, MOST_INPUT) {
         Ok(text) => text,
-        Err(fault) => return Err(input_fault(alloc, fault)),
+        Err(fault) => return Err(fault),
     };
     match wire_text(alloc, &text) {
         Ok(lines) => Ok(lines),

@@ -24,7 +24,7 @@ pub fn draw_plan<H: AllocGlobal + Files>(
     ensures ok { IfOk result (IsPictureOutput file.now) }
     ensures fails { IfErr result (EndsPicture Global plan.now file.now) }
 {
-    let text = match plan_picture(files, plan, part, texts) {
+    let text = match plan_picture(files.alloc(), files, plan, part, texts) {
         Ok(text) => text,
         Err(fault) => return Err(fault),
     };

@@ -1,12 +1,14 @@
 //! Draws pictures of plans and runs, and writes them to files.
 ghost use Rattle.std.specs.Prelude.{ℕ, IfErr, IfOk, List, codes, string_bytes};
 ghost use Rattle.std.specs.declared.alloc.Global.{Global};
-ghost use Rattle.app_commands.specs.ShownFiles.{EndsPicture, IsOfPicture, IsWritten};
+ghost use Rattle.app_commands.specs.ReadTexts.{EndsPictureAt, HasPlanAt};
+ghost use Rattle.app_commands.specs.ShownFiles.{IsOfPicture, IsWritten};
 
 use crate::context::Texts;
+use crate::plan::read_file_text;
 use app_cli::{PictureRequest, parse_number_list};
 use app_failure::{Failure, file_failure, read_plan};
-use app_files::{Cause, CommandFiles, Output, file_fault, write_file};
+use app_files::{CommandFiles, Output, ReadFiles, write_file};
 use bridge_check::{Accepted, CheckFault, Refused, check};
 use bridge_semantics::Outcome;
 use show_picture::{NoMemory, Selection, draw_plan, draw_run};
@@ -14,30 +16,29 @@ use std::alloc::Global;
 use std::io::Write;
 use std::rt::Files;
 
-/// Path of standard output's file. It shows whether a picture would overwrite a file in use.
-const STANDARD_OUTPUT: &str = "/dev/stdout";
-
 /// Returns the picture of a plan, or of a requested part, whether or not the plan isolates its protected filters. Adds the plan to the
-/// files in use. `draw_plan` calls it.
-pub(crate) fn plan_picture<H: AllocGlobal + Files>(
-    files: &mut CommandFiles<'_, H>,
+/// files in use.
+pub(crate) fn plan_picture<F: ReadFiles>(
+    alloc: Global,
+    files: &mut F,
     plan: &str,
     part: Option<&PictureRequest>,
     texts: &mut Texts,
 ) -> Result<String, Failure>
-    ensures { (file : List ℕ) → IfErr result (EndsPicture Global plan.now file) }
+    ensures ok { IfOk result (λ _. HasPlanAt Global (F.octets_at files.old) plan.now) }
+    ensures err { (file : List ℕ) → IfErr result (EndsPictureAt Global (F.octets_at files.old) plan.now file) }
 {
-    let text = match files.read_text(plan) {
+    let text = match read_file_text(files, plan) {
         Ok(text) => text,
-        Err(fault) => return Err(file_failure(fault)),
+        Err(fault) => return Err(fault),
     };
     texts.plan = text;
-    let read = match read_plan(files.alloc(), files.alloc(), plan, texts.plan.as_slice()) {
+    let read = match read_plan(alloc, alloc, plan, texts.plan.as_slice()) {
         Ok(read) => read,
         Err(fault) => return Err(fault),
     };
-    let checked = check(files.alloc(), read);
-    let drawn = draw_checked(files.alloc(), &checked, part);
+    let checked = check(alloc, read);
+    let drawn = draw_checked(alloc, &checked, part);
     drop(checked);
     match drawn {
         Some(text) => Ok(text),
@@ -126,10 +127,10 @@ pub fn picture_apart<H: AllocGlobal + Files>(
 ) -> Result<String, Failure>
     ensures { IfErr result (IsOfPicture (codes "-")) }
 {
-    if files.is_in_use(STANDARD_OUTPUT) {
-        return Err(file_failure(file_fault(files.alloc(), "-", Cause::InUse)));
+    match files.spare_standard_output() {
+        Ok(()) => Ok(text),
+        Err(fault) => Err(file_failure(fault)),
     }
-    Ok(text)
 }
 
 /// Draws a run into the requested file, which must not be in use. A failure names the file's path. `write_run_picture` calls it.

@@ -1,40 +1,42 @@
-//! Reads the text of a plan from a file or standard input.
-ghost use Rattle.std.specs.Prelude.{IfErr, codes};
-ghost use Rattle.app_failure.specs.Reading.{IsFileFault};
+//! Reads the text of a plan from a file, and standard input.
+ghost use Rattle.std.specs.Prelude.{◌≡◌, ℕ, IfErr, IfOk, List, Some, take};
+ghost use Rattle.app_commands.specs.ReadTexts.{IsTextAt};
+ghost use Rattle.app_failure.specs.Reading.{IsFileFault, IsStandardStreamFault};
+ghost use Rattle.app_files.specs.declared.failed_file.Access.TheVariants.{Reading};
 
-use app_failure::{Failure, file_failure, standard_stream_fault};
-use app_files::{CommandFiles, ReadFault, is_file, is_standard, read_text};
+use app_failure::{Failure, file_failure};
+use app_files::{MOST_TEXT, ReadFiles, is_file, read_standard, read_text};
 use bridge_text::is_network_text;
 use std::alloc::Global;
 use std::fs;
+use std::io::Read;
 use std::rt::Files;
 
-/// Reads the text of the plan at path `plan`, or from standard input for `-`. `check_plan` calls it.
-pub fn read_plan_text<H: Input + AllocGlobal + Files>(
-    files: &mut CommandFiles<'_, H>,
-    plan: &str,
-) -> Result<Vec<u8>, Failure>
-    ensures { IfErr result (IsFileFault plan.now) }
+/// Reads the text of the file at `path`, at most 1,048,577 octets of it.
+pub fn read_file_text<F: ReadFiles>(files: &mut F, path: &str) -> Result<Vec<u8>, Failure>
+    ensures text { IfOk result (λ text. IsTextAt (F.octets_at files.old) path.now text.items) }
+    ensures fails { IfErr result (IsFileFault Reading path.now) }
+    ensures same { (p : List ℕ) → F.octets_at files.new p ≡ F.octets_at files.old p }
 {
-    if !is_standard(plan) {
-        return match files.read_text(plan) {
-            Ok(text) => Ok(text),
-            Err(fault) => Err(file_failure(fault)),
-        };
-    }
-    match read_text(files.alloc(), files.rt.reader()) {
+    match files.read(path, MOST_TEXT) {
         Ok(text) => Ok(text),
-        Err(fault) => Err(input_fault(files.alloc(), fault)),
+        Err(fault) => Err(file_failure(fault)),
     }
 }
 
-/// Returns the command's failure for standard input that can't be read. `text_job` and `read_plan_text` call it.
-pub(crate) fn input_fault(alloc: Global, fault: ReadFault) -> Failure
-    ensures { IsFileFault (codes "-") result }
+/// Reads at most `most` octets of standard input. `check_input` and `text_job` call it.
+pub(crate) fn read_standard_text<R: Read + Drop>(
+    alloc: Global,
+    reader: R,
+    most: u64,
+) -> Result<Vec<u8>, Failure>
+    ensures octets { (octets : List ℕ) → R.remaining reader ≡ Some octets
+        → IfOk result (λ text. text.items ≡ take most octets) }
+    ensures fails { IfErr result (IsStandardStreamFault Reading) }
 {
-    match fault {
-        ReadFault::Broken => standard_stream_fault(alloc),
-        ReadFault::NoMemory => Failure::NoMemory,
+    match read_standard(alloc, reader, most) {
+        Ok(text) => Ok(text),
+        Err(fault) => Err(file_failure(fault)),
     }
 }
 

@@ -1,7 +1,6 @@
 //! Prints outputs, fault lines and explanations to standard output and standard error.
 ghost use Rattle.std.specs.Prelude.{◌≡◌, ◌⊎◌, IfOk, map, string_bytes, IfErr};
 ghost use Rattle.app_cli.specs.Helping.{explains};
-ghost use Rattle.std.specs.Io.KnownBytes.{Appends};
 ghost use Rattle.app_commands.specs.CommandOutputs.{IsPut, IsStandardFailure};
 ghost use Rattle.app_commands.specs.Outputs.{Reports, of_words_fault};
 ghost use Rattle.std.specs.Process.{exit_status};
@@ -9,7 +8,8 @@ ghost use Rattle.std.specs.Process.{exit_status};
 use crate::explaining::explain_words_fault;
 use crate::output::{Output, report_fault};
 use app_cli::{ArgumentsFault, wants_explanation};
-use app_failure::{Failure, NoMemory, standard_stream_fault};
+use app_failure::{Failure, NoMemory, file_failure};
+use app_files::write_standard;
 use std::alloc::Global;
 use std::io;
 use std::io::Write;
@@ -41,23 +41,13 @@ fn write_stdout_text<W: Write + Drop>(
     ensures { IfOk result (λ done. IsPut W.contents writer (explains
         (map string_bytes words.now)) output done.0 done.1) }
 {
-    match write_text(writer, output.stdout.as_str()) {
+    match write_standard(alloc, writer, output.stdout.as_str()) {
         Ok(writer) => Ok((output, Some(writer))),
-        Err(_) => {
-            let report = report_words(alloc, words, &standard_stream_fault(alloc))?;
+        Err(fault) => {
+            let report = report_words(alloc, words, &file_failure(fault))?;
             Ok((report, None))
         }
     }
-}
-
-/// Writes a text to a writer, and returns the flushed writer. `write_stdout_text` calls it.
-fn write_text<W: Write + Drop>(writer: W, text: &str) -> io::Result<W>
-    ensures { IfOk result (λ done. Appends (W.contents writer) (W.contents done) text.now) }
-{
-    let mut writer = writer;
-    writer.write_all(text.as_bytes())?;
-    writer.flush()?;
-    Ok(writer)
 }
 
 /// Returns the output for refused arguments, or for a standard output that failed. The arguments say whether an explanation is requested.

@@ -2,20 +2,22 @@
 ghost use Rattle.std.specs.Prelude.{◌≡◌, IfOk, IfErr, length, option_map, string_bytes};
 ghost use Rattle.bridge_config.specs.Commands.{AreCommands};
 ghost use Rattle.app_files.specs.Folders.{HavePaths};
-ghost use Rattle.app_commands.specs.RunFiles.{EndsReading, EndsSending, EndsWithCommands, HasReport, IsAcceptedPlan, IsCheckedPlan, IsOfOutputs, IsOfReport};
+ghost use Rattle.app_commands.specs.ReadTexts.{AreCommandsAt, EndsCommandsAt, EndsReadingAt, IsAcceptedAt};
+ghost use Rattle.app_commands.specs.RunFiles.{EndsSending, HasReport, IsCheckedPlan, IsOfOutputs, IsOfReport};
 
 use crate::context::{Flags, RunRequest, Texts};
+use crate::plan::read_file_text;
 use crate::progress::{Progress, all_input_octets, watched_readers};
+use crate::report::Report;
 use crate::running::run_captures;
 use app_failure::{Failure, file_failure, read_commands_and_check, read_plan};
 use app_files::{
-    Cause, CommandFiles, Output, file_fault, finish_file, is_same_folder, open_captures,
-    report_path, test_folders,
+    CommandFiles, Output, ReadFiles, open_captures, refuse_same_folder, report_path, test_folders,
+    write_content,
 };
 use bridge_capture::RunFault;
 use bridge_check::Accepted;
 use bridge_config::{Command, Plan};
-use bridge_report::{ReportFault, write_report};
 use bridge_semantics::Outcome;
 use std::alloc::Global;
 use std::fs::OpenFile;
@@ -75,9 +77,9 @@ fn send_named<H: AllocGlobal + Clock + Eprint + Files>(
         Ok(readers) => readers,
         Err(fault) => return Err(file_failure(fault)),
     };
-    if is_same_folder(files.rt, input, output) {
+    if let Err(fault) = refuse_same_folder(files.rt, input, output) {
         drop(readers);
-        return Err(file_failure(file_fault(files.alloc(), output, Cause::SameFolder)));
+        return Err(file_failure(fault));
     }
     let writers = match create_outputs(files, output, &ports, &readers) {
         Ok(writers) => writers,
@@ -166,57 +168,67 @@ fn check_report_is_unused<H: AllocGlobal + Files>(
     let Ok(path) = report_path(files.alloc(), folder) else {
         return Err(Failure::NoMemory);
     };
-    if files.is_in_use(path.as_str()) {
-        return Err(file_failure(file_fault(files.alloc(), path.as_str(), Cause::InUse)));
+    match files.refuse_in_use(path.as_str()) {
+        Ok(()) => Ok(()),
+        Err(fault) => Err(file_failure(fault)),
     }
-    Ok(())
 }
 
 /// Reads a run's plan and commands, and accepts the plan. Both files are in use afterwards, and `texts` keeps their contents for
-/// explanations. `run_job` calls it.
-pub fn read_plan_and_commands<H: AllocGlobal + Files>(
-    files: &mut CommandFiles<'_, H>,
+/// explanations.
+pub fn read_plan_and_commands<F: ReadFiles>(
+    alloc: Global,
+    files: &mut F,
     job: &RunRequest<'_>,
     texts: &mut Texts,
 ) -> Result<(Accepted<Global>, Vec<Command>), Failure>
-    ensures accepted { IfOk result (λ read. IsAcceptedPlan read.0) }
+    ensures accepted { IfOk result (λ read. IsAcceptedAt (F.octets_at files.old) job.now.plan.now read.0) }
     ensures commands { IfOk result (λ read. AreCommands read.0 read.1.items) }
-    ensures err { IfErr result (EndsReading Global job.now.plan.now (option_map string_bytes job.now.commands.now)) }
+    ensures listed { IfOk result (λ read. AreCommandsAt (F.octets_at files.old)
+        (option_map string_bytes job.now.commands.now) read.0 read.1.items) }
+    ensures err { IfErr result (EndsReadingAt Global (F.octets_at files.old) job.now.plan.now
+        (option_map string_bytes job.now.commands.now)) }
 {
-    let alloc = files.alloc();
-    let text = match files.read_text(job.plan) {
+    let text = match read_file_text(files, job.plan) {
         Ok(text) => text,
-        Err(fault) => return Err(file_failure(fault)),
-    };
-    texts.plan = text;
-    let read = match read_plan(alloc, alloc, job.plan, texts.plan.as_slice()) {
-        Ok(read) => read,
         Err(fault) => return Err(fault),
     };
-    read_commands(files, read, job.commands, texts)
+    texts.plan = text;
+    let plan = match read_plan(alloc, alloc, job.plan, texts.plan.as_slice()) {
+        Ok(plan) => plan,
+        Err(fault) => return Err(fault),
+    };
+    match read_commands(alloc, files, plan, job.commands, texts) {
+        Ok(read) => Ok(read),
+        Err(fault) => Err(fault),
+    }
 }
 
 /// Reads a plan's commands from the file at an optional path, then checks the plan. Without a path there are no commands.
-/// `read_plan_and_commands` calls it.
-fn read_commands<H: AllocGlobal + Files>(
-    files: &mut CommandFiles<'_, H>,
+fn read_commands<F: ReadFiles>(
+    alloc: Global,
+    files: &mut F,
     plan: Plan<Global>,
     path: &Option<String>,
     texts: &mut Texts,
 ) -> Result<(Accepted<Global>, Vec<Command>), Failure>
     ensures accepted { IfOk result (λ read. IsCheckedPlan plan read.0) }
     ensures commands { IfOk result (λ read. AreCommands read.0 read.1.items) }
-    ensures err { IfErr result (EndsWithCommands plan (option_map string_bytes path.now)) }
+    ensures listed { IfOk result (λ read. AreCommandsAt (F.octets_at files.old) (option_map string_bytes path.now) plan
+        read.1.items) }
+    ensures err { IfErr result (EndsCommandsAt (F.octets_at files.old) (option_map string_bytes path.now) plan) }
 {
-    let alloc = files.alloc();
     let Some(path) = path else {
-        return read_commands_and_check(alloc, alloc, plan, None::<(String, &[u8])>);
+        return match read_commands_and_check(alloc, alloc, plan, None::<(String, &[u8])>) {
+            Ok(read) => Ok(read),
+            Err(fault) => Err(fault),
+        };
     };
-    let text = match files.read_text(path.as_str()) {
+    let text = match read_file_text(files, path.as_str()) {
         Ok(text) => text,
         Err(fault) => {
             drop(plan);
-            return Err(file_failure(fault));
+            return Err(fault);
         }
     };
     texts.commands = text;
@@ -224,7 +236,10 @@ fn read_commands<H: AllocGlobal + Files>(
         drop(plan);
         return Err(Failure::NoMemory);
     };
-    read_commands_and_check(alloc, alloc, plan, Some((copy, texts.commands.as_slice())))
+    match read_commands_and_check(alloc, alloc, plan, Some((copy, texts.commands.as_slice()))) {
+        Ok(read) => Ok(read),
+        Err(fault) => Err(fault),
+    }
 }
 
 /// Writes a run's report to a folder, and returns its file, which is then in use. `send_named` calls it.
@@ -240,18 +255,12 @@ fn write_report_file<H: AllocGlobal + Files>(
     let Ok(path) = report_path(alloc, folder) else {
         return Err(Failure::NoMemory);
     };
+    let report = Report { outcome };
     let output = match files.create_new(path.as_str()) {
         Ok(output) => output,
         Err(fault) => return Err(file_failure(fault)),
     };
-    let output = match write_report(alloc, outcome, output) {
-        Ok(output) => output,
-        Err(ReportFault::Broken) => {
-            return Err(file_failure(file_fault(alloc, path.as_str(), Cause::NotWritable)));
-        }
-        Err(ReportFault::NoMemory) => return Err(Failure::NoMemory),
-    };
-    match finish_file(alloc, path.as_str(), output) {
+    match write_content(alloc, path.as_str(), output, &report) {
         Ok(output) => Ok(output),
         Err(fault) => Err(file_failure(fault)),
     }

@@ -73,7 +73,7 @@ pub(crate) fn run_job<H: AllocGlobal + Clock + Eprint + Files>(
         (string_bytes strict.lost) strict.is_lossy)) }
     ensures err { IfErr result (FailsRun job.now) }
 {
-    let (accepted, orders) = match read_plan_and_commands(files, job, texts) {
+    let (accepted, orders) = match read_plan_and_commands(files.alloc(), files, job, texts) {
         Ok(read) => read,
         Err(fault) => return Err(fault),
     };

@@ -1,5 +1,5 @@
 -- The octets that the program reads decide as the whole text does.
-use Rattle.std.proofs.Common.{◌≡◌, ℕ, Bool, true, false, ◌<◌, ◌⊎◌, ◌+◌, inl, inr, refl, sym, ap, subst, ◌∙◌, arith, List, length, take, take_all, Result, Ok, Err, None, IfOk, IfErr}
+use Rattle.std.proofs.Common.{◌≡◌, ℕ, ◌<◌, ◌+◌, inl, inr, refl, sym, ap, subst, ◌∙◌, arith, List, length, take, take_all, Result, Ok, Err, None, IfOk, IfErr}
 use Rattle.std.proofs.lemmas.Bool.{lt-ltb, cases_lt}
 use Rattle.std.proofs.lemmas.List.{length-take}
 use Rattle.bridge_schema.specs.declared.plan_fault.PlanFault.{PlanFault}
@@ -8,6 +8,7 @@ use Rattle.bridge_schema.specs.Readers.{IsReadFault}
 use Rattle.bridge_config.specs.Model.{Plan}
 use Rattle.bridge_config.specs.Document.{read_document, text_plan}
 use Rattle.bridge_check.specs.Faults.{first_fault}
+use Rattle.app_files.specs.declared.failed_file.Access.TheVariants.{Reading}
 use Rattle.app_failure.specs.declared.fault.Failure.{Failure}
 use Rattle.app_failure.specs.declared.fault.Failure.TheVariants as fault
 use Rattle.app_failure.specs.Reading.{IsFileFault}
@@ -39,7 +40,7 @@ plan_ends A path input (fault.Plan f) h = h
 plan_ends A path input (fault.Check f) h = absurd h
 plan_ends A path input f h = h
 
-pub file_ends : (A : Type 0) (path input : List ℕ) (f : Failure) → IsFileFault path f → EndsPlan A path input f
+pub file_ends : (A : Type 0) (path input : List ℕ) (f : Failure) → IsFileFault Reading path f → EndsPlan A path input f
 file_ends A path input (fault.Plan f) h = absurd h
 file_ends A path input f h = h
 

@@ -8,6 +8,7 @@ use Rattle.bridge_schema.specs.Readers.{IsReadFault}
 use Rattle.bridge_config.specs.declared.command.Command.{Command}
 use Rattle.bridge_config.specs.Document.{text_commands, read_document}
 use Rattle.bridge_config.specs.Model.{Plan}
+use Rattle.app_files.specs.declared.failed_file.Access.TheVariants.{Reading}
 use Rattle.app_failure.specs.declared.fault.Failure.{Failure}
 use Rattle.app_failure.specs.declared.fault.Failure.TheVariants as fault
 use Rattle.app_failure.specs.Commanding.{EndsCommanded, EndsCommands, commands_for}
@@ -28,14 +29,14 @@ commands_told p looked input commands e reads = sym (commands_front p input) ∙
 pub commands_fail : {A : Type 0} (p : Plan A) (looked input : List ℕ) (f : PlanFault) → looked ≡ take 1048577 input → IsReadFault f (text_commands p looked) → IsReadFault f (text_commands p input)
 commands_fail p looked input f e h = subst (IsReadFault f) (commands_front p input) (subst (λ (z : List ℕ). IsReadFault f (text_commands p z)) e h)
 
-pub file_ends : {A : Type 0} (p : Plan A) (path input : List ℕ) (f : Failure) → IsFileFault path f → EndsCommands p path input f
+pub file_ends : {A : Type 0} (p : Plan A) (path input : List ℕ) (f : Failure) → IsFileFault Reading path f → EndsCommands p path input f
 file_ends p path input (fault.Commands f) h = absurd h
 file_ends p path input f h = h
 
 -- A fault of reading commands from a file.
 pub commands_end : {A : Type 0} (p : Plan A) (path input : List ℕ) (f : Failure) → EndsCommands p path input f → EndsCommanded p (Some path) (Some input) f
 commands_end p path input (fault.Commands f) h = (some_is_none path, h)
-commands_end p path input (fault.File q) h = ap Some (sym h)
+commands_end p path input (fault.File q) h = (h.0, ap Some (sym h.1))
 commands_end p path input fault.NoMemory h = some_is_none path
 commands_end p path input (fault.Run f) h = absurd h
 commands_end p path input (fault.Text f) h = absurd h

@@ -5,6 +5,7 @@ use Rattle.bridge_config.specs.Model.{Plan}
 use Rattle.bridge_config.specs.Document.{text_plan}
 use Rattle.bridge_check.specs.Faults.{first_fault}
 use Rattle.bridge_check.specs.declared.check_fault.CheckFault.TheVariants as check
+use Rattle.app_files.specs.declared.failed_file.Access.TheVariants.{Reading}
 use Rattle.app_failure.specs.declared.fault.Failure.{Failure}
 use Rattle.app_failure.specs.declared.fault.Failure.TheVariants as fault
 use Rattle.app_failure.specs.Accepting.{accepted_line}
@@ -28,7 +29,7 @@ RefusesPlan A input f = ⊥
 -- Holds if failure `f` can end the reading of a plan from the file at `path`.
 abbrev pub EndsPlan : (A : Type 0) → List ℕ → List ℕ → Failure → Type 0
 EndsPlan A path input (fault.Plan f) = IsReadFault f (text_plan {A = A} input)
-EndsPlan A path input f = IsFileFault path f
+EndsPlan A path input f = IsFileFault Reading path f
 
 -- Holds if `line` is the line for the accepted plan of this text.
 abbrev pub PrintsAccepted : (A : Type 0) → List ℕ → List ℕ → Type 0
@@ -38,4 +39,4 @@ PrintsAccepted A input line = (plan : Plan A) × Accepts input plan × (line ≡
 abbrev pub EndsCheck : (A : Type 0) → List ℕ → List ℕ → Failure → Type 0
 EndsCheck A path input (fault.Plan f) = RefusesPlan A input (fault.Plan f)
 EndsCheck A path input (fault.Check f) = RefusesPlan A input (fault.Check f)
-EndsCheck A path input f = IsFileFault path f
+EndsCheck A path input f = IsFileFault Reading path f

@@ -1,28 +1,30 @@
--- Failures of commands because of a file, or of standard input or output.
-use Rattle.std.specs.Prelude.{◌≡◌, ◌⊎◌, ℕ, List, [], codes, string_bytes}
-use Rattle.app_files.specs.FailedFiles.{IsCapture}
+-- Faults of files.
+use Rattle.std.specs.Prelude.{◌≡◌, ℕ, List, [], codes, string_bytes}
+use Rattle.app_files.specs.declared.failed_file.Access.{Access}
+use Rattle.app_files.specs.FailedFiles.{IsCapture, IsErrorOf, path_by}
 use Rattle.app_failure.specs.declared.fault.Failure.{Failure}
 use Rattle.app_failure.specs.declared.fault.Failure.TheVariants as fault
 
--- Holds if the file at `path` failed, or memory ran out.
-abbrev pub IsFileFault : List ℕ → Failure → Type 0
-IsFileFault path (fault.File e) = string_bytes e.path ≡ path
-IsFileFault path fault.NoMemory = Unit {0}
-IsFileFault path f = ⊥
+-- Holds if the file at `path`, which was used in this way, failed, or memory ran out.
+abbrev pub IsFileFault : Access → List ℕ → Failure → Type 0
+IsFileFault access path (fault.File e) = IsErrorOf access path e
+IsFileFault access path fault.NoMemory = Unit {0}
+IsFileFault access path f = ⊥
 
--- Holds if standard input or output failed, or memory ran out.
-abbrev pub IsStandardStreamFault : Failure → Type 0
-IsStandardStreamFault f = IsFileFault (codes "-") f
+-- Holds if standard input (`Reading`) or standard output (`Writing`) failed, or memory ran out.
+abbrev pub IsStandardStreamFault : Access → Failure → Type 0
+IsStandardStreamFault access f = IsFileFault access (codes "-") f
 
--- Holds if the capture of one of these ports in a folder failed, or memory ran out.
-abbrev pub FailsCaptures : List ℕ → List ℕ → Failure → Type 0
-FailsCaptures folder ports (fault.File e) = IsCapture folder ports (string_bytes e.path)
-FailsCaptures folder ports fault.NoMemory = Unit {0}
-FailsCaptures folder ports f = ⊥
+-- Holds if the capture of one of these ports in a folder, which was used in this way, failed, or memory ran out.
+abbrev pub FailsCaptures : Access → List ℕ → List ℕ → Failure → Type 0
+FailsCaptures access folder ports (fault.File e) = (e.access ≡ access) × IsCapture folder ports (string_bytes e.path)
+FailsCaptures access folder ports fault.NoMemory = Unit {0}
+FailsCaptures access folder ports f = ⊥
 
--- Holds if one of two folders has an empty path and the failure names this path, or if memory ran out.
+-- Holds if one of two folders has an empty path and the fault names the empty path, or memory ran out. A read fault means the input folder, a write fault the
+-- output folder.
 abbrev pub LacksPath : List ℕ → List ℕ → Failure → Type 0
-LacksPath input output (fault.File e) = ((input ≡ []) ⊎ (output ≡ [])) × (string_bytes e.path ≡ [])
+LacksPath input output (fault.File e) = (path_by e.access input output ≡ []) × (string_bytes e.path ≡ [])
 LacksPath input output fault.NoMemory = Unit {0}
 LacksPath input output f = ⊥
 

@@ -6,9 +6,8 @@ ghost use Rattle.bridge_config.specs.Document.{text_commands};
 ghost use Rattle.app_failure.specs.Commanding.{EndsCommanded, EndsCommands, TellsText, commands_for};
 
 use crate::accepting::check_isolation;
-use crate::fault::Failure;
-use crate::jobs::read_failure;
-use app_files::read_text;
+use crate::fault::{Failure, file_failure};
+use app_files::read_named;
 use bridge_check::Accepted;
 use bridge_config::{Command, Plan, commands_of};
 use std::alloc::{Allocator, Global};
@@ -84,11 +83,11 @@ fn read_commands<R: Read + Drop, A: Allocator + Copy>(
         → IfErr result (EndsCommands plan.now path.now input) }
     ensures only { IfErr result (λ fault. (input : List ℕ) × EndsCommands plan.now path.now input fault) }
 {
-    match read_text(alloc, reader) {
+    match read_named(alloc, heap, path, reader) {
         Ok(text) => match commands_of(alloc, heap, &text, plan) {
             Ok(commands) => Ok(commands),
             Err(fault) => Err(Failure::Commands(fault)),
         },
-        Err(fault) => Err(read_failure(heap, path, fault)),
+        Err(fault) => Err(file_failure(fault)),
     }
 }

@@ -4,6 +4,7 @@ ghost use Rattle.app_failure.specs.Faults.{of_file_fault};
 ghost use Rattle.app_failure.specs.declared.fault.Failure.TheVariants.{NoMemory as no_memory};
 ghost use Rattle.app_files.specs.FailedFiles.{IsCaptureFault, IsOfPath};
 ghost use Rattle.app_files.specs.Folders.{LackPath};
+ghost use Rattle.app_files.specs.declared.failed_file.Access.{Access};
 ghost use Rattle.app_failure.specs.Reading.{EndsFiles, FailsCaptures, IsFileFault, LacksPath};
 
 use app_files::{FileError, FileFault};
@@ -100,8 +101,9 @@ impl From<FileFault> for Failure {
 pub fn file_failure(fault: FileFault) -> Failure
     ensures same { result ≡ of_file_fault fault }
     ensures ends { EndsFiles result }
-    ensures path { (path : List ℕ) → IsOfPath path fault → IsFileFault path result }
-    ensures captures { (folder ports : List ℕ) → IsCaptureFault folder ports fault → FailsCaptures folder ports result }
+    ensures path { (access : Access) (path : List ℕ) → IsOfPath access path fault → IsFileFault access path result }
+    ensures captures { (access : Access) (folder ports : List ℕ) → IsCaptureFault access folder ports fault
+        → FailsCaptures access folder ports result }
     ensures folders { (input output : List ℕ) → LackPath input output fault → LacksPath input output result }
 {
     match fault {

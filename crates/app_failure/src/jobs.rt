@@ -1,12 +1,11 @@
-//! Reads and checks plans from readers, and returns the line to print. Makes the faults of readers and of standard input and output.
+//! Reads and checks plans from readers, and returns the line to print.
 ghost use Rattle.std.specs.Prelude.{◌≡◌, ℕ, List, Some, Ok, IfOk, IfErr, string_bytes};
 ghost use Rattle.bridge_config.specs.Document.{text_plan};
 ghost use Rattle.app_failure.specs.Jobs.{Accepts, EndsCheck, EndsPlan, PrintsAccepted};
-ghost use Rattle.app_failure.specs.Reading.{IsFileFault, IsStandardStreamFault};
 
 use crate::accepting::{check_isolation, check_line};
-use crate::fault::Failure;
-use app_files::{Cause, FileError, ReadFault, read_text};
+use crate::fault::{Failure, file_failure};
+use app_files::read_named;
 use bridge_check::Accepted;
 use bridge_config::{Plan, plan_of};
 use std::alloc::{Allocator, Global};
@@ -50,12 +49,12 @@ pub fn read_plan<R: Read + Drop, A: Allocator + Copy>(
     ensures read { IfOk result (λ plan. (input : List ℕ) × (text_plan input ≡ Ok plan)) }
     ensures only { IfErr result (λ fault. (input : List ℕ) × EndsPlan A path.now input fault) }
 {
-    match read_text(alloc, reader) {
+    match read_named(alloc, heap, path, reader) {
         Ok(text) => match plan_of(alloc, heap, &text) {
             Ok(plan) => Ok(plan),
             Err(fault) => Err(Failure::Plan(fault)),
         },
-        Err(fault) => Err(read_failure(heap, path, fault)),
+        Err(fault) => Err(file_failure(fault)),
     }
 }
 
@@ -81,35 +80,5 @@ pub fn check_job<R: Read + Drop, A: Allocator + Copy>(
     match line {
         Ok(line) => Ok(line),
         Err(_) => Err(Failure::NoMemory),
-    }
-}
-
-/// Returns the command's failure for standard input or output: the file `-` failed. `print`, and `input_fault` and `write_stdout_text` of
-/// `app_commands` call it.
-pub fn standard_stream_fault(alloc: Global) -> Failure
-    ensures { IsStandardStreamFault result }
-{
-    failed_file(alloc, "-", Cause::Standard)
-}
-
-/// Returns the command's failure for the file at `path`, from which its reader can't read (`Broken`), or for lack of memory.
-/// `read_commands` and `read_plan`, and `read_rows` of `net_latency` call it.
-pub fn read_failure(alloc: Global, path: &str, fault: ReadFault) -> Failure
-    ensures { IsFileFault path.now result }
-{
-    match fault {
-        ReadFault::Broken => failed_file(alloc, path, Cause::Unknown),
-        ReadFault::NoMemory => Failure::NoMemory,
-    }
-}
-
-/// Returns the command's failure for the failed file at `path`; `NoMemory` if memory for the path runs out. `standard_stream_fault` and
-/// `read_failure` call it.
-fn failed_file(alloc: Global, path: &str, cause: Cause) -> Failure
-    ensures { IsFileFault path.now result }
-{
-    match String::from_str(alloc, path) {
-        Ok(path) => Failure::File(FileError { path, cause }),
-        Err(_) => Failure::NoMemory,
     }
 }

@@ -5,13 +5,14 @@ ghost use Rattle.app_failure.specs.Lines.{fault_line, capture_fault_line, run_fa
 ghost use Rattle.app_failure.specs.Status.{fault_status};
 ghost use Rattle.std.specs.Process.{exit_status};
 ghost use Rattle.app_failure.specs.Reading.{IsStandardStreamFault};
+ghost use Rattle.app_files.specs.declared.failed_file.Access.TheVariants.{Writing};
 
-use crate::fault::{Failure, TextFault};
+use crate::fault::{Failure, TextFault, file_failure};
 use crate::isolation_line::put_check_fault;
-use crate::jobs::standard_stream_fault;
 use crate::plan_line::put_plan_fault;
 use crate::refused_commands::put_commands_fault;
 use crate::status::fault_status;
+use app_files::print_text;
 use bridge_capture::{CaptureFault, RunFault};
 use bridge_limits::NoMemory;
 use bridge_text::TextBuilder;
@@ -49,7 +50,7 @@ fn put_fault<A: Allocator + Copy>(alloc: A, text: &mut TextBuilder<A>, fault: &F
         Failure::Rounds(line) => text.put(line.as_str()),
         Failure::Words => text.put("command line refused"),
         Failure::NoMemory => text.put("no memory"),
-        Failure::File(error) => put_file(text, error.path.as_str()),
+        Failure::File(error) => put_file(text, error.path()),
     }
 }
 
@@ -146,11 +147,11 @@ fn put_file<A: Allocator>(text: &mut TextBuilder<A>, path: &str)
 
 /// Prints `text` to standard output. A failed write is a fault of the file `-`. Only test programs call it.
 pub fn print(rt: &(impl AllocGlobal + Print), text: &str) -> Result<(), Failure>
-    ensures { IfErr result IsStandardStreamFault }
+    ensures { IfErr result (IsStandardStreamFault Writing) }
 {
-    match rt.print(text) {
+    match print_text(rt, text) {
         Ok(()) => Ok(()),
-        Err(_) => Err(standard_stream_fault(rt.alloc())),
+        Err(fault) => Err(file_failure(fault)),
     }
 }
 

@@ -1,5 +1,5 @@
 -- Files that are added to a list.
-use Rattle.std.proofs.Common.{◌≡◌, List, [], ◌∷◌, ◌++◌, Option, Some, None, append-nil, append_assoc, sym, ap, subst, ◌∙◌}
+use Rattle.std.proofs.Common.{List, [], ◌∷◌, ◌++◌, Option, Some, None, append-nil, append_assoc, sym, ap, ◌∙◌}
 use Rattle.app_files.specs.Taken.{BeginWith, with_known}
 use Rattle.app_files.specs.declared.output.FileId.{FileId}
 

@@ -1,10 +1,11 @@
 //! The files of a command: inputs, outputs, and files that no output may overwrite.
-ghost use Rattle.std.specs.Prelude.{◌≡◌, ℕ, IfErr, IfOk, List, None, Some, length, take, IsTrue, Option};
+ghost use Rattle.std.specs.Prelude.{◌≡◌, ℕ, IfErr, IfOk, List, None, Some, codes, length, take, IsTrue, Option};
 ghost use Rattle.app_files.specs.FailedFiles.{IsCaptureFault, IsOfPath};
 ghost use Rattle.app_files.specs.Taken.{BeginWith};
+ghost use Rattle.app_files.specs.declared.failed_file.Access.TheVariants.{Reading, Writing};
 
 use crate::cause::{Cause, capture_cause, read_cause, write_cause};
-use crate::failed_file::{FileError, FileFault, file_fault};
+use crate::failed_file::{FileFault, input_fault, output_fault};
 use crate::output::{
     FileId, Output, add_file, has_file, is_same_file, open_file_id, open_output, path_file_id,
 };
@@ -55,7 +56,7 @@ impl<'a, H: AllocGlobal + Files> CommandFiles<'a, H> {
 
     /// Opens a file for reading, and adds it to the files in use. `CommandFiles::read` and `open_output` call it.
     pub fn open(&mut self, path: &str) -> Result<H::File, FileFault>
-        ensures fails { IfErr result (IsOfPath path.now) }
+        ensures fails { IfErr result (IsOfPath Reading path.now) }
         ensures kept { BeginWith self.old.in_use.items self.new.in_use.items }
     {
         let reader = open_input(self.rt, path)?;
@@ -66,7 +67,7 @@ impl<'a, H: AllocGlobal + Files> CommandFiles<'a, H> {
     /// Reads at most `MOST_TEXT` octets of the file at `path`, and adds it to the files in use. Commands call it for plans, commands and
     /// networks.
     pub fn read_text(&mut self, path: &str) -> Result<Vec<u8>, FileFault>
-        ensures { IfErr result (IsOfPath path.now) }
+        ensures { IfErr result (IsOfPath Reading path.now) }
     {
         self.read(path, MOST_TEXT)
     }
@@ -117,7 +118,7 @@ impl<'a, H: AllocGlobal + Files> CommandFiles<'a, H> {
     /// Adds the created captures of a folder to the files in use. Fails at the first capture that is in use already, because two captures
     /// may be links to one file.
     pub fn note_captures(&mut self, folder: &str, ports: &[u8]) -> Result<(), FileFault>
-        ensures { IfErr result (IsCaptureFault folder.now ports.now) }
+        ensures { IfErr result (IsCaptureFault Writing folder.now ports.now) }
     {
         for port in ports {
             let Ok(path) = capture_path(self.rt.alloc(), folder, *port) else {
@@ -127,27 +128,39 @@ impl<'a, H: AllocGlobal + Files> CommandFiles<'a, H> {
                 return Err(FileFault::NoMemory);
             };
             if !is_new {
-                return Err(FileFault::File(FileError {
-                    path,
-                    cause: Cause::InUse,
-                }));
+                return Err(output_fault(self.rt.alloc(), path.as_str(), Cause::InUse));
             }
         }
         Ok(())
     }
 
-    /// Whether the file at `path` is in use. `picture_apart` and `check_report_is_unused` of `app_commands` call it.
-    pub fn is_in_use(&self, path: &str) -> bool {
-        has_file(&self.in_use, path_file_id(self.rt, path))
+    /// Refuses an output path that leads to a file in use, without opening it. A missing file is accepted.
+    pub fn refuse_in_use(&self, path: &str) -> Result<(), FileFault>
+        ensures { IfErr result (IsOfPath Writing path.now) }
+    {
+        if has_file(&self.in_use, path_file_id(self.rt, path)) {
+            return Err(output_fault(self.rt.alloc(), path, Cause::InUse));
+        }
+        Ok(())
+    }
+
+    /// Refuses standard output if it goes to a file in use. A fault names the path `-`.
+    pub fn spare_standard_output(&self) -> Result<(), FileFault>
+        ensures { IfErr result (IsOfPath Writing (codes "-")) }
+    {
+        if has_file(&self.in_use, path_file_id(self.rt, STANDARD_OUTPUT)) {
+            return Err(output_fault(self.rt.alloc(), "-", Cause::InUse));
+        }
+        Ok(())
     }
 
     /// Refuses an output path that leads to a regular file in use, without opening it. A missing file or a pipe is accepted.
     /// `check_path_unused` of `app_commands` calls it.
     pub fn spare(&self, path: &str) -> Result<(), FileFault>
-        ensures { IfErr result (IsOfPath path.now) }
+        ensures { IfErr result (IsOfPath Writing path.now) }
     {
         if has_file(&self.in_use, regular_file_id(self.rt, path)) {
-            return Err(file_fault(self.rt.alloc(), path, Cause::InUse));
+            return Err(output_fault(self.rt.alloc(), path, Cause::InUse));
         }
         Ok(())
     }
@@ -155,12 +168,12 @@ impl<'a, H: AllocGlobal + Files> CommandFiles<'a, H> {
     /// Opens a file for writing, or creates it. Its contents remain until the first write. Refuses a file in use. `create_new`,
     /// `create_captures` and functions of `app_commands` call it.
     pub fn create(&self, path: &str) -> Result<Output<H::File>, FileFault>
-        ensures { IfErr result (IsOfPath path.now) }
+        ensures { IfErr result (IsOfPath Writing path.now) }
     {
         let output = create_output(self.rt, path)?;
         if has_file(&self.in_use, output.id()) {
             drop(output);
-            return Err(file_fault(self.rt.alloc(), path, Cause::InUse));
+            return Err(output_fault(self.rt.alloc(), path, Cause::InUse));
         }
         Ok(output)
     }
@@ -168,7 +181,7 @@ impl<'a, H: AllocGlobal + Files> CommandFiles<'a, H> {
     /// Opens a file for writing as `create` does, and adds it to the files in use. `write_report_file` and `write_table` of `app_commands`,
     /// and `open_output` of `app_networks` call it.
     pub fn create_new(&mut self, path: &str) -> Result<Output<H::File>, FileFault>
-        ensures { IfErr result (IsOfPath path.now) }
+        ensures { IfErr result (IsOfPath Writing path.now) }
     {
         let output = self.create(path)?;
         match add_file(&mut self.in_use, output.id()) {
@@ -188,7 +201,7 @@ impl<'a, H: AllocGlobal + Files> CommandFiles<'a, H> {
         ports: &[u8],
     ) -> Result<Vec<Output<H::File>>, FileFault>
         ensures all { IfOk result (λ outputs. length outputs.items ≡ length ports.now) }
-        ensures fails { IfErr result (IsCaptureFault folder.now ports.now) }
+        ensures fails { IfErr result (IsCaptureFault Writing folder.now ports.now) }
     {
         let mut outputs = Vec::new(self.rt.alloc());
         for port in ports {
@@ -210,6 +223,12 @@ impl<'a, H: AllocGlobal + Files> CommandFiles<'a, H> {
 impl<H: AllocGlobal + Files> ReadFiles for CommandFiles<'_, H> {
     ghost octets_at = { λ _ _. None };
 
+    type File = H::File;
+
+    fn open_file(&mut self, path: &str) -> Result<H::File, FileFault> {
+        self.open(path)
+    }
+
     fn read(&mut self, path: &str, most: u64) -> Result<Vec<u8>, FileFault> {
         let reader = self.open(path)?;
         read_open(self.rt, path, reader, most)
@@ -223,11 +242,11 @@ impl<H: AllocGlobal + Files> ReadFiles for CommandFiles<'_, H> {
 /// Opens the file at `path` for reading. Doesn't add it to files in use: commands that write no file need none. `open` and
 /// `read_text_file`, and `bound_traffic` of `app_networks` call it.
 pub fn open_input<H: AllocGlobal + Files>(rt: &H, path: &str) -> Result<H::File, FileFault>
-    ensures { IfErr result (IsOfPath path.now) }
+    ensures { IfErr result (IsOfPath Reading path.now) }
 {
     match fs::open(rt, path) {
         Ok(reader) => Ok(reader),
-        Err(error) => Err(file_fault(rt.alloc(), path, read_cause(rt, path, &error))),
+        Err(error) => Err(input_fault(rt.alloc(), path, read_cause(rt, path, &error))),
     }
 }
 
@@ -241,7 +260,7 @@ pub fn read_open<R: Read + Drop>(
 ) -> Result<Vec<u8>, FileFault>
     ensures octets { (octets : List ℕ) → R.remaining reader ≡ Some octets
         → IfOk result (λ text. text.items ≡ take most octets) }
-    ensures fails { IfErr result (IsOfPath path.now) }
+    ensures fails { IfErr result (IsOfPath Reading path.now) }
 {
     let mut text = Vec::new(rt.alloc());
     match reader.take(most).read_to_end(&mut text) {
@@ -250,7 +269,7 @@ pub fn read_open<R: Read + Drop>(
             if error.kind() == ErrorKind::OutOfMemory {
                 return Err(FileFault::NoMemory);
             }
-            Err(file_fault(rt.alloc(), path, read_cause(rt, path, &error)))
+            Err(input_fault(rt.alloc(), path, read_cause(rt, path, &error)))
         }
     }
 }
@@ -258,7 +277,7 @@ pub fn read_open<R: Read + Drop>(
 /// Reads at most `MOST_TEXT` octets of the file at `path`. Doesn't add it to files in use: commands that write no file need none.
 /// `bound_plan` of `app_networks` calls it.
 pub fn read_text_file<H: AllocGlobal + Files>(rt: &H, path: &str) -> Result<Vec<u8>, FileFault>
-    ensures { IfErr result (IsOfPath path.now) }
+    ensures { IfErr result (IsOfPath Reading path.now) }
 {
     let reader = open_input(rt, path)?;
     read_open(rt, path, reader, MOST_TEXT)
@@ -272,7 +291,7 @@ pub fn open_captures<H: AllocGlobal + Files>(
     ports: &[u8],
 ) -> Result<Vec<H::File>, FileFault>
     ensures all { IfOk result (λ files. length files.items ≡ length ports.now) }
-    ensures fails { IfErr result (IsCaptureFault folder.now ports.now) }
+    ensures fails { IfErr result (IsCaptureFault Reading folder.now ports.now) }
 {
     let mut files = Vec::new(rt.alloc());
     for port in ports {
@@ -297,11 +316,11 @@ pub fn open_capture<H: AllocGlobal + Files>(
     path: &str,
     missing: Cause,
 ) -> Result<H::File, FileFault>
-    ensures { IfErr result (IsOfPath path.now) }
+    ensures { IfErr result (IsOfPath Reading path.now) }
 {
     match fs::open(rt, path) {
         Ok(file) => Ok(file),
-        Err(error) => Err(file_fault(rt.alloc(), path, capture_cause(rt, path, &error, missing))),
+        Err(error) => Err(input_fault(rt.alloc(), path, capture_cause(rt, path, &error, missing))),
     }
 }
 
@@ -311,18 +330,62 @@ pub fn create_output<H: AllocGlobal + Files>(
     rt: &H,
     path: &str,
 ) -> Result<Output<H::File>, FileFault>
-    ensures { IfErr result (IsOfPath path.now) }
+    ensures { IfErr result (IsOfPath Writing path.now) }
 {
     match open_output(rt, path) {
         Ok(output) => Ok(output),
-        Err(error) => Err(file_fault(rt.alloc(), path, write_cause(rt, path, &error))),
+        Err(error) => Err(output_fault(rt.alloc(), path, write_cause(rt, path, &error))),
     }
 }
 
-/// Whether two paths lead to one folder: one inode of one device. Returns false if one path can't be examined. `send_named` of
+/// Opens the file at `path` for writing as `create_output` does. Refuses the file `input`, which the command reads. `input` is `None` if
+/// the system can't identify it. `wire_to_output` of `app_commands` calls it.
+pub fn create_apart<H: AllocGlobal + Files>(
+    rt: &H,
+    path: &str,
+    input: Option<FileId>,
+) -> Result<Output<H::File>, FileFault>
+    ensures { IfErr result (IsOfPath Writing path.now) }
+{
+    let output = create_output(rt, path)?;
+    if is_same_file(input, output.id()) {
+        drop(output);
+        return Err(output_fault(rt.alloc(), path, Cause::InUse));
+    }
+    Ok(output)
+}
+
+/// Refuses an output folder that is the input folder: one inode of one device. Accepts a path that can't be examined. `send_named` of
 /// `app_commands` calls it.
-pub fn is_same_folder(rt: &impl Files, one: &str, other: &str) -> bool {
-    is_same_file(path_file_id(rt, one), path_file_id(rt, other))
+pub fn refuse_same_folder<H: AllocGlobal + Files>(
+    rt: &H,
+    input: &str,
+    output: &str,
+) -> Result<(), FileFault>
+    ensures { IfErr result (IsOfPath Writing output.now) }
+{
+    if is_same_file(path_file_id(rt, input), path_file_id(rt, output)) {
+        return Err(output_fault(rt.alloc(), output, Cause::SameFolder));
+    }
+    Ok(())
+}
+
+/// Creates a missing folder for outputs, with its parents. Refuses one of the folders `read`, because outputs would replace inputs there.
+/// `make_output_folder` of `app_networks` calls it.
+pub fn make_folder<H: AllocGlobal + Files>(
+    rt: &H,
+    path: &str,
+    read: &[FileId],
+) -> Result<(), FileFault>
+    ensures { IfErr result (IsOfPath Writing path.now) }
+{
+    if has_file(read, path_file_id(rt, path)) {
+        return Err(output_fault(rt.alloc(), path, Cause::SameFolder));
+    }
+    match fs::create_dir_all(rt, path) {
+        Ok(()) => Ok(()),
+        Err(error) => Err(output_fault(rt.alloc(), path, write_cause(rt, path, &error))),
+    }
 }
 
 /// Returns the identity of the regular file at a path. Returns `None` for a missing file, a pipe or a device: writing to them loses
@@ -334,18 +397,27 @@ fn regular_file_id(rt: &impl Files, path: &str) -> Option<FileId> {
     }
 }
 
-/// Reading of whole files by path. Contracts over this trait can name the octets of each file; the octets of the system's files are
+/// Files that a command reads, by path. Contracts over this trait can name the octets of each file; the octets of the system's files are
 /// unknown.
 pub trait ReadFiles {
     /// Octets of the file at a path, if they are known.
     ghost octets_at: { Self → List ℕ → Option (List ℕ) };
 
-    /// Reads at most `most` octets of the file at `path`. `read_file` of `app_networks`, and `read_network` and `read_plan` of `net_check`
-    /// call it.
+    /// An open file.
+    type File: Read + Drop;
+
+    /// Opens the file at `path` for reading.
+    fn open_file(&mut self, path: &str) -> Result<Self::File, FileFault>
+        ensures octets { (octets : List ℕ) → octets_at self.old path.now ≡ Some octets
+            → IfOk result (λ file. Self.File.remaining file ≡ Some octets) }
+        ensures fails { IfErr result (IsOfPath Reading path.now) }
+        ensures same { (path : List ℕ) → octets_at self.new path ≡ octets_at self.old path };
+
+    /// Reads at most `most` octets of the file at `path`.
     fn read(&mut self, path: &str, most: u64) -> Result<Vec<u8>, FileFault>
         ensures octets { (octets : List ℕ) → octets_at self.old path.now ≡ Some octets
             → IfOk result (λ text. text.items ≡ take most octets) }
-        ensures fails { IfErr result (IsOfPath path.now) }
+        ensures fails { IfErr result (IsOfPath Reading path.now) }
         ensures same { (path : List ℕ) → octets_at self.new path ≡ octets_at self.old path };
 
     /// Whether a file exists at `path`. `read_commands` of `app_networks` asks, because a bridge's commands are optional.

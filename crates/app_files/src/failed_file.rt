@@ -1,19 +1,53 @@
-//! The fault of a file: its path and the cause.
-ghost use Rattle.std.specs.Prelude.{◌≡◌};
+//! The fault of a file: its path, whether it was read or written, and the cause.
+//!
+//! Only this crate makes the fault of a file, in the function whose call failed.
+ghost use Rattle.std.specs.Prelude.{◌≡◌, string_bytes};
 ghost use Rattle.app_files.specs.FailedFiles.{IsOfPath};
 ghost use Rattle.app_files.specs.declared.failed_file.FileFault.TheVariants.{NoMemory as no_memory};
+ghost use Rattle.app_files.specs.declared.failed_file.Access.TheVariants.{Reading, Writing};
 
 use crate::cause::Cause;
 use bridge_limits::NoMemory;
 use std::alloc::{AllocError, Global};
 
-/// File that failed, with the cause. Standard input and output have the path `-`.
+/// How a command used a file that failed.
+#[derive(Clone, Copy, Debug)]
+pub enum Access {
+    /// The command opened or read an input.
+    Reading,
+    /// The command opened, created or wrote an output, or refused it.
+    Writing,
+}
+
+/// File that failed, with the cause. Standard input and output have the path `-`. Other crates can read the parts, but can't make the value.
 #[derive(Debug, Drop)]
 pub struct FileError {
-    /// Path of the file, as given.
-    pub path: String,
-    /// Why the file failed.
-    pub cause: Cause,
+    path: String,
+    access: Access,
+    cause: Cause,
+}
+
+impl FileError {
+    /// Returns the path of the file, as given.
+    pub fn path(&self) -> &str
+        ensures { result.now ≡ string_bytes self.now.path }
+    {
+        self.path.as_str()
+    }
+
+    /// Returns whether the command read or wrote the file.
+    pub fn access(&self) -> Access
+        ensures { result ≡ self.now.access }
+    {
+        self.access
+    }
+
+    /// Returns why the file failed. `explain_file_fault` of `app_commands` and `explain_unread` of `app_networks` call it.
+    pub fn cause(&self) -> Cause
+        ensures { result ≡ self.now.cause }
+    {
+        self.cause
+    }
 }
 
 /// Why the files of a command failed.
@@ -41,13 +75,31 @@ impl From<AllocError> for FileFault {
     }
 }
 
-/// Returns the fault of the file at `path`. If memory for the path runs out, returns `NoMemory` instead. `spare`, `create` and functions of
-/// `app_commands` and `app_networks` call it.
-pub fn file_fault(alloc: Global, path: &str, cause: Cause) -> FileFault
-    ensures { IsOfPath path.now result }
+/// Returns the fault of the file at `path`. If memory for the path runs out, returns `NoMemory` instead. `input_fault` and `output_fault`
+/// call it.
+pub(crate) fn file_fault(alloc: Global, access: Access, path: &str, cause: Cause) -> FileFault
+    ensures { IsOfPath access path.now result }
 {
     match String::from_str(alloc, path) {
-        Ok(path) => FileFault::File(FileError { path, cause }),
+        Ok(path) => FileFault::File(FileError {
+            path,
+            access,
+            cause,
+        }),
         Err(_) => FileFault::NoMemory,
     }
+}
+
+/// Returns the fault of an input at `path`.
+pub(crate) fn input_fault(alloc: Global, path: &str, cause: Cause) -> FileFault
+    ensures { IsOfPath Reading path.now result }
+{
+    file_fault(alloc, Access::Reading, path, cause)
+}
+
+/// Returns the fault of an output at `path`.
+pub(crate) fn output_fault(alloc: Global, path: &str, cause: Cause) -> FileFault
+    ensures { IsOfPath Writing path.now result }
+{
+    file_fault(alloc, Access::Writing, path, cause)
 }

@@ -4,7 +4,7 @@ ghost use Rattle.app_files.specs.Paths.{capture_path, folder_of, report_path};
 ghost use Rattle.app_files.specs.Folders.{HavePaths, LackPath};
 
 use crate::cause::Cause;
-use crate::failed_file::{FileFault, file_fault};
+use crate::failed_file::{FileFault, input_fault, output_fault};
 use bridge_limits::NoMemory;
 use std::alloc::{Allocator, Global};
 
@@ -36,10 +36,10 @@ pub fn test_folders(alloc: Global, input: &str, output: &str) -> Result<(), File
     ensures unnamed { IfErr result (LackPath input.now output.now) }
 {
     if input.is_empty() {
-        return Err(file_fault(alloc, "", Cause::NotFound));
+        return Err(input_fault(alloc, "", Cause::NotFound));
     }
     if output.is_empty() {
-        return Err(file_fault(alloc, "", Cause::NotFound));
+        return Err(output_fault(alloc, "", Cause::NotFound));
     }
     Ok(())
 }

@@ -1,9 +1,13 @@
-//! Reads whole files and the whole standard input, up to a limit.
-ghost use Rattle.std.specs.Prelude.{◌≡◌, List, ℕ, Some, IfOk, take};
+//! Reads files and standard input whole.
+ghost use Rattle.std.specs.Prelude.{◌≡◌, List, ℕ, Some, IfErr, IfOk, codes, take};
 ghost use Rattle.std.specs.IoError.{error_kind};
+ghost use Rattle.app_files.specs.FailedFiles.{IsOfPath};
 ghost use Rattle.app_files.specs.Reading.{read_fault};
+ghost use Rattle.app_files.specs.declared.failed_file.Access.TheVariants.{Reading};
 
-use std::alloc::Allocator;
+use crate::cause::Cause;
+use crate::failed_file::{FileFault, input_fault};
+use std::alloc::{Allocator, Global};
 use std::io::{Error, ErrorKind, Read};
 
 /// Largest number of octets read from a plan, commands, traffic or a network. It exceeds each size limit by one, so that a longer text is
@@ -43,6 +47,42 @@ pub fn read_text<R: Read + Drop, A: Allocator>(alloc: A, reader: R) -> Result<Ve
         → IfOk result (λ text. text.items ≡ take MOST_TEXT octets) }
 {
     read_at_most(alloc, reader, MOST_TEXT)
+}
+
+/// Reads at most `MOST_TEXT` octets of a reader. A fault names `path`, the reader's file. `read_commands` and `read_plan` of `app_failure`,
+/// and `read_rows` of `net_latency` call it.
+pub fn read_named<R: Read + Drop, A: Allocator>(
+    alloc: A,
+    heap: Global,
+    path: &str,
+    reader: R,
+) -> Result<Vec<u8, A>, FileFault>
+    ensures octets { (octets : List ℕ) → R.remaining reader ≡ Some octets
+        → IfOk result (λ text. text.items ≡ take MOST_TEXT octets) }
+    ensures fails { IfErr result (IsOfPath Reading path.now) }
+{
+    match read_text(alloc, reader) {
+        Ok(text) => Ok(text),
+        Err(ReadFault::Broken) => Err(input_fault(heap, path, Cause::Unknown)),
+        Err(ReadFault::NoMemory) => Err(FileFault::NoMemory),
+    }
+}
+
+/// Reads at most `most` octets of standard input. A fault names the path `-`. `read_standard_text` of `app_commands` calls it.
+pub fn read_standard<R: Read + Drop>(
+    alloc: Global,
+    reader: R,
+    most: u64,
+) -> Result<Vec<u8>, FileFault>
+    ensures octets { (octets : List ℕ) → R.remaining reader ≡ Some octets
+        → IfOk result (λ text. text.items ≡ take most octets) }
+    ensures fails { IfErr result (IsOfPath Reading (codes "-")) }
+{
+    match read_at_most(alloc, reader, most) {
+        Ok(text) => Ok(text),
+        Err(ReadFault::Broken) => Err(input_fault(alloc, "-", Cause::Standard)),
+        Err(ReadFault::NoMemory) => Err(FileFault::NoMemory),
+    }
 }
 
 /// Returns the fault for a reader's error: `NoMemory` if memory ran out, otherwise `Broken`. `read_at_most` calls it.

@@ -20,3 +20,4 @@ pub mod Ran
 pub mod Asked
 pub mod Written
 pub mod RunAsked
+pub mod ReadTraffic

@@ -2,9 +2,11 @@
 use Rattle.std.specs.Prelude.{◌≡◌, ◌⊎◌, ◌&&◌, ◌||◌, ◌++◌, ℕ, Bool, true, false, not, List, [], None, Some, Option, String, is_some, string_bytes}
 use Rattle.std.specs.declared.alloc.Global.{Global}
 use Rattle.bridge_config.specs.Model.{Plan}
+use Rattle.app_files.specs.declared.failed_file.Access.TheVariants.{Reading}
 use Rattle.app_failure.specs.declared.fault.Failure.{Failure}
 use Rattle.app_failure.specs.Jobs.{Accepts}
 use Rattle.app_failure.specs.Reading.{IsFileFault}
+use Rattle.app_commands.specs.ReadTexts.{HasTextAt}
 use Rattle.app_commands.specs.declared.output.Output.{Output}
 use Rattle.app_commands.specs.Outputs.{Prints, has_text, status_if}
 use Rattle.app_commands.specs.Notes.{WarnsOfNone}
@@ -41,21 +43,34 @@ warnings_text (Some unprotected) shared = string_bytes unprotected ++ shared
 abbrev pub status_by : Bool → Bool → Bool → ℕ
 status_by kept strict warned = status_if (kept && not (strict && warned))
 
--- Holds if the program prints the delay bounds of an accepted plan, and its warnings, if any, to standard error. The status is 1 exactly if warnings are errors
--- and there is one.
-abbrev pub IsBoundsOutput : Bool → Bool → Output → Type 0
-IsBoundsOutput strict explained output =
-    (input : List ℕ) × (lines : List ℕ) × (unprotected : Option (String Global)) × (shared : List ℕ) × PrintsBounds Global input lines
+-- Holds if the program prints the delay bounds of the accepted plan in `input`, and its warnings, if any, to standard error. The status is 1 exactly if warnings
+-- are errors and there is one.
+abbrev pub IsBoundsOutputOf : List ℕ → Bool → Bool → Output → Type 0
+IsBoundsOutputOf input strict explained output =
+    (lines : List ℕ) × (unprotected : Option (String Global)) × (shared : List ℕ) × PrintsBounds Global input lines
     × WarnsBy strict explained input unprotected shared × Prints lines (warnings_text unprotected shared) (status_by true strict (is_warned unprotected shared)) output
 
--- Holds if `bounds --traffic` prints this output: bounds and traffic lines. Standard error has the requested reasons,
--- then the warnings. The status is 0 exactly if all traffic is kept without a warning as error.
-abbrev pub IsTrafficOutput : Bool → Bool → Output → Type 0
-IsTrafficOutput strict explained output =
-    (input : List ℕ) × (words : List ℕ) × (lines : List ℕ) × (kept : Bool) × (reasons : List ℕ) × (unprotected : Option (String Global)) × (shared : List ℕ)
+-- Holds if the program prints the delay bounds of some accepted plan.
+abbrev pub IsBoundsOutput : Bool → Bool → Output → Type 0
+IsBoundsOutput strict explained output = (input : List ℕ) × IsBoundsOutputOf input strict explained output
+
+-- Holds if `bounds --traffic` prints this output for these texts of plan and traffic. Standard error has reasons, then warnings. The status is 0 exactly if all
+-- traffic is kept without a warning as error.
+abbrev pub IsTrafficOutputOf : List ℕ → List ℕ → Bool → Bool → Output → Type 0
+IsTrafficOutputOf input words strict explained output =
+    (lines : List ℕ) × (kept : Bool) × (reasons : List ℕ) × (unprotected : Option (String Global)) × (shared : List ℕ)
     × PrintsRows Global input words lines kept × WarnsBy strict explained input unprotected shared × (explained && not kept ≡ false → reasons ≡ [])
     × Prints lines (reasons ++ warnings_text unprotected shared) (status_by kept strict (is_warned unprotected shared)) output
 
--- Holds if failure `f` can end the bounds of a plan with traffic. A file can't be read, memory ran out, or plan or traffic is refused.
+-- Holds if `bounds --traffic` prints this output for some plan and some traffic.
+abbrev pub IsTrafficOutput : Bool → Bool → Output → Type 0
+IsTrafficOutput strict explained output = (input : List ℕ) × (words : List ℕ) × IsTrafficOutputOf input words strict explained output
+
+-- Holds if fault `f` can end the bounds of a plan with traffic: an unreadable file, out of memory, or a fault of plan or traffic.
 abbrev pub FailsTraffic : List ℕ → List ℕ → Failure → Type 0
-FailsTraffic plan file f = ((input : List ℕ) × (words : List ℕ) × EndsTexts Global plan input file words f) ⊎ (IsFileFault plan f ⊎ IsFileFault file f)
+FailsTraffic plan file f = ((input : List ℕ) × (words : List ℕ) × EndsTexts Global plan input file words f) ⊎ (IsFileFault Reading plan f ⊎ IsFileFault Reading file f)
+
+-- Holds if fault `f` can end `bounds --traffic` over the files at `plan` and `file`: one of them can't be read, or `f` is a fault of their texts.
+abbrev pub FailsTrafficAt : (List ℕ → Option (List ℕ)) → List ℕ → List ℕ → Failure → Type 0
+FailsTrafficAt octets_at plan file f =
+    HasTextAt octets_at plan (λ input. HasTextAt octets_at file (λ words. EndsTexts Global plan input file words f)) ⊎ (IsFileFault Reading plan f ⊎ IsFileFault Reading file f)

@@ -11,6 +11,8 @@ use Rattle.net_model.specs.NetworkParts.{NetworkParts}
 use Rattle.net_check.specs.Naming.{bridge_name}
 use Rattle.net_check.specs.Networks.{EndsNetwork, IsNetworkOfFile}
 use Rattle.net_latency.specs.Talkers.{first_misfit}
+use Rattle.app_files.specs.declared.failed_file.Access.TheVariants.{Reading}
+use Rattle.app_files.specs.FailedFiles.{IsErrorOf}
 use Rattle.app_failure.specs.declared.fault.Failure.{Failure}
 use Rattle.app_failure.specs.declared.fault.Failure.TheVariants as fault
 use Rattle.app_failure.specs.Lines.{run_fault_line}
@@ -73,7 +75,7 @@ RefusesCommandsOf p name lines = (text : List ℕ) × (e : PlanFault) × (text_c
 -- Holds if the failure can end the reading of a bridge's commands from its folder. The file failed, the commands are refused, or memory ran
 -- out.
 abbrev pub EndsCommands : {A : Type 0} → Plan A → List ℕ → List ℕ → Failure → Type 0
-EndsCommands p name folder (fault.File e) = string_bytes e.path ≡ commands_path folder
+EndsCommands p name folder (fault.File e) = IsErrorOf Reading (commands_path folder) e
 EndsCommands p name folder (fault.Network lines) = RefusesCommandsOf p name (string_bytes lines)
 EndsCommands p name folder fault.NoMemory = Unit {0}
 EndsCommands p name folder f = ⊥
@@ -81,7 +83,7 @@ EndsCommands p name folder f = ⊥
 -- Holds if the failure can end the reading of the input of the bridge with index `b` from its folder. An input failed, its commands are
 -- refused, or memory ran out.
 abbrev pub EndsBridge : {A : Type 0} → List Link → ℕ → Plan A → List ℕ → List ℕ → Failure → Type 0
-EndsBridge links b p name folder (fault.File e) = IsBridgeInputFile links b p folder (string_bytes e.path)
+EndsBridge links b p name folder (fault.File e) = (e.access ≡ Reading) × IsBridgeInputFile links b p folder (string_bytes e.path)
 EndsBridge links b p name folder (fault.Network lines) = RefusesCommandsOf p name (string_bytes lines)
 EndsBridge links b p name folder fault.NoMemory = Unit {0}
 EndsBridge links b p name folder f = ⊥

@@ -8,6 +8,8 @@ use Rattle.net_model.specs.declared.links.Link.{Link}
 use Rattle.net_model.specs.Networks.{sender}
 use Rattle.net_model.specs.NetworkParts.{NetworkParts, link_value}
 use Rattle.net_check.specs.Naming.{bridge_name}
+use Rattle.app_files.specs.declared.failed_file.Access.{Access}
+use Rattle.app_files.specs.declared.failed_file.Access.TheVariants.{Reading, Writing}
 use Rattle.app_failure.specs.declared.fault.Failure.{Failure}
 use Rattle.app_failure.specs.declared.fault.Failure.TheVariants as fault
 use Rattle.app_failure.specs.Reading.{LacksPath}
@@ -15,11 +17,11 @@ use Rattle.app_files.specs.FailedFiles.{IsCapture}
 use Rattle.app_files.specs.Paths.{capture_path, report_path}
 use Rattle.app_networks.specs.OutputFiles.{folder_path}
 
--- Holds if the failure names one of these files, or if memory ran out.
-abbrev pub NamesFile : (List ℕ → Type 0) → Failure → Type 0
-NamesFile files (fault.File e) = files (string_bytes e.path)
-NamesFile files fault.NoMemory = Unit {0}
-NamesFile files f = ⊥
+-- Holds if the fault names one of these files, which was used in this way, or memory ran out.
+abbrev pub NamesFile : Access → (List ℕ → Type 0) → Failure → Type 0
+NamesFile access files (fault.File e) = (e.access ≡ access) × files (string_bytes e.path)
+NamesFile access files fault.NoMemory = Unit {0}
+NamesFile access files f = ⊥
 
 -- INPUTS
 
@@ -76,8 +78,8 @@ IsWrittenFile plans bridges output picture path = IsOutputFile plans bridges out
 
 -- THE RUN
 
--- Holds if a file fault can end the run of a network between two folders. One folder has an empty path, or an input, an output or the
--- picture failed.
+-- Holds if a fault of a file can end the run of a network between two folders: one folder has an empty path, an input wasn't read, or an output or the picture
+-- wasn't written.
 abbrev pub FailsRunFiles : {A : Type 0} → NetworkParts A → List Bridge → List ℕ → List ℕ → Option (List ℕ) → Failure → Type 0
 FailsRunFiles n bridges input output picture f =
-    LacksPath input output f ⊎ (NamesFile (IsInputFile n.links n.plans bridges input) f ⊎ NamesFile (IsWrittenFile n.plans bridges output picture) f)
+    LacksPath input output f ⊎ (NamesFile Reading (IsInputFile n.links n.plans bridges input) f ⊎ NamesFile Writing (IsWrittenFile n.plans bridges output picture) f)

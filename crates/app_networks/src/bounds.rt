@@ -1,14 +1,16 @@
 //! The command `bounds`, with traffic or without: delay bounds of a plan's queues, delays of its talkers' frames, and warnings.
-ghost use Rattle.std.specs.Prelude.{[], ◌≡◌, ◌&&◌, ◌++◌, IfErr, IfOk, OnOk, false, not, string_bytes};
+ghost use Rattle.std.specs.Prelude.{[], ◌≡◌, ◌&&◌, ◌++◌, ℕ, IfErr, IfOk, List, OnOk, false, not, string_bytes};
 ghost use Rattle.std.specs.declared.alloc.Global.{Global};
-ghost use Rattle.app_commands.specs.Checked.{EndsChecked};
+ghost use Rattle.app_failure.specs.Jobs.{EndsCheck};
+ghost use Rattle.app_commands.specs.ReadTexts.{HasTextAt, IsTextOf};
+ghost use Rattle.net_latency.specs.TrafficText.{EndsTexts};
 ghost use Rattle.app_commands.specs.Outputs.{Prints};
-ghost use Rattle.app_networks.specs.Bounds.{FailsTraffic, IsBoundsOutput, IsTrafficOutput, WarnsBy, WarnsOfPlan, WarnsOfText, is_warned, status_by, warnings_text};
+ghost use Rattle.app_networks.specs.Bounds.{FailsTrafficAt, IsBoundsOutputOf, IsTrafficOutputOf, WarnsBy, WarnsOfPlan, WarnsOfText, is_warned, status_by, warnings_text};
 
 use crate::again::can_read_traffic_again;
-use app_commands::{Flags, Output, Texts, status_if, unprotected_warning};
+use app_commands::{Flags, Output, Texts, read_file_text, status_if, unprotected_warning};
 use app_failure::{Failure, NoMemory, accepted_plan, file_failure};
-use app_files::{CommandFiles, MOST_TEXT, open_input, read_open, read_text_file};
+use app_files::{MOST_TEXT, ReadFiles, read_open};
 use bridge_check::Accepted;
 use net_latency::{TrafficReport, bounds_job, explain_refusable, shared_warnings, traffic_job};
 use std::alloc::{AllocError, Global};
@@ -26,28 +28,34 @@ struct BoundsWarnings {
 
 /// Returns the output of `bounds` for a plan without traffic. The status is 1 if warnings are errors and the plan has one. Stores the
 /// plan's text in `texts` for an explanation. `bound` calls it.
-pub(crate) fn bound_plan<H: AllocGlobal + Files>(
-    files: &CommandFiles<'_, H>,
+pub(crate) fn bound_plan<F: ReadFiles>(
+    alloc: Global,
+    files: &mut F,
     plan: &str,
     flags: Flags,
     texts: &mut Texts,
 ) -> Result<Output, Failure>
-    ensures ok { IfOk result (IsBoundsOutput flags.is_strict flags.is_explained) }
-    ensures fails { IfErr result (EndsChecked Global plan.now) }
+    ensures ok { IfOk result (λ output. HasTextAt (F.octets_at files.old) plan.now
+        (λ text. IsBoundsOutputOf text flags.is_strict flags.is_explained output)) }
+    ensures fails { IfErr result (λ f. HasTextAt (F.octets_at files.old) plan.now
+        (λ text. EndsCheck Global plan.now text f)) }
 {
-    let text = match read_text_file(files.rt, plan) {
+    let text = match read_file_text(files, plan) {
         Ok(text) => text,
-        Err(fault) => return Err(file_failure(fault)),
+        Err(fault) => return Err(fault),
     };
-    let bounded = bound_text(files.alloc(), plan, &text, flags);
+    let bounded = bound_text(alloc, plan, &text, flags);
     texts.plan = text;
-    bounded
+    match bounded {
+        Ok(output) => Ok(output),
+        Err(fault) => Err(fault),
+    }
 }
 
 /// Returns the output of `bounds` for the plan in `text`. A failure names the path `plan`. `bound_plan` calls it.
 fn bound_text(alloc: Global, plan: &str, text: &[u8], flags: Flags) -> Result<Output, Failure>
-    ensures ok { IfOk result (IsBoundsOutput flags.is_strict flags.is_explained) }
-    ensures fails { IfErr result (EndsChecked Global plan.now) }
+    ensures ok { IfOk result (IsBoundsOutputOf text.now flags.is_strict flags.is_explained) }
+    ensures fails { IfErr result (EndsCheck Global plan.now text.now) }
 {
     let lines = match bounds_job(alloc, alloc, plan, text) {
         Ok(lines) => lines,
@@ -150,39 +158,45 @@ fn bounds_output(
     })
 }
 
-/// Returns the output of `bounds --traffic`: delay bounds, and delays of the traffic's frames. The status is 1 if a frame may be refused or
-/// late, or a warning is an error. `bound` calls it.
-pub(crate) fn bound_traffic<H: AllocGlobal + Files>(
-    files: &CommandFiles<'_, H>,
+/// Returns the output of `bounds --traffic`. The status is 1 if a frame may be refused or late, or a warning is an error. Opens both files
+/// before it reads one. `bound` calls it.
+pub(crate) fn bound_traffic<H: AllocGlobal + Files, F: ReadFiles>(
+    rt: &H,
+    files: &mut F,
     plan: &str,
     file: &str,
     flags: Flags,
     texts: &mut Texts,
 ) -> Result<Output, Failure>
-    ensures ok { IfOk result (IsTrafficOutput flags.is_strict flags.is_explained) }
-    ensures fails { IfErr result (FailsTraffic plan.now file.now) }
+    ensures ok { IfOk result (λ output. HasTextAt (F.octets_at files.old) plan.now (λ input.
+        HasTextAt (F.octets_at files.old) file.now (λ words.
+        IsTrafficOutputOf input words flags.is_strict flags.is_explained output))) }
+    ensures fails { IfErr result (FailsTrafficAt (F.octets_at files.old) plan.now file.now) }
 {
-    let reader = match open_input(files.rt, plan) {
+    let reader = match files.open_file(plan) {
         Ok(reader) => reader,
         Err(fault) => return Err(file_failure(fault)),
     };
-    let rows = match open_input(files.rt, file) {
+    let rows = match files.open_file(file) {
         Ok(rows) => rows,
         Err(fault) => {
             drop(reader);
             return Err(file_failure(fault));
         }
     };
-    let text = match read_open(files.rt, plan, reader, MOST_TEXT) {
+    let text = match read_open(rt, plan, reader, MOST_TEXT) {
         Ok(text) => text,
         Err(fault) => {
             drop(rows);
             return Err(file_failure(fault));
         }
     };
-    let bounded = bound_rows(files.rt, plan, &text, file, rows, flags);
+    let bounded = bound_rows(rt, plan, &text, file, rows, flags);
     texts.plan = text;
-    bounded
+    match bounded {
+        Ok(output) => Ok(output),
+        Err(fault) => Err(fault),
+    }
 }
 
 /// Returns the output of `bounds --traffic` for the plan in `text` and the traffic of reader `rows`. Faults name the paths `plan` and
@@ -195,8 +209,10 @@ fn bound_rows<R: Read + Drop, H: AllocGlobal + Files>(
     rows: R,
     flags: Flags,
 ) -> Result<Output, Failure>
-    ensures ok { IfOk result (IsTrafficOutput flags.is_strict flags.is_explained) }
-    ensures fails { IfErr result (FailsTraffic plan.now file.now) }
+    ensures ok { IfOk result (λ output. (words : List ℕ) × IsTextOf (R.remaining rows) words
+        × IsTrafficOutputOf text.now words flags.is_strict flags.is_explained output) }
+    ensures fails { IfErr result (λ f. (words : List ℕ) × IsTextOf (R.remaining rows) words
+        × EndsTexts Global plan.now text.now file.now words f) }
 {
     let alloc = rt.alloc();
     let TrafficReport { text: lines, kept } = match traffic_job(

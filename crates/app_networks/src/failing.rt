@@ -85,12 +85,11 @@ fn explain_traffic_fault<H: AllocGlobal + Files>(
 
 /// Explains why a file couldn't be read. If the cause is unknown, it examines the file to find one. `explain_traffic_fault` calls it.
 fn explain_unread<H: AllocGlobal + Files>(rt: &H, error: &FileError) -> Option<String> {
-    let FileError { path, cause } = error;
-    let cause = match cause {
-        Cause::Unknown => unreadable_cause(rt, path.as_str()),
-        cause => *cause,
+    let cause = match error.cause() {
+        Cause::Unknown => unreadable_cause(rt, error.path()),
+        cause => cause,
     };
-    explain_file_cause(rt.alloc(), path.as_str(), cause)
+    explain_file_cause(rt.alloc(), error.path(), cause)
 }
 
 /// Finds why the file at `path` can't be read, by examining it. `explain_unread` calls it.

@@ -7,6 +7,7 @@ ghost use Rattle.app_failure.specs.Reading.{IsFileFault};
 ghost use Rattle.app_files.specs.Paths.{capture_path};
 ghost use Rattle.app_networks.specs.Folders.{AreInputsOfPlans, EndsBridge, EndsCommands, EndsReading};
 ghost use Rattle.app_networks.specs.RunFiles.{IsOpenCapture, NamesFile};
+ghost use Rattle.app_files.specs.declared.failed_file.Access.TheVariants.{Reading};
 
 use crate::outputs::bridge_folder;
 use crate::refusing::{bridge_commands_fault, bridge_name};
@@ -25,7 +26,7 @@ const MOST_CAPTURE: u64 = 65_552_065_576;
 /// Reads at most `most` octets of the file at `path`. Converts a file fault to the command's failure. `read_capture` and `read_commands`
 /// call it.
 fn read_file<F: ReadFiles>(files: &mut F, path: &str, most: u64) -> Result<Vec<u8>, Failure>
-    ensures { IfErr result (IsFileFault path.now) }
+    ensures { IfErr result (IsFileFault Reading path.now) }
 {
     match files.read(path, most) {
         Ok(octets) => Ok(octets),
@@ -40,7 +41,7 @@ fn read_capture<F: ReadFiles>(
     folder: &str,
     port: u8,
 ) -> Result<Vec<u8>, Failure>
-    ensures { IfErr result (IsFileFault (capture_path folder.now port)) }
+    ensures { IfErr result (IsFileFault Reading (capture_path folder.now port)) }
 {
     match capture_path(alloc, folder, port) {
         Ok(path) => read_file(files, path.as_str(), MOST_CAPTURE),
@@ -59,7 +60,7 @@ fn read_captures<F: ReadFiles>(
     folder: &str,
 ) -> Result<Vec<Vec<u8>>, Failure>
     ensures each { IfOk result (λ captures. length captures.items ≡ length ports.now) }
-    ensures ends { IfErr result (NamesFile (IsOpenCapture links.now bridge ports.now folder.now)) }
+    ensures ends { IfErr result (NamesFile Reading (IsOpenCapture links.now bridge ports.now folder.now)) }
 {
     let mut captures = Vec::new(alloc);
     for port in ports {

@@ -8,6 +8,7 @@ ghost use Rattle.app_networks.specs.InTime.{HaveViews};
 ghost use Rattle.net_run.specs.Rounds.{AreBridgeInputs};
 ghost use Rattle.app_networks.specs.RunFiles.{IsOutputFile, IsWrittenFile, NamesFile};
 ghost use Rattle.app_networks.specs.Folders.{EndsRounds, EndsRun, IsAccepted, IsLine, IsMostRounds, PrintsRounds, PrintsRoundsIn, IsRunLine, TellsRunIn, network_words, rounds_line};
+ghost use Rattle.app_files.specs.declared.failed_file.Access.TheVariants.{Writing};
 
 use crate::figures::stream_figures;
 use crate::incoming::read_bridge_inputs;
@@ -129,7 +130,7 @@ fn write_results<F: Write + OpenFile + Drop>(
     ensures ok { IfOk result (λ lines. IsLine network.now.links settled.now file.now (string_bytes lines.line)) }
     ensures lost { IfOk result (λ lines. AreToldLines network.now.links settled.now file.now is_strict
         (string_bytes lines.lost)) }
-    ensures err { IfErr result (NamesFile (IsOutputFile network.now.plans file.now.bridges output.now)) }
+    ensures err { IfErr result (NamesFile Writing (IsOutputFile network.now.plans file.now.bridges output.now)) }
 {
     let Outputs {
         bridges,
@@ -188,7 +189,7 @@ fn write_results_and_picture<H: AllocGlobal + Files>(
     ensures ok { IfOk result (λ lines. IsLine network.now.links settled.now file.now (string_bytes lines.line)) }
     ensures lost { IfOk result (λ lines. AreToldLines network.now.links settled.now file.now is_strict
         (string_bytes lines.lost)) }
-    ensures err { IfErr result (NamesFile (IsWrittenFile network.now.plans file.now.bridges output.now
+    ensures err { IfErr result (NamesFile Writing (IsWrittenFile network.now.plans file.now.bridges output.now
         (option_map string_bytes picture.now))) }
 {
     let Ok(queues) = all_queue_bounds(rt.alloc(), network.plans()) else {

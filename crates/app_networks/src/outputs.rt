@@ -3,16 +3,14 @@ ghost use Rattle.std.specs.Prelude.{◌≡◌, IfErr, IfOk, string_bytes};
 ghost use Rattle.app_failure.specs.Reading.{FailsCaptures, IsFileFault};
 ghost use Rattle.app_networks.specs.OutputFiles.{folder_path};
 ghost use Rattle.app_networks.specs.RunFiles.{IsBridgeOutputFile, IsOutputFile, NamesFile, table_path};
+ghost use Rattle.app_files.specs.declared.failed_file.Access.TheVariants.{Writing};
 
 use crate::refusing::bridge_name;
 use app_failure::{Failure, NoMemory, file_failure};
-use app_files::{
-    Cause, CommandFiles, FileId, Output, file_fault, path_file_id, report_path, write_cause,
-};
+use app_files::{CommandFiles, FileId, Output, make_folder, path_file_id, report_path};
 use bridge_check::Accepted;
 use net_file::BridgeRow;
 use std::alloc::Global;
-use std::fs;
 use std::fs::OpenFile;
 use std::io::Write;
 use std::rt::Files;
@@ -60,22 +58,17 @@ fn input_folders<H: AllocGlobal + Files>(
     Ok(folders)
 }
 
-/// Creates a missing folder and its parents. Refuses one of the input folders `read`, because outputs would replace inputs there.
-/// `open_bridges` calls it.
-fn make_folder<H: AllocGlobal + Files>(rt: &H, path: &str, read: &[FileId]) -> Result<(), Failure>
-    ensures { IfErr result (IsFileFault path.now) }
+/// Creates a missing folder and its parents. Refuses one of the input folders `read`. `open_bridges` calls it.
+fn make_output_folder<H: AllocGlobal + Files>(
+    rt: &H,
+    path: &str,
+    read: &[FileId],
+) -> Result<(), Failure>
+    ensures { IfErr result (IsFileFault Writing path.now) }
 {
-    if let Some(folder) = path_file_id(rt, path) {
-        if read.contains(&folder) {
-            return Err(file_failure(file_fault(rt.alloc(), path, Cause::SameFolder)));
-        }
-    }
-    match fs::create_dir_all(rt, path) {
+    match make_folder(rt, path, read) {
         Ok(()) => Ok(()),
-        Err(error) => {
-            let cause = write_cause(rt, path, &error);
-            Err(file_failure(file_fault(rt.alloc(), path, cause)))
-        }
+        Err(fault) => Err(file_failure(fault)),
     }
 }
 
@@ -85,12 +78,19 @@ pub(crate) fn open_output<H: AllocGlobal + Files>(
     files: &mut CommandFiles<'_, H>,
     path: &str,
 ) -> Result<Output<H::File>, Failure>
-    ensures { IfErr result (IsFileFault path.now) }
+    ensures { IfErr result (IsFileFault Writing path.now) }
 {
     match files.create_new(path) {
         Ok(output) => Ok(output),
         Err(fault) => Err(file_failure(fault)),
     }
+}
+
+/// Returns the path of the table `name` in a folder. `open_table`, `end_table` and `give_up_table` call it.
+pub(crate) fn table_path(alloc: Global, folder: &str, name: &str) -> Result<String, NoMemory>
+    ensures { IfOk result (λ path. string_bytes path ≡ table_path folder.now name.now) }
+{
+    Ok(format!(in alloc; "{folder}/{name}.csv")?)
 }
 
 /// Opens the table `name` in a folder for writing. `open_outputs` calls it.
@@ -99,9 +99,9 @@ fn open_table<H: AllocGlobal + Files>(
     folder: &str,
     name: &str,
 ) -> Result<Output<H::File>, Failure>
-    ensures { IfErr result (IsFileFault (table_path folder.now name.now)) }
+    ensures { IfErr result (IsFileFault Writing (table_path folder.now name.now)) }
 {
-    match format!(in files.alloc(); "{folder}/{name}.csv") {
+    match table_path(files.alloc(), folder, name) {
         Ok(path) => open_output(files, path.as_str()),
         Err(_) => Err(Failure::NoMemory),
     }
@@ -114,7 +114,7 @@ fn open_captures<H: AllocGlobal + Files>(
     folder: &str,
     ports: &[u8],
 ) -> Result<Vec<Output<H::File>>, Failure>
-    ensures { IfErr result (FailsCaptures folder.now ports.now) }
+    ensures { IfErr result (FailsCaptures Writing folder.now ports.now) }
 {
     let outputs = match files.create_captures(folder, ports) {
         Ok(outputs) => outputs,
@@ -135,7 +135,7 @@ fn open_bridge<H: AllocGlobal + Files>(
     accepted: &Accepted<Global>,
     folder: &str,
 ) -> Result<BridgeOutputs<H::File>, Failure>
-    ensures { IfErr result (NamesFile (IsBridgeOutputFile accepted.now folder.now)) }
+    ensures { IfErr result (NamesFile Writing (IsBridgeOutputFile accepted.now folder.now)) }
 {
     let Ok(ports) = accepted.plan().port_numbers(files.alloc()) else {
         return Err(Failure::NoMemory);
@@ -162,19 +162,19 @@ fn open_bridges<H: AllocGlobal + Files>(
     input: &str,
     output: &str,
 ) -> Result<Vec<BridgeOutputs<H::File>>, Failure>
-    ensures { IfErr result (NamesFile (IsOutputFile plans.now bridges.now output.now)) }
+    ensures { IfErr result (NamesFile Writing (IsOutputFile plans.now bridges.now output.now)) }
 {
     let Ok(read) = input_folders(files.rt, bridges, input) else {
         return Err(Failure::NoMemory);
     };
-    make_folder(files.rt, output, &read)?;
+    make_output_folder(files.rt, output, &read)?;
     let mut all = Vec::new(files.alloc());
     for accepted in plans {
         let name = bridge_name(bridges, all.len());
         let Ok(folder) = bridge_folder(files.alloc(), output, name) else {
             return Err(Failure::NoMemory);
         };
-        make_folder(files.rt, folder.as_str(), &read)?;
+        make_output_folder(files.rt, folder.as_str(), &read)?;
         let outputs = open_bridge(files, accepted, folder.as_str())?;
         if all.push(outputs).is_err() {
             return Err(Failure::NoMemory);
@@ -194,7 +194,7 @@ pub(crate) fn open_outputs<H: AllocGlobal + Files>(
     input: &str,
     output: &str,
 ) -> Result<Outputs<H::File>, Failure>
-    ensures { IfErr result (NamesFile (IsOutputFile plans.now bridges.now output.now)) }
+    ensures { IfErr result (NamesFile Writing (IsOutputFile plans.now bridges.now output.now)) }
 {
     let opened = open_bridges(files, plans, bridges, input, output)?;
     let streams = match open_table(files, output, "streams") {

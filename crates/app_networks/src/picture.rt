@@ -2,6 +2,7 @@
 ghost use Rattle.std.specs.Prelude.{IfErr, option_map, string_bytes};
 ghost use Rattle.app_networks.specs.InTime.{HaveViews};
 ghost use Rattle.app_networks.specs.RunFiles.{IsPictureFile, NamesFile};
+ghost use Rattle.app_files.specs.declared.failed_file.Access.TheVariants.{Writing};
 
 use crate::outputs::open_output;
 use crate::tables::{hop_name, hop_runs};
@@ -23,7 +24,7 @@ pub(crate) fn open_picture<H: AllocGlobal + Files>(
     files: &mut CommandFiles<'_, H>,
     path: &Option<String>,
 ) -> Result<Option<Output<H::File>>, Failure>
-    ensures { IfErr result (NamesFile (IsPictureFile (option_map string_bytes path.now))) }
+    ensures { IfErr result (NamesFile Writing (IsPictureFile (option_map string_bytes path.now))) }
 {
     let Some(path) = path else {
         return Ok(None);
@@ -170,7 +171,7 @@ pub(crate) fn write_picture<F: Write + OpenFile + Drop>(
     output: Option<Output<F>>,
 ) -> Result<(), Failure>
     requires { HaveViews settled.now file.now.streams }
-    ensures { IfErr result (NamesFile (IsPictureFile (option_map string_bytes path.now))) }
+    ensures { IfErr result (NamesFile Writing (IsPictureFile (option_map string_bytes path.now))) }
 {
     let Some(output) = output else {
         return Ok(());

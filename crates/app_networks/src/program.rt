@@ -188,8 +188,21 @@ fn bound<H: AllocGlobal + Files>(
     ensures fails { IfErr result (FailsBounds (string_bytes plan.now) (option_map string_bytes traffic.now)) }
 {
     match traffic {
-        Some(file) => bound_traffic(files, plan.as_str(), file.as_str(), flags, texts),
-        None => bound_plan(files, plan.as_str(), flags, texts),
+        Some(file) => match bound_traffic(
+            files.rt,
+            files,
+            plan.as_str(),
+            file.as_str(),
+            flags,
+            texts,
+        ) {
+            Ok(output) => Ok(output),
+            Err(fault) => Err(fault),
+        },
+        None => match bound_plan(files.alloc(), files, plan.as_str(), flags, texts) {
+            Ok(output) => Ok(output),
+            Err(fault) => Err(fault),
+        },
     }
 }
 

@@ -8,11 +8,13 @@ ghost use Rattle.app_networks.specs.InTime.{AreHopRuns, HasView, HaveViews, Have
 ghost use Rattle.app_failure.specs.Reading.{IsFileFault};
 ghost use Rattle.app_networks.specs.RunFiles.{IsTableFile, NamesFile, table_path};
 ghost use Rattle.app_networks.specs.Tables.{TablesStream, WriteStreams, WriteTables, hop_text};
+ghost use Rattle.app_files.specs.declared.failed_file.Access.TheVariants.{Writing};
 
 use crate::figures::StreamFigures;
+use crate::outputs::table_path;
 use crate::refusing::bridge_name;
 use app_failure::{Failure, file_failure};
-use app_files::{Cause, Output, file_fault};
+use app_files::{Output, flush_file, give_up_file};
 use bridge_limits::NoMemory;
 use bridge_report::find_view;
 use net_file::{BridgeRow, NetworkFile, StreamRow};
@@ -24,7 +26,6 @@ use net_report::{
 use net_run::BridgeResult;
 use std::alloc::Global;
 use std::fs::OpenFile;
-use std::io;
 use std::io::Write;
 
 /// Numbers for the line of a run, summed over all streams: frames that arrived at first hops, and frames that were delivered.
@@ -196,14 +197,25 @@ pub(crate) fn write_tables<V: Write, W: Write>(
     write_both_tables(alloc, file, links, settled, figures, streams, frames)
 }
 
-/// Writes the buffer of a table's file, completes the file and returns it. `put_files` calls it.
-fn end_table<F: Write + OpenFile + Drop>(output: Output<F>) -> io::Result<Output<F>>
-    ensures { IfOk result (λ done. Keeps (⟦<Output<F> as Write>⟧.contents output)
+/// Completes the table `name` in `folder`, and returns its file. `end_tables` calls it.
+fn end_table<F: Write + OpenFile + Drop>(
+    alloc: Global,
+    folder: &str,
+    name: &str,
+    output: Output<F>,
+) -> Result<Output<F>, Failure>
+    ensures kept { IfOk result (λ done. Keeps (⟦<Output<F> as Write>⟧.contents output)
         (⟦<Output<F> as Write>⟧.contents done)) }
+    ensures fails { IfErr result (IsFileFault Writing (table_path folder.now name.now)) }
 {
-    let mut output = output;
-    output.flush()?;
-    output.finish()
+    let Ok(path) = table_path(alloc, folder, name) else {
+        drop(output);
+        return Err(Failure::NoMemory);
+    };
+    match flush_file(alloc, path.as_str(), output) {
+        Ok(output) => Ok(output),
+        Err(fault) => Err(file_failure(fault)),
+    }
 }
 
 /// Files of the tables of a network run, completely written, and the numbers of all streams' frames.
@@ -217,67 +229,84 @@ pub(crate) struct WrittenTables<F: Write + OpenFile + Drop> {
     pub frames: Output<F>,
 }
 
-/// Returns the command's failure for the table `name` in `folder`, which wasn't written. `folder_fault` calls it.
-fn table_fault(alloc: Global, folder: &str, name: &str) -> Failure
-    ensures { IsFileFault (table_path folder.now name.now) result }
-{
-    match format!(in alloc; "{folder}/{name}.csv") {
-        Ok(path) => file_failure(file_fault(alloc, path.as_str(), Cause::NotWritable)),
-        Err(_) => Failure::NoMemory,
-    }
-}
-
-/// Returns the command's failure for a table that wasn't written, with the table's path in `folder`. `put_tables` calls it.
-fn folder_fault(alloc: Global, folder: &str, fault: TableFault) -> Failure
-    ensures { NamesFile (IsTableFile folder.now) result }
-{
-    match fault {
-        TableFault::Broken(Table::Streams) => table_fault(alloc, folder, "streams"),
-        TableFault::Broken(Table::Frames) => table_fault(alloc, folder, "frames"),
-        TableFault::NoMemory => Failure::NoMemory,
-    }
-}
-
-/// Writes both tables to their files, and completes the files. Returns the files and the numbers of all streams' frames. `put_tables` calls
-/// it.
-fn put_files<F: Write + OpenFile + Drop>(
+/// Gives up the table `name` in `folder` after a failed write, and returns the program's fault. `give_up_tables` calls it.
+fn give_up_table<F: Write + OpenFile + Drop>(
     alloc: Global,
-    file: &NetworkFile<Global>,
-    links: &[Link],
-    settled: &[BridgeResult<Global>],
-    figures: &[StreamFigures],
+    folder: &str,
+    name: &str,
+    output: Output<F>,
+) -> Failure
+    ensures { IsFileFault Writing (table_path folder.now name.now) result }
+{
+    match table_path(alloc, folder, name) {
+        Ok(path) => file_failure(give_up_file(alloc, path.as_str(), output)),
+        Err(_) => {
+            drop(output);
+            Failure::NoMemory
+        }
+    }
+}
+
+/// Gives up both tables in `folder` after a failed write, and returns the program's fault. It names the table that `fault` means.
+/// `put_tables` calls it.
+fn give_up_tables<F: Write + OpenFile + Drop>(
+    alloc: Global,
+    folder: &str,
+    fault: TableFault,
     streams: Output<F>,
     frames: Output<F>,
-) -> Result<WrittenTables<F>, TableFault>
-    requires figures { length figures.now ≡ length file.now.streams }
-    requires views { HaveViews settled.now file.now.streams }
-    ensures counts { IfOk result (λ all. AreTotals links.now settled.now file.now.streams 0 0 all.totals.frames
-        all.totals.delivered) }
-    ensures written { IfOk result (λ all. WriteTables links.now settled.now file.now figures.now
-        (⟦<Output<F> as Write>⟧.contents streams) (⟦<Output<F> as Write>⟧.contents all.streams)
-        (⟦<Output<F> as Write>⟧.contents frames) (⟦<Output<F> as Write>⟧.contents all.frames)) }
+) -> Failure
+    ensures { NamesFile Writing (IsTableFile folder.now) result }
 {
-    let mut streams = streams;
-    let mut frames = frames;
-    let totals = write_tables(
-        alloc,
-        file,
-        links,
-        settled,
-        figures,
-        &mut streams,
-        &mut frames,
-    )?;
-    let Ok(streams) = end_table(streams) else {
-        return Err(TableFault::Broken(Table::Streams));
+    match fault {
+        TableFault::Broken(Table::Streams) => {
+            drop(frames);
+            give_up_table(alloc, folder, "streams", streams)
+        }
+        TableFault::Broken(Table::Frames) => {
+            drop(streams);
+            give_up_table(alloc, folder, "frames", frames)
+        }
+        TableFault::NoMemory => {
+            drop(streams);
+            drop(frames);
+            Failure::NoMemory
+        }
+    }
+}
+
+/// Completes both tables in `folder`, and returns their files with the numbers of all streams' frames. `put_tables` calls it.
+fn end_tables<F: Write + OpenFile + Drop>(
+    alloc: Global,
+    folder: &str,
+    totals: Totals,
+    streams: Output<F>,
+    frames: Output<F>,
+) -> Result<WrittenTables<F>, Failure>
+    ensures totals { IfOk result (λ all. all.totals ≡ totals) }
+    ensures streams { IfOk result (λ all. Keeps (⟦<Output<F> as Write>⟧.contents streams)
+        (⟦<Output<F> as Write>⟧.contents all.streams)) }
+    ensures frames { IfOk result (λ all. Keeps (⟦<Output<F> as Write>⟧.contents frames)
+        (⟦<Output<F> as Write>⟧.contents all.frames)) }
+    ensures fails { IfErr result (NamesFile Writing (IsTableFile folder.now)) }
+{
+    let streams = match end_table(alloc, folder, "streams", streams) {
+        Ok(streams) => streams,
+        Err(fault) => {
+            drop(frames);
+            return Err(fault);
+        }
     };
-    match end_table(frames) {
+    match end_table(alloc, folder, "frames", frames) {
         Ok(frames) => Ok(WrittenTables {
             totals,
             streams,
             frames,
         }),
-        Err(_) => Err(TableFault::Broken(Table::Frames)),
+        Err(fault) => {
+            drop(streams);
+            Err(fault)
+        }
     }
 }
 
@@ -300,10 +329,23 @@ pub(crate) fn put_tables<F: Write + OpenFile + Drop>(
     ensures written { IfOk result (λ all. WriteTables links.now settled.now file.now figures.now
         (⟦<Output<F> as Write>⟧.contents streams) (⟦<Output<F> as Write>⟧.contents all.streams)
         (⟦<Output<F> as Write>⟧.contents frames) (⟦<Output<F> as Write>⟧.contents all.frames)) }
-    ensures err { IfErr result (NamesFile (IsTableFile folder.now)) }
+    ensures err { IfErr result (NamesFile Writing (IsTableFile folder.now)) }
 {
-    match put_files(alloc, file, links, settled, figures, streams, frames) {
-        Ok(written) => Ok(written),
-        Err(fault) => Err(folder_fault(alloc, folder, fault)),
+    let mut streams = streams;
+    let mut frames = frames;
+    match write_tables(
+        alloc,
+        file,
+        links,
+        settled,
+        figures,
+        &mut streams,
+        &mut frames,
+    ) {
+        Ok(totals) => match end_tables(alloc, folder, totals, streams, frames) {
+            Ok(written) => Ok(written),
+            Err(fault) => Err(fault),
+        },
+        Err(fault) => Err(give_up_tables(alloc, folder, fault, streams, frames)),
     }
 }

@@ -6,13 +6,14 @@ ghost use Rattle.app_failure.specs.Reading.{FailsCaptures, IsFileFault};
 ghost use Rattle.app_files.specs.Paths.{capture_path, report_path};
 ghost use Rattle.app_networks.specs.OutputFiles.{AreWrittenBy, IsBridgeWritten, IsTapWritten};
 ghost use Rattle.app_networks.specs.RunFiles.{IsBridgeOutputFile, IsOutputOfBridges, NamesFile};
+ghost use Rattle.app_files.specs.declared.failed_file.Access.TheVariants.{Writing};
 
 use crate::outputs::{BridgeOutputs, bridge_folder};
+use app_commands::Report;
 use app_failure::{Failure, file_failure};
-use app_files::{Cause, Output, capture_path, file_fault, finish_file, report_path, write_file};
+use app_files::{Output, capture_path, report_path, write_content, write_file};
 use bridge_capture::VecSink;
 use bridge_config::Plan;
-use bridge_report::{ReportFault, write_report};
 use bridge_semantics::Outcome;
 use net_file::BridgeRow;
 use net_model::Network;
@@ -31,7 +32,7 @@ fn put_tap<F: Write + OpenFile + Drop>(
     tap: &VecSink<Global>,
 ) -> Result<Output<F>, Failure>
     ensures written { IfOk result (IsTapWritten ⟦<Output<F> as Write>⟧.contents output tap.now) }
-    ensures fails { IfErr result (IsFileFault (capture_path folder.now port)) }
+    ensures fails { IfErr result (IsFileFault Writing (capture_path folder.now port)) }
 {
     let Ok(path) = capture_path(alloc, folder, port) else {
         drop(output);
@@ -53,7 +54,7 @@ fn write_captures<F: Write + OpenFile + Drop>(
 ) -> Result<Vec<Output<F>>, Failure>
     ensures written { IfOk result (λ done. AreWrittenBy (IsTapWritten ⟦<Output<F> as Write>⟧.contents) outputs.items
         taps.now done.items) }
-    ensures fails { IfErr result (FailsCaptures folder.now ports.now) }
+    ensures fails { IfErr result (FailsCaptures Writing folder.now ports.now) }
 {
     let mut done = Vec::new(alloc);
     for output in outputs {
@@ -83,20 +84,13 @@ fn write_report_file<F: Write + OpenFile + Drop>(
 ) -> Result<Output<F>, Failure>
     ensures written { IfOk result (λ done. Appends (⟦<Output<F> as Write>⟧.contents output)
         (⟦<Output<F> as Write>⟧.contents done) (report_text outcome.now.filters.items)) }
-    ensures fails { IfErr result (IsFileFault (report_path folder.now)) }
+    ensures fails { IfErr result (IsFileFault Writing (report_path folder.now)) }
 {
     let Ok(path) = report_path(alloc, folder) else {
         drop(output);
         return Err(Failure::NoMemory);
     };
-    let written = match write_report(alloc, outcome, output) {
-        Ok(written) => written,
-        Err(ReportFault::Broken) => {
-            return Err(file_failure(file_fault(alloc, path.as_str(), Cause::NotWritable)));
-        }
-        Err(ReportFault::NoMemory) => return Err(Failure::NoMemory),
-    };
-    match finish_file(alloc, path.as_str(), written) {
+    match write_content(alloc, path.as_str(), output, &Report { outcome }) {
         Ok(done) => Ok(done),
         Err(fault) => Err(file_failure(fault)),
     }
@@ -111,7 +105,7 @@ fn write_bridge<F: Write + OpenFile + Drop>(
     outputs: BridgeOutputs<F>,
 ) -> Result<BridgeOutputs<F>, Failure>
     ensures written { IfOk result (IsBridgeWritten ⟦<Output<F> as Write>⟧.contents outputs settled.now) }
-    ensures fails { IfErr result (NamesFile (IsBridgeOutputFile plan.now folder.now)) }
+    ensures fails { IfErr result (NamesFile Writing (IsBridgeOutputFile plan.now folder.now)) }
 {
     let Ok(ports) = plan.port_numbers(alloc) else {
         drop(outputs);
@@ -145,7 +139,7 @@ pub(crate) fn write_bridges<F: Write + OpenFile + Drop>(
 ) -> Result<Vec<BridgeOutputs<F>>, Failure>
     ensures written { IfOk result (λ done. AreWrittenBy (IsBridgeWritten ⟦<Output<F> as Write>⟧.contents) outputs.items
         settled.now done.items) }
-    ensures fails { IfErr result (NamesFile (IsOutputOfBridges network.now.plans bridges.now output.now)) }
+    ensures fails { IfErr result (NamesFile Writing (IsOutputOfBridges network.now.plans bridges.now output.now)) }
 {
     let plans = network.plans();
     let mut done = Vec::new(alloc);

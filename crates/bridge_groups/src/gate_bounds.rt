@@ -72,7 +72,7 @@ fn lists_gate_bound<A: Allocator + Copy>(
 
 /// Returns the delay bound in ns of a queue at `port`, by the list of a stream gate. SDUs have `fewest` to `sdu` octets.
 ///
-/// Returns `None` if the port has no list or a schedule change, or if no bound is found.
+/// Returns `None` if the port has no list or a schedule change, or if no bound is found. `schedule_bound` and `gate_figures` call it.
 pub(crate) fn port_gate_bound<A: Allocator + Copy>(
     gate: &CyclicList<GateEntry, A>,
     port: &PortPlan<A>,
@@ -98,7 +98,7 @@ pub(crate) fn port_gate_bound<A: Allocator + Copy>(
 
 /// Returns the delay bound in ns of a queue at `port`, by the stream gate's schedule. SDUs have `fewest` to `sdu` octets.
 ///
-/// Returns `None` unless gate and port have one list each and all open entries have octet limits.
+/// Returns `None` unless gate and port have one list each and all open entries have octet limits. `reached_gate_bound` calls it.
 fn schedule_bound<A: Allocator + Copy>(
     schedule: &Schedule<A>,
     port: &PortPlan<A>,

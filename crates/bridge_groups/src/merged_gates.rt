@@ -38,6 +38,7 @@ fn gate_list<'a, A: Allocator + Copy>(
 }
 
 /// Returns copies of the lists of the filters' stream gates, in the order of the filters. `None` if a gate has none that `gate_list` finds.
+/// `gate_figures` calls it.
 pub(crate) fn gate_lists<A: Allocator + Copy>(
     alloc: A,
     plan: &Plan<A>,
@@ -60,7 +61,7 @@ pub(crate) fn gate_lists<A: Allocator + Copy>(
     Ok(Some(lists))
 }
 
-/// Whether `cycle` ns are a multiple of each list's cycle time.
+/// Whether `cycle` ns are a multiple of each list's cycle time. `gates_cycle` calls it.
 fn is_common_cycle<A: Allocator + Copy>(lists: &[CyclicList<GateEntry, A>], cycle: u64) -> bool
     ensures { result ≡ list_all (λ l. nat_eq (cycle % l.cycle) 0) lists.now }
 {
@@ -73,6 +74,7 @@ fn is_common_cycle<A: Allocator + Copy>(lists: &[CyclicList<GateEntry, A>], cycl
 }
 
 /// Returns a common multiple in ns of the lists' cycle times. `None` without lists, or if the search finds none up to `LONGEST_CYCLE`.
+/// `merged_list` calls it.
 fn gates_cycle<A: Allocator + Copy>(lists: &[CyclicList<GateEntry, A>]) -> Option<u64>
     ensures common { IfSome result (λ n. list_all (λ l. nat_eq (n % l.cycle) 0) lists.now ≡ true) }
     ensures some { IfSome result (λ n. (1 ≤ n) × (n ≤ LONGEST_CYCLE)) }
@@ -91,7 +93,7 @@ fn gates_cycle<A: Allocator + Copy>(lists: &[CyclicList<GateEntry, A>]) -> Optio
     }
 }
 
-/// Returns the octet limit of an open interval; 0 if the gate is closed or has no limit.
+/// Returns the octet limit of an open interval; 0 if the gate is closed or has no limit. `limit_sum` calls it.
 fn open_limit(turn: &Turn<GateEntry>) -> u64
     ensures limit { result ≡ turn_limit (Some turn.now) }
     ensures few { result ≤ 4_294_967_295 }
@@ -105,7 +107,7 @@ fn open_limit(turn: &Turn<GateEntry>) -> u64
     }
 }
 
-/// Returns the sum of the octet limits of the gates that are open at `at` ns.
+/// Returns the sum of the octet limits of the gates that are open at `at` ns. `merged_entry` calls it.
 fn limit_sum<A: Allocator + Copy>(lists: &[CyclicList<GateEntry, A>], at: u64) -> u64
     requires few { length lists.now ≤ MOST_GATES }
     requires at { at < LONGEST_CYCLE }
@@ -118,7 +120,7 @@ fn limit_sum<A: Allocator + Copy>(lists: &[CyclicList<GateEntry, A>], at: u64) -
     sum
 }
 
-/// Whether at least one of the gates is open at `at` ns.
+/// Whether at least one of the gates is open at `at` ns. `merged_entry` calls it.
 fn is_any_open<A: Allocator + Copy>(lists: &[CyclicList<GateEntry, A>], at: u64) -> bool
     requires at { at < LONGEST_CYCLE }
     ensures { result ≡ spec.is_any_open lists.now at }
@@ -131,7 +133,7 @@ fn is_any_open<A: Allocator + Copy>(lists: &[CyclicList<GateEntry, A>], at: u64)
     false
 }
 
-/// Returns the earliest end in ns of the gates' intervals at `at` ns, at most `until`.
+/// Returns the earliest end in ns of the gates' intervals at `at` ns, at most `until`. `merged_entry` calls it.
 fn first_end<A: Allocator + Copy>(lists: &[CyclicList<GateEntry, A>], at: u64, until: u64) -> u64
     requires at { at < until }
     requires until { until ≤ LONGEST_CYCLE }
@@ -147,7 +149,7 @@ fn first_end<A: Allocator + Copy>(lists: &[CyclicList<GateEntry, A>], at: u64, u
 }
 
 /// Returns the entry of the merged list for the gates' intervals at `at` ns, which ends at `until` at the latest. `None` if the limits
-/// together exceed a `u32`.
+/// together exceed a `u32`. `merged_entries` calls it.
 fn merged_entry<A: Allocator + Copy>(
     lists: &[CyclicList<GateEntry, A>],
     at: u64,
@@ -173,7 +175,7 @@ fn merged_entry<A: Allocator + Copy>(
 }
 
 /// Returns the entries of the merged list for one common cycle of `cycle` ns. `None` if they are too many for a list, or if octet limits
-/// together exceed a `u32`.
+/// together exceed a `u32`. `merged_list` calls it.
 fn merged_entries<A: Allocator + Copy>(
     alloc: A,
     lists: &[CyclicList<GateEntry, A>],
@@ -202,7 +204,8 @@ fn merged_entries<A: Allocator + Copy>(
 
 /// Returns one list that stands for the lists of several stream gates: open while a gate is open, with the sum of their octet limits.
 ///
-/// Returns `None` if the lists have no common cycle up to `LONGEST_CYCLE`, or if the list would have too many entries.
+/// Returns `None` if the lists have no common cycle up to `LONGEST_CYCLE`, or if the list would have too many entries. `gate_figures` calls
+/// it.
 pub(crate) fn merged_list<A: Allocator + Copy>(
     alloc: A,
     lists: &[CyclicList<GateEntry, A>],

@@ -23,7 +23,7 @@ pub fn print_all(rt: &(impl AllocGlobal + Print + Files), words: &[String]) -> R
     put_explanations(rt, &mut said, lines.as_str(), plan.as_str(), files)?;
     put_faults(rt.alloc(), &mut said);
     put_causes(rt.alloc(), &mut said);
-    put_lines_of_faults(rt.alloc(), &mut said);
+    put_lines_of_faults(rt, &mut said);
     put_short_lines(rt.alloc(), &mut said);
     print_text(rt, said)
 }

@@ -2,8 +2,8 @@
 
 use crate::growths::{count_line_growths, count_wire_line_growths, put_growths};
 use app_commands::wire_line;
-use app_failure::{Failure, TextFault, fault_line};
-use app_files::{Cause, FileError};
+use app_failure::{Failure, TextFault, fault_line, file_failure};
+use app_files::open_input;
 use bridge_capture::{CaptureFault, RunFault};
 use bridge_check::CheckFault;
 use bridge_cycle::ListFault;
@@ -11,6 +11,7 @@ use bridge_schema::{Field, KeyLocation, PlanFault, Section};
 use bridge_text::TextBuilder;
 use bridge_wire::WireCount;
 use std::alloc::Global;
+use std::rt::Files;
 
 /// Faults of captures, with their ports.
 const CAPTURES: &[(u8, CaptureFault)] = &[
@@ -157,12 +158,13 @@ pub fn put_status(alloc: Global, said: &mut TextBuilder<Global>, fault: &Failure
 }
 
 /// Adds the line and exit status of each fault and the line of counts, each with its number of allocations.
-pub fn put_lines_of_faults(alloc: Global, said: &mut TextBuilder<Global>) {
+pub fn put_lines_of_faults(rt: &(impl AllocGlobal + Files), said: &mut TextBuilder<Global>) {
+    let alloc = rt.alloc();
     said.put("== lines and statuses\n");
     put_runs(alloc, said);
     put_plans(alloc, said);
     put_fault(alloc, said, &Failure::Words);
-    put_named(alloc, said);
+    put_named(rt, said);
     put_count(alloc, said);
 }
 
@@ -196,14 +198,12 @@ fn put_plans(alloc: Global, said: &mut TextBuilder<Global>) {
     }
 }
 
-/// Adds the faults that contain a path or a line.
-fn put_named(alloc: Global, said: &mut TextBuilder<Global>) {
-    match String::from_str(alloc, "a/b.pcap") {
-        Ok(path) => {
-            let cause = Cause::Unknown;
-            put_fault(alloc, said, &Failure::File(FileError { path, cause }));
-        }
-        Err(_) => said.discard(),
+/// Adds the faults that contain a path or a line. The file `a/b.pcap` doesn't exist.
+fn put_named(rt: &(impl AllocGlobal + Files), said: &mut TextBuilder<Global>) {
+    let alloc = rt.alloc();
+    match open_input(rt, "a/b.pcap") {
+        Ok(_) => said.discard(),
+        Err(fault) => put_fault(alloc, said, &file_failure(fault)),
     }
     match String::from_str(alloc, "network refused: LinkTwice link 2 a.1") {
         Ok(line) => put_fault(alloc, said, &Failure::Network(line)),

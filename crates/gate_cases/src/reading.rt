@@ -1,20 +1,21 @@
 //! Reads files as texts.
 use app_failure::{Failure, file_failure};
-use app_files::{Cause, file_fault, read_at_most};
-use std::fs;
+use app_files::{FileFault, open_input, read_open};
 use std::rt::Files;
 
-/// Reads the text of a file.
+/// Reads the text of a file. Fails with `Words` if it isn't UTF-8.
 pub fn read_text(rt: &(impl AllocGlobal + Files), path: &str) -> Result<String, Failure> {
-    match try_read_text(rt, path) {
-        Some(text) => Ok(text),
-        None => Err(file_failure(file_fault(rt.alloc(), path, Cause::Unknown))),
+    match read_octets(rt, path) {
+        Ok(octets) => match String::from_utf8(octets) {
+            Ok(text) => Ok(text),
+            Err(_) => Err(Failure::Words),
+        },
+        Err(fault) => Err(file_failure(fault)),
     }
 }
 
-/// Reads the text of a file, or returns `None` if the file can't be read or isn't UTF-8.
-fn try_read_text(rt: &(impl AllocGlobal + Files), path: &str) -> Option<String> {
-    let reader = fs::open(rt, path).ok()?;
-    let octets = read_at_most(rt.alloc(), reader, u64::MAX).ok()?;
-    String::from_utf8(octets).ok()
+/// Reads a whole file.
+fn read_octets(rt: &(impl AllocGlobal + Files), path: &str) -> Result<Vec<u8>, FileFault> {
+    let reader = open_input(rt, path)?;
+    read_open(rt, path, reader, u64::MAX)
 }

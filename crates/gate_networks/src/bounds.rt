@@ -7,7 +7,7 @@ mod periods;
 
 use crate::run_result;
 use app_failure::{Failure, file_failure, read_accepted_plan};
-use app_files::{Cause, file_fault};
+use app_files::open_input;
 use bridge_capture::RunFault;
 use bridge_check::Accepted;
 use bridge_text::TextBuilder;
@@ -16,7 +16,6 @@ use delays::{longest_random_delay, near_bound_delay};
 use net_latency::{QueueBound, queue_bounds};
 use periods::report_talkers;
 use std::alloc::Global;
-use std::fs;
 use std::rt::Files;
 
 /// A plan, and the frames of a run near its bound.
@@ -109,9 +108,9 @@ pub fn run(
 
 /// Reads and checks the plan of a file.
 fn read_plan(rt: &(impl AllocGlobal + Files), file: &str) -> Result<Accepted<Global>, Failure> {
-    match fs::open(rt, file) {
+    match open_input(rt, file) {
         Ok(reader) => read_accepted_plan(rt.alloc(), rt.alloc(), file, reader),
-        Err(_) => Err(file_failure(file_fault(rt.alloc(), file, Cause::Unknown))),
+        Err(fault) => Err(file_failure(fault)),
     }
 }
 

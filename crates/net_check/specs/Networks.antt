@@ -1,5 +1,7 @@
 -- Networks of files: their parts, and their output.
 use Rattle.std.specs.Prelude.{◌≡◌, ◌≢◌, ◌⊎◌, ◌==◌, ℕ, Bool, List, [], ◌∷◌, ◌++◌, if◌then◌else◌, map, slice_get, slice_index, length, sum_by, take, Option, Some, None, Result, Ok, Err, Vec, codes, decimal, string_bytes}
+use Rattle.app_files.specs.declared.failed_file.Access.TheVariants.{Reading}
+use Rattle.app_files.specs.FailedFiles.{IsErrorOf}
 use Rattle.app_files.specs.Paths.{folder_of}
 use Rattle.bridge_limits.specs.Members.{IsMember}
 use Rattle.bridge_config.specs.Model.{Plan}
@@ -179,7 +181,7 @@ RefusesTextBy reading f = ⊥
 -- Holds if the failure is why the file at `path` gives no network. It is a file error with this path, the fault line of a refused text, or
 -- `NoMemory`.
 abbrev pub EndsText : List ℕ → Failure → Type 0
-EndsText path (fault.File e) = string_bytes e.path ≡ path
+EndsText path (fault.File e) = IsErrorOf Reading path e
 EndsText path (fault.Network line) = RefusesText (string_bytes line)
 EndsText path fault.NoMemory = Unit {0}
 EndsText path f = ⊥
@@ -208,7 +210,7 @@ RefusesPlanBy A name text f = ⊥
 -- Holds if the failure is why bridge `b` of the network file at `path` has no accepted plan. It is an error of the plan's file, a refused
 -- plan's lines, or `NoMemory`.
 abbrev pub EndsPlanOf : (A : Type 0) → List ℕ → Bridge → Failure → Type 0
-EndsPlanOf A path b (fault.File e) = string_bytes e.path ≡ beside path b.plan
+EndsPlanOf A path b (fault.File e) = IsErrorOf Reading (beside path b.plan) e
 EndsPlanOf A path b (fault.Network line) = RefusesPlanOf A b (string_bytes line)
 EndsPlanOf A path b fault.NoMemory = Unit {0}
 EndsPlanOf A path b f = ⊥

@@ -35,7 +35,7 @@ pub fn explain_network<H: AllocGlobal + Files>(rt: &H, path: &str) -> Option<Str
     let mut files = CommandFiles::new(rt);
     match read_plans(alloc, &mut files, path, file.bridges()) {
         Ok(plans) => explain_plans(alloc, asked, plans),
-        Err(Failure::File(error)) => explain_plan_path(alloc, asked, error.path.as_str()),
+        Err(Failure::File(error)) => explain_plan_path(alloc, asked, error.path()),
         Err(_) => None,
     }
 }

@@ -1,5 +1,5 @@
 -- The frames of a talker whose stream has a printed line with delays and without `refusable` are delivered.
-use Rattle.std.proofs.Common.{◌≡◌, ℕ, true, List, Some, Vec, map, subst}
+use Rattle.std.proofs.Common.{◌≡◌, ℕ, true, List, Some, Vec, map}
 use Rattle.std.specs.Prelude.{slice_get}
 use Rattle.std.specs.Option.{ForSome}
 use Rattle.bridge_limits.specs.Members.{IsMember}

@@ -2,6 +2,7 @@
 use Rattle.std.specs.Prelude.{◌≡◌, ◌⊎◌, ℕ, ◌-◌, Bool, true, false, ◌++◌, List, Option, None, Some, Ok, Err, flat_map, codes, decimal, string_bytes, take}
 use Rattle.bridge_config.specs.Model.{Plan}
 use Rattle.net_file.specs.declared.fault.NetFault.{NetFault}
+use Rattle.app_files.specs.declared.failed_file.Access.TheVariants.{Reading}
 use Rattle.app_failure.specs.declared.fault.Failure.{Failure}
 use Rattle.app_failure.specs.declared.fault.Failure.TheVariants as fault
 use Rattle.app_failure.specs.Jobs.{Accepts, EndsCheck}
@@ -112,7 +113,7 @@ RefusesTimings p rows f = (f ≡ fault.NoMemory) ⊎ ((e : TrafficFault) × (fir
 -- or its rows don't suit the plan.
 abbrev pub EndsRows : {A : Type 0} → Plan A → List ℕ → List ℕ → Failure → Type 0
 EndsRows p file words f =
-    IsFileFault file f
+    IsFileFault Reading file f
     ⊎ (RefusesRows words f
     ⊎ ((rows : List TalkerRow) × ReadsRows words rows × RefusesTimings p rows f))
 
@@ -138,7 +139,7 @@ RefusesWords words f = (f ≡ fault.NoMemory) ⊎ ((e : NetFault) × (rows_of_te
 -- don't suit the plan.
 abbrev pub EndsWords : {A : Type 0} → Plan A → List ℕ → List ℕ → Failure → Type 0
 EndsWords p file words f =
-    IsFileFault file f
+    IsFileFault Reading file f
     ⊎ (RefusesWords words f
     ⊎ ((rows : List TalkerRow) × (rows_of_text words ≡ Ok rows) × RefusesTimings p rows f))
 

@@ -1,6 +1,7 @@
 //! The command `bounds --traffic`: delay bounds of a plan, and the delays of its talkers.
 ghost use Rattle.std.specs.Prelude.{◌≡◌, ◌⊎◌, ◌≤◌, All, IfErr, IfOk, List, Ok, Some, length, string_bytes, take, ℕ, None};
 ghost use Rattle.app_failure.specs.Reading.{IsFileFault};
+ghost use Rattle.app_files.specs.declared.failed_file.Access.TheVariants.{Reading};
 ghost use Rattle.net_file.specs.TrafficRows.{IsTalkerRow};
 ghost use Rattle.net_latency.specs.TalkerRows.{first_row_fault};
 ghost use Rattle.net_file.specs.TrafficDocument.{rows_of_text};
@@ -9,8 +10,8 @@ ghost use Rattle.net_latency.specs.TrafficText.{AreLinesOfTraffic, EndsTexts, En
 use crate::printing::bound_lines;
 use crate::timings::{are_in_time, queue_timings, timings_text};
 use crate::traffic::traffic_fault;
-use app_failure::{Failure, read_accepted_plan, read_failure};
-use app_files::read_text;
+use app_failure::{Failure, file_failure, read_accepted_plan};
+use app_files::read_named;
 use bridge_check::Accepted;
 use bridge_limits::NoMemory;
 use net_file::{
@@ -71,13 +72,13 @@ pub(crate) fn read_rows<R: Read + Drop, A: Allocator + Copy>(
     ensures rows { IfOk result (λ rows. All IsTalkerRow rows.items) }
     ensures few { IfOk result (λ rows. length rows.items ≤ 1024) }
     ensures err { (words : List ℕ) → R.remaining reader ≡ Some words
-        → IfErr result (λ f. IsFileFault path.now f ⊎ RefusesRows words f) }
+        → IfErr result (λ f. IsFileFault Reading path.now f ⊎ RefusesRows words f) }
     ensures read { IfOk result (λ rows. (words : List ℕ) × (rows_of_text words ≡ Ok rows.items)) }
-    ensures refused { IfErr result (λ f. IsFileFault path.now f ⊎ ((words : List ℕ) × RefusesWords words f)) }
+    ensures refused { IfErr result (λ f. IsFileFault Reading path.now f ⊎ ((words : List ℕ) × RefusesWords words f)) }
 {
-    match read_text(heap, reader) {
+    match read_named(heap, heap, path, reader) {
         Ok(text) => parse_rows(alloc, heap, &text),
-        Err(fault) => Err(read_failure(heap, path, fault)),
+        Err(fault) => Err(file_failure(fault)),
     }
 }
 

@@ -8,7 +8,7 @@ use crate::bounds::delays::{done_times, run_with_capture};
 use crate::bounds::read_plan;
 use crate::run_result;
 use app_failure::{Failure, file_failure};
-use app_files::{Cause, file_fault, read_at_most};
+use app_files::read_text_file;
 use bridge_bounds::Phases;
 use bridge_capture::RunFault;
 use bridge_check::Accepted;
@@ -16,11 +16,7 @@ use bridge_text::TextBuilder;
 use net_file::{TalkerRow, TrafficRow, parse_traffic};
 use net_latency::{QueueTiming, TrafficFigures, queue_timings};
 use std::alloc::Global;
-use std::fs;
 use std::rt::Files;
-
-/// Greatest number of octets read from a traffic file.
-const MOST_OCTETS: u64 = 1_048_577;
 
 /// A talker: paths of its plan and traffic file, the port at which its frames arrive, and their first octets.
 struct Talker {
@@ -83,15 +79,13 @@ fn read_rows(rt: &(impl AllocGlobal + Files), file: &str) -> Result<Vec<TalkerRo
     ensures rows { IfOk result (λ rows. All IsTalkerRow rows.items) }
     ensures few { IfOk result (λ rows. length rows.items ≤ 1024) }
 {
-    let Ok(reader) = fs::open(rt, file) else {
-        return Err(file_failure(file_fault(rt.alloc(), file, Cause::Unknown)));
-    };
-    let Ok(text) = read_at_most(rt.alloc(), reader, MOST_OCTETS) else {
-        return Err(file_failure(file_fault(rt.alloc(), file, Cause::Unknown)));
+    let text = match read_text_file(rt, file) {
+        Ok(text) => text,
+        Err(fault) => return Err(file_failure(fault)),
     };
     match parse_traffic(rt.alloc(), rt.alloc(), &text) {
         Ok(rows) => Ok(rows),
-        Err(_) => Err(file_failure(file_fault(rt.alloc(), file, Cause::Unknown))),
+        Err(_) => Err(Failure::Words),
     }
 }
 

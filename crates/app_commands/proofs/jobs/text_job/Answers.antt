@@ -5,11 +5,11 @@ use Rattle.app_commands.proofs.jobs.text_job.Goals as goal
 
 pub returns-in-Ok-wire_text-clause-ok : goal.returns-in-Ok-wire_text-clause-ok
 returns-in-Ok-wire_text-clause-ok g c = λ input told.
-    text_printed c.deref.result.now input (string_bytes c.in-Ok-wire_text.lines) (c.deref.ensures.value ∙ c.in-Ok.ensures input told) c.in-Ok-wire_text.ensures.ok
+    text_printed c.deref.result.now input (string_bytes c.in-Ok-wire_text.lines) (c.deref.ensures.value ∙ c.in-Ok.ensures.octets input told) c.in-Ok-wire_text.ensures.ok
 
 pub returns-clause-err : goal.returns-clause-err
 returns-clause-err g c = λ input told.
-    text_refused c.deref.result.now input c.in-Err-wire_text.fault c.wire_text.result (c.deref.ensures.value ∙ c.in-Ok.ensures input told) c.in-Err-wire_text.is
+    text_refused c.deref.result.now input c.in-Err-wire_text.fault c.wire_text.result (c.deref.ensures.value ∙ c.in-Ok.ensures.octets input told) c.in-Err-wire_text.is
     c.wire_text.ensures.not_hex c.wire_text.ensures.too_long c.wire_text.ensures.run c.wire_text.ensures.spelled
 
 pub returns-in-Ok-wire_text-clause-read : goal.returns-in-Ok-wire_text-clause-read

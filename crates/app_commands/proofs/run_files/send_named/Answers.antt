@@ -8,11 +8,11 @@ pub returns-in-Err-clause-err : goal.returns-in-Err-clause-err
 returns-in-Err-clause-err g c =
     let own = subst (λ z. ArePortNumbers z c.in-Ok.ports.items) c.plan.ensures.plan c.in-Ok.ensures in
     input_ends c.args.accepted.now c.args.job.now.input.now c.args.job.now.output.now c.in-Ok.ports.items c.deref.result.now c.file_failure.result
-    c.requires.named own c.deref.ensures.value (c.file_failure.ensures.captures c.args.job.now.input.now c.deref.result.now c.in-Err.ensures.fails)
+    c.requires.named own c.deref.ensures.value (c.file_failure.ensures.captures _ c.args.job.now.input.now c.deref.result.now c.in-Err.ensures.fails)
 
-pub returns-then-is_same_folder-clause-err : goal.returns-then-is_same_folder-clause-err
-returns-then-is_same_folder-clause-err g c =
-    folder_fails c.args.accepted.now c.args.job.now.input.now c.args.job.now.output.now c.file_failure-then-is_same_folder.result c.requires.named (c.file_failure-then-is_same_folder.ensures.path c.args.job.now.output.now c.file_fault.ensures)
+pub returns-in-Err-refuse_same_folder-clause-err : goal.returns-in-Err-refuse_same_folder-clause-err
+returns-in-Err-refuse_same_folder-clause-err g c =
+    folder_fails c.args.accepted.now c.args.job.now.input.now c.args.job.now.output.now c.file_failure-in-Err-refuse_same_folder.result c.requires.named (c.file_failure-in-Err-refuse_same_folder.ensures.path _ c.args.job.now.output.now c.in-Err-refuse_same_folder.ensures)
 
 pub returns-in-Err-create_outputs-clause-err : goal.returns-in-Err-create_outputs-clause-err
 returns-in-Err-create_outputs-clause-err g c =

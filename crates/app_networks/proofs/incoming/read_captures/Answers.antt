@@ -1,5 +1,6 @@
 use Rattle.std.proofs.Common.{◌<◌, length, refl, rules, sym, ◌∙◌}
 use Rattle.app_files.proofs.Failed.{index_in}
+use Rattle.app_files.specs.declared.failed_file.Access.TheVariants.{Reading}
 use Rattle.app_networks.specs.RunFiles.{IsOpenCapture, NamesFile}
 use Rattle.app_networks.proofs.Ended.{goes_out}
 use Rattle.app_networks.proofs.RunFiles.{open_capture}
@@ -11,5 +12,5 @@ returns-in_err-capture-clause-ends g c =
     let ports = c.args.ports.now in
     let folder = c.args.folder.now in
     let within : c.loop-port.port-index < length ports = search rules in
-    goes_out (NamesFile (IsOpenCapture links c.args.bridge ports folder)) c.from_residual.result _ c.from_residual.ensures.1
+    goes_out (NamesFile Reading (IsOpenCapture links c.args.bridge ports folder)) c.from_residual.result _ c.from_residual.ensures.1
     (open_capture links c.args.bridge _ ports ports folder _ refl (index_in ports c.loop-port.port-index within) (sym c.is_linked.ensures ∙ c.if-is_linked.false) c.in_err-capture.ensures)

@@ -2,6 +2,7 @@ use Rattle.std.proofs.Common.{List, subst}
 use Rattle.net_model.specs.declared.links.Link.{Link}
 use Rattle.net_file.specs.Model.{Bridge}
 use Rattle.app_networks.specs.Counted.{AreTotals}
+use Rattle.app_files.specs.declared.failed_file.Access.TheVariants.{Writing}
 use Rattle.app_networks.specs.RunFiles.{IsOutputOfBridges, NamesFile}
 use Rattle.app_networks.proofs.RunFiles.{of_bridges}
 use Rattle.app_networks.proofs.job.write_results.Goals as goal
@@ -17,4 +18,4 @@ returns-in-Err-clause-err g c =
     let plans = c.args.network.now.plans in
     let output = c.args.output.now in
     of_bridges plans c.args.file.now.bridges output c.in-Err.fault
-    (subst (λ (l : List Bridge). NamesFile (IsOutputOfBridges plans l output) c.in-Err.fault) c.bridges.ensures.bridges c.in-Err.ensures.fails)
+    (subst (λ (l : List Bridge). NamesFile Writing (IsOutputOfBridges plans l output) c.in-Err.fault) c.bridges.ensures.bridges c.in-Err.ensures.fails)

@@ -5,6 +5,7 @@ use Rattle.std.proofs.lemmas.Iterator.Adapters.{YieldsList-from_vec}
 use Rattle.std.proofs.lemmas.Iterator.Consumers.{YieldsList-end}
 use Rattle.bridge_config.specs.Model.{Plan}
 use Rattle.app_networks.specs.OutputFiles.{AreWrittenBy, IsBridgeWritten, folder_path}
+use Rattle.app_files.specs.declared.failed_file.Access.TheVariants.{Writing}
 use Rattle.app_networks.specs.RunFiles.{IsBridgeOutputFile, NamesFile}
 use Rattle.app_networks.proofs.RunFiles.{name_at, output_at}
 use Rattle.app_networks.proofs.Written.{file_contents, written_many, written_push}
@@ -47,4 +48,4 @@ returns-in-Err-clause-fails g c =
     output_at n.plans bridges output folder i p c.in-Err.fault
     (subst (λ (ps : List (Plan _)). slice_get ps i ≡ Some p) c.plans-plans.ensures.plans there)
     (c.as_str.ensures.value ∙ (c.in-Ok.ensures ∙ ap (folder_path output) (c.name.ensures ∙ sym (name_at bridges i _ at))))
-    (subst (λ (q : Plan _). NamesFile (IsBridgeOutputFile q folder) c.in-Err.fault) c.plan.ensures.plan c.in-Err.ensures.fails)
+    (subst (λ (q : Plan _). NamesFile Writing (IsBridgeOutputFile q folder) c.in-Err.fault) c.plan.ensures.plan c.in-Err.ensures.fails)
