@@ -31,7 +31,8 @@ class Plan:
         self.room = draw.choice([8, 64, 200]) if grouped else draw.choice([1, 2, 4, 8])
         self.sdu = draw.choice([60, 200, 500])
         longest = -(-(self.sdu + 16 + 24) * 8000 // self.mbps)
-        self.windows = [draw.randint(longest, longest * 4) for _ in range(draw.randint(1, 3))]
+        most = 40 if grouped else 4
+        self.windows = [draw.randint(longest, longest * most) for _ in range(draw.randint(1, 3))]
         self.pauses = [draw.randint(1, 20) * self.unit for _ in self.windows]
         self.cycle = sum(self.windows) + sum(self.pauses)
         whole, parts = draw.choice([(1, 1), (2, 1), (3, 2), (1, 2)])
@@ -50,7 +51,7 @@ class Plan:
             length = draw.randint(1, max(1, self.gate_cycle // 8))
             if at + length >= self.gate_cycle:
                 break
-            octets = draw.choice([46, self.sdu, 2 * self.sdu]) if self.limited else None
+            octets = draw.choice([46, self.sdu, 2 * self.sdu][: 2 if self.count > 1 else 3]) if self.limited else None
             entries.append((at, length, octets))
             at += length + draw.randint(1, max(1, self.gate_cycle // 3))
         return entries or [(0, self.gate_cycle // 2, self.sdu if self.limited else None)]
