@@ -14,14 +14,11 @@ use std::mem;
 /// Largest number of a filter's frames: frame numbers have 32 bits. A run has fewer frames.
 const MAX_FRAMES: usize = 4_294_967_295;
 
-/// Least number of items by which a list grows.
-const LEAST_GROWTH: usize = 16;
-
-/// A list with fewer items doubles. A longer list grows by half.
+/// A list with fewer items grows by half. A longer list doubles.
 const SHORT_LIST: usize = 1024;
 
-/// Reserves capacity for `more` further items of `list`. A short list doubles, so that growth copies few items. A long list grows by half,
-/// because the system moves its memory. `reserve_room` calls it.
+/// Reserves capacity for `more` further items of `list`. Short lists grow by half, because a run with many filters has many short lists.
+/// `reserve_room` calls it.
 #[inline(always)]
 fn reserve_items<T, A: Allocator>(list: &mut Vec<T, A>, more: usize) -> Result<(), NoMemory>
     ensures items { list.new.items ≡ list.old.items }
@@ -45,11 +42,11 @@ fn grow_list<T, A: Allocator>(list: &mut Vec<T, A>, more: usize) -> Result<(), N
     ensures ok { OnOk result (vec_len list.new + more ≤ vec_capacity list.new) }
 {
     let step = if list.len() < SHORT_LIST {
-        list.len()
-    } else {
         list.len() / 2
+    } else {
+        list.len()
     };
-    match list.reserve_exact(step.max(more).max(LEAST_GROWTH)) {
+    match list.reserve_exact(step.max(more).max(4)) {
         Ok(()) => Ok(()),
         Err(_) => Err(NoMemory),
     }
