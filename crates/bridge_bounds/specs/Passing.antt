@@ -1,4 +1,4 @@
--- Traffic that passes its filter with all its frames.
+-- Traffic of which a filter passes every frame.
 use Rattle.std.specs.Prelude.{◌≡◌, ℕ, Bool, true, false, not, ◌+◌, ◌-◌, ◌≤◌, ◌%◌, ◌&&◌, ◌||◌, Option, None, Some, List, nat_eq, nat_le, if◌then◌else◌}
 use Rattle.std.specs.List.{list_all}
 use Rattle.std.specs.Map.{lookup}

@@ -1,4 +1,4 @@
--- Octets between a caller and the readers and writers of the standard library.
+-- Octets in the buffers between captures and the readers and writers of the standard library.
 use Rattle.std.specs.Prelude.{ℕ, List, [], Option, take, slice_range, if◌then◌else◌}
 use Rattle.std.specs.Io.KnownBytes.{prepend_known, append_known}
 use Rattle.bridge_capture.specs.declared.read_buffer.ReadBuffer.{ReadBuffer}

@@ -21,13 +21,13 @@ packet_result octets (Ok (Some stamp)) = Ok (Some (record { time = stamp.time; l
 packet_result octets (Ok None) = Ok None
 packet_result octets (Err fault) = Err fault
 
--- Holds if the call returned no packet, or a packet with the property.
+-- Holds if the call returned no packet, or a packet with the property `P`.
 abbrev pub IfPacket : {A : Type 0} → Result (Option (Packet A)) CaptureFault → (Packet A → Type 0) → Type 0
 IfPacket (Ok (Some packet)) P = P packet
 IfPacket (Ok None) P = Unit {0}
 IfPacket (Err fault) P = Unit {0}
 
--- Holds if the fault is the one at the front of the octets, or means that the source failed or memory ran out.
+-- Holds if `front` is this fault, or if the fault means that the source failed or memory ran out.
 abbrev pub IsFaultOfFront : CaptureFault → FrontItem → Type 0
 IsFaultOfFront faults.Read front = Unit {0}
 IsFaultOfFront faults.NoMemory front = Unit {0}
@@ -66,7 +66,8 @@ IsHeaderFault faults.BadVersion = Unit {0}
 IsHeaderFault faults.BadLinkType = Unit {0}
 IsHeaderFault fault = ⊥
 
--- Holds if guarantees for a packet that was read as record `number`, after a record at time `earliest`, for any source.
+-- Holds if `packet` may follow as record `number` after a record at time `earliest`: number, time and captured length are within the limits
+-- of a capture.
 pub record IsInBounds {A : Type 0} (number earliest : ℕ) (packet : Packet A) : Type 0 where
   pub few : number ≤ MAX_RECORDS
   pub early : packet.time < END_OF_TIME

@@ -10,7 +10,7 @@ use crate::format::{ByteOrder, CaptureFormat, FractionUnit};
 /// Length of a header in octets.
 pub const HEADER_LEN: usize = 24;
 
-/// Reads a 32-bit number from the first four octets. `parse_header` and `parse_words` call it.
+/// Reads a 32-bit number from four octets in the byte order `order`. `parse_header` and `parse_words` call it.
 pub fn read_word(order: ByteOrder, octets: &[u8]) -> u32
     requires { length octets.now ≡ 4 }
     ensures { result ≡ word32 order octets.now }
@@ -22,7 +22,7 @@ pub fn read_word(order: ByteOrder, octets: &[u8]) -> u32
     }
 }
 
-/// Reads a 16-bit number from the first two octets. `parse_header` reads the version by it.
+/// Reads a 16-bit number from two octets in the byte order `order`. `parse_header` reads the version by it.
 fn read_short_word(order: ByteOrder, octets: &[u8]) -> u16
     requires { length octets.now ≡ 2 }
     ensures { result ≡ word16 order octets.now }

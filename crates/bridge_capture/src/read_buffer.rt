@@ -74,7 +74,7 @@ impl<A: Allocator> ReadBuffer<A> {
         &self.octets[self.start..self.end]
     }
 
-    /// Drops the first `count` octets, which must be in the buffer. `ReadAhead` calls it after a record was used.
+    /// Drops the first `count` octets, which must be in the buffer. `ReadAhead::consume` calls it for octets that its caller has copied.
     #[inline(always)]
     pub fn skip(&mut self, count: usize)
         requires { count ≤ self.old.end - self.old.start }

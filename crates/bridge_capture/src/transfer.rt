@@ -89,7 +89,9 @@ pub fn write_all<W: ByteSink>(sink: &mut W, octets: &[u8]) -> Result<(), Broken>
 }
 
 /// Writes all octets, by one write after the other until the sink has accepted all. If a write fails, returns how many octets the sink
-/// accepted before it. `write_all` calls it only if the first write left octets over.
+/// accepted before.
+///
+/// `write_all` calls it after an incomplete first write, and `flush_octets` calls it for held octets.
 #[cold]
 #[inline(never)]
 pub fn write_by_many_writes<W: ByteSink>(sink: &mut W, octets: &[u8]) -> Result<(), usize>

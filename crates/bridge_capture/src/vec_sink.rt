@@ -96,7 +96,7 @@ impl<A: Allocator> VecSink<A> {
         }
     }
 
-    /// Returns the octets in the sink. The program prints them without arguments, and network runs pass them on.
+    /// Returns the octets in the sink. If the program has no arguments, it prints them. Network runs deliver them over links.
     pub fn octets(&self) -> &[u8]
         ensures { result.now ≡ self.now.octets }
     {

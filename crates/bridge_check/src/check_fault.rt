@@ -45,7 +45,7 @@ pub enum CheckFault {
         other: u32,
     },
     /// The port opens the queue's class together with another class, first at the offset `at` in ns. The old list of a schedule change
-    /// comes first. A port without a list gives 0.
+    /// comes first. If the port has no list, `at` is 0.
     #[error("its window is shared with another class")]
     WindowShared {
         filter: u32,

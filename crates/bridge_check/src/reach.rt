@@ -13,7 +13,8 @@ use bridge_gate::{GateEntry, GatePlan, Schedule};
 use bridge_ident::{Kind, StreamEntry};
 use std::alloc::Allocator;
 
-/// Whether entries of kind `kind` compare the destination address, which decides the egress ports of a frame. `are_null_kinds` calls it.
+/// Whether stream entries of kind `kind` compare the destination address, which decides the egress ports of a frame. `are_null_kinds` calls
+/// it.
 fn is_null_kind(kind: Kind) -> bool
     ensures { result ≡ spec.is_null_kind kind }
 {
@@ -42,8 +43,8 @@ fn mark_ports(ports: &mut [bool; 16], set: PortSet)
     }
 }
 
-/// Returns a flag for each port, from port 1: whether frames that the entries of `handle` identify can leave by it. `reached_ports` calls
-/// it.
+/// Returns a flag for each port, from port 1: whether frames that the stream entries with `handle` identify can leave by it.
+/// `reached_ports` calls it.
 fn destination_ports<A: Allocator + Copy>(plan: &Plan<A>, handle: u32) -> [bool; 16]
     ensures { result ≡ reached.test_results 16 (λ i. spec.leads_through_port plan.now.database handle (i
         + 1) plan.now.streams) }
@@ -147,8 +148,8 @@ pub struct Reach {
     pub priorities: [bool; 8],
 }
 
-/// Returns a flag for each port, from port 1: whether frames with `handle` can leave by it. Every port counts if the destination addresses
-/// are unknown. `filter_reach` calls it.
+/// Returns a flag for each port, from port 1: whether frames with `handle` can leave by it. If their destination addresses are unknown, all
+/// flags are true. `filter_reach` calls it.
 fn reached_ports<A: Allocator + Copy>(plan: &Plan<A>, handle: Option<u32>) -> [bool; 16]
     ensures { result ≡ reached.test_results 16 (λ i. spec.reaches_port plan.now handle (i + 1)) }
 {
