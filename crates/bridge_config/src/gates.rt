@@ -28,7 +28,7 @@ use bridge_schema::{
 use std::alloc::Allocator;
 use toml::Table;
 
-/// Reads an entry of a stream gate's list: state, internal priority value and octet limit, and the interval in ns.
+/// Reads an entry of a stream gate's list: state, internal priority value, octet limit, and the length of its intervals in ns.
 #[derive(Clone, Copy)]
 struct GateEntryReader {
     /// Location of the list, which faults of the entry name.

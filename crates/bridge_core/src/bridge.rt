@@ -91,10 +91,10 @@ impl<'a, G: Agenda + Drop, A: Allocator + Copy> Bridge<'a, G, A> {
         })
     }
 
-    /// Handles a frame that arrives on port `port`: after the last start, not before the last event, not after the next start. Without
-    /// memory, returns it and leaves the bridge unchanged.
+    /// Handles a frame that arrives on port `port`. The frame must arrive after the last start, not before the last event, and not after
+    /// the next start.
     ///
-    /// Callers hand in each frame by it.
+    /// If memory runs out, returns the frame, and leaves the bridge unchanged. Callers hand in each frame by this method.
     pub fn arrive(&mut self, port: u8, packet: Packet<A>) -> Result<(), (Packet<A>, NoMemory)>
         requires known { (out : PortPlan A) × (find_port (bridge_plan self.old).ports port ≡ Some out) }
         requires time { (bridge_earliest self.old ≤ packet.time) × (packet.time < END_OF_TIME) }
@@ -210,16 +210,16 @@ impl<'a, G: Agenda + Drop, A: Allocator + Copy> Bridge<'a, G, A> {
         self.relay.earliest()
     }
 
-    /// Returns the earliest time in ns of the next command: 1 ns after the last frame and start, and not before the last command. Callers
-    /// of `command` need it.
+    /// Returns the earliest time in ns of the next command: at least 1 ns after the last frame and the last start, and not before the last
+    /// command. Callers of `command` need it.
     pub fn earliest_command(&self) -> u64
         ensures { result ≡ self.now.command }
     {
         self.command
     }
 
-    /// Does nothing; its contract states that the events form a run up to any time before the next start (`reaches`). Each port's due start
-    /// is its schedule's next start (`next`).
+    /// Does nothing; its contract states that the events form a run up to any time that isn't after the next start (`reaches`). Each port's
+    /// due start is its schedule's next start (`next`).
     pub fn assert_reached(&self)
         ensures reaches { (p : config.Plan A) (es : List Event) (left : ℕ → List CapturedFrame) (h : ℕ)
             → BridgeStandsFor p self.now es left → bridge_earliest self.now ≤ h

@@ -143,8 +143,9 @@ fn run_prepared<R: ByteSource, W: ByteSink, G: Agenda + Drop, A: Allocator + Cop
     }
 }
 
-/// Runs captures and commands through the bridge of an accepted plan, with agenda type `G`. `sources` and `sinks` are in port order. Writes
-/// a capture for each port; times are ends of transmission.
+/// Runs captures and commands through the bridge of an accepted plan, with agenda type `G`. `sources` and `sinks` are in port order.
+///
+/// Writes a capture for each port, in which the time of a frame is its end of transmission.
 ///
 /// A protected filter's record depends on its own frames and commands only, a grouped filter's record on those of its group only.
 /// `simulate` calls it.
