@@ -27,7 +27,8 @@ abbrev pub FollowsInputs : Input → List Input → Type 0
 FollowsInputs y [] = Unit {0}
 FollowsInputs y (x ∷ xs) = FollowsInput y x
 
--- Holds if `inputs` merges the commands so far and the frames that were read from each port's capture. The next command isn't earlier.
+-- Holds if `inputs` merges the commands so far and the frames that were read from each port's capture. The next command, if any, doesn't
+-- precede the newest input.
 pub record HasTakenInputs {A : Type 0} (p : Plan A) (texts : ℕ → List ℕ) (commanded : List Input) (next : Option Input) (frames : ℕ → List CapturedFrame) (inputs : List Input) : Type 0 where
   pub gave : (q : ℕ) (out : PortPlan A) → find_port p.ports q ≡ Some out → HasReadFrames (texts q) (frames q)
   pub others : (q : ℕ) → find_port p.ports q ≡ None → frames q ≡ []
@@ -111,7 +112,7 @@ pub record CanTakeFrames {G A : Type 0} (b : RelayState G A) (lanes : List (Capt
   pub few : b.arrived + total_frames_left lanes ≤ MAX_ARRIVALS
   pub rises : IsOrdered (λ a b. a < b) (port_numbers lanes)
 
--- The time in ns of the reader's next frame, or `None`.
+-- The time in ns of the reader's next frame; `None` if its capture has ended or failed.
 abbrev pub head_time : {A : Type 0} → CaptureReader A → Option ℕ
 head_time lane = option_map (λ p. p.time) lane.ahead
 
@@ -155,7 +156,8 @@ pub record HasTakenFrame {A : Type 0} (old new : List (CaptureReader A)) (place 
   pub ahead : lane.ahead ≡ Some given.1
   pub now : new ≡ slice_set old place (record lane { ahead = None })
 
--- Holds if the reader at index `place` has read its next frame after its last one was taken. No other reader or source changed.
+-- Holds if `result` is the result of reading ahead by the reader at index `place`, after its last frame was taken. No other reader or
+-- source changed.
 pub record HasReadAhead {R A : Type 0} (remaining : R → Option (List ℕ)) (old new : List (CaptureReader A)) (before after : List R) (place : ℕ) (result : Result (Unit {0}) CaptureFault) : Type 0 where
   pub was : CaptureReader A
   pub source : R

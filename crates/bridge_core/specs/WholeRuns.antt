@@ -81,7 +81,7 @@ pub record LacksMemory {A W : Type 0} (p : Plan A) (ports : List ℕ) (texts : �
   pub looks : FailsToBegin texts rests ports run.NoMemory ⊎ HaveSoundStarts p texts
   pub untouched : news ≡ olds
 
--- Holds if all captures have valid starts, and the header of a port's output wasn't written.
+-- Holds if all captures have valid starts, and the sink of port `port` failed at the header of its output.
 pub record StopsAtFirstHeader {A W : Type 0} (p : Plan A) (ports : List ℕ) (texts : ℕ → List ℕ) (contents : W → Option (List ℕ)) (has_failed : W → Bool) (olds news : List W) (port : ℕ) : Type 0 where
   pub begins : HaveSoundStarts p texts
   pub headers : StopsAtHeader contents has_failed ports port olds news
@@ -106,7 +106,7 @@ IsolatesFilters {A} p ports commands texts contents olds news o =
     (ran : IsWholeRun p ports commands texts contents olds news o) (n : ℕ) (f : FilterPlan) (v : View A)
     → HasProtectedView p n f o v → IsSoloView p n f (own_events p n f (input_events ran.inputs)) v
 
--- Holds if each port's output has at most as many records as frames arrived.
+-- Holds if each port's output has at most as many records as frames arrived at the bridge.
 abbrev pub WritesFew : {A W : Type 0} → Plan A → List ℕ → List Command → (ℕ → List ℕ) → (W → Option (List ℕ)) → List W → List W → Outcome A → Type 0
 WritesFew {A} p ports commands texts contents olds news o =
     (ran : IsWholeRun p ports commands texts contents olds news o) (q : ℕ) (out : PortPlan A)

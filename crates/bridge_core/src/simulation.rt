@@ -209,8 +209,9 @@ pub fn simulate_with_agenda<R: ByteSource, W: ByteSink, G: Agenda + Drop, A: All
     run_prepared(commands, relay, lists, lanes, spares, sources, sinks)
 }
 
-/// Runs captures and commands through the bridge of an accepted plan: `simulate_with_agenda` with an ordered tree as agenda. The commands
-/// `run` and `net` call it.
+/// Runs captures and commands through the bridge of an accepted plan: `simulate_with_agenda` with an ordered tree as agenda.
+///
+/// `run_captures` of `app_commands` and `run_bridge` of `net_run` call it.
 pub fn simulate<R: ByteSource, W: ByteSink, A: Allocator + Copy>(
     alloc: A,
     accepted: &Accepted<A>,

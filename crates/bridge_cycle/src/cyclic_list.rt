@@ -16,7 +16,7 @@ pub enum ListFault {
     /// The list has no entry.
     #[error("a list without an entry")]
     Empty,
-    /// An interval is 0 ns.
+    /// An entry has an interval of 0 ns.
     #[error("an interval of 0 ns")]
     ZeroInterval,
     /// The sum of the intervals exceeds the cycle time.
@@ -124,7 +124,7 @@ impl<S: Copy, A: Allocator + Copy> CyclicList<S, A> {
         })
     }
 
-    /// Returns an equal list in new memory, or `NoMemory`. `Joined::copy` and copies of schedules call it.
+    /// Returns an equal list in new memory, or `NoMemory`. `Joined::copy`, `Egress::copy` and `Schedule::copy` of `bridge_gate` call it.
     pub fn copy(&self, alloc: A) -> Result<Self, NoMemory>
         ensures equal { IfOk result (λ l. l ≡ self.now) }
     {
@@ -197,8 +197,8 @@ fn is_within_cycle<S: Copy>(entries: &[(S, u64)], cycle: u64) -> bool
     true
 }
 
-/// Returns the offset in ns, from the start of a cycle, at which each interval ends. A search for an entry compares these ends. `new` calls
-/// it.
+/// Returns the offset in ns, from the start of a cycle, at which each interval ends. A search for an entry compares these ends.
+/// `CyclicList::new` calls it.
 fn interval_ends<S: Copy, A: Allocator + Copy>(
     alloc: A,
     entries: &[(S, u64)],
@@ -236,8 +236,10 @@ fn is_in_entry(ends: &[u64], phase: u64, place: usize) -> bool
         && (place + 1 == ends.len() || phase < ends[place])
 }
 
-/// Returns the index of the entry in force at offset `phase`, if it is `guess` or next to `guess`; otherwise `None`. With intervals of
-/// similar length the guess succeeds. `find_index` calls it.
+/// Returns the index of the entry in force at offset `phase`, if it is `guess` or next to `guess`; otherwise `None`. If all intervals have
+/// similar lengths, the guess usually succeeds.
+///
+/// `find_index` calls it.
 #[inline(always)]
 fn index_near_guess(ends: &[u64], phase: u64, guess: usize) -> Option<usize>
     ensures { IfSome result (λ place. running.IsEntryIndex ends.now phase place) }

@@ -1,4 +1,4 @@
-//! Laws of the definitions. Each law is the contract of a function without a body.
+//! Laws of gate control lists, and of the times at which a transmission fits. Each law is the contract of a function without a body.
 ghost use Rattle.std.specs.Prelude.{◌≡◌, ℕ, Bool, true, ◌+◌, ◌*◌, ◌^◌, ◌<◌, ◌≤◌, ◌↔◌, Some};
 ghost use Rattle.bridge_limits.specs.Members.{IsMember};
 ghost use Rattle.bridge_cycle.specs.declared.run.Run.{Run};

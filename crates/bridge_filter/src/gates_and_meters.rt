@@ -138,7 +138,9 @@ fn answer_verdict<A: Allocator + Copy>(
     }
 }
 
-/// Returns the verdict of the stream gate and the meter in `route`, on a frame that the filter itself didn't refuse. Updates both.
+/// Returns the verdict of the stream gate and the meter in `route`, on a frame that the filter itself didn't refuse. Updates the gate and,
+/// if the gate passes the frame, the meter.
+///
 /// `frame_verdict` calls it.
 pub(crate) fn police_frame<A: Allocator + Copy>(
     route: Route,

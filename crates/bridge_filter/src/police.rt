@@ -43,7 +43,7 @@ pub struct Police<A: Allocator + Copy> {
     meters: ByNumber<Meter, A>,
     /// Number of frames so far; it bounds every counter.
     calls: u64,
-    /// Arrival time of the last frame in ns, or 0.
+    /// Arrival time of the last frame in ns; 0 before the first.
     earliest: u64,
 }
 
@@ -266,7 +266,7 @@ impl<A: Allocator + Copy> Police<A> {
         self.calls
     }
 
-    /// Returns the arrival time in ns of the last frame, or 0. Later frames arrive at this time or later.
+    /// Returns the arrival time in ns of the last frame; 0 before the first. Later frames arrive at this time or later.
     pub fn earliest(&self) -> u64
         ensures earliest { result ≡ self.now.earliest }
         ensures last { (p : PolicePlans) (es : List FilterEvent) → StandsFor p self.now es → result
@@ -275,7 +275,8 @@ impl<A: Allocator + Copy> Police<A> {
         self.earliest
     }
 
-    /// Returns the counters of `filter`, which must exist. The results of a run contain them. `make_view` of `bridge_relay` calls it.
+    /// Returns the counters of `filter`, which must exist. `make_view` of `bridge_relay` calls it, because the result of a run contains
+    /// them.
     pub fn counters(&self, filter: u32) -> Counters
         requires { is_listed filter self.now.filters ≡ true }
         ensures shown { state_counters filter self.now ≡ Some result }

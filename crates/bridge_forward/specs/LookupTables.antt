@@ -1,4 +1,4 @@
--- Tables of a filtering database. No public clause uses them.
+-- Tables of a filtering database. No public clause uses these definitions.
 use Rattle.std.specs.Prelude.{◌≡◌, ℕ, nat_eq, Option, None, List, slice_get, unwrap_or}
 use Rattle.indexmap.specs.IndexMap.{IndexMap, get}
 use Rattle.bridge_frame.specs.Addresses.{IsKey, address_key}

@@ -78,7 +78,9 @@ impl<A: Allocator + Copy> Model for Forwarding<A> {
 }
 
 impl<A: Allocator + Copy> Forwarding<A> {
-    /// Makes a database. If several VLANs or static entries have one key, the first applies. If memory runs out, both lists are dropped.
+    /// Makes a database. If several VLANs have one identifier, or several static entries one VLAN and address, the first applies. If memory
+    /// runs out, both lists are dropped.
+    ///
     /// `read_plan` of `bridge_config` calls it.
     pub fn new(
         alloc: A,

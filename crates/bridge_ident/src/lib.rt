@@ -83,7 +83,7 @@ pub fn has_vlan_tag(tag: Option<Tag>) -> bool
     }
 }
 
-/// Returns the handle of the first matching entry; `None` if no entry matches. Tables without index use it.
+/// Returns the handle of the first matching entry; `None` if no entry matches. `Ident::handle_of` calls it if the table has no index.
 #[inline(never)]
 fn first_handle(entries: &[StreamEntry], port: u8, head: &Head, vid: u16) -> Option<u32>
     ensures { result ≡ first_handle entries.now port head.now vid }
@@ -96,7 +96,7 @@ fn first_handle(entries: &[StreamEntry], port: u8, head: &Head, vid: u16) -> Opt
     None
 }
 
-/// Stream identity table. Contracts see the list of its entries.
+/// Stream identity table. In contracts, its value is the list of its entries.
 #[derive(Drop)]
 pub struct Ident<A: Allocator + Copy> {
     /// Entries in the given order.

@@ -188,7 +188,7 @@ fn hint_slot(key: u128, hints: usize) -> usize {
     (mixed.wrapping_mul(hints as u64) >> 32) as usize
 }
 
-/// Returns the index at which `key` may be, or 0 without hints. Callers test the key at this index.
+/// Returns the index at which `key` may be, or 0 without hints. `handle_by_keys` tests the key at this index.
 #[inline(always)]
 fn hinted_index(hints: &[u16], key: u128) -> usize {
     match hints.get(hint_slot(key, hints.len())) {
@@ -263,7 +263,7 @@ fn with_sources<A: Allocator + Copy>(
 }
 
 /// Makes the index of the first entries, by destination or source address, for frames with a VLAN tag (`tagged` is true) or for other
-/// frames. `new` calls it.
+/// frames. `StreamIndex::new` calls it.
 fn make_address_index<A: Allocator + Copy>(
     alloc: A,
     entries: &[StreamEntry],
@@ -321,7 +321,7 @@ fn entry_by_hash<A: Allocator + Copy>(
     }
 }
 
-/// Returns the entry with the lower index, because the first matching entry counts; `None` if both are absent.
+/// Returns the entry with the lower index, because the first matching entry counts; `None` if both are absent. `handle_by_hash` calls it.
 #[inline(always)]
 fn earlier_entry(destination: Option<FirstEntry>, source: Option<FirstEntry>) -> Option<FirstEntry>
     ensures { result ≡ earlier_entry destination source }
