@@ -79,7 +79,8 @@ pub record IsEdge (opens : ℕ → Bool) (occ c : ℕ) : Type 0 where
 abbrev pub HaveShortFrames : {X : Type 0} → PortRules X → ℕ → ℕ → List (Copy X) → Type 0
 HaveShortFrames r c occ xs = (y : Copy _) → IsMember y xs → (y.class ≡ c) × (r.occ y.item ≤ occ)
 
--- Holds if a queue alone on its link has a copy that leaves `d` ns after its offer. All its copies have transmission times of at most `occ` ns.
+-- Holds if a queue alone on its link has a copy that leaves `d` ns after its offer. All its copies have transmission
+-- times of at most `occ` ns.
 pub record HasWorstCopy {X : Type 0} (r : PortRules X) (c occ d : ℕ) : Type 0 where
   pub copy : Copy X
   pub older : List (Copy X)
@@ -179,15 +180,15 @@ pub record IsLesserBound {A : Type 0} (l : cyclic.Cyclic GateEntry) (out : PortP
   pub is : IsFramesBound out c m k few
   pub lesser : (AreTurnsApart (cyclic.turn_by_time l) is.longest × (b ≡ min a few)) ⊎ ((¬ AreTurnsApart (cyclic.turn_by_time l) is.longest) × (b ≡ a))
 
--- Holds if bound `b` equals bound `a`. If a single gate list passes fewer frames per interval than the queue's capacity, `b` may be lower: `IsLesserBound`
--- defines it.
+-- Holds if bound `b` equals bound `a`. If a single gate list passes fewer frames per interval than the queue's
+-- capacity, `b` may be lower: `IsLesserBound` defines it.
 abbrev pub IsTightenedBound : {A : Type 0} → Schedule A → PortPlan A → ℕ → ℕ → ℕ → ℕ → Type 0
 IsTightenedBound (Fixed lets ipv) out c m a b = b ≡ a
 IsTightenedBound (Cyclic l) out c m a b = MatchOption (frames_below_room ((egress_rules out).room c) (max_list_frames l.entries)) (b ≡ a) (λ k. IsLesserBound l out c m k a b)
 IsTightenedBound (Joined j) out c m a b = b ≡ a
 
--- Holds if `b` ns is the delay bound that `bounds` prints for the queue of class `c` at port `q`. The stream gate's octet limits may lower the bound by
--- capacity.
+-- Holds if `b` ns is the delay bound that `bounds` prints for the queue of class `c` at port `q`. The stream gate's
+-- octet limits may lower the bound by capacity.
 pub record IsTightBound {A : Type 0} (p : Plan A) (n q c b : ℕ) : Type 0 where
   pub by_room : ℕ
   pub is_bound : IsQueueBound p n q c by_room

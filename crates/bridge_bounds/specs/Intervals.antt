@@ -10,10 +10,10 @@ pub record IsWindowEnd (opens : ℕ → Bool) (occ at c : ℕ) : Type 0 where
   pub all : (v : ℕ) → at ≤ v → v ≤ c → Fits opens occ v
   pub edge : IsEdge opens occ c
 
--- Holds if `start` is the later of `from` and the latest time up to `to` with this property: frames sent back to back
--- from then on miss the last fit of the window at `to` by 1 ns.
+-- Holds if `start` is the later of `from` and the latest time up to `to` from which back-to-back frames miss a window's
+-- last fit by 1 ns.
 --
--- If no frame fits at `to`, or the window never ends, any `start` will do.
+-- The window is open at `to`. If no frame fits at `to`, or the window never ends, any `start` will do.
 abbrev pub IsLatestStart : (ℕ → Bool) → ℕ → ℕ → ℕ → ℕ → Type 0
 IsLatestStart opens occ from to start =
     Fits opens occ to → ((v : ℕ) → to ≤ v → Fits opens occ v) ⊎ ((c : ℕ) × IsWindowEnd opens occ to c × (start ≡ max from (to + 1 + (c - to) % occ - occ)))

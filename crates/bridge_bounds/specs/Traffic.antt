@@ -5,8 +5,8 @@ use Rattle.bridge_semantics.specs.Events.{Arrived, Cleared, Event}
 use Rattle.bridge_bounds.specs.Latency.{IsMultiple}
 use Rattle.bridge_bounds.specs.declared.traffic.Traffic.{Traffic}
 
--- Holds if traffic `t` is valid: ordered phases within a period of at most END_OF_TIME, and ordered lengths from 1 to 9,216 octets. Phases are in ns from the
--- period's start.
+-- Holds if traffic `t` is valid: ordered phases within a period of at most END_OF_TIME, and ordered lengths from 1 to
+-- 9,216 octets. Phases are in ns from the period's start.
 pub record IsTraffic (t : Traffic) : Type 0 where
   pub phases : t.from ≤ t.to
   pub within : t.to < t.period

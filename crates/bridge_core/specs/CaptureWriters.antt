@@ -68,8 +68,8 @@ WritesFrame contents port ports olds news left (Ok u) = AreWritten contents port
 WritesFrame contents port ports olds news left (Err (run.Write q)) = (q ≡ port) × AreWrittenExceptOne contents port ports olds news left
 WritesFrame contents port ports olds news left (Err fault) = ⊥
 
--- Holds if port `port` makes a start at time `moment` in a run of the events `es`. All earlier starts, by time and port, are made. With this start, the
--- departures are `left`.
+-- Holds if port `port` makes a start at time `moment` in a run of the events `es`. All earlier starts, by time and
+-- port, are made. With this start, the departures are `left`.
 pub record MakesStart {A : Type 0} (p : Plan A) (es : List Event) (moment port : ℕ) (left : ℕ → List CapturedFrame) : Type 0 where
   pub before : ℕ → List CapturedFrame
   pub class : ℕ

@@ -65,8 +65,8 @@ pub record StopsReading {A W : Type 0} (p : Plan A) (texts : ℕ → List ℕ) (
   pub reaches : ReachesTime p (input_events inputs) (newest_time inputs) left
   pub written : AreWritten contents ports olds news left
 
--- Holds if the run stopped because the sink of port `port` failed at a start. This start isn't before the newest input, and it precedes the next inputs. All
--- other departures are written.
+-- Holds if the run stopped because the sink of port `port` failed at a start. This start isn't before the newest input,
+-- and it precedes the next inputs. All other departures are written.
 pub record StopsWriting {A W : Type 0} (p : Plan A) (texts : ℕ → List ℕ) (commanded : List Input) (next : Option Input) (contents : W → Option (List ℕ)) (ports : List ℕ) (olds news : List W) (port : ℕ) : Type 0 where
   pub frames : ℕ → List CapturedFrame
   pub inputs : List Input
@@ -97,13 +97,15 @@ pub record StopsForMemory {A W : Type 0} (p : Plan A) (texts : ℕ → List ℕ)
   pub reaches : ReachesTime p (input_events inputs) moment left
   pub written : AreWritten contents ports olds news left
 
--- Holds if a run under way stopped with this fault: a faulty capture, a failed write or out of memory. Each source has the rest `rests` of its capture.
+-- Holds if a run under way stopped with this fault: a faulty capture, a failed write or out of memory. Each source has
+-- the rest `rests` of its capture.
 abbrev pub StopsUnderWay : {A W : Type 0} → Plan A → (ℕ → List ℕ) → (ℕ → Option (List ℕ)) → List Input → Option Input → (W → Option (List ℕ)) → List ℕ → List W → List W → RunFault → Type 0
 StopsUnderWay p texts rests commanded next contents ports olds news (run.Capture port fault) = StopsReading p texts rests commanded next contents ports olds news port fault
 StopsUnderWay p texts rests commanded next contents ports olds news (run.Write port) = StopsWriting p texts commanded next contents ports olds news port
 StopsUnderWay p texts rests commanded next contents ports olds news run.NoMemory = StopsForMemory p texts rests commanded next contents ports olds news
 
--- Holds if the relay can handle the frames of these readers: their ports exist, their frames aren't too early, and the limit of arrivals suffices.
+-- Holds if the relay can handle the frames of these readers: their ports exist, their frames aren't too early, and the
+-- limit of arrivals suffices.
 pub record CanTakeFrames {G A : Type 0} (b : RelayState G A) (lanes : List (CaptureReader A)) : Type 0 where
   pub each : (i : ℕ) (lane : CaptureReader A) → slice_get lanes i ≡ Some lane → IsReader lane
   pub from : (i : ℕ) (lane : CaptureReader A) → slice_get lanes i ≡ Some lane → 1 ≤ lane.number

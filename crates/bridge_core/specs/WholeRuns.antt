@@ -54,8 +54,8 @@ pub record IsReadyToRun {G A : Type 0} (p : Plan A) (b : RelayState G A) (l : Ru
   pub lanes : AreReaders all
   pub room : total_frames_left all ≤ MAX_ARRIVALS
 
--- Holds if the captures `texts` are valid, `o` is the result of all frames and commands, and the sinks have all departures. `frames` are the captured frames,
--- `inputs` all inputs in order.
+-- Holds if the captures `texts` are valid, `o` is the result of all frames and commands, and the sinks have all
+-- departures. `frames` are the captured frames, `inputs` all inputs in order.
 pub record IsWholeRun {A W : Type 0} (p : Plan A) (ports : List ℕ) (commands : List Command) (texts : ℕ → List ℕ) (contents : W → Option (List ℕ)) (olds news : List W) (o : Outcome A) : Type 0 where
   pub frames : ℕ → List CapturedFrame
   pub inputs : List Input

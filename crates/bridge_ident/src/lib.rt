@@ -144,7 +144,7 @@ impl<A: Allocator + Copy> Ident<A> {
         })
     }
 
-    /// Returns the entries in the given order. `Plan::streams` returns them.
+    /// Returns the entries in the given order. Only tests call it.
     pub fn entries(&self) -> &[StreamEntry]
         ensures { result.now ≡ self.now }
     {
