@@ -10,8 +10,8 @@ pub record IsWindowEnd (opens : ℕ → Bool) (occ at c : ℕ) : Type 0 where
   pub all : (v : ℕ) → at ≤ v → v ≤ c → Fits opens occ v
   pub edge : IsEdge opens occ c
 
--- Holds if `start` is the later of `from` and the latest time up to `to` from which back-to-back frames miss a window's
--- last fit by 1 ns.
+-- Holds if `start` is the latest time up to `to` from which back-to-back frames miss a window's last fit by 1 ns; but
+-- `from` if this time is earlier.
 --
 -- The window is open at `to`. If no frame fits at `to`, or the window never ends, any `start` will do.
 abbrev pub IsLatestStart : (ℕ → Bool) → ℕ → ℕ → ℕ → ℕ → Type 0

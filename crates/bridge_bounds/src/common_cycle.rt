@@ -30,8 +30,8 @@ fn least_cycles(cycle: u64, other: u64, most: u64) -> Option<u64>
     None
 }
 
-/// Returns the least common cycle in ns of a stream gate's list and a port's list. Returns `None` if both lists have more than
-/// `MAX_INTERVALS` intervals in it.
+/// Returns the least common cycle in ns of a stream gate's list and a port's list. Returns `None` if both lists together have more than
+/// `MAX_INTERVALS` intervals in this cycle.
 ///
 /// `lack_common_cycle` and `list_bound` call it.
 pub(crate) fn common_cycle<A: Allocator + Copy>(

@@ -65,8 +65,8 @@ fn is_shut<A: Allocator + Copy>(list: &CyclicList<GateEntry, A>, from: u64, unti
     true
 }
 
-/// Whether the stream gate is closed for `apart` - 1 ns after the interval `turn`. So a frame in a later interval comes at least `apart` ns
-/// after each frame of this interval.
+/// Whether the stream gate is closed for `apart` - 1 ns after the interval `turn`. So a frame in a later interval arrives at least `apart`
+/// ns after each frame of this interval.
 ///
 /// Returns true for a closed interval, because no frame passes in it. `are_apart` calls it.
 fn is_shut_after_turn<A: Allocator + Copy>(

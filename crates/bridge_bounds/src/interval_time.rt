@@ -42,7 +42,7 @@ fn latest_start<A: Allocator + Copy>(
 
 /// Returns the longest time in ns in which `room` frames of `occ` ns each leave. All begin to wait together, at a time from `from` to `to`.
 ///
-/// The frames need this time from `from`, from 1 ns after a window's last fit, or from the latest start before `to`.
+/// The frames need this time if they begin at `from`, 1 ns after a window's last fit, or at the latest start before `to`.
 /// `openings_longest_time` calls it.
 pub(crate) fn interval_longest_time<A: Allocator + Copy>(
     list: &CyclicList<u8, A>,

@@ -52,8 +52,8 @@ pub fn one_after_another()
         → IsTimeAttained opens occ k (k * occ) }
 {}
 
-/// In a queue alone on its link, each sent copy leaves at most `occ - 1 + d` ns after its offer. Here `d` is a full queue's longest time;
-/// transmissions take at most `occ`.
+/// In a queue alone on its link, each sent copy leaves at most `occ - 1 + d` ns after its offer. Here `d` ns is a full queue's longest
+/// time; transmissions take at most `occ` ns.
 ///
 /// Delay bounds by capacity rest on it.
 pub fn solo_in_time<X: Drop>()
@@ -170,11 +170,12 @@ pub fn in_time<A: Allocator + Copy>()
         → k ≤ b }
 {}
 
-/// If a protected filter's stream gate passes at most `k` frames per interval, their longest time `d` bounds the delay. One transmission
-/// time, minus 1 ns, must be added.
+/// If a protected filter's stream gate passes at most `k` frames per interval, each sent copy leaves within `occ - 1 + d` ns after its
+/// offer.
 ///
-/// Open intervals must be at least `d` ns apart. Each frame's length must be at least its number of captured octets. Bounds by octet limits
-/// rest on it.
+/// Here `occ` ns is the longest transmission time, and `d` ns the longest time of `k` frames. Open intervals must be at least `d` ns apart.
+///
+/// Each frame's length must be at least its number of captured octets. Bounds by octet limits rest on it.
 pub fn few_in_time<A: Allocator + Copy>()
     ensures { (p : Plan A) (n m k d : ℕ) (f : FilterPlan) (es : List Event) (moments : ℕ → ℕ)
         (lists : ℕ → List (Copy CarriedFrame)) (q s : ℕ) (out : PortPlan A) (x : Copy CarriedFrame)

@@ -95,10 +95,9 @@ fn openings_longest_time<A: Allocator + Copy>(
     Some(longest)
 }
 
-/// Returns the delay bound in ns of a queue under one list of the stream gate and one list of the port.
+/// Returns the delay bound in ns of a queue under one list of the stream gate and one list of the port. `gate_list_bound` calls it.
 ///
 /// If both lists have no common cycle, or the gate never puts a frame into the class, the bound assumes arrivals at any time.
-/// `gate_list_bound` calls it.
 fn list_bound<A: Allocator + Copy>(
     gate: &CyclicList<GateEntry, A>,
     list: &CyclicList<u8, A>,

@@ -61,7 +61,7 @@ fn is_above(most: Option<u32>, octets: u32) -> bool
     }
 }
 
-/// Whether an interval of this stream gate entry passes a first frame of `sdu` octets: the gate is open and the octet limit suffices.
+/// Whether the first frame of an interval passes, if this frame has `sdu` SDU octets: `entry` is open, and its octet limit suffices.
 /// `can_pass_turns` calls it.
 fn can_pass_entry(entry: &GateEntry, sdu: u32) -> bool
     ensures { result ≡ spec.can_pass_entry entry.now sdu }
@@ -75,8 +75,8 @@ fn can_pass_entry(entry: &GateEntry, sdu: u32) -> bool
     }
 }
 
-/// Whether an interval with an octet limit ends by time `until`, when the next frame may arrive. Returns true without a limit.
-/// `can_pass_list` calls it.
+/// Whether an interval with an octet limit and the end `end` ends by time `until`, when the next frame may arrive. Returns true without a
+/// limit. `can_pass_list` calls it.
 fn is_limit_reset_in_time(octets: Option<u32>, end: u64, until: u64) -> bool
     ensures { result ≡ spec.is_limit_reset_in_time octets end until }
 {
@@ -159,6 +159,8 @@ fn can_pass_schedule<A: Allocator + Copy>(
 
 /// Whether `filter` passes each own frame if these frames keep `traffic`. Their size must be allowed, the filter must have no meter, and
 /// its stream gate must pass each frame.
+///
+/// Functions of `net_check` and `net_latency` call it.
 pub fn passes<A: Allocator + Copy>(plan: &Plan<A>, filter: &FilterPlan, traffic: &Traffic) -> bool
     requires traffic { IsTraffic traffic.now }
     ensures { (result ≡ true) ↔ Passes plan.now filter.now traffic.now }

@@ -33,7 +33,7 @@ IsFaultOfFront faults.Read front = Unit {0}
 IsFaultOfFront faults.NoMemory front = Unit {0}
 IsFaultOfFront fault front = front ≡ Fault fault
 
--- Holds if the result agrees with the front of the octets: no packet at the end, a record's packet, or a fault.
+-- Holds if the result agrees with `front`, the next item of the octets: no packet at the end, a record's packet, or a fault.
 abbrev pub TakesFront : {A : Type 0} → FrontItem → Option (List ℕ) → Result (Option (Packet A)) CaptureFault → Type 0
 TakesFront front rest (Ok None) = front ≡ Nothing
 TakesFront front rest (Ok (Some p)) = (more : List ℕ) × (front ≡ Record (packet_frame p) more) × (rest ≡ Some more)

@@ -27,8 +27,8 @@ impl<A: Allocator + Copy> Model for BufferPool<A> {
 }
 
 impl<A: Allocator + Copy> BufferPool<A> {
-    /// Makes a pool of capacity 0: `put` drops each buffer, and `take` returns new ones. Allocates no memory. `new` of `bridge_core` calls
-    /// it.
+    /// Makes a pool of capacity 0: `put` drops each buffer, and `take` returns new ones. Allocates no memory. `Bridge::new` of
+    /// `bridge_core` calls it.
     pub fn without_capacity(alloc: A) -> BufferPool<A>
         ensures { result ≡ 0 }
     {

@@ -49,7 +49,7 @@ fn format_by_magic(magic: u32) -> Option<CaptureFormat>
     Some(CaptureFormat { order, unit })
 }
 
-/// Returns the format of a complete header, or its first fault. `begin` calls it.
+/// Returns the format of a complete header, or its first fault. `Capture::begin` calls it.
 pub fn parse_header(octets: &[u8]) -> Result<CaptureFormat, CaptureFault>
     requires { length octets.now ≡ 24 }
     ensures judged { result ≡ format_after_magic (format_by_magic (from_le_bytes w32 (take 4 octets.now))) octets.now }

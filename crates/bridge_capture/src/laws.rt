@@ -1,4 +1,4 @@
-//! Laws of the capture format, about its definitions.
+//! Laws of the definitions of the capture format.
 ghost use Rattle.std.specs.Prelude.{◌≡◌, ℕ, List};
 ghost use Rattle.bridge_capture.specs.declared.record.TheConstants.{MAX_RECORDS, SNAP_LENGTH};
 ghost use Rattle.bridge_capture.specs.Laws.{WrittenIsRead, ReadsOneWay};

@@ -52,7 +52,7 @@ impl<A: Allocator> ReadBuffer<A> {
         self.end - self.start
     }
 
-    /// Fills `buf` with the next octets, which must be in the buffer. `read_with_refill` and `read` call it.
+    /// Fills `buf` with the next octets, which must be in the buffer. `read_with_refill` and `ReadAhead::read` call it.
     #[inline(always)]
     pub fn copy_front(&mut self, buf: &mut [u8])
         requires { length buf.old ≤ self.old.end - self.old.start }

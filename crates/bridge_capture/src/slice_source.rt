@@ -58,7 +58,7 @@ impl<'a> SliceSource<'a> {
         SliceSource::with_limits(octets, Some(count), usize::MAX)
     }
 
-    /// Makes a source that never fails and gives at most one octet per call.
+    /// Makes a source that never fails and gives at most one octet per call. Tests of incomplete reads call it.
     pub fn with_single_octets(octets: &'a [u8]) -> SliceSource<'a>
         ensures octets { result.octets ≡ octets.entry.now }
         ensures never { result.allowance ≡ None }

@@ -8,7 +8,9 @@ use crate::byte_sink::ByteSink;
 use crate::byte_source::{Broken, ByteSource};
 
 /// Fills `buf` with octets of the source, and returns their number. The number is less than the buffer's length only at the end of the
-/// source. `begin`, `read_octets` and `read_unbuffered_record` call it.
+/// source.
+///
+/// `Capture::begin`, `read_octets` and `read_unbuffered_record` call it.
 #[inline(always)]
 pub fn fill_buffer<R: ByteSource>(source: &mut R, buf: &mut [u8]) -> Result<usize, Broken>
     ensures count { IfOk result (λ n. n ≤ length buf.new) }

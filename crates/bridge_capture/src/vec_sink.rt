@@ -65,7 +65,7 @@ impl<A: Allocator> VecSink<A> {
         VecSink::with_limits(alloc, Some(count), usize::MAX)
     }
 
-    /// Makes an empty sink that accepts at most one octet per call, and fails only if memory runs out.
+    /// Makes an empty sink that accepts at most one octet per call, and fails only if memory runs out. Tests of incomplete writes call it.
     pub fn with_single_octets(alloc: A) -> VecSink<A>
         ensures octets { result.octets ≡ [] }
         ensures never { result.allowance ≡ None }

@@ -217,7 +217,7 @@ abbrev pub least_fault : {A : Type 0} → Plan A → List (ℕ × FilterPlan) �
 least_fault p [] = None
 least_fault p (f ∷ fs) = lesser_fault (numbered_fault p f) (least_fault p fs)
 
--- The fault that `check` reports for plan `p`, or `None`: the first fault of the lowest-numbered faulty filter, protected
--- or grouped.
+-- The fault that `check` reports for plan `p`: the first fault of the lowest-numbered faulty filter, protected or grouped. `None` if no
+-- filter is faulty.
 abbrev pub first_fault : {A : Type 0} → Plan A → Option CheckFault
 first_fault p = option_map (λ x. x.1) (least_fault p p.filters)

@@ -60,7 +60,7 @@ fn destination_ports<A: Allocator + Copy>(plan: &Plan<A>, handle: u32) -> [bool;
 }
 
 /// Whether `entry` is open and can give a frame priority `k`: by its internal priority value, or without one by the filter's `priority`. If
-/// both are missing, it can give each.
+/// both are missing, it can give each priority.
 ///
 /// `entries_give_priority` and `lets` call it.
 fn gives_priority(entry: &GateEntry, priority: Option<u8>, k: u8) -> bool
@@ -221,7 +221,9 @@ pub fn can_wait_in_reach<A: Allocator + Copy>(
 }
 
 impl Reach {
-    /// Whether the frames can enter class `class` at port `port`. `classes` gives the class of each priority.
+    /// Whether the filter's frames can enter the queue of class `class` at port `port`. `classes` gives the class of each priority.
+    ///
+    /// `can_wait`, `can_wait_in_reach`, `reaches_queue` and `least_outsider` call it.
     pub(crate) fn has_queue(&self, port: u8, classes: &[u8; 8], class: u8) -> bool
         requires from { 1 ≤ port }
         requires to { port ≤ 16 }

@@ -21,8 +21,8 @@ parse_tag_kind s =
     else if pointwise nat_eq s (codes "all") then Some tag.All
     else None
 
--- Whether a meter is colour-aware (`aware`) or not (`blind`): it then uses the drop eligible indication of a frame.
--- `None` for any other text.
+-- Whether a meter uses the drop eligible indication of a frame: true for `aware`, false for `blind`. `None` for any
+-- other text.
 abbrev pub parse_awareness : List ℕ → Option Bool
 parse_awareness s = if pointwise nat_eq s (codes "aware") then Some true else if pointwise nat_eq s (codes "blind") then Some false else None
 

@@ -14,7 +14,7 @@ use Rattle.bridge_semantics.specs.NextStarts.{ReachesStart, SendsHead}
 use Rattle.bridge_relay.specs.RelayState.{RelayState, RelayStandsFor}
 use Rattle.bridge_core.specs.declared.capture_writer.CaptureWriter.{CaptureWriter}
 
--- Holds if the sink of port `port` ran out of memory.
+-- Holds if the sink of port `port` ran out of memory. The lists `ports` and `sinks` are in the same order.
 abbrev pub IsOutOfMemory : {W : Type 0} → (W → Bool) → List ℕ → ℕ → List W → Type 0
 IsOutOfMemory ran_out ports port sinks = HasFailed ran_out ports port sinks
 

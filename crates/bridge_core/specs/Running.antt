@@ -150,7 +150,7 @@ PrecedesCommand {A} lanes place next = (l : CaptureReader A) (c : Packet A) → 
 abbrev pub IsHeadEarlier : {A : Type 0} → Option ℕ → List (CaptureReader A) → ℕ → Type 0
 IsHeadEarlier {A} until lanes place = (l : CaptureReader A) (c : Packet A) → slice_get lanes place ≡ Some l → l.ahead ≡ Some c → IfSome until (λ t. c.time < t)
 
--- Holds if a frame was taken from the reader at index `place`.
+-- Holds if `given`, a port and a frame, was taken from the reader at index `place`.
 pub record HasTakenFrame {A : Type 0} (old new : List (CaptureReader A)) (place : ℕ) (given : ℕ × Packet A) : Type 0 where
   pub lane : CaptureReader A
   pub there : slice_get old place ≡ Some lane

@@ -169,8 +169,8 @@ MembersChangeNoVerdict {A} {W} p ports commands texts contents olds news o =
     → HaveSameOwnInputs p n f (input_streams (commands_of commands) ran.frames) (input_streams (commands_of other_commands) also.frames)
     → HaveSamePoliceRecords u v
 
--- Holds if the run isolates each group: its own frames and commands decide its filters' records, and each filter's own
--- ones decide its verdicts.
+-- Holds if the run isolates each group: its own frames and commands decide its filters' records. Each filter's own frames and commands
+-- decide its verdicts.
 pub record IsolatesGroups {A W : Type 0} (p : Plan A) (ports : List ℕ) (commands : List Command) (texts : ℕ → List ℕ) (contents : W → Option (List ℕ)) (olds news : List W) (o : Outcome A) : Type 0 where
   pub members : IsolatesMembers p ports commands texts contents olds news o
   pub outsiders : OutsidersChangeNothing p ports commands texts contents olds news o

@@ -191,8 +191,8 @@ impl<'a, G: Agenda + Drop, A: Allocator + Copy> Bridge<'a, G, A> {
         self.relay.arrived()
     }
 
-    /// Returns the number of starts of port `port` so far: the number of frames that it has sent. Callers compare it with the frames that
-    /// they received.
+    /// Returns the number of starts of port `port` so far: the number of frames that it has sent. Callers compare it with the number of
+    /// frames that `advance` returned.
     pub fn started(&self, port: u8) -> u64
         requires { (out : PortPlan A) × (find_port (bridge_plan self.now).ports port ≡ Some out) }
         ensures { (p : config.Plan A) (es : List Event) (left : ℕ → List CapturedFrame)

@@ -79,7 +79,7 @@ pub struct CyclicList<S, A: Allocator + Copy> {
     shift: u64,
     /// Mean number of entries per ns, times 2^32. A search multiplies an offset by it to guess the entry in force.
     density: u64,
-    /// States with their intervals in ns.
+    /// States with the lengths of their intervals in ns.
     entries: Vec<(S, u64), A>,
     /// Offset in ns, from the start of a cycle, at which each interval ends.
     ends: Vec<u64, A>,

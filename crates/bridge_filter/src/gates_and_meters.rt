@@ -22,7 +22,7 @@ use indexmap::IndexMap;
 use std::alloc::Allocator;
 use std::hash::{BuildHasherDefault, FoldHasher};
 
-/// Map from numbers to filters, stream gates, meters or rows. Routes refer to its entries by index, so no entry is removed.
+/// Map from numbers to filters, stream gates, meters or rows of routes. Routes refer to its entries by index, so no entry is removed.
 pub(crate) type ByNumber<T, A> = IndexMap<u32, T, BuildHasherDefault<FoldHasher>, A>;
 
 /// Asks the stream gate at index `place` whether a frame of `sdu` octets passes at `at` ns. The frame may shut the gate. `police_frame`

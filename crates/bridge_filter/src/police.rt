@@ -223,8 +223,8 @@ impl<A: Allocator + Copy> Police<A> {
         })
     }
 
-    /// Returns the number of the filter that judges frames with handle `handle` and priority `priority`. `None` if no filter matches.
-    /// Callers without a bridge ask it before `pass`.
+    /// Returns the number of the filter that judges frames with handle `handle` and priority `priority`. `None` if no filter matches. Only
+    /// tests call it, before `pass`.
     pub fn filter_number(&self, handle: Option<u32>, priority: u8) -> Option<u32>
         ensures filter { (at sdu octets : ℕ) (dei : Bool)
             → result ≡ option_map (λ f. f.0) (frame_filter self.now.filters

@@ -6,7 +6,7 @@ use Rattle.bridge_forward.specs.declared.Vlan.{Vlan}
 use Rattle.bridge_forward.specs.declared.StaticEntry.{StaticEntry}
 use Rattle.bridge_forward.specs.Database.{vlan_members, static_ports}
 
--- Set of ports at index `place`; `None` if the list is too short.
+-- Set of ports at index `place` of the table of members; `None` if the table is too short, or has no set at this index.
 abbrev pub vlan_slot : List (Option ℕ) → ℕ → Option ℕ
 vlan_slot sets place = unwrap_or (slice_get sets place) None
 

@@ -76,8 +76,8 @@ pub enum Speed {
 }
 
 impl Speed {
-    /// Returns the speed for `mbps` Mb/s: 10, 100, 1000, 2500 or 10000. `None` for any other number. `parse_speed` of `app_cli` and `read`
-    /// of `bridge_schema` call it.
+    /// Returns the speed for `mbps` Mb/s: 10, 100, 1000, 2500 or 10000. `None` for any other number. `parse_speed` of `app_cli` and
+    /// `Mbps::read` of `bridge_schema` call it.
     pub fn of(mbps: u32) -> Option<Speed>
         ensures { result ≡ speed_by_mbps mbps }
     {

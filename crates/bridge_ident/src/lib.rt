@@ -73,7 +73,8 @@ impl StreamEntry {
     }
 }
 
-/// Whether a frame's tag names a VLAN: its VLAN identifier isn't 0. `matches` and `find_handle`, and `accepts_tag` of `net_model` call it.
+/// Whether a frame's tag names a VLAN: its VLAN identifier isn't 0. `StreamEntry::matches`, `StreamIndex::find_handle`, and `accepts_tag`
+/// of `net_model` call it.
 pub fn has_vlan_tag(tag: Option<Tag>) -> bool
     ensures { result ≡ has_vlan_tag tag }
 {
@@ -122,7 +123,7 @@ impl<A: Allocator + Copy> Model for Ident<A> {
 }
 
 impl<A: Allocator + Copy> Ident<A> {
-    /// Makes a table without index. Allocates no memory. `with_index` adds the index, which makes look-ups faster.
+    /// Makes a table without index. Allocates no memory. Only tests call it: `with_index` makes look-ups faster.
     pub fn new(entries: Vec<StreamEntry, A>) -> Ident<A>
         ensures { result ≡ entries.items }
     {

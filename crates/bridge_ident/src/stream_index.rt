@@ -412,7 +412,7 @@ impl<A: Allocator + Copy> StreamIndex<A> {
         Ok(StreamIndex { tagged, others })
     }
 
-    /// Returns the handle of the first matching entry; `None` if no entry matches. `handle_of` calls it if the table has an index.
+    /// Returns the handle of the first matching entry; `None` if no entry matches. `Ident::handle_of` calls it if the table has an index.
     #[inline(always)]
     pub(crate) fn find_handle(&self, port: u8, head: &Head, vid: u16) -> Option<u32>
         ensures { (entries : List StreamEntry)
