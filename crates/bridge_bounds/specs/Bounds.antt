@@ -56,8 +56,9 @@ IsLongestTimeFrom lets opens occ late k d = (u : ℕ) → lets u ≡ true → (v
 abbrev pub IsTimeAttainedFrom : (ℕ → Bool) → (ℕ → Bool) → ℕ → ℕ → ℕ → ℕ → Type 0
 IsTimeAttainedFrom lets opens occ late k d = (u : ℕ) × (lets u ≡ true) × FramesEnd opens occ k (u + late) (u + late + d)
 
--- Holds if `d` ns is the longest time in which `k` frames leave after a time at which `lets` is true. They wait from
--- `occ` - 1 ns after that time on, when the frame on the link has left.
+-- Holds if `d` ns is the longest time in which `k` frames leave after a time at which `lets` is true.
+--
+-- The frames wait from `occ` - 1 ns after that time on, when the frame on the link has left.
 pub record IsOpeningsTime (lets opens : ℕ → Bool) (occ k d : ℕ) : Type 0 where
   pub longest : IsLongestTimeFrom lets opens occ (occ - 1) k d
   pub attained : IsTimeAttainedFrom lets opens occ (occ - 1) k d
@@ -103,8 +104,9 @@ pub record IsFramesBound {A : Type 0} (out : PortPlan A) (c m k b : ℕ) : Type 
 abbrev pub IsRoomBound : {A : Type 0} → PortPlan A → ℕ → ℕ → ℕ → Type 0
 IsRoomBound out c m b = IsFramesBound out c m ((egress_rules out).room c) b
 
--- Holds if `b` ns is the capacity bound of the class-`c` queue at port `out`, for frames that arrive while `lets` is true. It is a full
--- queue's longest time, plus one transmission time, minus 1 ns.
+-- Holds if `b` ns is the capacity bound of the class-`c` queue at port `out`, for frames that arrive while `lets` is true.
+--
+-- This bound is a full queue's longest time, plus one transmission time, minus 1 ns.
 pub record IsOpeningsBound {A : Type 0} (lets : ℕ → Bool) (out : PortPlan A) (c m b : ℕ) : Type 0 where
   pub longest : ℕ
   pub is : IsOpeningsTime lets (lists_open out.list c) (transmission_time (longest_frame m) out.speed) ((egress_rules out).room c) longest

@@ -52,10 +52,9 @@ pub fn one_after_another()
         → IsTimeAttained opens occ k (k * occ) }
 {}
 
-/// In a queue alone on its link, each sent copy leaves at most `occ - 1 + d` ns after its offer. Here `d` ns is a full queue's longest
-/// time; transmissions take at most `occ` ns.
+/// In a queue alone on its link, each sent copy leaves at most `occ - 1 + d` ns after its offer.
 ///
-/// Delay bounds by capacity rest on it.
+/// Here `d` ns is a full queue's longest time; transmissions take at most `occ` ns. Delay bounds by capacity rest on it.
 pub fn solo_in_time<X: Drop>()
     ensures { (r : PortRules X) (c occ d s : ℕ) (x : Copy X) (older : List (Copy X))
         → IsSolo r (x ∷ older)

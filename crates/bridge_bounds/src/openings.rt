@@ -45,9 +45,9 @@ fn fills_class<A: Allocator + Copy>(
 }
 
 /// Returns the longest time in ns in which the frames of a full queue leave. They wait from `occ` - 1 ns after a time at which the gate can
-/// put a frame into the class.
+/// fill the class.
 ///
-/// Returns `None` if there is no such time. Examines `span` ns, a common cycle of both lists. `list_bound` calls it.
+/// Returns `None` if the gate never puts a frame into the class. Examines `span` ns, a common cycle of both lists. `list_bound` calls it.
 fn openings_longest_time<A: Allocator + Copy>(
     gate: &CyclicList<GateEntry, A>,
     list: &CyclicList<u8, A>,
@@ -124,8 +124,9 @@ fn list_bound<A: Allocator + Copy>(
     }
 }
 
-/// Returns the delay bound in ns of a queue under one list of the stream gate. If the port has no list, or its list changes, the bound
-/// assumes arrivals at any time. `gate_bound` calls it.
+/// Returns the delay bound in ns of a queue under one list of the stream gate. `gate_bound` calls it.
+///
+/// If the port has no list, or its list changes, the bound assumes arrivals at any time.
 fn gate_list_bound<A: Allocator + Copy>(
     gate: &CyclicList<GateEntry, A>,
     port: &PortPlan<A>,

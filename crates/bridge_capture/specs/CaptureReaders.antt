@@ -12,8 +12,9 @@ use Rattle.bridge_capture.specs.StandsFor.{StandsFor, IsRefusal, HasReadFrames, 
 use Rattle.bridge_capture.specs.TakenOctets.{TakesFewer}
 use Rattle.bridge_capture.specs.declared.capture_reader.CaptureReader.{CaptureReader}
 
--- Holds if `p` is the last record that reader `lane` has read, and more records can follow. Its time is below `END_OF_TIME`; its captured
--- octets are at most `MAX_CAPTURED_OCTETS` and at most its length.
+-- Holds if more records of the reader's capture can follow, and its last record has the time of `p`. This time is below `END_OF_TIME`.
+--
+-- The captured octets of `p` are at most `MAX_CAPTURED_OCTETS` and at most its length. All this holds whatever the source contains.
 pub record IsFrameAhead {A : Type 0} (lane : CaptureReader A) (p : Packet A) : Type 0 where
   pub reading : IsReading lane.capture
   pub latest : lane.capture.latest ≡ p.time

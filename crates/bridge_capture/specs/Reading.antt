@@ -75,8 +75,9 @@ pub record IsInBounds {A : Type 0} (number earliest : ℕ) (packet : Packet A) :
   pub small : length packet.octets.items ≤ MAX_CAPTURED_OCTETS
   pub within : length packet.octets.items ≤ packet.len
 
--- Holds if a read fault occurs only if the source has failed, and always if it had failed before. A write fault never occurs. A source
--- that never fails gives no read fault, and still never fails.
+-- Holds if a read fault occurs only if the source has failed, and always if it had failed before.
+--
+-- A write fault never occurs. A source that never fails gives no read fault, and still never fails.
 pub record AgreesWithSource {S X : Type 0} (has_failed never_fails : S → Bool) (old new : S) (result : Result X CaptureFault) : Type 0 where
   pub failed : result ≡ Err faults.Read → has_failed new ≡ true
   pub sure : never_fails old ≡ true → result ≢ Err faults.Read

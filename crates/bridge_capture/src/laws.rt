@@ -4,7 +4,7 @@ ghost use Rattle.bridge_capture.specs.declared.record.TheConstants.{MAX_RECORDS,
 ghost use Rattle.bridge_capture.specs.Laws.{WrittenIsRead, ReadsOneWay};
 
 /// If frames are written to a capture, reading the capture gives the same frames. There must be at most 1,000,000, and their times must
-/// never fall and be below `END_OF_TIME`.
+/// never fall, and must be below `END_OF_TIME`.
 ///
 /// The captured octets of a frame must be at most 65,535 and at most its length. So a run can read captures that another run wrote.
 pub fn written_is_read()

@@ -114,7 +114,7 @@ pub record CanTakeFrames {G A : Type 0} (b : RelayState G A) (lanes : List (Capt
   pub few : b.arrived + total_frames_left lanes ≤ MAX_ARRIVALS
   pub rises : IsOrdered (λ a b. a < b) (port_numbers lanes)
 
--- The time in ns of the reader's next frame; `None` if its capture has ended or failed.
+-- The time in ns of the reader's next frame; `None` if the reader has no frame ahead.
 abbrev pub head_time : {A : Type 0} → CaptureReader A → Option ℕ
 head_time lane = option_map (λ p. p.time) lane.ahead
 

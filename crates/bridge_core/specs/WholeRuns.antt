@@ -138,7 +138,9 @@ abbrev pub HaveSameGroupInputs : {A : Type 0} → Plan A → ℕ → (ℕ → Li
 HaveSameGroupInputs p group input_streams others = (q : ℕ) → group_inputs p group (input_streams q) ≡ group_inputs p group (others q)
 
 -- Holds if each grouped filter's record in `o` results only from its group's own frames and commands, as if queues had their ports to
--- themselves. Its verdicts, counters, flags and buckets result from its own frames and commands only.
+-- themselves.
+--
+-- The filter's verdicts, counters, flags and buckets result from its own frames and commands only.
 abbrev pub IsolatesMembers : {A W : Type 0} → Plan A → List ℕ → List Command → (ℕ → List ℕ) → (W → Option (List ℕ)) → List W → List W → Outcome A → Type 0
 IsolatesMembers {A} p ports commands texts contents olds news o =
     (ran : IsWholeRun p ports commands texts contents olds news o) (group n : ℕ) (f : FilterPlan) (v : View A)
