@@ -71,7 +71,7 @@ IsLeastTime Always c occ k d = IsTimeAttained (opens Always c) occ k d
 IsLeastTime (One l) c occ k d = IsTimeAttained (opens (One l) c) occ k d
 IsLeastTime (Changing j) c occ k d = Unit {0}
 
--- Holds if a frame fits at time `c` and doesn't fit 1 ns later.
+-- Holds if a frame of `occ` ns fits at time `c` and doesn't fit 1 ns later.
 pub record IsEdge (opens : ℕ → Bool) (occ c : ℕ) : Type 0 where
   pub fits : Fits opens occ c
   pub last : ¬ Fits opens occ (c + 1)

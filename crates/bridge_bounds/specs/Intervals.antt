@@ -18,8 +18,8 @@ abbrev pub IsLatestStart : (ℕ → Bool) → ℕ → ℕ → ℕ → ℕ → Ty
 IsLatestStart opens occ from to start =
     Fits opens occ to → ((v : ℕ) → to ≤ v → Fits opens occ v) ⊎ ((c : ℕ) × IsWindowEnd opens occ to c × (start ≡ max from (to + 1 + (c - to) % occ - occ)))
 
--- Holds if `d` ns is the longest time in which `k` frames leave. They begin to wait at `from`, or 1 ns after a window's
--- last fit between `from` and `to`.
+-- Holds if `d` ns is the longest time in which `k` frames of `occ` ns each leave. They begin to wait at `from`, or 1 ns
+-- after a window's last fit between `from` and `to`.
 pub record IsLongestAfterEdges (opens : ℕ → Bool) (occ k from to d : ℕ) : Type 0 where
   pub start : (v : ℕ) → FramesEnd opens occ k from v → v ≤ from + d
   pub edges : (c v : ℕ) → from ≤ c → c < to → IsEdge opens occ c → FramesEnd opens occ k (c + 1) v → v ≤ c + 1 + d

@@ -21,7 +21,7 @@ offer_time out o = link_time out o.item
 
 -- ONE WAIT
 
--- Holds if, at most `wait` ns after any time, a frame with transmission time `occ` fits.
+-- Holds if, at most `wait` ns after any time, a frame with transmission time `occ` fits the open times `opens`.
 abbrev pub FitsWithinWait : (ℕ → Bool) → ℕ → ℕ → Type 0
 FitsWithinWait opens occ wait = (t : ℕ) → (u : ℕ) × (t ≤ u) × (u ≤ t + wait) × Fits opens occ u
 

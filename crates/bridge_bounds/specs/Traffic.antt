@@ -23,7 +23,7 @@ ComeInPeriods t next (Arrived a ∷ es) =
     × (t.least ≤ a.len) × (a.len ≤ t.longest) × ComeInPeriods t p es
 ComeInPeriods t next (Cleared clear n ∷ es) = ComeInPeriods t next es
 
--- Holds if the frames among the events `es` follow traffic `t`: at most one in each period, between its phases, with an
--- allowed length.
+-- Holds if the frames among the events `es` follow traffic `t`: at most one in each period, between its phases, with a length from
+-- `t.least` to `t.longest`.
 abbrev pub KeepsTraffic : Traffic → List Event → Type 0
 KeepsTraffic t es = (next : ℕ) × ComeInPeriods t next es

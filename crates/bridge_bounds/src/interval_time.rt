@@ -1,4 +1,6 @@
 //! Longest time in which the frames of a full queue leave, if they begin to wait between two times.
+//!
+//! In this file, `occ` is a frame's transmission time in ns, and `room` the number of waiting frames.
 ghost use Rattle.std.specs.Prelude.{◌≡◌, ◌+◌, ◌-◌, ◌*◌, ◌%◌, ◌<◌, ◌≤◌, ◌⊎◌, ℕ, max, MatchOption, true};
 ghost use Rattle.bridge_cycle.specs.Cyclic.{IsLawful};
 ghost use Rattle.bridge_port.specs.GateSchedule.{list_can_fit, list_opens};

@@ -43,8 +43,8 @@ pub fn longest_bounds()
         → e ≤ d }
 {}
 
-/// If a class is always open, `k` frames leave one after another: they take `k` transmission times, and this time is attained. So the bound
-/// of an open class is a number of transmission times.
+/// If a class is always open, `k` frames that wait leave one after another, and need exactly `k` transmission times. So the bound of an
+/// open class is a number of transmission times.
 pub fn one_after_another()
     ensures longest { (opens : ℕ → Bool) (occ k : ℕ) → ((u : ℕ) → opens u ≡ true)
         → IsLongestTime opens occ k (k * occ) }

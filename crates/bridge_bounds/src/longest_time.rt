@@ -1,4 +1,6 @@
 //! Longest time in which the frames of a full queue leave, by the gate control lists of their port.
+//!
+//! In this file, `occ` is a frame's transmission time in ns, and `room` the number of waiting frames.
 ghost use Rattle.std.specs.Prelude.{◌≡◌, ◌↔◌, ◌+◌, ◌-◌, ◌*◌, ◌<◌, ◌≤◌, ℕ, MatchOption, true, Some};
 ghost use Rattle.bridge_cycle.specs.Cyclic.{IsLawful};
 ghost use Rattle.bridge_cycle.specs.Fits.{Fits, IsFirstFit};

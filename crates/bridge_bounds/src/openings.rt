@@ -1,4 +1,6 @@
 //! Delay bounds of queues, for frames that arrive while their stream gate can put them into the queue.
+//!
+//! In this file, `occ` is the longest frame's transmission time in ns, and `room` the queue's capacity.
 ghost use Rattle.std.specs.Prelude.{◌≡◌, ◌+◌, ◌-◌, ◌*◌, ◌≤◌, ◌<◌, ℕ, MatchOption, Some, true, false};
 ghost use Rattle.bridge_cycle.specs.Cyclic.{IsLawful};
 ghost use Rattle.bridge_frame.specs.Link.{transmission_time};

@@ -39,8 +39,8 @@ TakesFront front rest (Ok None) = front ≡ Nothing
 TakesFront front rest (Ok (Some p)) = (more : List ℕ) × (front ≡ Record (packet_frame p) more) × (rest ≡ Some more)
 TakesFront front rest (Err fault) = IsFaultOfFront fault front
 
--- Holds if a record's octets are cut, or the source failed before they were complete, or memory ran out before the
--- first octet.
+-- Holds if `fault` fits the reading of `count` octets of record `number`: they are cut, the source failed before they were complete, or
+-- memory ran out before the first octet.
 abbrev pub CutsOctets : ℕ → ℕ → Option (List ℕ) → Option (List ℕ) → CaptureFault → Type 0
 CutsOctets number count old new faults.Read = TakesFewer count old new
 CutsOctets number count old new faults.NoMemory = new ≡ old

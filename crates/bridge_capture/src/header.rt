@@ -22,7 +22,7 @@ pub fn read_word(order: ByteOrder, octets: &[u8]) -> u32
     }
 }
 
-/// Reads a 16-bit number from two octets in the byte order `order`. `parse_header` reads the version by it.
+/// Reads a 16-bit number from two octets in the byte order `order`. `parse_header` calls it for the version.
 fn read_short_word(order: ByteOrder, octets: &[u8]) -> u16
     requires { length octets.now ≡ 2 }
     ensures { result ≡ word16 order octets.now }

@@ -62,11 +62,13 @@ has_priority_value (Some ipv) priority k = nat_eq ipv k
 has_priority_value None (Some n) k = nat_eq n k
 has_priority_value None None k = true
 
--- True if gate entry `e` is open and can pass a frame so that priority `k` selects the frame's queue.
+-- True if gate entry `e` is open and can pass a frame so that priority `k` selects the frame's queue. `priority` is the
+-- filter's.
 abbrev pub gives_priority : GateEntry → Option ℕ → ℕ → Bool
 gives_priority e priority k = e.lets && has_priority_value e.ipv priority k
 
 -- True if some gate entry in the list is open and can pass a frame so that priority `k` selects the frame's queue.
+-- `priority` is the filter's.
 abbrev pub lets : List GateEntry → Option ℕ → ℕ → Bool
 lets entries priority k = list_any (λ e. gives_priority e priority k) entries
 

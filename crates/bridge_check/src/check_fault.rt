@@ -66,7 +66,7 @@ pub enum CheckFault {
 }
 
 impl CheckFault {
-    /// Returns the fault's number, 1 to 9 in the order of the variants. Contracts compare faults by it.
+    /// Returns the fault's number, 1 to 9 in the order of the variants. Contracts compare faults by this number.
     pub fn number(self) -> u8
         ensures { result ≡ fault_code self }
     {
@@ -83,7 +83,8 @@ impl CheckFault {
         }
     }
 
-    /// Returns the number of the filter that fails the test; `None` if memory ran out. Explanations and pictures look the filter up by it.
+    /// Returns the number of the filter that fails the test; `None` if memory ran out. Explanations and pictures find the filter by this
+    /// number.
     pub fn filter(self) -> Option<u32>
         ensures { result ≡ fault_filter self }
     {

@@ -61,7 +61,7 @@ impl<'a, G: Agenda + Drop, A: Allocator + Copy> Model for Bridge<'a, G, A> {
 }
 
 impl<'a, G: Agenda + Drop, A: Allocator + Copy> Bridge<'a, G, A> {
-    /// Makes the bridge of an accepted plan, before any event. Callers that hand in single events begin with it.
+    /// Makes the bridge of an accepted plan, before any event. Callers that hand in single events begin with this call.
     pub fn new(alloc: A, accepted: &'a Accepted<A>) -> Result<Bridge<'a, G, A>, NoMemory>
         ensures stands { IfOk result (λ b. BridgeStandsFor accepted.now b [] (λ _. [])) }
         ensures start { IfOk result (λ b. (bridge_plan b ≡ accepted.now) × (bridge_arrivals b ≡ 0)
@@ -123,7 +123,7 @@ impl<'a, G: Agenda + Drop, A: Allocator + Copy> Bridge<'a, G, A> {
     }
 
     /// Carries out a command, which must be after the last frame and the last start, and not before the last command. Allocates no memory.
-    /// Callers hand in each command by it.
+    /// Callers hand in each command by this method.
     pub fn command(&mut self, command: &Command)
         requires time { self.old.command ≤ command.now.at }
         requires instance { IsTrue (has_instance (bridge_plan self.old) command.now.clear command.now.number) }

@@ -35,7 +35,9 @@ pub enum ListFault {
 
 impl ListFault {
     /// Returns the number of the fault: 1 for `Empty`, 2 for `ZeroInterval`, 3 for `OverCycle`, 4 for `CycleOutOfRange`, 5 for
-    /// `TooManyEntries`, 6 for `NoMemory`. Contracts compare faults by it.
+    /// `TooManyEntries`, 6 for `NoMemory`.
+    ///
+    /// Contracts compare faults by this number.
     pub fn number(self) -> u8
         ensures { result ≡ cyclic.fault_code self }
     {
@@ -77,7 +79,7 @@ pub struct CyclicList<S, A: Allocator + Copy> {
     cycle: u64,
     /// Offset of time 0 in its cycle, in ns: 1 to the cycle time.
     shift: u64,
-    /// Mean number of entries per ns, times 2^32. A search multiplies an offset by it to guess the entry in force.
+    /// Mean number of entries per ns, times 2^32. A search multiplies this number by an offset to guess the index of the entry in force.
     density: u64,
     /// States with the lengths of their intervals in ns.
     entries: Vec<(S, u64), A>,
@@ -215,8 +217,9 @@ fn interval_ends<S: Copy, A: Allocator + Copy>(
     Ok(ends)
 }
 
-/// Returns the mean number of entries per ns, times 2^32, from the ends of the intervals. `CyclicList::new` stores it. A search guesses an
-/// index by it; binary search corrects a bad guess.
+/// Returns the mean number of entries per ns, times 2^32, from the ends of the intervals. `CyclicList::new` stores it.
+///
+/// A search guesses an index from this number; binary search corrects a bad guess.
 fn entry_density(ends: &[u64]) -> u64 {
     let total = match ends.last() {
         Some(end) => (*end).max(1),
@@ -225,8 +228,8 @@ fn entry_density(ends: &[u64]) -> u64 {
     ((ends.len() as u64) << 32) / total
 }
 
-/// Whether the entry at index `place` is in force at offset `phase`, in ns from the start of a cycle. `index_near_guess` tests up to three
-/// entries by it.
+/// Whether the entry at index `place` is in force at offset `phase`, in ns from the start of a cycle. `index_near_guess` calls it for up to
+/// three entries.
 #[inline(always)]
 fn is_in_entry(ends: &[u64], phase: u64, place: usize) -> bool
     ensures { result ≡ true → running.IsEntryIndex ends.now phase place }

@@ -32,7 +32,7 @@ pub trait Timeline {
     /// Cycle time in ns: an interval ends at most this time after each time within it.
     ghost cycle_of: { Self → ℕ };
 
-    /// Returns the interval that contains time `t` in ns. Searches for fits and delay bounds pass through intervals by it.
+    /// Returns the interval that contains time `t` in ns. Searches for fits and delay bounds call it to go from interval to interval.
     fn turn(&self, t: u64) -> Turn<Self::State>
         requires { t < END_OF_TURNS }
         ensures lawful { is_lawful self.now }

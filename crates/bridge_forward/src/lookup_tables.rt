@@ -119,7 +119,7 @@ pub(crate) fn make_hints<A: Allocator + Copy>(
     Ok(hints)
 }
 
-/// Returns the ports at index `place` if they have this key, otherwise `None`. `static_ports` tests a hint by it.
+/// Returns the ports at index `place` if they have this key, otherwise `None`. `static_ports` calls it to test a hint.
 #[inline(always)]
 pub(crate) fn ports_by_index<A: Allocator + Copy>(
     entries: &StaticTable<A>,

@@ -49,7 +49,7 @@ pub enum FrameFault {
 }
 
 impl FrameFault {
-    /// Returns the number of the fault: 1 for `TooShort`, 2 for `TooLong`. Contracts compare faults by it.
+    /// Returns the number of the fault: 1 for `TooShort`, 2 for `TooLong`. Contracts compare faults by this number.
     pub fn number(self) -> u8
         ensures { result ≡ fault_code self }
     {

@@ -45,7 +45,7 @@ struct AddressIndex<A: Allocator + Copy> {
     index_hints: Vec<u16, A>,
 }
 
-/// Index of a stream identity table: the first entry for each key. `Ident` finds the stream handle of a frame by it.
+/// Index of a stream identity table: the first entry for each key. `Ident` finds the stream handle of a frame with this index.
 #[derive(Drop)]
 pub(crate) struct StreamIndex<A: Allocator + Copy> {
     /// Entries for frames with a tag whose VLAN identifier isn't 0.
@@ -76,8 +76,8 @@ impl StreamEntry {
 /// 2^64: a key has the port above 64 bits for VLAN identifier and address.
 const TWO_POW_64: u128 = 1 << 64;
 
-/// Returns the key of entries with a port, a VLAN identifier and an address. Look-ups compute the keys of a frame's addresses by it.
-/// `index_entry` and `AddressIndex::find_handle` call it.
+/// Returns the key of a port, a VLAN identifier and an address. `index_entry` calls it for entries, and `AddressIndex::find_handle` for the
+/// addresses of a frame.
 #[tactic(auto, unfolding(crate::specs::StreamIndex::entry_key))]
 fn entry_key(port: u8, vid: u16, address: [u8; 6]) -> u128
     ensures number { result ≡ entry_key port vid address }
@@ -278,7 +278,7 @@ fn make_address_index<A: Allocator + Copy>(
     }
 }
 
-/// Returns the entry at index `place` of `firsts` if it has this key, otherwise `None`. `handle_by_keys` tests a hint by it.
+/// Returns the entry at index `place` of `firsts` if it has this key, otherwise `None`. `handle_by_keys` calls it to test a hint.
 #[inline(always)]
 fn entry_by_index<A: Allocator + Copy>(
     firsts: &FirstEntries<A>,
