@@ -22,6 +22,6 @@ read_ahead_remaining remaining s = prepend_known (unread_octets s.window) (remai
 abbrev pub held_octets : {A : Type 0} → WriteBuffer A → List ℕ
 held_octets h = take h.count h.octets.items
 
--- Octets of the writer, if known, then octets held back.
+-- Octets of the writer, then octets held back; `None` if the writer's octets are unknown.
 abbrev pub write_behind_contents : {W A : Type 0} → (W → Option (List ℕ)) → WriteBehind W A → Option (List ℕ)
 write_behind_contents contents s = append_known (contents s.sink.writer) (held_octets s.held)

@@ -1,4 +1,4 @@
--- Runs that handle frames and commands one by one.
+-- State of a run between two inputs, and the reasons why a run stops.
 use Rattle.std.specs.Prelude.{◌≡◌, ◌≢◌, ℕ, zero, suc, Bool, ◌+◌, ◌<◌, ◌≤◌, ◌⊎◌, Option, Some, None, IfSome, OnOk, option_and_then, option_map, List, [], ◌∷◌, ◌++◌, length, slice_get, slice_set, Result, Ok, Err}
 use Rattle.bridge_limits.specs.Members.{IsOrdered}
 use Rattle.bridge_limits.specs.declared.TheConstants.{MAX_ARRIVALS}

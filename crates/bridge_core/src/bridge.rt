@@ -36,7 +36,7 @@ use std::marker::Model;
 /// of events, and the frames that have left.
 #[derive(Drop)]
 pub struct Bridge<'a, G: Agenda + Drop, A: Allocator + Copy> {
-    /// Ports, filters and records.
+    /// Relay of the bridge: its ports, filters and records.
     relay: Relay<'a, G, A>,
     /// Pool without capacity: it drops the buffers of frames that have left.
     spares: BufferPool<A>,

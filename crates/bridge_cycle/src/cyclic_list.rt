@@ -19,7 +19,7 @@ pub enum ListFault {
     /// An entry has an interval of 0 ns.
     #[error("an interval of 0 ns")]
     ZeroInterval,
-    /// The sum of the intervals exceeds the cycle time.
+    /// The intervals of one cycle are together longer than the cycle time.
     #[error("intervals longer than the cycle")]
     OverCycle,
     /// The cycle time isn't 1 to 1,000,000,000 ns.
@@ -66,18 +66,18 @@ pub const MAX_ENTRIES: usize = 256;
 /// Longest cycle time of a list, in ns.
 pub const LONGEST_CYCLE: u64 = 1_000_000_000;
 
-/// List of states that repeats in cycles, also before its base time. Each state lasts for its interval in ns, the last one until
-/// the cycle ends.
+/// List of states that repeats in cycles, also before its base time. Each state lasts for its interval in ns, the last one until the cycle
+/// ends.
 ///
-/// Each entry has one interval per cycle, even if neighbours are equal. Gate control lists (IEEE 802.1Q-2018, 8.6.8.4) and lists of
-/// stream gates (8.6.5.1.2) have this type.
+/// Each entry has one interval per cycle, even if neighbouring entries have equal states. Gate control lists (IEEE 802.1Q-2018, 8.6.8.4)
+/// and lists of stream gates (8.6.5.1.2) have this type.
 #[derive(Drop)]
 pub struct CyclicList<S, A: Allocator + Copy> {
     /// Base time in ns.
     base: u64,
     /// Cycle time in ns.
     cycle: u64,
-    /// Offset of time 0 in its cycle, in ns: 1 to the cycle time.
+    /// Number of ns, 1 to the cycle time. A time plus this number, modulo the cycle time, is the time's offset in its cycle.
     shift: u64,
     /// Mean number of entries per ns, times 2^32. A search multiplies this number by an offset to guess the index of the entry in force.
     density: u64,

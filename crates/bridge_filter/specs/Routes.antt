@@ -59,7 +59,7 @@ abbrev pub find_row : {R : Type 0} → List (ℕ × R) → R → Option ℕ → 
 find_row rows any None = any
 find_row rows any (Some h) = unwrap_or (lookup (nat_eq h) rows) any
 
--- Routes that a row has by their indexes in the list of all routes; `None` at an index without a route.
+-- Routes at a row's indexes in the list of all routes; `None` at an index past the end of this list.
 abbrev pub read_row : List Route → List ℕ → List (Option Route)
 read_row routes row = map (λ i. slice_get routes i) row
 

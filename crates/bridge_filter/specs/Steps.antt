@@ -1,4 +1,4 @@
--- State of the police and one step of it. No public clause uses these definitions.
+-- State of the police, and how an event changes it. No public clause uses these definitions.
 use Rattle.std.specs.Prelude.{◌≡◌, ℕ, Bool, ◌+◌, ◌≤◌, ◌&&◌, ◌||◌, nat_eq, map, true, false, Option, Some, None, List, [], IsSome, if◌then◌else◌}
 use Rattle.std.specs.Map.{lookup, keys_of}
 use Rattle.bridge_meter.specs.declared.MeterPlan.{MeterPlan}

@@ -40,7 +40,7 @@ pub struct Head {
 /// Reason why a frame is malformed.
 #[derive(Clone, Copy, Debug, PartialEq, Eq, Error)]
 pub enum FrameFault {
-    /// Fewer octets than a header has: 14, or 18 with a tag.
+    /// Fewer captured octets than a header has: 14, or 18 with a tag.
     #[error("the frame is too short")]
     TooShort,
     /// Length above 9,216 octets.
@@ -224,7 +224,7 @@ pub fn occupation(len: u32, speed: Speed) -> u64
     ensures bounded { len ≤ LONGEST_FRAME → result ≤ 7_392_000 }
 {
     let octets = u64::from(len.max(60)) + 24;
-    // Most links have this speed, and a test costs less than a jump by a table.
+    // Most links have 1,000 Mb/s, and a test costs less than a jump by a table.
     if let Speed::Mbps1000 = speed {
         return octets * 8;
     }

@@ -30,9 +30,9 @@ pub enum Schedule<A: Allocator + Copy> {
 /// Settings of a stream gate: its schedule, and which refusals shut the gate until a command clears its flag.
 #[derive(Drop)]
 pub struct GatePlan<A: Allocator + Copy> {
-    /// Whether a frame at the closed gate shuts the gate until a command.
+    /// Whether a frame at the closed gate shuts the gate until a command clears the receive flag.
     pub shut_on_rx: bool,
-    /// Whether a frame over the octet limit shuts the gate until a command.
+    /// Whether a frame over the octet limit shuts the gate until a command clears the octets flag.
     pub shut_on_octets: bool,
     /// Schedule of the gate.
     pub schedule: Schedule<A>,

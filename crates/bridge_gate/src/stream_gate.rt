@@ -25,7 +25,7 @@ pub enum GateAnswer {
     OctetsExceeded,
 }
 
-/// Stream gate (IEEE 802.1Q-2018, 8.6.5.1.2) with its two flags and the octets passed in the interval.
+/// Stream gate (IEEE 802.1Q-2018, 8.6.5.1.2) with its two flags, and the octets that have passed in the interval of the last counted frame.
 #[derive(Drop)]
 pub struct StreamGate<A: Allocator + Copy> {
     /// Schedule, and which refusals shut the gate.
