@@ -63,7 +63,7 @@ pub fn state_is_of_an_entry<S: Copy>()
         → (e : S × ℕ) × IsMember e l.entries × (e.0 ≡ x.state) }
 {}
 
-/// With a schedule change, a class is open as in the old list before the change, and as in the new list from the change on.
+/// With a schedule change, a class is open as in the old list before the change, and as in the new list from then on.
 ///
 /// So each list's laws apply on its side of the change.
 pub fn changing_list_opens()
