@@ -128,7 +128,7 @@ impl<A: Allocator + Copy> Police<A> {
     /// Judges a frame that arrives at `t` ns, with `sdu` octets of SDU and `octets` metered octets. Returns its filter and verdict, or
     /// `None` if no filter matches. Allocates no memory.
     ///
-    /// Callers that don't know the frame's route call it; the relay calls `pass_routed`.
+    /// Only tests call it; the relay calls `find_route` and `pass_routed`.
     pub fn pass(
         &mut self,
         t: u64,
