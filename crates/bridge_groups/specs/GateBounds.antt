@@ -22,7 +22,7 @@ use Rattle.bridge_bounds.specs.Bounds.{IsTightBound}
 use Rattle.bridge_groups.specs.GateIntervals.{gate_opens, last_opening, opening_work}
 use Rattle.bridge_groups.specs.IntervalWork.{IsIntervalBound}
 
--- Holds if each received frame has an SDU of at least `k` octets.
+-- Holds if each received frame with a readable header has an SDU of at least `k` octets.
 abbrev pub HaveSdus : ℕ → List Event → Type 0
 HaveSdus k [] = Unit {0}
 HaveSdus k (Arrived a ∷ es) = ((h : Head) → parsed_head a.octets a.len ≡ Ok h → k ≤ h.sdu) × HaveSdus k es

@@ -27,7 +27,7 @@ module _ {X : Type 0} where
   abbrev pub HaveSufficientCosts : PortRules X → (X → ℕ) → ℕ → ℕ → ℕ → List (Copy X) → Type 0
   HaveSufficientCosts r cost c least occ xs = (y : Copy X) → IsMember y xs → (y.class ≡ c) × IsSufficientCost (r.opens c) occ least (r.occ y.item) (cost y.item)
 
-  -- The total cost of the copies that were offered at time `u` or later.
+  -- The total cost in ns of the copies that were offered at time `u` or later. `cost` gives the cost of an item.
   abbrev pub recent_cost : (X → ℕ) → ℕ → List (Copy X) → ℕ
   recent_cost cost u [] = 0
   recent_cost cost u (x ∷ xs) = (if nat_le u x.at then cost x.item else 0) + recent_cost cost u xs

@@ -102,11 +102,11 @@ fn windows_delay_bound<A: Allocator + Copy>(
     all_spans_bound(list, class, occ, curve, per_cycle, least, 0)
 }
 
-/// Returns a delay bound in ns of a queue that has its link to itself while `class` is open. Its frames have transmission times from `least`
-/// to `occ` ns and the arrival curve `curve`.
+/// Returns a delay bound in ns of a queue that has its link to itself while `class` is open. Its frames have transmission times from
+/// `least` to `occ` ns and the arrival curve `curve`.
 ///
-/// Returns `None` if more work arrives in the long run than fits into the windows. Also if no frame of `least` ns, or more than
-/// `LARGEST_BURST` ns of work, can arrive at once.
+/// Returns `None` if more work arrives in the long run than fits into the windows. It also returns `None` if no frame of `least` ns, or
+/// more than `LARGEST_BURST` ns of work, can arrive at once.
 ///
 /// `fit_bound`, `change_bound` and `lists_bound` call it.
 pub fn list_delay_bound<A: Allocator + Copy>(

@@ -12,8 +12,10 @@ use std::alloc::Allocator;
 
 /// Returns the lesser of two bounds of a queue in ns: `tight`, and the bound from the octets that the filter's stream gate passes.
 ///
-/// Returns `tight` if the lists of stream gate and port have no common cycle (`coarse`). The search for the other bound would then take too
-/// long. `least_queue_bound` and `put_tight_bound` of `net_latency` call it.
+/// If `coarse`, the lists of stream gate and port have no common cycle. The search for the second bound would then take too long, and the
+/// function returns `tight`.
+///
+/// `least_queue_bound` and `put_tight_bound` of `net_latency` call it.
 pub fn least_bound<A: Allocator + Copy>(
     accepted: &Accepted<A>,
     number: u32,
@@ -39,8 +41,8 @@ pub fn least_bound<A: Allocator + Copy>(
 
 /// Returns a queue's bound in ns for frames of at least 60 octets: it follows from the octets that the filter's stream gate passes.
 ///
-/// Returns `None` if this bound isn't below `bound`, or if no frame of this length passes. Also if the lists of stream gate and port have
-/// no common cycle (`coarse`).
+/// Returns `None` if this bound isn't below `bound`, or if no frame of this length passes. It also returns `None` if the lists of stream
+/// gate and port have no common cycle (`coarse`).
 ///
 /// `put_tight_bound` of `net_latency` and `put_gate_bounds` of `show_lint` call it.
 pub fn padded_bound<A: Allocator + Copy>(

@@ -12,8 +12,8 @@ use std::alloc::Allocator;
 /// Largest number of runs of fits that a search visits.
 pub(crate) const MOST_FIT_RUNS: u64 = 512;
 
-/// Returns fit number `number`, counted from 0, at time `from` or later. Returns `None` if too many runs of fits come before it.
-/// `leave_time` calls it.
+/// Returns the time in ns of fit number `number`, counted from 0 at the first fit at `from` or later. Returns `None` if too many runs of
+/// fits come before it. `leave_time` calls it.
 fn nth_fit<A: Allocator + Copy>(
     list: &CyclicList<u8, A>,
     class: u8,

@@ -33,8 +33,10 @@ fn shortest_span(curve: &LinearCurve, counts: &[LinearCurve], work: u64, frames:
     Some(time.max(first_frames_time(counts, frames)))
 }
 
-/// Whether never more than `room` frames wait at once; `sufficient_room` tests capacities with it. The class is always open if `per_cycle`
-/// is `None`; otherwise each cycle has `per_cycle` fits.
+/// Returns true only if a capacity of `room` frames suffices: then the queue drops no copy as full. Each cycle has `per_cycle` fits; `None`
+/// means that the class is always open.
+///
+/// `sufficient_room` calls it.
 fn is_sufficient<A: Allocator + Copy>(
     list: &CyclicList<u8, A>,
     class: u8,

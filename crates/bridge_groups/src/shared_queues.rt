@@ -44,7 +44,7 @@ pub struct SharedQueue {
     pub class: u8,
     /// Largest delay in ns of a sent copy, from arrival to the end of transmission, gap included.
     pub bound: u64,
-    /// Whether the bound holds by the meters of the filters too; otherwise only by the capacity.
+    /// Whether the meters of the filters give a delay bound. If not, `bound` follows from the capacity only.
     pub is_metered: bool,
     /// Capacity in frames with which the queue drops no copy as full; `None` if no such capacity is known.
     pub room: Option<u16>,
@@ -104,8 +104,10 @@ fn change_bound<A: Allocator + Copy>(
     Some(before + occ + after)
 }
 
-/// Returns the delay bound in ns of a queue under gate control lists, by the arrival curve of its frames. Returns `None` if work arrives
-/// faster than it leaves. `curve_figures` calls it.
+/// Returns the delay bound in ns of a queue under gate control lists, by the arrival curve of its frames. Returns `None` if no bound is
+/// found, for example because work arrives faster than it leaves.
+///
+/// `curve_figures` calls it.
 fn lists_bound<A: Allocator + Copy>(
     lists: &Egress<A>,
     class: u8,
@@ -172,7 +174,8 @@ struct MeterFigures {
     room: Option<u16>,
 }
 
-/// Returns bound and capacity of a queue by the curves of the meters of `sharers`. `meter_figures` calls it.
+/// Returns bounds and capacity of a queue by the curves of the meters of `sharers`. For a port without gate control list, all are `None`.
+/// `meter_figures` calls it.
 fn curve_figures<A: Allocator + Copy>(
     plan: &Plan<A>,
     sharers: &[(u32, FilterPlan)],
@@ -211,7 +214,7 @@ fn curve_figures<A: Allocator + Copy>(
     }
 }
 
-/// Returns bound and capacity of a queue by the meters of `sharers`. Both are `None` if a sharer has no meter, or if work may arrive faster
+/// Returns bounds and capacity of a queue by the meters of `sharers`. All are `None` if a sharer has no meter, or if work may arrive faster
 /// than it leaves. `shared_queue` calls it.
 fn meter_figures<A: Allocator + Copy>(
     alloc: A,

@@ -10,7 +10,7 @@ pub record MeterState : Type 0 where
   pub plan : MeterPlan
   pub buckets : Buckets
 
--- Arrival time in ns of the newest judged frame, or 0.
+-- Arrival time in ns of the newest judged frame; 0 if there is none.
 abbrev pub newest_time : List JudgedFrame → ℕ
 newest_time [] = 0
 newest_time (f ∷ fs) = f.at
