@@ -17,8 +17,8 @@ use std::marker::Model;
 ///
 /// A transmission may span a schedule change if the old list opens its class before the change and the new list after it.
 ///
-/// A port stands for the list of copies offered to it. It stores the earliest start of each head, and the best head. Offers and starts
-/// recompute only changed ones.
+/// A port stands for the list of copies offered to it. It stores the earliest start of each head, and the best head: an offer or start
+/// recomputes only the starts that change.
 #[derive(Drop)]
 pub struct Port<T: Drop, A: Allocator + Copy> {
     /// Speed of the link.
@@ -66,8 +66,8 @@ impl<T: Drop, A: Allocator + Copy> Port<T, A> {
     ghost use Rattle.bridge_port.specs.Solo.{IsFinished};
     ghost use Rattle.bridge_port.specs.StandsFor.{offer_answer, offered_copy, count_queued, idle_state, HasStartedOldest, IsNextStartTime, IsIdle, IsStateSound, IsNextStart, time_limit, HasNoStartEarlier, offered_state, offer_refusal, state_rules, StandsFor, started_state};
 
-    /// Makes an idle port with queue capacities for classes 0 to 7, in frames. Without a list, all classes are always open;
-    /// otherwise bit c of a state opens class c.
+    /// Makes an idle port with queue capacities for classes 0 to 7, in frames. Without a list, all classes are always open; otherwise bit c
+    /// of an entry's state opens class c.
     ///
     /// With a schedule change (8.6.9.4), the old list applies before the change. Each item must fit under both lists. `PortState::new` of
     /// `bridge_relay` calls it.
