@@ -110,8 +110,10 @@ impl<'a, G: Agenda + Drop, A: Allocator + Copy> Relay<'a, G, A> {
         self.ports.assert_agenda();
     }
 
-    /// Ends a run without due starts. Returns records of the filters in `order` and counts of the ports, in the empty lists `filters` and
-    /// `ports`. A protected filter's record depends on its own events only.
+    /// Ends a run in which no start is due. Returns records of the filters in `order` and counts of the ports, in the empty lists `filters`
+    /// and `ports`.
+    ///
+    /// A protected filter's record depends on its own events only.
     pub fn finish(
         self,
         order: &[(u32, FilterPlan)],

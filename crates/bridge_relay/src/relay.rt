@@ -230,8 +230,8 @@ impl<'a, G: Agenda + Drop, A: Allocator + Copy> Relay<'a, G, A> {
         self.earliest = t;
     }
 
-    /// Returns egress ports and filter input of the frame `octets`, which arrived on port `port` at time `at` with length `len`. Otherwise
-    /// returns why it isn't forwarded. `arrive` calls it.
+    /// Returns egress ports and filter input of the frame `octets`, which arrived on port `port` at time `at` with length `len`. If the
+    /// frame isn't forwarded, returns the reason. `arrive` calls it.
     #[inline(always)]
     fn find_destination(&self, at: u64, port: u8, octets: &[u8], len: u32) -> Destination
         requires from { 1 ≤ port }
@@ -263,10 +263,10 @@ impl<'a, G: Agenda + Drop, A: Allocator + Copy> Relay<'a, G, A> {
         Destination::Forwarded { set, call }
     }
 
-    /// Copies `octets` for every port of `set` except the last, which gets the frame's own. Reserves capacity in the filter's recorder
-    /// (index `hint`), and counts the arrival. Without memory, the relay is unchanged.
+    /// Copies `octets` for every existing port of `set` except the last, which gets the frame's own buffer. Reserves capacity in the
+    /// filter's recorder (index `hint`), and counts the arrival.
     ///
-    /// `arrive` calls it.
+    /// If memory runs out, the relay is unchanged. `arrive` calls it.
     #[inline(always)]
     fn prepare_copies(
         &mut self,
@@ -419,8 +419,8 @@ impl<'a, G: Agenda + Drop, A: Allocator + Copy> Relay<'a, G, A> {
         self.offer_copy(set, number, priority, len, eligible, load, spares);
     }
 
-    /// Offers the last of `copies` to port `number` if both `set` and the bridge have this port; otherwise does nothing.
-    /// `offer_several_copies` calls it for each port before the last.
+    /// Offers the last of `copies`, with the data of `first`, to port `number`. Does nothing unless both `set` and the bridge have this
+    /// port. `offer_several_copies` calls it for each port before the last.
     #[inline(always)]
     fn offer_next_copy(
         &mut self,
@@ -519,10 +519,10 @@ impl<'a, G: Agenda + Drop, A: Allocator + Copy> Relay<'a, G, A> {
         }
     }
 
-    /// Offers copies of a frame with priority `priority` to the ports of `set`, by rising number, with tags drop eligible if `eligible`. An
-    /// empty list has no memory: it is forgotten, which is faster.
+    /// Offers copies of a frame with priority `priority` to the ports of `set`, by rising number. If `eligible` is true, marks their tags
+    /// drop eligible.
     ///
-    /// `relay_frame` calls it.
+    /// If `copies` is empty, it has no memory: forgetting it is faster than dropping it. `relay_frame` calls it.
     #[inline(always)]
     fn offer_copies(
         &mut self,

@@ -32,8 +32,10 @@ struct Taker<'a, A: Allocator + Copy> {
 }
 
 impl<'a, A: Allocator + Copy> Taker<'a, A> {
-    /// Returns whether the receiving bridge forwards frames with this tag and the address of entry `named` by some port. True for a source
-    /// address: the destination is unknown then. `takes_all` calls it.
+    /// Returns whether the receiving bridge forwards frames with this tag and the address of entry `named` to at least one port. True for a
+    /// source address: the destination is unknown then.
+    ///
+    /// `takes_all` calls it.
     fn is_forwarded(&self, named: &StreamEntry, tag: Option<Tag>) -> bool
         requires from { 1 ≤ self.now.on.now.number }
         requires to { self.now.on.now.number ≤ 16 }
@@ -51,8 +53,8 @@ impl<'a, A: Allocator + Copy> Taker<'a, A> {
         }
     }
 
-    /// Returns whether frames with this tag and this stream handle belong to the receiving filter. `None` stands for an untagged frame, and
-    /// for a frame without handle. `gives_all` calls it.
+    /// Returns whether frames with this tag and this stream handle belong to the receiving filter. `tag` is `None` for an untagged frame,
+    /// and `handle` is `None` for a frame without handle. `gives_all` calls it.
     fn is_given(&self, tag: Option<Tag>, handle: Option<u32>) -> bool
         ensures { result ≡ is_filter_number self.now.filter (feeding.matching_filter self.now.plan.now handle
             (classified.frame_priority self.now.on.now tag)) }
