@@ -42,8 +42,8 @@ can_match e port vid s =
     nat_eq e.port port && nat_eq e.vid vid && accepts_tag e.tag s.tag
     && (not (is_same_kind e.kind s.kind) || bytes_eq e.address s.address)
 
--- The handles that frames of pattern `s` may get on `port` in VLAN `vid`, in entry order; `None` stands for no handle. The list stops at
--- the first entry that surely matches.
+-- The handles that frames of pattern `s` may get on `port` in VLAN `vid`, in entry order; `None` means no handle. The list stops at the
+-- first entry that surely matches.
 abbrev pub possible_handles : List StreamEntry → ℕ → ℕ → FramePattern → List (Option ℕ)
 possible_handles [] port vid s = None ∷ []
 possible_handles (e ∷ es) port vid s =
