@@ -37,8 +37,8 @@ pub fn has_section<A: Allocator>(outcome: &Outcome<A>, filter: u32) -> bool
     find_view(outcome, filter).is_some()
 }
 
-/// Returns the report section of filter `filter`, which must have a record in the result. Each line ends with a line feed. Callers that
-/// need no whole report call it.
+/// Returns the report section of filter `filter`, which must have a record in the result. Each line ends with a line feed. Only tests call
+/// it: they compare sections.
 pub fn section<A: Allocator + Copy>(
     alloc: A,
     outcome: &Outcome<A>,
@@ -56,7 +56,8 @@ pub fn section<A: Allocator + Copy>(
     text.finish()
 }
 
-/// Returns the report of a run as a text in memory: the sections of all filters, by rising number. Callers that write no file call it.
+/// Returns the report of a run as a text in memory: the sections of all filters, by rising number. Only tests call it: commands use
+/// `write_report`.
 pub fn report<A: Allocator + Copy>(alloc: A, outcome: &Outcome<A>) -> Result<String<A>, NoMemory>
     ensures { IfOk result (λ text. string_bytes text ≡ report_text outcome.now.filters.items) }
 {

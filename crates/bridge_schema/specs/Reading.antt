@@ -110,8 +110,8 @@ items_in not_a_list too_many limit section (Some _) = Err (not_a_list section)
 abbrev pub items_of : {S E : Type 0} → (S → E) → (S → E) → (S → ℕ) → (S → List ℕ) → S → Members → Result Items E
 items_of not_a_list too_many limit spelling section members = items_in not_a_list too_many limit section (get_member (spelling section) members)
 
--- The instances `earlier`, followed by the instances of the items. The first item has index `index`. If the reader
--- refuses a table, its fault.
+-- The instances `earlier`, followed by the instances of the items; the first item has index `index`. If the reader
+-- refuses a table, the result is its fault.
 abbrev pub further_instances : {A E : Type 0} → (List A → ℕ → Members → Result A E) → List A → ℕ → Items → Result (List A) E
 further_instances read earlier index no_items = Ok earlier
 further_instances read earlier index (item (table ms) ds) = read earlier index ms >>= λ x. further_instances read (earlier ++ x ∷ []) (index + 1) ds
