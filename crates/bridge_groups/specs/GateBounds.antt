@@ -61,7 +61,7 @@ pub record IsGateWorkBound {A : Type 0} (p : Plan A) (n q c k b : ℕ) : Type 0 
 abbrev pub IsLeastBound : {A : Type 0} → Plan A → ℕ → ℕ → ℕ → ℕ → Type 0
 IsLeastBound p n q c b = (a : ℕ) × IsTightBound p n q c a × ((b ≡ a) ⊎ (IsGateWorkBound p n q c 2 b × (b < a)))
 
--- Holds if `b` ns is a bound below `a` for frames of at least 60 octets. It follows from the octets that the stream gate passes. The SDUs
--- of these frames have at least 44 octets.
+-- Holds if `b` ns is a bound below `a` for frames of at least 60 octets, whose SDUs have at least 44 octets. It follows from the octets
+-- that the stream gate passes.
 abbrev pub IsPaddedBound : {A : Type 0} → Plan A → ℕ → ℕ → ℕ → ℕ → ℕ → Type 0
 IsPaddedBound p n q c a b = IsGateWorkBound p n q c 44 b × (b < a)

@@ -34,14 +34,17 @@ first_end ls t until = fold (λ m l. min m (turn_end (turn_by_time l t))) until 
 abbrev pub entry_limit : GateEntry → ℕ
 entry_limit e = if e.lets then unwrap_or e.octets 0 else 0
 
--- Holds if the entries fill the offsets from `from` to `until`. An entry is open if a gate is open, has at least the sum of the gates'
--- limits, and ends at the latest with the first of the gates' intervals.
+-- Holds if the entries fill the offsets from `from` to `until`. An entry is open if a gate is open, and ends at the latest with the first
+-- of the gates' intervals.
+--
+-- Its octet limit is at least the sum of the gates' limits.
 abbrev pub AreMergedEntries : List (Cyclic GateEntry) → List (GateEntry × ℕ) → ℕ → ℕ → Type 0
 AreMergedEntries ls [] from until = from ≡ until
 AreMergedEntries ls (e ∷ es) from until = (1 ≤ e.1) × (is_any_open ls from ≡ true → e.0.lets ≡ true) × (limit_sum ls from ≤ entry_limit e.0) × ((l : Cyclic GateEntry) → IsMember l ls → from + e.1 ≤ turn_end (turn_by_time l from)) × AreMergedEntries ls es (from + e.1) until
 
 -- Holds if list `m` covers the lists `ls` of several stream gates: it is open while a gate is open, with at least the sum of their limits.
--- While `m` is open, the intervals of all gates change only at openings of `m`.
+--
+-- While `m` is open, the gates' intervals change only at openings of `m`.
 pub record IsMergedList (ls : List (Cyclic GateEntry)) (m : Cyclic GateEntry) : Type 0 where
   pub lawful : IsLawful m
   pub opens : (t : ℕ) (l : Cyclic GateEntry) → IsMember l ls → gate_opens l t ≡ true → gate_opens m t ≡ true

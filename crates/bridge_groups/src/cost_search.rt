@@ -1,7 +1,8 @@
-//! Delay bounds of a shared queue by costs. A fit is a time at which a transmission fits; the search counts fits for a transmission time
-//! `fit` below the longest. So less time is lost at the end of each window.
+//! Delay bounds of a shared queue by costs. The search counts fits for a transmission time `fit` below the longest, so less time is lost at
+//! the end of each window.
 //!
-//! A frame that needs more than `fit` ns counts for more than its transmission time: this is its cost.
+//! A fit is a time at which a transmission fits. A frame that needs more than `fit` ns counts for more than its transmission time: this is
+//! its cost.
 ghost use Rattle.std.specs.Prelude.{◌≡◌, ◌⊎◌, ◌≤◌, ◌<◌, ℕ, IfSome, Some, length, false, true};
 ghost use Rattle.bridge_cycle.specs.Cyclic.{IsLawful};
 ghost use Rattle.bridge_frame.specs.Link.{transmission_time};
@@ -23,7 +24,7 @@ use std::alloc::Allocator;
 const MOST_LENGTHS: u64 = 4;
 
 /// Whether each run of fits of `fit` ns starts at a time at which a transmission of `long` ns fits. If the class is open at `start`, the
-/// answer can be false without such a run.
+/// answer can be false by mistake.
 ///
 /// `fit_bound` calls it.
 fn has_long_starts<A: Allocator + Copy>(

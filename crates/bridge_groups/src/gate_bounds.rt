@@ -156,7 +156,7 @@ fn reached_gate_bound<A: Allocator + Copy>(
 /// Every frame must have an SDU of at least `fewest` octets: `CAPTURED_SDU` for any capture, `PADDED_SDU` for padded frames.
 ///
 /// Returns `None` for any other queue or filter, for a schedule change, or if an open entry has no octet limit. It also returns `None` if
-/// the search finds no bound, for example if the gate passes too many octets.
+/// the search finds no bound.
 ///
 /// `least_bound` and `padded_bound` call it.
 pub fn gate_work_bound<A: Allocator + Copy>(

@@ -66,8 +66,8 @@ pub fn queue_has_meter_curves<A: Allocator + Copy>()
         × HasCountCurve (sharers_frame_limit p sharers) (class_copies c (lists q)) }
 {}
 
-/// Each copy that starts leaves a queue of the group at most `b` ns after its arrival, whatever any talker sends. The sharers' meters give
-/// the arrival curve, and `b` is a delay bound for this curve.
+/// Each copy that starts leaves a queue of the group at most `b` ns after its arrival, whatever any talker sends. Here `b` is a delay bound
+/// for the curve of the sharers' meters.
 ///
 /// Bounds of shared queues by meters rest on it.
 pub fn group_leaves_in_time<A: Allocator + Copy>()
@@ -185,8 +185,8 @@ pub fn conforming_frames_pass<A: Allocator + Copy>()
         → list_all passes (filter_verdicts n (police_steps p es)) ≡ true }
 {}
 
-/// In any `w` ns a stream gate with octet limits passes at most the octets of the intervals that overlap these `w` ns. Curves of stream
-/// gates rest on it.
+/// In any `w` ns, a stream gate with octet limits passes at most the sum of the limits of the intervals that overlap these `w` ns. Curves
+/// of stream gates rest on it.
 pub fn gate_limits_octets()
     ensures { (r : GateRules) (u w : ℕ) (es : List GateEvent)
         → HasOctetLimits r.turn_at
@@ -279,8 +279,8 @@ pub fn group_leaves_in_time_by_room<A: Allocator + Copy>()
         ≤ x.at + (transmission_time (longest_frame sdu) out.speed - 1) + d }
 {}
 
-/// A filter with a meter has a cost curve: the octets that the meter passes, times the greatest cost of an octet (`meter`). If each sharer
-/// has a cost curve, each copy that starts leaves within `b` ns (`done`).
+/// A filter with a meter has a cost curve by the greatest cost of an octet (`meter`). If each sharer has a cost curve, each copy that
+/// starts leaves within `b` ns (`done`).
 ///
 /// For `done`, the longest frame must fit at the start of each run of fits of `fit` ns. Bounds of shared queues rest on it.
 pub fn group_leaves_in_time_by_cost<A: Allocator + Copy>()
@@ -317,8 +317,8 @@ pub fn group_leaves_in_time_by_cost<A: Allocator + Copy>()
         → s + transmission_time x.item.len out.speed ≤ x.at + b }
 {}
 
-/// If a port's lists change, each copy that starts leaves a shared queue within a sum of three times. These are the old list's bound `b1`,
-/// a longest transmission time, and the new list's bound `b2`.
+/// If a port's lists change, each copy that starts leaves a shared queue within a sum of three times: the old list's bound `b1`, a longest
+/// transmission time, and the new list's bound `b2`.
 ///
 /// `b2` allows for all work of the first two times arriving at once. Bounds of shared queues rest on it.
 pub fn group_leaves_in_time_over_change<A: Allocator + Copy>()
@@ -348,8 +348,8 @@ pub fn group_leaves_in_time_over_change<A: Allocator + Copy>()
         ≤ x.at + ((b1 + transmission_time (longest_frame sdu) out.speed) + b2) }
 {}
 
-/// Departures of a filter from a shared queue keep the rate and the burst of its meter, with a greater burst. It grows by the octets that
-/// the rate gives in the queue's greatest difference of delays.
+/// Departures of a filter from a shared queue keep the rate of its meter. The burst grows by the octets that the rate gives in the queue's
+/// greatest difference of delays.
 ///
 /// So a planner can dimension the meters of the next hop.
 pub fn departures_conform<A: Allocator + Copy>()
@@ -441,8 +441,9 @@ pub fn frames_have_sdus()
     ensures padded { (es : List Event) → HasNoRunts es → HaveSdus 44 es }
 {}
 
-/// Each copy that starts leaves a shared queue within the bounds that `bounds` prints, which include the bounds by stream gates. Clauses:
-/// SDUs of at least two octets (`captured`), frames of at least 60 octets (`padded`).
+/// Each copy that starts leaves a shared queue within the bounds that `bounds` prints, which include the bounds by stream gates.
+///
+/// Clauses: SDUs of at least two octets (`captured`), frames of at least 60 octets (`padded`).
 pub fn shared_queue_leaves_in_time_by_gates<A: Allocator + Copy>()
     ensures captured { (p : Plan A) (s : SharedQueue) (is : IsSharedQueue p s) (start : ℕ) (es : List Event)
         (moments : ℕ → ℕ) (lists : ℕ → List (Copy CarriedFrame)) (x : Copy CarriedFrame)

@@ -105,7 +105,7 @@ fn change_bound<A: Allocator + Copy>(
 }
 
 /// Returns the delay bound in ns of a queue under gate control lists, by the arrival curve of its frames. Returns `None` if no bound is
-/// found, for example because work arrives faster than it leaves.
+/// found: for example, work may arrive faster than it leaves.
 ///
 /// `curve_figures` calls it.
 fn lists_bound<A: Allocator + Copy>(

@@ -48,7 +48,7 @@ pub(crate) fn fits_per_cycle<A: Allocator + Copy>(
 /// cycles.
 #[derive(Clone, Copy)]
 pub(crate) struct SpanLimits {
-    /// Work of the frame in question, in ns: it starts once all other work has left.
+    /// Work in ns of the frame in question. The frame starts once all other work has left.
     pub(crate) work: u64,
     /// Time in ns at which the spans begin.
     pub(crate) start: u64,
@@ -151,8 +151,8 @@ fn search_step<A: Allocator + Copy>(
     pass_run(curve, limits, search, run)
 }
 
-/// Returns a bound in ns of the delays in all spans that begin at `start` and last from `shortest` ns up to a cycle more. Returns `None` if
-/// the list has too many runs of fits.
+/// Returns a bound in ns of the delays over all spans that begin at `start` and last from `shortest` ns up to one cycle more. Returns
+/// `None` if the list has too many runs.
 ///
 /// `all_spans_bound` calls it.
 pub(crate) fn spans_bound<A: Allocator + Copy>(

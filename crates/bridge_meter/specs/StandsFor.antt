@@ -5,7 +5,7 @@ use Rattle.bridge_meter.specs.declared.Buckets.{Buckets}
 use Rattle.bridge_meter.specs.Bounds.{JudgedFrame}
 use Rattle.bridge_meter.specs.Colours.{MeterEvent, meter_history, history_buckets}
 
--- State of a meter that contracts see: its plan and its buckets.
+-- State of a meter as contracts see it: its plan and its buckets.
 pub record MeterState : Type 0 where
   pub plan : MeterPlan
   pub buckets : Buckets

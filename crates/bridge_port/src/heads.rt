@@ -13,8 +13,8 @@ use bridge_frame::{Speed, occupation};
 use circular_buffer::HeapCircularBuffer;
 use std::alloc::Allocator;
 
-/// Returns the better of the head `best` and the head of `class` with the earliest start `fit` in ns. The head that can start earlier is
-/// better; at equal times, the head of the higher class.
+/// Returns the better of the head `best` and the head of `class` with the earliest start `fit` in ns. The earlier start is better; at equal
+/// times, the higher class.
 ///
 /// `sooner_optional_head` and `add_item_fit` call it.
 #[inline(always)]
@@ -42,8 +42,9 @@ fn sooner_optional_head(
     }
 }
 
-/// Returns the earliest start in ns, `from` or later, of the head of `class`; `None` if the queue is empty. `refresh_fit` calls it if the
-/// stored start is too early.
+/// Returns the earliest start in ns, `from` or later, of the head of `class`; `None` if the queue is empty.
+///
+/// `refresh_fit` calls it if the stored start is too early.
 // Not inlined, so that the loop of `refresh_fits` stays small.
 #[inline(never)]
 fn head_fit<T: Drop, A: Allocator + Copy>(

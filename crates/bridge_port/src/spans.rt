@@ -214,10 +214,10 @@ fn find_index(spans: &[OpenSpan], last: usize, t: u64) -> usize
     search_index(spans, t)
 }
 
-/// Returns the offset of time `t` in its cycle of `cycle` ns. `laps` is the number of whole cycles before the last call's time. If it still
-/// is right, no division is needed; otherwise the function updates it.
+/// Returns the offset of time `t` in its cycle of `cycle` ns. `laps` is the number of whole cycles before the last call's time: if it still
+/// is right, no division is needed.
 ///
-/// `fit_until_stop` calls it.
+/// Otherwise the function updates `laps`. `fit_until_stop` calls it.
 #[inline(always)]
 fn phase_in_cycle(laps: &mut u64, cycle: u64, t: u64) -> u64
     requires cycle { 0 < cycle }

@@ -82,10 +82,9 @@ fn shorter_runs(one: &[Run; 8], other: &[Run; 8]) -> [Run; 8]
     runs
 }
 
-/// Makes the cache for a port's gate control lists: each class's longest run of open time, and the open spans of each class. With a
-/// schedule change, a class's run is the shorter one of the two lists.
+/// Makes the cache for a port's gate control lists: each class's longest run of open time, and the open spans of each class.
 ///
-/// `new` calls it.
+/// With a schedule change, a class's run is the shorter one of the two lists. `new` calls it.
 fn make_cache<A: Allocator + Copy>(
     alloc: A,
     list: &Option<Egress<A>>,

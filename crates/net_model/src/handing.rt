@@ -65,8 +65,8 @@ impl<'a, A: Allocator + Copy> Taker<'a, A> {
         }
     }
 
-    /// Returns whether each frame with this tag and the address of entry `named` gets the receiving filter. This includes each handle that
-    /// the frame may get there, or none. `takes_all` calls it.
+    /// Returns whether each frame with this tag and the address of entry `named` belongs to the receiving filter, whichever stream handle
+    /// the frame gets there, or none. `takes_all` calls it.
     fn gives_all(&self, named: &StreamEntry, tag: Option<Tag>) -> bool
         ensures { result ≡ spec.gives_all self.now.plan.now self.now.on.now self.now.filter
             (frame_pattern named.now tag) }
@@ -98,8 +98,8 @@ impl<'a, A: Allocator + Copy> Taker<'a, A> {
     }
 }
 
-/// Returns whether the filter's handle `own` is known and isn't `handle`. Then entries of `handle` give the filter no frames. `hands_entry`
-/// calls it.
+/// Returns whether the filter's handle `own` is present and isn't `handle`. Then entries of `handle` give the filter no frames.
+/// `hands_entry` calls it.
 fn is_other_handle(own: Option<u32>, handle: u32) -> bool
     ensures { result ≡ is_other_handle own handle }
 {
@@ -248,7 +248,7 @@ fn receives_every_frame<A: Allocator + Copy>(
     }
 }
 
-/// Returns whether each frame of `hop` that leaves by `port` gets filter `taker` at `end`, the link's other end. False if a bridge or port
+/// Returns whether filter `taker` at `end`, the link's other end, gets each frame of `hop` that leaves by `port`. False if a bridge or port
 /// is missing. Delays of talkers need this.
 ///
 /// `is_handed` of `net_latency` calls it.

@@ -31,8 +31,10 @@ ghost use Rattle.net_model.specs.declared.sending_port.FrameQuery.TheVariants.{S
 
 use std::alloc::Allocator;
 
-/// In a complete run of an accepted network, each hop of a closed stream has its record of an idle network. There, only this stream sends
-/// frames. docs/NETWORK_PROOF.md cites it.
+/// In a complete run of an accepted network, each hop of a closed stream has the record that it has on an idle network, in which only this
+/// stream sends frames.
+///
+/// docs/NETWORK_PROOF.md cites it.
 pub fn stream_alone<A: Allocator + Copy>()
     ensures { (n : Network A) (stream : List (ℕ × ℕ)) (commands : ℕ → List Input) (captures : ℕ → ℕ
         → List CapturedFrame)

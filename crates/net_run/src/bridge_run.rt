@@ -361,7 +361,7 @@ impl<'a, A: Allocator + Copy> BridgeRun<'a, A> {
     }
 
     /// Returns the input capture for the port at the other end of a link: the frames that `port` sent, delayed by `delay` ns. The capture
-    /// has no octets if the port is missing or the bridge hasn't run.
+    /// has no octets if the bridge sent none.
     ///
     /// `capture_over_link` calls it.
     pub(crate) fn delivered_capture(
