@@ -14,8 +14,8 @@ IsNthFit opens occ (suc n) u v = (w : ℕ) × IsNthFit opens occ n u w × IsFirs
 abbrev pub HaveBoundedTimes : {X : Type 0} → PortRules X → ℕ → ℕ → ℕ → List (Copy X) → Type 0
 HaveBoundedTimes r c least occ xs = (y : Copy _) → IsMember y xs → (y.class ≡ c) × (least ≤ r.occ y.item) × (r.occ y.item ≤ occ)
 
--- Holds if a bound that counts fits of `occ` ns may count `cost` ns for a frame of `on` ns. The frame fits at least once from any fit up to
--- fit number `cost - on` after it.
+-- Holds if a bound that counts fits of `occ` ns may count `cost` ns for a frame of `on` ns. From any time until fit number `cost - on`
+-- after it, the frame fits.
 pub record IsSufficientCost (opens : ℕ → Bool) (occ least on cost : ℕ) : Type 0 where
   pub least_time : least ≤ on
   pub covers_time : on ≤ cost

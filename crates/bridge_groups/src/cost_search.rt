@@ -165,7 +165,8 @@ fn list_cost_bound<A: Allocator + Copy>(
     least
 }
 
-/// Returns the least delay bound in ns that the search finds by costs, for a port with one gate control list.
+/// Returns the least delay bound in ns that the search finds by costs, for a port with one gate control list. Frames have SDUs of at most
+/// `sdu` octets, and need at most `long` ns.
 ///
 /// Returns `None` for a schedule change, for a class that is always open, or if the search finds no bound. `curve_figures` calls it.
 pub(crate) fn lists_cost_bound<A: Allocator + Copy>(

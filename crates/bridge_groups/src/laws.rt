@@ -185,8 +185,8 @@ pub fn conforming_frames_pass<A: Allocator + Copy>()
         → list_all passes (filter_verdicts n (police_steps p es)) ≡ true }
 {}
 
-/// In any `w` ns, a stream gate with octet limits passes at most the sum of the limits of the intervals that overlap these `w` ns. Curves
-/// of stream gates rest on it.
+/// In any `w` ns, a stream gate with octet limits passes at most the sum of the limits of the intervals that overlap this time. Curves of
+/// stream gates rest on it.
 pub fn gate_limits_octets()
     ensures { (r : GateRules) (u w : ℕ) (es : List GateEvent)
         → HasOctetLimits r.turn_at

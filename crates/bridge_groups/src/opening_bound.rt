@@ -173,8 +173,10 @@ fn open_time<A: Allocator + Copy>(list: &CyclicList<u8, A>, class: u8) -> u64
     time
 }
 
-/// Whether more frames pass the stream gate in the long run than fit into the windows of `class`. Then each search would find a greater
-/// `carry`, so `gate_delay_bound` begins none.
+/// Whether more frames pass the stream gate in the long run than fit into the windows of `class`. Each `share` octets of SDUs take at most
+/// `least` ns.
+///
+/// If so, each search would find a greater `carry`, and `gate_delay_bound` begins none.
 fn is_overloaded<A: Allocator + Copy>(
     list: &CyclicList<u8, A>,
     class: u8,

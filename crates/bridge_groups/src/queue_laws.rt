@@ -77,8 +77,8 @@ pub fn conforming_frame_is_green()
         → frame_colour p (meter_history p es) at octets dei ≡ Green }
 {}
 
-/// To prove a delay bound, few spans suffice; a span is the `w` ns from time `u`. They begin just after a run of fits (`fit`, `shut`), and
-/// need no whole cycle more (`cycle`).
+/// To prove a delay bound, few spans suffice; a span is the `w` ns from time `u`. They begin just after a run of fits (`fit`, `shut`).
+/// Spans that last whole cycles more follow (`cycle`).
 ///
 /// For each run of fits, one span gives the greatest delay (`run`). So searches for bounds need few steps.
 pub fn few_spans_suffice()
@@ -148,10 +148,10 @@ pub fn next_hop_conforms()
         → recent_departed_octets u (x ∷ xs) * unit ≤ burst * unit + rate * (w + (worst - best)) }
 {}
 
-/// A delay bound for a curve holds for each lesser curve (`lesser`). If the class is always open and the curve's rate is at most 1 ns of
-/// work per ns, the burst is a bound (`always`).
+/// A delay bound for a curve holds for each lesser curve (`lesser`).
 ///
-/// Searches for bounds rest on it.
+/// If the class is always open, and at most 1 ns of work arrives in each ns after the burst, the burst is a bound (`always`). Searches for
+/// bounds rest on it.
 pub fn bounds_follow_curves()
     ensures lesser { (opens : ℕ → Bool) (occ least b : ℕ) (curve greater : ℕ → ℕ)
         → ((w : ℕ) → curve w ≤ greater w)
@@ -177,8 +177,10 @@ pub fn few_frames_conform()
         → recent_sent_octets u (x ∷ xs) * unit ≤ m * n * unit + rate * w }
 {}
 
-/// In a bound that counts fits of `occ` ns, the cost `on + (on - occ)` suffices for a frame of `on` ns. Each run of fits must start at a
-/// time at which `on` ns fit. docs/DELAYS.md cites it.
+/// In a bound that counts fits of `occ` ns, the cost `on + (on - occ)` suffices for a frame of `on` ns. Each run of fits must start with a
+/// fit of `on` ns.
+///
+/// docs/DELAYS.md cites it.
 pub fn long_frame_cost_suffices()
     ensures { (opens : ℕ → Bool) (occ least on : ℕ)
         → 1 ≤ occ

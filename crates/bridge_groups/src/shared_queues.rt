@@ -74,8 +74,10 @@ fn shifted_curve(curve: &LinearCurve, shift: u64) -> Option<LinearCurve>
     })
 }
 
-/// Returns the delay bound in ns of a queue over a schedule change, by the arrival curve of its frames. Returns `None` if a bound is
-/// unknown or too large. `lists_bound` calls it.
+/// Returns the delay bound in ns of a queue over a schedule change, by the arrival curve of its frames. Frames need `least` to `occ` ns.
+/// Returns `None` if a bound is unknown or too large.
+///
+/// `lists_bound` calls it.
 fn change_bound<A: Allocator + Copy>(
     joined: &Joined<u8, A>,
     class: u8,
@@ -104,10 +106,9 @@ fn change_bound<A: Allocator + Copy>(
     Some(before + occ + after)
 }
 
-/// Returns the delay bound in ns of a queue under gate control lists, by the arrival curve of its frames. Returns `None` if no bound is
-/// found: for example, work may arrive faster than it leaves.
+/// Returns the delay bound in ns of a queue under gate control lists, by the arrival curve of its frames. Frames need `least` to `occ` ns.
 ///
-/// `curve_figures` calls it.
+/// Returns `None` if no bound is found: for example, work may arrive faster than it leaves. `curve_figures` calls it.
 fn lists_bound<A: Allocator + Copy>(
     lists: &Egress<A>,
     class: u8,
@@ -133,7 +134,7 @@ fn lists_bound<A: Allocator + Copy>(
 }
 
 /// Returns a capacity with which a queue under one gate control list never overflows. `curve` bounds the work of its frames, `counts` their
-/// number.
+/// number. Frames need `least` to `occ` ns.
 ///
 /// Returns `None` if no tried capacity suffices, or if the port has a schedule change. `curve_figures` calls it.
 fn lists_room<A: Allocator + Copy>(
@@ -174,8 +175,8 @@ struct MeterFigures {
     room: Option<u16>,
 }
 
-/// Returns bounds and capacity of a queue by the curves of the meters of `sharers`. For a port without gate control list, all are `None`.
-/// `meter_figures` calls it.
+/// Returns bounds and capacity of a queue by the curves of the meters of `sharers`, whose largest SDU has `sdu` octets. For a port without
+/// gate control list, all are `None`. `meter_figures` calls it.
 fn curve_figures<A: Allocator + Copy>(
     plan: &Plan<A>,
     sharers: &[(u32, FilterPlan)],
@@ -214,8 +215,10 @@ fn curve_figures<A: Allocator + Copy>(
     }
 }
 
-/// Returns bounds and capacity of a queue by the meters of `sharers`. All are `None` if a sharer has no meter, or if work may arrive faster
-/// than it leaves. `shared_queue` calls it.
+/// Returns bounds and capacity of a queue by the meters of `sharers`, whose largest SDU has `sdu` octets. All are `None` if a sharer has no
+/// meter, or if work may arrive faster than it leaves.
+///
+/// `shared_queue` calls it.
 fn meter_figures<A: Allocator + Copy>(
     alloc: A,
     plan: &Plan<A>,
@@ -250,8 +253,8 @@ fn meter_figures<A: Allocator + Copy>(
     Ok(curve_figures(plan, sharers, port, class, sdu, &curve, &counts))
 }
 
-/// Returns the least of a queue's bounds by meters, by costs and by capacity, in ns. Returns the bound by capacity if `by_meters` is `None`,
-/// because `bounds` marks this queue as `unmetered`.
+/// Returns the least of a queue's bounds in ns: `by_meters`, `by_costs` and `by_room` (by capacity). Without `by_meters`, returns
+/// `by_room`, because `bounds` marks this queue as `unmetered`.
 fn least_bound(by_meters: Option<u64>, by_costs: Option<u64>, by_room: u64) -> u64
     ensures { (by_meters ≡ Some result) ⊎ ((by_costs ≡ Some result) ⊎ (result ≡ by_room)) }
 {

@@ -22,7 +22,7 @@ least_bound a [] = a
 least_bound a (x ∷ xs) = min x (least_bound a xs)
 
 -- Upper bounds of the committed bucket's level at time `now`, one for each judged frame. A bound assumes a full bucket
--- just before its frame: size, plus refill, minus units that green frames took since then.
+-- before its frame: size, plus refill, minus units that green frames took since then.
 --
 -- Green frames newer than the list took `green` units.
 abbrev pub committed_bounds : Limits → ℕ → ℕ → List JudgedFrame → List ℕ
@@ -44,7 +44,7 @@ abbrev pub coupled_overflow : Limits → ℕ → ℕ
 coupled_overflow l o = if l.coupling then o else 0
 
 -- Upper bounds of the excess bucket's level at time `now`, one for each judged frame. A bound assumes a full bucket
--- just before its frame: size, plus refill and coupled overflow, minus units taken since then.
+-- before its frame: size, plus refill and coupled overflow, minus units taken since then.
 --
 -- The committed bucket has `held` units at `now`. Frames newer than the list took the units `green` and `yellow`.
 abbrev pub excess_bounds : Limits → ℕ → ℕ → ℕ → ℕ → List JudgedFrame → List ℕ

@@ -264,7 +264,7 @@ impl<'a, G: Agenda + Drop, A: Allocator + Copy> Relay<'a, G, A> {
     }
 
     /// Copies `octets` for every existing port of `set` except the last, which gets the frame's own buffer. Reserves capacity in the
-    /// filter's recorder (index `hint`), and counts the arrival.
+    /// recorder of filter `filter` (index `hint`), and counts the arrival.
     ///
     /// If memory runs out, the relay is unchanged. `arrive` calls it.
     #[inline(always)]
@@ -420,7 +420,9 @@ impl<'a, G: Agenda + Drop, A: Allocator + Copy> Relay<'a, G, A> {
     }
 
     /// Offers the last of `copies`, with the data of `first`, to port `number`. Does nothing unless both `set` and the bridge have this
-    /// port. `offer_several_copies` calls it for each port before the last.
+    /// port. `offer_copy` explains the other parameters.
+    ///
+    /// `offer_several_copies` calls it for each port before the last.
     #[inline(always)]
     fn offer_next_copy(
         &mut self,
@@ -464,10 +466,10 @@ impl<'a, G: Agenda + Drop, A: Allocator + Copy> Relay<'a, G, A> {
         }
     }
 
-    /// Offers copies of a frame to the ports of `set`, by rising number. If `eligible` is true, their tags are marked drop eligible. Isn't
-    /// inlined: most frames have one egress port, and `offer_only_copy` handles them.
+    /// Offers copies of a frame of `len` octets with priority `priority` to the ports of `set`, by rising number. If `eligible` is true,
+    /// their tags are marked drop eligible.
     ///
-    /// `offer_copies` calls it.
+    /// Isn't inlined: most frames have one egress port, and `offer_only_copy` handles them. `offer_copies` calls it.
     #[inline(never)]
     fn offer_several_copies(
         &mut self,
@@ -495,8 +497,8 @@ impl<'a, G: Agenda + Drop, A: Allocator + Copy> Relay<'a, G, A> {
         }
     }
 
-    /// Offers the frame `load` with priority `priority` to the port of `set` that the bridge has, if any. If `eligible` is true, first
-    /// marks the frame's tag drop eligible. `offer_copies` calls it.
+    /// Offers the frame `load`, of `len` octets with priority `priority`, to the port of `set` that the bridge has, if any. If `eligible`
+    /// is true, first marks the frame's tag drop eligible. `offer_copies` calls it.
     #[inline(always)]
     fn offer_only_copy(
         &mut self,
@@ -519,8 +521,8 @@ impl<'a, G: Agenda + Drop, A: Allocator + Copy> Relay<'a, G, A> {
         }
     }
 
-    /// Offers copies of a frame with priority `priority` to the ports of `set`, by rising number. If `eligible` is true, marks their tags
-    /// drop eligible.
+    /// Offers copies of a frame of `len` octets with priority `priority` to the ports of `set`, by rising number. If `eligible` is true,
+    /// marks their tags drop eligible.
     ///
     /// If `copies` is empty, it has no memory: forgetting it is faster than dropping it. `relay_frame` calls it.
     #[inline(always)]
@@ -569,8 +571,8 @@ impl<'a, G: Agenda + Drop, A: Allocator + Copy> Relay<'a, G, A> {
         self.earliest = t;
     }
 
-    /// Judges a frame by its filter `found`, counts it at its ingress port, and records verdict and origin. Returns the ruling and the
-    /// frame's number within the filter; `None` for an unfiltered frame.
+    /// Judges a frame by its filter `found`, counts it at its ingress port `port`, and records verdict and origin. Returns the ruling and
+    /// the frame's number within the filter; `None` for an unfiltered frame.
     ///
     /// `relay_frame` calls it.
     #[inline(always)]

@@ -135,8 +135,8 @@ pub fn put_no_list(said: &mut Said, document: Document<'_>, name: &str) {
     fill_with_word(said, advice, 0, name);
 }
 
-/// Writes the position of the first table over `limit`, and the number of tables. `put_fault` and `put_net_fault` of `show_explain` call
-/// it.
+/// Writes the position of the first table over `limit` in `section`, and the number of tables. `put_fault` and `put_net_fault` of
+/// `show_explain` call it.
 pub fn put_too_many(said: &mut Said, document: Document<'_>, section: &str, limit: usize) {
     let most = u32::try_from(limit).unwrap_or(u32::MAX);
     let first = Instance {
@@ -166,7 +166,8 @@ fn is_same_value(one: Option<&Value>, other: Option<&Value>, is_exact: bool) -> 
     }
 }
 
-/// Whether two tables have equal values at each of `keys`. A missing key never matches. `find_duplicate` compares tables by it.
+/// Whether two tables have equal values at each of `keys`. A missing key never matches. `is_same_value` explains `is_exact`.
+/// `find_duplicate` compares tables by it.
 fn is_twin(one: Option<&Table>, other: Option<&Table>, keys: &[&str], is_exact: bool) -> bool {
     for key in keys {
         if !is_same_value(table_value(one, *key), table_value(other, *key), is_exact) {

@@ -237,7 +237,8 @@ impl Page {
     /// Draws the time axis below the page's contents, with grid lines and their times. The lines begin at the distance `top` from the
     /// page's upper end, in tenths of a pixel.
     ///
-    /// A tall picture has times above too. Draws a schedule change, if present. `finish_ports` of `show_picture` calls it.
+    /// A tall picture has times above too. Draws the schedule change at `change` ns, if it is present. `finish_ports` of `show_picture`
+    /// calls it.
     pub fn put_axis(&mut self, span: Span, top: u64, change: Option<u64>) {
         let step = span.grid_step();
         let first = (span.from / step).saturating_add(u64::from(span.from % step > 0));

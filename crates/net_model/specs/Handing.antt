@@ -31,7 +31,7 @@ abbrev pub takes_all : {A : Type 0} → Plan A → PortPlan A → ℕ → FrameP
 takes_all next on n s = goes_on next on s && gives_all next on n s
 
 -- True if all frames with this tag that filter `m` passes on to port `q` belong to filter `n` at the next bridge's port `on`. Entry `e`
--- gives these frames to filter `m` at port `from`.
+-- gives them to filter `m` at port `from`.
 abbrev pub hands_tag : {A : Type 0} → Plan A → ℕ → ℕ → Plan A → PortPlan A → ℕ → StreamEntry → PortPlan A → Option Tag → Bool
 hands_tag p m q next on n e from tag =
     not (is_feeding_entry p from m e tag)
@@ -58,6 +58,6 @@ hands_between None m q next r n = false
 hands_between (Some p) m q None r n = false
 hands_between (Some p) m q (Some next) r n = hands_to_port p m q next (find_port next.ports r) n
 
--- True if each frame of filter `m` that bridge `b` sends from port `q` belongs to filter `n` of the bridge at the link's end `e`.
+-- True if each frame of filter `m` that bridge `b` sends from port `q` belongs to filter `n` of the bridge at link end `e`.
 abbrev pub hands_over : {A : Type 0} → List (Plan A) → ℕ → ℕ → ℕ → End → ℕ → Bool
 hands_over plans b m q e n = hands_between (slice_get plans b) m q (slice_get plans e.bridge) e.port n

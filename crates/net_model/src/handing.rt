@@ -66,7 +66,7 @@ impl<'a, A: Allocator + Copy> Taker<'a, A> {
     }
 
     /// Returns whether each frame with this tag and the address of entry `named` belongs to the receiving filter, whichever stream handle
-    /// the frame gets there, or none. `takes_all` calls it.
+    /// it gets there. `takes_all` calls it.
     fn gives_all(&self, named: &StreamEntry, tag: Option<Tag>) -> bool
         ensures { result ≡ spec.gives_all self.now.plan.now self.now.on.now self.now.filter
             (frame_pattern named.now tag) }

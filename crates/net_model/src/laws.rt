@@ -31,8 +31,8 @@ ghost use Rattle.net_model.specs.declared.sending_port.FrameQuery.TheVariants.{S
 
 use std::alloc::Allocator;
 
-/// In a complete run of an accepted network, each hop of a closed stream has the record that it has on an idle network, in which only this
-/// stream sends frames.
+/// In a complete run of an accepted network, each hop of a closed stream has the record that it has on an idle network. On an idle network,
+/// only this stream sends frames.
 ///
 /// docs/NETWORK_PROOF.md cites it.
 pub fn stream_alone<A: Allocator + Copy>()
