@@ -58,8 +58,8 @@ module _ {X : Type 0} where
   HasCountCurve many [] = Unit {0}
   HasCountCurve many (x ∷ xs) = ((u w : ℕ) → x.at ≡ u + w → count_recent_copies u (x ∷ xs) ≤ many w) × HasCountCurve many xs
 
--- Holds if `b` ns is the delay bound of frames that arrive in the `w` ns from time `u`. With work of `curve w` ns, the
--- newest frame starts by fit `curve w - least`.
+-- Holds if `b` ns is the delay bound of frames that arrive in the `w` ns from time `u`. With work of `curve w` ns, the newest frame starts
+-- by fit `curve w - least`. At a fit, `occ` ns fit.
 abbrev pub IsSpanBound : (ℕ → Bool) → ℕ → ℕ → (ℕ → ℕ) → ℕ → ℕ → ℕ → Type 0
 IsSpanBound opens occ least curve b u w = (v : ℕ) × IsNthFit opens occ (curve w - least) u v × (v + least ≤ u + w + b)
 
@@ -76,6 +76,7 @@ pub record IsSufficientRoom (opens : ℕ → Bool) (occ least : ℕ) (curve many
   pub has_place : 1 ≤ room
   pub drains : (u w : ℕ) → (room + 1) * least ≤ curve w → room + 1 ≤ many w → (v : ℕ) × IsNthFit opens occ (curve w - (room + 1) * least) u v × (v < u + w)
 
--- Holds if each cycle of `cycle` ns has `n` fits. The fit with number `k` + `n` begins exactly one cycle after the fit with number `k`.
+-- Holds if each cycle of `cycle` ns has `n` fits of `occ` ns. The fit with number `k` + `n` begins exactly one cycle after the fit with
+-- number `k`.
 abbrev pub HasFitsPerCycle : (ℕ → Bool) → ℕ → ℕ → ℕ → Type 0
 HasFitsPerCycle opens occ cycle n = (k u v : ℕ) → IsNthFit opens occ k u v → IsNthFit opens occ (k + n) u (v + cycle)

@@ -150,7 +150,7 @@ pub fn next_hop_conforms()
 
 /// A delay bound for a curve holds for each lesser curve (`lesser`).
 ///
-/// If the class is always open, and at most 1 ns of work arrives in each ns after the burst, the burst is a bound (`always`). Searches for
+/// The burst is a bound if the class is always open, and at most 1 ns of work arrives in each ns after the burst (`always`). Searches for
 /// bounds rest on it.
 pub fn bounds_follow_curves()
     ensures lesser { (opens : ℕ → Bool) (occ least b : ℕ) (curve greater : ℕ → ℕ)

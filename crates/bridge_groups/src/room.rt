@@ -33,10 +33,9 @@ fn shortest_span(curve: &LinearCurve, counts: &[LinearCurve], work: u64, frames:
     Some(time.max(first_frames_time(counts, frames)))
 }
 
-/// Returns true only if a capacity of `room` frames suffices: then the queue drops no copy as full. Frames need `least` to `occ` ns. Each
-/// cycle has `per_cycle` fits; `None` means that the class is always open.
+/// Returns true only if a capacity of `room` frames suffices: then the queue drops no copy as full. Frames need `least` to `occ` ns.
 ///
-/// `sufficient_room` calls it.
+/// Each cycle has `per_cycle` fits; `None` means that the class is always open. `sufficient_room` calls it.
 fn is_sufficient<A: Allocator + Copy>(
     list: &CyclicList<u8, A>,
     class: u8,

@@ -75,9 +75,8 @@ fn shifted_curve(curve: &LinearCurve, shift: u64) -> Option<LinearCurve>
 }
 
 /// Returns the delay bound in ns of a queue over a schedule change, by the arrival curve of its frames. Frames need `least` to `occ` ns.
-/// Returns `None` if a bound is unknown or too large.
 ///
-/// `lists_bound` calls it.
+/// Returns `None` if a bound is unknown or too large. `lists_bound` calls it.
 fn change_bound<A: Allocator + Copy>(
     joined: &Joined<u8, A>,
     class: u8,
@@ -215,10 +214,9 @@ fn curve_figures<A: Allocator + Copy>(
     }
 }
 
-/// Returns bounds and capacity of a queue by the meters of `sharers`, whose largest SDU has `sdu` octets. All are `None` if a sharer has no
-/// meter, or if work may arrive faster than it leaves.
+/// Returns bounds and capacity of a queue by the meters of `sharers`, whose largest SDU has `sdu` octets. `shared_queue` calls it.
 ///
-/// `shared_queue` calls it.
+/// All are `None` if a sharer has no meter, or if work may arrive faster than it leaves.
 fn meter_figures<A: Allocator + Copy>(
     alloc: A,
     plan: &Plan<A>,

@@ -22,7 +22,8 @@ pub fn lawful_up_to_a_lower_moment<X: Drop>()
         → IsLawful r k xs }
 {}
 
-/// A schedule that is lawful up to time `h` is lawful up to a later time `k`, if no head fits in between while the link is free.
+/// A schedule that is lawful up to time `h` is lawful up to a later time `k`. The condition: in between, no head fits while the link is
+/// free.
 ///
 /// So a port may skip times without a start.
 pub fn lawful_up_to_a_later_moment<X: Drop>()

@@ -45,7 +45,7 @@ abbrev pub document_in : {E : Type 0} → E → Option Members → Result Member
 document_in syntax None = Err syntax
 document_in syntax (Some members) = Ok members
 
--- Document in a text of at most 1,048,576 octets of UTF-8.
+-- Document in a text of at most 1,048,576 octets of UTF-8; otherwise the fault `too_long` or `syntax`.
 abbrev pub document_of : {E : Type 0} → E → E → List ℕ → Result Members E
 document_of too_long syntax text =
     if nat_lt 1048576 (length text) then Err too_long

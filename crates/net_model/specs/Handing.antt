@@ -1,4 +1,5 @@
--- Test on the plans at a link's two ends: does the next hop get each frame that a hop sends?
+-- Test on the plans at a link's two ends: does the next hop get each frame that a hop sends? `p` and `m` are the sender's plan and filter,
+-- `next` and `n` the receiver's.
 use Rattle.std.specs.Prelude.{ℕ, Bool, true, false, not, ◌&&◌, ◌||◌, nat_eq, List, Option, Some, None, slice_get}
 use Rattle.std.specs.List.{list_all}
 use Rattle.bridge_frame.specs.declared.Tag.{Tag}

@@ -1,4 +1,5 @@
--- Frames that a hop accepts over a link: a test on the plans at the two ends of the link.
+-- Frames that a hop accepts over a link: a test on the plans at the two ends of the link. `p` is the sender's plan, `next` the receiver's;
+-- `is_of_stream` is true for the sender's hops.
 use Rattle.std.specs.Prelude.{ℕ, Bool, true, false, not, ◌&&◌, ◌||◌, nat_eq, List, [], ◌∷◌, ◌++◌, map}
 use Rattle.std.specs.Prelude.{Option, Some, None, if◌then◌else◌}
 use Rattle.std.specs.List.{list_all}
