@@ -31,8 +31,8 @@ module _ {X : Type 0} where
   is_in_part own true x = own x
   is_in_part own false x = not (own x)
 
-  -- Holds if both parts have a delay bound by themselves. If a part has the port to itself up to some time, each of its copies left at most
-  -- `delay` ns after its arrival, or was dropped.
+  -- Holds if both parts have a delay bound by themselves. While a part has the port to itself, each of its copies leaves at most `delay` ns
+  -- after its arrival, or is dropped.
   abbrev pub HaveDelayBounds : PortRules X → (X → Bool) → (Bool → ℕ) → List (Copy X) → Type 0
   HaveDelayBounds r own delay xs =
       (ys : List (Copy X)) (b : Bool) (y : Copy X)

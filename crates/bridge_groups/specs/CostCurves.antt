@@ -34,8 +34,8 @@ rounding_margin Mbps10000 = 2
 abbrev pub octet_cost : ℕ → Speed → ℕ → ℕ
 octet_cost fit speed sdu = max (2 * transmission_time 60 speed) (div_ceil (128 * ((2 * transmission_time (longest_frame sdu) speed + rounding_margin speed) - fit)) (metered_octets (longest_frame sdu)))
 
--- The cost curve in ns of filter `f` on a link of this speed: a bound of the total cost of the frames that its meter passes in any `w` ns.
--- Bounds count fits of `fit` ns.
+-- The cost curve in ns of filter `f`: a bound of the total cost of the frames that its meter passes in any `w` ns. Bounds count fits of
+-- `fit` ns.
 abbrev pub filter_cost_curve : {A : Type 0} → Plan A → ℕ → Speed → FilterPlan → ℕ → ℕ
 filter_cost_curve p fit speed f w = octet_cost fit speed (sdu_or_zero f.max_sdu) * (optional_burst (plan_police p).meters f.meter * octet_units + optional_rate (plan_police p).meters f.meter * w) / (128 * octet_units)
 

@@ -204,7 +204,7 @@ one_turn = refl
 pub two_turns : is_same_turn (turns 999) (turns 1000) ≡ false
 two_turns = refl
 
--- From 998 ns on, 1 ns is in one interval, and 2 ns are in two.
+-- From 998 ns to 999 ns, there is one interval; from 998 ns to 1,000 ns, there are two.
 pub budget_of_one_turn : octet_budget turns 998 1 ≡ 500
 budget_of_one_turn = refl
 

@@ -53,7 +53,7 @@ pub record IsNextOpening (l : Cyclic GateEntry) (from : ℕ) (o : Opening) : Typ
   pub shut : (t : ℕ) → from ≤ t → t < o.start → gate_opens l t ≡ false
 
 -- Holds if the work of the open interval at time `t` leaves (LeavesBy) within `b` ns, and at most `needed` ns after each later opening.
--- Work of earlier intervals left `carry` ns after this interval's start.
+-- Earlier work left `carry` ns after this interval's start.
 pub record LeavesInTime (opens : ℕ → Bool) (occ least share : ℕ) (l : Cyclic GateEntry) (carry b needed t : ℕ) : Type 0 where
   pub in_time : LeavesBy opens occ least (opening_work l least share (last_opening l t)) (max (last_opening l t + carry) t) (t + b)
   pub clears : (u : ℕ) → t < last_opening l u → LeavesBy opens occ least (opening_work l least share (last_opening l t)) (max (last_opening l t + carry) t) (last_opening l u + needed)

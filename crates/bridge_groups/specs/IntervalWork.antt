@@ -17,12 +17,12 @@ module _ {X : Type 0} where
   HasIntervalWork r lets begin limit (x ∷ xs) = (lets x.at ≡ true) × (recent_work r (begin x.at) (x ∷ xs) ≤ limit (begin x.at)) × HasIntervalWork r lets begin limit xs
 
 -- Holds if work of `work` ns that waits from time `from` has left by time `end`. The last frame takes `least` ns and starts by fit `work -
--- least`. At a fit, `occ` ns fit the open times `opens`.
+-- least`. Fits are for `occ` ns.
 abbrev pub LeavesBy : (ℕ → Bool) → ℕ → ℕ → ℕ → ℕ → ℕ → Type 0
 LeavesBy opens occ least work from end = (v : ℕ) × IsNthFit opens occ (work - least) from v × (v + least ≤ end)
 
--- Holds if `b` ns is a delay bound for frames that arrive while `lets` is true, with at most `limit z` ns of work in an interval that
--- starts at `z`. All work of earlier intervals has left by time `clear z`.
+-- Holds if `b` ns is a delay bound for frames that arrive while `lets` is true. An interval from `z` on has at most `limit z` ns of work;
+-- earlier work has left by `clear z`.
 pub record IsIntervalBound (opens lets : ℕ → Bool) (occ least : ℕ) (begin limit : ℕ → ℕ) (b : ℕ) : Type 0 where
   pub has_fit : (u : ℕ) → (v : ℕ) × IsFirstFit opens occ u v
   pub clear : ℕ → ℕ

@@ -6,8 +6,8 @@ use Rattle.bridge_groups.specs.declared.linear_curve.LinearCurve.{LinearCurve}
 abbrev pub curve_at : LinearCurve → ℕ → ℕ
 curve_at c w = (c.burst + c.rate * w) / c.unit
 
--- Holds if unit, burst and rate of the curve are in the ranges of a computation. The unit is 1 to 2^40, the burst at most 2^100, and the
--- rate at most 1 ns of work each ns.
+-- Holds if unit, burst and rate of the curve are in the ranges of a computation. The unit is 1 to 2^40, the burst at most 2^100, the rate
+-- at most the unit.
 pub record IsLinearCurve (c : LinearCurve) : Type 0 where
   pub unit_some : 1 ≤ c.unit
   pub unit_few : c.unit ≤ 2 ^ 40

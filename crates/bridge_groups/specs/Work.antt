@@ -59,7 +59,7 @@ module _ {X : Type 0} where
   HasCountCurve many (x ∷ xs) = ((u w : ℕ) → x.at ≡ u + w → count_recent_copies u (x ∷ xs) ≤ many w) × HasCountCurve many xs
 
 -- Holds if `b` ns is the delay bound of frames that arrive in the `w` ns from time `u`. With work of `curve w` ns, the newest frame starts
--- by fit `curve w - least`. At a fit, `occ` ns fit.
+-- by fit `curve w - least`.
 abbrev pub IsSpanBound : (ℕ → Bool) → ℕ → ℕ → (ℕ → ℕ) → ℕ → ℕ → ℕ → Type 0
 IsSpanBound opens occ least curve b u w = (v : ℕ) × IsNthFit opens occ (curve w - least) u v × (v + least ≤ u + w + b)
 

@@ -70,7 +70,7 @@ fn plain_fit(speed: Speed, sdu: u32) -> u64
 
 /// Returns the greatest `max_sdu` of the filters, in octets, that is at most `most`; 0 if there is none.
 ///
-/// `list_cost_bound` takes it as the next frame size of its search, with half of the last size as `most`.
+/// `list_cost_bound` calls it with half of the last frame size as `most`, and continues with the result.
 fn next_search_sdu(filters: &[(u32, FilterPlan)], most: u32) -> u32
     ensures { result ≤ most }
 {

@@ -148,10 +148,10 @@ pub fn next_hop_conforms()
         → recent_departed_octets u (x ∷ xs) * unit ≤ burst * unit + rate * (w + (worst - best)) }
 {}
 
-/// A delay bound for a curve holds for each lesser curve (`lesser`).
+/// A delay bound for a curve holds for each lesser curve (`lesser`). The burst is a bound if the class is always open and work arrives at
+/// most at link speed (`always`).
 ///
-/// The burst is a bound if the class is always open, and at most 1 ns of work arrives in each ns after the burst (`always`). Searches for
-/// bounds rest on it.
+/// Searches for bounds rest on it.
 pub fn bounds_follow_curves()
     ensures lesser { (opens : ℕ → Bool) (occ least b : ℕ) (curve greater : ℕ → ℕ)
         → ((w : ℕ) → curve w ≤ greater w)

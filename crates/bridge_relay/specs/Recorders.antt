@@ -1,4 +1,4 @@
--- The record of a filter while the run goes on.
+-- The record of a filter during a run.
 use Rattle.bridge_port.specs.declared.item.Refusal.{Refusal}
 use Rattle.std.specs.Prelude.{Result, Ok, Err, ℕ, Bool, true, false, ◌+◌, ◌-◌, ◌<◌, ◌≤◌, ◌≡◌, ◌++◌, [], ◌∷◌, nat_eq, max, Option, Some, None, List, length, Vec, vec_len, vec_capacity, if◌then◌else◌}
 use Rattle.std.specs.Map.{lookup}

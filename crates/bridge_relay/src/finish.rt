@@ -62,8 +62,8 @@ fn make_view<A: Allocator + Copy>(
     }
 }
 
-/// Returns the records of the filters in `order`, in the empty list `views`. It has the capacity, so the end of a run allocates no memory.
-/// `finish` calls it.
+/// Returns the records of the filters in `order`, in the empty list `views`. `views` has the capacity, so the end of a run allocates no
+/// memory. `finish` calls it.
 fn make_views<A: Allocator + Copy>(
     alloc: A,
     police: &Police<A>,

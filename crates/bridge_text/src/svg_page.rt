@@ -170,8 +170,8 @@ impl Page {
         }
     }
 
-    /// Draws a legend row. `letters` is the number of its letters, from which its width is estimated. After a sample, `number` replaces
-    /// `{0}` in the words. Begins a new line if the page is too narrow.
+    /// Draws a legend row. `letters` is the number of its letters, from which its width is estimated; after a sample, `number` replaces
+    /// `{0}`. Begins a new line if the page is too narrow.
     ///
     /// `put_filter_legend` and `put_legend` of `show_picture` call it.
     pub fn put_legend_row(&mut self, row: LegendRow, letters: usize, number: u64) {

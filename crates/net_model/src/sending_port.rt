@@ -339,8 +339,10 @@ impl<'a, A: Allocator + Copy> SendingPort<'a, A> {
         self.find_frames(port, priority, None)
     }
 
-    /// Returns the first example among frames with this tag and the address of `named` that arrive on `on`, or `None`. They must be able to
-    /// leave by the sending port. `first_frame_on_ingress_number` calls it.
+    /// Returns the first example among frames with this tag and the address of `named` that arrive on `on`, or `None`. The frames must be
+    /// able to leave by the sending port.
+    ///
+    /// `first_frame_on_ingress_number` calls it.
     fn first_frame_on_ingress(
         &self,
         named: &StreamEntry,
