@@ -1,4 +1,4 @@
--- Arrival curves, allowances and talkers, computed.
+-- Computed examples of arrival curves, meters' allowances and talkers.
 use Rattle.std.specs.Prelude.{◌≡◌, ℕ, ◌+◌, ◌*◌, Bool, true, false, None, Some, List, [], ◌∷◌, map, nat_eq, refl}
 use Rattle.bridge_cycle.specs.Cyclic.{Cyclic}
 use Rattle.bridge_gate.specs.declared.schedule.GateEntry.{GateEntry}

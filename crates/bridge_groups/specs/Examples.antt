@@ -1,4 +1,4 @@
--- A class that 20 streams of a vehicle share, and the definitions of groups, computed.
+-- Computed examples of groups: a class that 20 streams of a vehicle share.
 use Rattle.std.specs.Prelude.{◌≡◌, ℕ, zero, suc, ◌+◌, ◌*◌, ◌/◌, true, false, List, [], ◌∷◌, ◌++◌, Option, None, Some, nat_eq, nat_lt, pos, if◌then◌else◌, refl}
 use Rattle.bridge_frame.specs.declared.Speed.TheVariants.{Mbps1000, Mbps10000}
 use Rattle.bridge_frame.specs.Link.{transmission_time}

@@ -1,4 +1,5 @@
--- Searches of the spans that begin at one time.
+-- Searches of the spans that begin at one time, for the greatest delay. A span begins when a frame enters the empty queue, and ends when
+-- the frame in question arrives.
 use Rattle.std.specs.Prelude.{ℕ, Bool, ◌+◌, ◌<◌, ◌≤◌}
 use Rattle.bridge_cycle.specs.Fits.{IsFirstFit}
 use Rattle.bridge_groups.specs.Work.{IsNthFit, IsSpanBound}

@@ -1,4 +1,4 @@
-//! Finds the next fit in the open times of an egress port's classes.
+//! Finds the next time at which a transmission fits the open times of an egress port's class.
 ghost use Rattle.std.specs.Prelude.{◌≡◌, ◌↔◌, ◌+◌, ◌*◌, ◌<◌, ◌≤◌, ℕ, IfOk, IfSome, Some, true, slice_index_or};
 ghost use Rattle.bridge_cycle.specs.GateControlLists as egress;
 ghost use Rattle.bridge_cycle.specs.Fits.{Fits, IsFirstFit};

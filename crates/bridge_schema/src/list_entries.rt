@@ -1,4 +1,4 @@
-//! Entries of a list inside an instance, table by table.
+//! Reads the entries of a list inside an instance, table by table.
 ghost use Rattle.std.specs.Prelude.{◌≡◌, All, IfErr, IfOk, Result, option_map};
 ghost use Rattle.std.specs.Option.{ForSome};
 ghost use Rattle.toml.specs.Data.{Members};

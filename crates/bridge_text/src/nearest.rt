@@ -1,4 +1,4 @@
-//! Searches the known name nearest to an unknown name.
+//! Finds the known name nearest to an unknown name.
 ghost use Rattle.std.specs.Prelude.{Contains};
 ghost use Rattle.std.specs.Option.{ForSome};
 

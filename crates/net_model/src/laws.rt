@@ -78,8 +78,8 @@ pub fn other_traffic_changes_nothing<A: Allocator + Copy>()
         → AreSameViews u v }
 {}
 
-/// If `takes_only` holds, each copy that port `q` of plan `p` sends and protected filter `n` of plan `next` judges belongs to a filter of
-/// the stream. The sending bridge may receive anything.
+/// If `takes_only` holds, only frames of the stream's filters get from port `q` of plan `p` to protected filter `n` of plan `next`. The
+/// sending bridge may receive anything.
 ///
 /// docs/NETWORK_PROOF.md cites it.
 pub fn only_stream_is_taken<A: Allocator + Copy>()
@@ -123,8 +123,8 @@ pub fn stray_exists_if_test_fails<A: Allocator + Copy>()
         → (first_taken Strays p is_of_stream q next on n ≡ None) ↔ (takes_only p is_of_stream q next on n ≡ true) }
 {}
 
-/// If `hands_all` holds for the plans at a link's ends, filter `n` at the receiving end judges each copy of filter `m` that arrives over
-/// the link and is forwarded there.
+/// If `hands_all` holds for the plans at a link's ends, filter `n` at the receiving end misses no copy. It judges each copy of filter `m`
+/// that arrives over the link and is forwarded there.
 ///
 /// So no frame of a stream is lost between hops.
 pub fn each_is_handed<A: Allocator + Copy>()
