@@ -134,8 +134,8 @@ impl<T: Drop, A: Allocator + Copy> Port<T, A> {
         }
     }
 
-    /// Offers an item to the queue of `class` at `t` ns. Returns a dropped item with the first reason that applies. The relay calls it for
-    /// each copy of a frame.
+    /// Offers an item to the queue of `class` at `t` ns. Returns a dropped item with the first reason that applies. `PortState::offer` of
+    /// `bridge_relay` calls it for each copy of a frame.
     #[inline(always)]
     pub fn offer(&mut self, t: u64, class: u8, item: Item<T>) -> Result<(), (Item<T>, Refusal)>
         requires class { class < 8 }
@@ -185,8 +185,8 @@ impl<T: Drop, A: Allocator + Copy> Port<T, A> {
         self.best
     }
 
-    /// Returns the time in ns of the next start if nothing more is offered; `None` if all queues are empty. The relay stores this time in
-    /// its agenda.
+    /// Returns the time in ns of the next start if nothing more is offered; `None` if all queues are empty. `Ports` of `bridge_relay`
+    /// stores this time in its agenda.
     pub fn next_start(&self) -> Option<u64>
         ensures due { IsNextStartTime self.now result }
         ensures lawful { (xs : List (Copy (Item T)))
@@ -255,7 +255,8 @@ impl<T: Drop, A: Allocator + Copy> Port<T, A> {
         }
     }
 
-    /// Returns the number of offers so far, at most `MAX_ARRIVALS`. Callers keep it below `MAX_ARRIVALS`, which `offer` requires.
+    /// Returns the number of offers so far, at most `MAX_ARRIVALS`. Tests call it, because `offer` requires that it is below
+    /// `MAX_ARRIVALS`.
     pub fn offered(&self) -> u64
         ensures offered { result ≡ self.now.offered }
         ensures counted { self.now.started + count_queued (λ x. true) self.now ≤ result }
@@ -271,7 +272,8 @@ impl<T: Drop, A: Allocator + Copy> Port<T, A> {
         self.started
     }
 
-    /// Returns the earliest time in ns at which the next offer may be made. Callers of `offer` need it.
+    /// Returns the earliest time in ns at which the next offer may be made. Tests call it before `offer`, which requires this time or a
+    /// later one.
     pub fn earliest(&self) -> u64
         ensures earliest { result ≡ self.now.earliest }
         ensures bounded { result ≤ time_limit self.now.started }

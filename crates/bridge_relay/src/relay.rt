@@ -131,7 +131,7 @@ pub struct Sent<A: Allocator + Copy> {
 
 impl<'a, G: Agenda + Drop, A: Allocator + Copy> Relay<'a, G, A> {
     /// Returns the port and time in ns of the next start, at equal times of the lowest port. Returns `None` if no copy is queued.
-    /// `send_due_frames` of `bridge_core` calls it.
+    /// `send_due_frames` and `Bridge::due` of `bridge_core` call it.
     pub fn due(&self) -> Option<(u8, u64)>
         ensures { IsLeast (G.held self.now.ports.agenda) result }
     {
@@ -164,7 +164,9 @@ impl<'a, G: Agenda + Drop, A: Allocator + Copy> Relay<'a, G, A> {
     }
 
     /// Starts the transmission that is next among all ports, records the departure, and returns the frame. A copy must be queued. Allocates
-    /// no memory. `send_due_frames` of `bridge_core` calls it.
+    /// no memory.
+    ///
+    /// `send_due_frames` and `Bridge::advance` of `bridge_core` call it.
     #[inline(always)]
     pub fn advance(&mut self) -> Sent<A>
         requires { (q k : ℕ) × (G.held self.old.ports.agenda q ≡ Some k) }
@@ -705,7 +707,9 @@ impl<'a, G: Agenda + Drop, A: Allocator + Copy> Relay<'a, G, A> {
     }
 
     /// Handles a frame that arrived on port `port`. Octets that no queue accepts return to the pool. If memory runs out, returns the frame
-    /// and leaves the relay unchanged. `handle_arrival` calls it.
+    /// and leaves the relay unchanged.
+    ///
+    /// `handle_arrival`, and `Bridge::arrive` of `bridge_core` call it.
     #[inline(always)]
     pub fn arrive(
         &mut self,

@@ -126,13 +126,12 @@ impl Page {
         self.shapes.end_shape();
     }
 
-    /// Begins an element with a title, which viewers show when the pointer rests on it. `end_titled` ends it. Pictures of plans and runs
-    /// call it.
+    /// Begins an element with a title, which viewers show when the pointer rests on it. `end_titled` ends it. Pictures of runs call it.
     pub fn begin_titled(&mut self, style: &str, element: Element) {
         self.shapes.begin_titled(style, element);
     }
 
-    /// Ends an element with a title, and its shape. `element` is the element that was begun. Pictures of plans and runs call it.
+    /// Ends an element with a title, and its shape. `element` is the element that was begun. Pictures of runs call it.
     pub fn end_titled(&mut self, element: Element) {
         self.shapes.end_titled(element);
         self.shapes.end_shape();
