@@ -64,7 +64,7 @@ abbrev pub LeaveInTime : (ℕ → Bool) → ℕ → ℕ → ℕ → Cyclic GateE
 LeaveInTime opens occ least share l carry b needed from until =
     (t : ℕ) → from ≤ t → t < until → gate_opens l t ≡ true → least ≤ opening_work l least share (last_opening l t) → LeavesInTime opens occ least share l carry b needed t
 
--- Holds if the delays `d` cover open interval `o`: its work leaves at most `d.longest` ns after its arrival, and at most `d.carry` ns after
+-- Holds if the delays `d` cover open interval `o`. Its work leaves at most `d.longest` ns after its arrival, and at most `d.carry` ns after
 -- the next opening `next`.
 --
 -- Work of earlier intervals left `carry` ns after the start of `o`.

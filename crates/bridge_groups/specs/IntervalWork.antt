@@ -21,7 +21,7 @@ module _ {X : Type 0} where
 abbrev pub LeavesBy : (ℕ → Bool) → ℕ → ℕ → ℕ → ℕ → ℕ → Type 0
 LeavesBy opens occ least work from end = (v : ℕ) × IsNthFit opens occ (work - least) from v × (v + least ≤ end)
 
--- Holds if `b` ns is a delay bound for frames that arrive while `lets` is true. An interval from `z` on has at most `limit z` ns of work.
+-- Holds if `b` ns is a delay bound for frames that arrive while `lets` is true. An interval from `z` has at most `limit z` ns of work.
 -- Earlier work has left by `clear z`.
 pub record IsIntervalBound (opens lets : ℕ → Bool) (occ least : ℕ) (begin limit : ℕ → ℕ) (b : ℕ) : Type 0 where
   pub has_fit : (u : ℕ) → (v : ℕ) × IsFirstFit opens occ u v

@@ -42,8 +42,8 @@ abbrev pub AreMergedEntries : List (Cyclic GateEntry) → List (GateEntry × ℕ
 AreMergedEntries ls [] from until = from ≡ until
 AreMergedEntries ls (e ∷ es) from until = (1 ≤ e.1) × (is_any_open ls from ≡ true → e.0.lets ≡ true) × (limit_sum ls from ≤ entry_limit e.0) × ((l : Cyclic GateEntry) → IsMember l ls → from + e.1 ≤ turn_end (turn_by_time l from)) × AreMergedEntries ls es (from + e.1) until
 
--- Holds if list `m` covers the lists `ls`: it is open while a gate is open, with at least the sum of the gates' limits. While `m` is open,
--- gates change only at openings of `m`.
+-- Holds if list `m` covers the lists `ls`: it is open while a gate is open, with at least the sum of the limits. While `m` is open, gates
+-- change only at openings of `m`.
 pub record IsMergedList (ls : List (Cyclic GateEntry)) (m : Cyclic GateEntry) : Type 0 where
   pub lawful : IsLawful m
   pub opens : (t : ℕ) (l : Cyclic GateEntry) → IsMember l ls → gate_opens l t ≡ true → gate_opens m t ≡ true

@@ -52,8 +52,8 @@ fn octet_cost(fit: u64, speed: Speed, sdu: u32) -> u64
     long.max(2 * occupation(60, speed))
 }
 
-/// Returns two sums over the filters: of burst in octets, and of rate in bit/s, each times the filter's cost of an octet (`octet_cost`) in
-/// 128ths of a ns. `sharers_cost_curve` calls it.
+/// Returns the costs of the filters' bursts (in octets) and of their rates (in bit/s), each summed over the filters. A filter's octet costs
+/// `octet_cost`, in 128ths of a ns. `sharers_cost_curve` calls it.
 fn cost_sums<A: Allocator + Copy>(
     plan: &Plan<A>,
     sharers: &[(u32, FilterPlan)],

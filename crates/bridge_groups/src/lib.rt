@@ -3,8 +3,8 @@
 //!
 //! The laws of one queue give delay bounds and capacities for frames with an arrival curve, as flow meters enforce it.
 //!
-//! Work is transmission time on the link, in ns. A fit is a time at which a transmission of a given length fits into the open times of a
-//! class. Successive fits, one each ns, are a run of fits.
+//! Work is transmission time in ns. A fit is a time at which a transmission fits into the open times of a class. Successive fits, one each
+//! ns, are a run of fits.
 
 mod admission;
 mod cost_search;

@@ -202,7 +202,7 @@ fn merged_entries<A: Allocator + Copy>(
     Ok(Some(entries))
 }
 
-/// Returns one list for several stream gates: open while at least one gate is open, with the sum of the octet limits of the open gates.
+/// Returns one list for several stream gates: open while at least one is open, with the sum of the octet limits of the open gates.
 ///
 /// Returns `None` if there are more than `MOST_GATES` lists, or if they have no common cycle up to `LONGEST_CYCLE`. It also returns `None`
 /// if the merged list would be invalid. `gate_figures` calls it.

@@ -111,8 +111,8 @@ module _ {X : Type 0} where
   fate_by_index i [] = None
   fate_by_index i (x ∷ xs) = if nat_eq i (length xs) then Some x.fate else fate_by_index i xs
 
-  -- Holds if copy `x` has the fate that the rules allow: Never if it can never fit, otherwise Full if at least `room`
-  -- copies wait, otherwise Queued or Started.
+  -- Holds if copy `x` has the fate that the rules allow. This is Never if it can never fit, otherwise Full if at least
+  -- `room` copies wait, otherwise Queued or Started.
   --
   -- The list has the copies that were offered before `x`.
   abbrev pub IsAnswer : PortRules X → Copy X → List (Copy X) → Fate → Type 0

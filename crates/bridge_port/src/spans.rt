@@ -31,8 +31,8 @@ pub struct ClassSpans<A: Allocator + Copy> {
 /// Largest number of spans that a linear search reads; beyond that, binary search is faster.
 const MAX_WALK: usize = 8;
 
-/// Start of the next search in a list: the number of earlier cycles, and for each class the index of the span that the last search found. A
-/// hint changes no result.
+/// Start of the next search in a list: the number of earlier cycles, and the span that the last search found for each class. A hint changes
+/// no result.
 #[derive(Clone, Copy)]
 pub struct SearchHint {
     /// Number of whole cycles before the time of the last search.

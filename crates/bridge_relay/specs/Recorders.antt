@@ -61,7 +61,8 @@ abbrev pub update_if_some : {X : Type 0} → Option ℕ → (X → X) → List (
 update_if_some None f xs = xs
 update_if_some (Some n) f xs = update_number n f xs
 
--- The recorders after a port's answer to an offer: a refusal by port `port` adds a drop of frame `own` to the recorder of filter `flow`.
+-- The recorders after a port's answer. A refusal by port `port` adds a drop of frame `own` to the recorder of filter `flow`; any other
+-- answer changes nothing.
 abbrev pub recorders_with_answer : List (ℕ × RecorderState) → Option ℕ → ℕ → ℕ → Result (Unit {0}) Refusal → List (ℕ × RecorderState)
 recorders_with_answer tables flow own port (Ok u) = tables
 recorders_with_answer tables flow own port (Err r) = update_if_some flow (λ t. with_drop t (record { own = own; port = port; refusal = r })) tables

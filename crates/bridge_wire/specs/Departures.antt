@@ -94,7 +94,7 @@ RunsOneMore speed room frames next p count began now (Err e) = StopsAtSink speed
 abbrev pub no_count : WireCount
 no_count = record { frames = 0; malformed = 0; sent = 0; full = 0 }
 
--- Holds if a run is in progress: the frames before the next record were offered or counted, the next record is ahead, and the frames that
+-- Holds if a run is in progress. The frames before the next record were offered or counted, the next record is ahead, and the frames that
 -- left are written.
 pub record IsUnderWay {A : Type 0} (speed : Speed) (room : ℕ) (text : List ℕ) (remaining : Option (List ℕ)) (lane : CaptureReader A) (p : EgressState (Vec ℕ A)) (count : WireCount) (began now : Option (List ℕ)) : Type 0 where
   pub frames : List CapturedFrame

@@ -107,7 +107,7 @@ pub record WiresText (speed : Speed) (room : ℕ) (text : List ℕ) (old new : O
 abbrev pub EndsOrContinues : ℕ → List ℕ → List CapturedFrame → Type 0
 EndsOrContinues until text frames = IsCapture text frames AtEnd ⊎ ((next : CapturedFrame) × HasReadFrames text (frames ++ next ∷ []) × (until ≤ next.time))
 
--- Holds if the frames passed one queue up to the arrival of the last one, and the sink has the capture of the frames that left.
+-- Holds if the frames passed one queue up to the arrival of the last one. The sink has the capture of the frames that left.
 pub record RunsToLastFrame (speed : Speed) (room : ℕ) (frames : List CapturedFrame) (old new : Option (List ℕ)) : Type 0 where
   pub copies : List (Copy Frame)
   pub left : List CapturedFrame
