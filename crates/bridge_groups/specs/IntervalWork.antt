@@ -16,8 +16,8 @@ module _ {X : Type 0} where
   HasIntervalWork r lets begin limit [] = Unit {0}
   HasIntervalWork r lets begin limit (x ∷ xs) = (lets x.at ≡ true) × (recent_work r (begin x.at) (x ∷ xs) ≤ limit (begin x.at)) × HasIntervalWork r lets begin limit xs
 
--- Holds if work of `work` ns that waits from time `from` has left by time `end`. The last frame takes `least` ns and starts by fit `work -
--- least`. Fits are for `occ` ns.
+-- Holds if work of `work` ns that waits from time `from` has left by time `end`. The last frame takes `least` ns and starts by fit
+-- `work - least`. Fits are for `occ` ns.
 abbrev pub LeavesBy : (ℕ → Bool) → ℕ → ℕ → ℕ → ℕ → ℕ → Type 0
 LeavesBy opens occ least work from end = (v : ℕ) × IsNthFit opens occ (work - least) from v × (v + least ≤ end)
 

@@ -150,8 +150,8 @@ fn reached_gate_bound<A: Allocator + Copy>(
     schedule_bound(&gate.schedule, out, class, sdu, fewest)
 }
 
-/// Returns the delay bound in ns of a protected filter's reachable queue, by the openings and octet limits of its stream gate. Allocates no
-/// memory.
+/// Returns the delay bound in ns of protected filter `number` in its reachable queue of `class` at `port`. It follows from the openings and
+/// octet limits of the stream gate. Allocates no memory.
 ///
 /// Every frame must have an SDU of at least `fewest` octets: `CAPTURED_SDU` for any capture, `PADDED_SDU` for padded frames.
 ///

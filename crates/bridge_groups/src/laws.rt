@@ -317,8 +317,8 @@ pub fn group_leaves_in_time_by_cost<A: Allocator + Copy>()
         → s + transmission_time x.item.len out.speed ≤ x.at + b }
 {}
 
-/// If a port's lists change, each copy that starts leaves a shared queue within a sum of three times. They are the old list's bound `b1`, a
-/// longest transmission time, and the new list's bound `b2`.
+/// If a port's lists change, each copy that starts leaves a shared queue within `b1`, a longest transmission time, and `b2` together. `b1`
+/// is the old list's bound, `b2` the new list's bound.
 ///
 /// `b2` allows for all work of the first two times arriving at once. Bounds of shared queues rest on it.
 pub fn group_leaves_in_time_over_change<A: Allocator + Copy>()
