@@ -10,8 +10,8 @@ use bridge_bounds::{is_coarse, tight_queue_bound};
 use bridge_check::Accepted;
 use std::alloc::Allocator;
 
-/// Returns the lesser of two bounds in ns of filter `number` in the queue of `class` at `port`: `tight`, and the bound from the octets that
-/// the filter's stream gate passes.
+/// Returns the lesser of two bounds in ns of filter `number` in the queue of `class` at `port`. They are `tight`, and the bound from the
+/// octets that the filter's stream gate passes.
 ///
 /// If `coarse`, the lists of stream gate and port have no common cycle. The search for the second bound would then take too long, and the
 /// function returns `tight`.

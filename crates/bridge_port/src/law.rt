@@ -22,8 +22,9 @@ pub fn lawful_up_to_a_lower_moment<X: Drop>()
         → IsLawful r k xs }
 {}
 
-/// If no head fits from `h` to `k` while the link is free, a schedule that is lawful up to `h` is lawful up to the later time `k`. So a
-/// port may skip times without a start.
+/// If no head fits in between while the link is free, a schedule lawful up to `h` is lawful up to a later `k`.
+///
+/// So a port may skip times without a start.
 pub fn lawful_up_to_a_later_moment<X: Drop>()
     ensures { (r : PortRules X) (h k : ℕ) (xs : List (Copy X))
         → h ≤ k

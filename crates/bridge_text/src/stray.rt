@@ -16,8 +16,8 @@ fn is_listed(names: &[&str], name: &str) -> bool {
     false
 }
 
-/// Writes the first top-level key that is none of `sections`, and the nearest section. Two functions `put_top_key` of `show_explain` call
-/// it, for bridges and for networks.
+/// Writes the first top-level key that is none of `sections`, and the nearest section. The two functions `put_top_key` of `show_explain`
+/// call it.
 pub fn put_stray_section(
     alloc: Global,
     said: &mut Said,

@@ -1,5 +1,5 @@
 -- Test on the plans at a link's two ends: does the next hop get each frame that a hop sends? The sender has plan `p` and filter `m`, the
--- receiver plan `next` and filter `n`.
+-- receiver `next` and `n`.
 use Rattle.std.specs.Prelude.{ℕ, Bool, true, false, not, ◌&&◌, ◌||◌, nat_eq, List, Option, Some, None, slice_get}
 use Rattle.std.specs.List.{list_all}
 use Rattle.bridge_frame.specs.declared.Tag.{Tag}
