@@ -39,7 +39,7 @@ impl NetSection {
     }
 }
 
-/// Keys of the tables of network and traffic files, and the only required key at the top of a network file, `bridge`.
+/// Keys of the tables of network and traffic files, and `bridge`, the only required key at the top of a network file.
 #[derive(Clone, Copy, Debug, PartialEq, Eq)]
 pub enum NetField {
     /// Section of bridges, at the top.

@@ -42,7 +42,7 @@ pub fn refusal_line<A: Allocator + Copy>(
     }
 }
 
-/// Returns the line `no memory`, which has no file kind. Fails with `NoMemory` if memory runs out for the line. `refusal_line` calls it.
+/// Returns the line `no memory`, which names no kind of file. Returns `NoMemory` if memory runs out for the line. `refusal_line` calls it.
 fn no_memory_line<A: Allocator + Copy>(alloc: A) -> Result<String<A>, NoMemory>
     ensures { IfOk result (λ line. string_bytes line ≡ codes "no memory") }
 {
