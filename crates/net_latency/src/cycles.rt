@@ -116,7 +116,7 @@ fn explain_rows(
     None
 }
 
-/// Explains the fault of row `index`, with periodic traffic. Its period isn't a multiple of a cycle time, or its filter is missing, grouped
+/// Explains the fault of row `index`, with periodic traffic: the period isn't a multiple of a cycle time, or the filter is missing, grouped
 /// or unprotected. `explain_rows` calls it.
 fn explain_periodic_row(
     alloc: Global,
@@ -368,7 +368,9 @@ fn explain_row(
     said.finish().ok()
 }
 
-/// Explains why the period of stream `index`, from 1, isn't a multiple of each cycle time on its route. `None` without a talker or memory.
+/// Explains why the period of stream `index`, from 1, isn't a multiple of each cycle time on its route. Returns `None` if the stream is
+/// missing or has no talker, or if memory runs out.
+///
 /// `explain_plans` of `net_check` calls it.
 pub fn explain_period(
     alloc: Global,

@@ -98,7 +98,9 @@ pub fn stream_keeps_latency<A: Allocator + Copy>()
         → KeepsStreamLatency t leg more r }
 {}
 
-/// If the delays of a stream have the flag `passes`, each frame of its talker is delivered along each path of bridges that forward it.
+/// If the frames of the first hop keep the talker's traffic, and the stream's delays have the flag `passes`, each such frame is delivered
+/// along each path of bridges that forward it.
+///
 /// Other devices may send anything. docs/NETWORK_PROOF.md cites it.
 pub fn stream_is_delivered<A: Allocator + Copy>()
     ensures { (n : NetworkParts A) (hops : List StreamHop) (queues : List HopQueue) (t : Traffic) (r : StreamLatency)

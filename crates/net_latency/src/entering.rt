@@ -72,8 +72,12 @@ fn is_other_entry_port<A: Allocator + Copy>(
     !is_first || !is_talker_port(links, bridge, plan, handle, on.number)
 }
 
-/// Returns whether frames of other devices than the talker can get the hop's handle at port `on` of its bridge. `is_first` is true for the
-/// first hop. Explanations call it too.
+/// Returns whether frames of devices other than the talker can get the handle of hop `hop` at port `on` of its bridge. Returns false if the
+/// hop's filter isn't protected.
+///
+/// `is_first` is true for the first hop.
+///
+/// `is_entry_exclusive`, and `port_of_others` and `push_entering` of `net_check` call it.
 pub fn can_others_enter<A: Allocator + Copy>(
     links: &[Link],
     is_first: bool,

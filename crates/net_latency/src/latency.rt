@@ -97,8 +97,9 @@ fn is_queue_of_hop(hop: StreamHop, queue: &HopQueue) -> bool
     queue.hop.bridge == hop.bridge
 }
 
-/// Returns the delays over all routes from `queue` through at most `depth` later hops; `None` if unknown. `came` is the arrival at its hop.
-/// `passes`: the hop's filter passes each frame. `add_queue_latency` calls it.
+/// Returns the delays over all routes from `queue` through at most `depth` later hops, or `None` if they are unknown.
+///
+/// `came` is the arrival at the queue's hop; `passes` is true if the hop's filter passes each frame. `add_queue_latency` calls it.
 #[cycle(hop_latency)]
 fn queue_latency<A: Allocator + Copy>(
     case: &StreamContext<'_, A>,

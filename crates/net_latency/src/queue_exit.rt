@@ -41,7 +41,7 @@ pub struct HopArrival {
 /// Next step of frames that have left a queue of a hop: the route ends there, or leads over a link to the next hop.
 #[derive(Clone, Copy)]
 pub(crate) enum QueueExit {
-    /// The queue's port leads to no hop of the stream, so the route ends: the delays of the whole route.
+    /// Delays of the whole route. It ends here, because the queue's port leads to no hop of the stream.
     Last(StreamLatency),
     /// The next hop, and the arrival of the frames there.
     Next(StreamHop, HopArrival),
@@ -77,8 +77,9 @@ pub(crate) fn hop_passes<A: Allocator + Copy>(
     }
 }
 
-/// Returns the delays of a route that ends at a queue with delays `x`. `worst` is the lesser of two limits: summed worst delays, and time
-/// from phase `from` to the last of `done`.
+/// Returns the delays of a route that ends at a queue with delays `x` and phases `done`.
+///
+/// Its worst delay is the lesser of two times: the sum of worst delays, and the time from phase `from` to the last of `done`.
 ///
 /// `exit_over_link` calls it.
 fn latency_at_last_queue(

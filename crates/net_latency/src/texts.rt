@@ -37,8 +37,10 @@ impl<'a> NetworkText<'a> {
         self.file.bridges().get(place as usize)
     }
 
-    /// Appends the path of the file, and the position of a key, or of the section's header for `None`. `index` is the number of the
-    /// section's instance, from 1. Explanations begin with it.
+    /// Appends the path of the file, and the position of `key` or, if it is `None`, of the instance's header. `index` is the number of the
+    /// instance in its section, from 1.
+    ///
+    /// Explanations begin with it.
     pub fn put_place(
         self,
         said: &mut TextBuilder<Global>,
@@ -50,8 +52,8 @@ impl<'a> NetworkText<'a> {
         put_position(said, self.position(section, index, key));
     }
 
-    /// Returns the position of a key, or of the section's header if `key` is `None`. `index` counts the section's instances from 1. Returns
-    /// `None` if the document lacks it. `NetworkText::put_place` calls it.
+    /// Returns the position of `key` or, if it is `None`, of the header of the section's instance `index`, from 1. Returns `None` if the
+    /// document lacks the instance. `NetworkText::put_place` calls it.
     fn position(self, section: NetSection, index: usize, key: Option<&str>) -> Option<Position> {
         let instance = Instance {
             document: self.document,

@@ -67,8 +67,8 @@ fn row_passes<A: Allocator + Copy>(accepted: &Accepted<A>, row: &TrafficRow) -> 
     }
 }
 
-/// Appends to `made` the delays of row `index` in the queue of `bound`, if the queue belongs to the row's filter. `passes`: the filter
-/// passes each frame. `row_timings` calls it.
+/// Appends to `made` the delays of row `index` in the queue of `bound`, if the queue belongs to the row's filter. `passes` is true if the
+/// filter passes each frame. `row_timings` calls it.
 fn push_queue_timing<A: Allocator + Copy>(
     accepted: &Accepted<A>,
     bound: &QueueBound,
