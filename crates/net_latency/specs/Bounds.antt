@@ -31,8 +31,8 @@ pub record AreBounds {A : Type 0} (p : Plan A) (rows : List QueueBound) : Type 0
   pub all : (n q c : ℕ) (f : FilterPlan) → lookup (nat_eq n) p.filters ≡ Some f → f.protected ≡ true → 1 ≤ q → q ≤ 16 → c < 8 → reaches_queue p f q c ≡ true
       → (b : ℕ) × IsMember (queue_bound n q c b) rows
 
--- Holds if row `t` has the queue of row `r`, with a bound that holds for frames that have at most as many captured
--- octets as their length.
+-- Holds if row `t` has the queue of row `r`. Its bound holds for frames that have at most as many captured octets as
+-- their length.
 pub record HasLeastBound {A : Type 0} (p : Plan A) (r t : QueueBound) : Type 0 where
   pub filter : t.filter ≡ r.filter
   pub port : t.port ≡ r.port

@@ -140,12 +140,15 @@ impl RunPicture {
         }
     }
 
-    /// Widens the time axis to the times of a stream's hops. `app_networks` calls it for all streams before it draws the first one.
+    /// Widens the time axis to the times of a stream's hops. `include_streams` of `app_networks` calls it for all streams before the first
+    /// one is drawn.
     pub fn include_stream<A: Allocator>(&mut self, hops: &[HopRun<'_, A>]) {
         self.span = widen_span(hops, self.span);
     }
 
-    /// Draws the windows of a class at a port in the row of hop `place` of the next stream. A port without list is always open.
+    /// Draws the windows of class `class` at port `port` in the row of hop `place`, from 0, of the next stream. A port without list is
+    /// always open.
+    ///
     /// `put_stream` draws over the windows. `app_networks` calls it.
     pub fn put_open_windows<A: Allocator + Copy>(
         &mut self,
