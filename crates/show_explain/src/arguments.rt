@@ -296,8 +296,8 @@ fn put_wrong(said: &mut Said, call: &Usage, name: &str, fault: OptionFault) {
     }
 }
 
-/// Returns a command's reason without its first sentence, which is about options, unless it has no other. `put_reason` calls it if no
-/// option is at fault.
+/// Returns a command's reason without its first sentence, which is about options. If the reason has no other sentence, returns all of it.
+/// `put_reason` calls it if no option is at fault.
 fn reason_alone(reason: &'static str) -> &'static str {
     match reason.strip_prefix(ANY_OPTION) {
         Some(rest) if !rest.is_empty() => rest,

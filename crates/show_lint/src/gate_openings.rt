@@ -113,8 +113,8 @@ fn set_port_time(times: &mut [u64; 16], port: u8, time: u64) {
     }
 }
 
-/// Duration of an open entry and its cycle time in ns. `is_alone`: no other entry opens the stream gate, so frames may begin before the
-/// entry.
+/// Duration of an open entry and its cycle time, in ns. `is_alone` is true if no other entry opens the stream gate; then frames may begin
+/// before the entry.
 #[derive(Clone, Copy)]
 struct OpeningSpan {
     duration: u64,

@@ -67,7 +67,7 @@ fn route_cause<A: Allocator + Copy>(
 }
 
 /// Writes why frames of filter `number` can reach port `port`: the first stream that leads there, or that any frame can.
-/// `check_explanation` calls it.
+/// `put_shared_queue`, `put_window` and `put_unfit_length` call it.
 pub(crate) fn put_route<A: Allocator + Copy>(
     said: &mut LintText,
     plan: &Plan<A>,
