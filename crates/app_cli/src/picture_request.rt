@@ -17,9 +17,9 @@ use std::alloc::Global;
 pub struct PictureRequest {
     /// Path of the picture's file.
     pub file: String,
-    /// Start of the picture in ns; by default the first event.
+    /// Start of the picture in ns. `None` means the default: the first event of a run, or the start of a plan's hypercycle.
     pub from: Option<u64>,
-    /// End of the picture in ns; by default the last event.
+    /// End of the picture in ns. `None` means the default: the last event of a run, or the end of a plan's hypercycle.
     pub to: Option<u64>,
     /// Numbers of the ports in the picture, separated by commas (`parse_number_list`); by default all ports.
     pub ports: Option<String>,

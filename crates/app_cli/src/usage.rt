@@ -16,7 +16,7 @@ pub struct Usage {
     pub reason: &'static str,
 }
 
-/// Returns the number of required arguments in `words`. Users give them by position, without an option's name. `usage_of_command` calls it.
+/// Returns the number of required arguments in `words`. Users give them without an option's name. `usage_of_command` calls it.
 fn count_operands(words: &[Argument]) -> usize {
     let mut count = 0usize;
     for word in words {

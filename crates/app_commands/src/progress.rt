@@ -108,7 +108,7 @@ impl<'a, H: Clock + Eprint> Progress<'a, H> {
         seconds.saturating_mul(self.total.saturating_sub(read)) / read
     }
 
-    /// Removes the line, if one was written. Its owner calls it before other lines appear on standard error.
+    /// Removes the line, if one was written, before other lines appear on standard error. `wire_files` and `run_watched` call it.
     pub(crate) fn clear(&self) {
         if self.start.is_some() && self.octets.get() >= STEP {
             clear_line(self.rt);
