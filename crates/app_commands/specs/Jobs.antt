@@ -1,4 +1,4 @@
--- Jobs over one queue: the printed text, and the fault that ends each job.
+-- Jobs over one queue: the printed text, and the failure that ends each job.
 use Rattle.std.specs.Prelude.{◌≡◌, ◌⊎◌, ◌+◌, ℕ, List, Option, Ok, Err}
 use Rattle.bridge_frame.specs.declared.Speed.{Speed}
 use Rattle.bridge_capture.specs.Hex.{spelled_octets}

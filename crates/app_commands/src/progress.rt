@@ -25,8 +25,7 @@ const BIG_ENDIAN: u8 = 0xa1;
 /// Length of a record's header in octets.
 const RECORD_HEADER_LENGTH: usize = 16;
 
-/// Writes a line over the line before it on standard error. If that fails, the run goes on without the line. `Progress` and
-/// `ProgressPrinter` of `app_networks` call it.
+/// Writes a line over the line before it on standard error. If that fails, the run goes on without the line.
 pub fn show_line(rt: &impl Eprint, line: &str) {
     let _ = eprint!(rt; "\r{line}\x1b[K");
 }
@@ -73,7 +72,7 @@ impl<'a, H: Clock + Eprint> Progress<'a, H> {
         }
     }
 
-    /// Adds read octets and records, and writes the line after each `STEP` octets. `WatchedReader` calls it for each read.
+    /// Adds read octets and records, and writes the line after each `STEP` octets. `WatchedReader::read` calls it.
     fn add(&self, start: Instant, octets: u64, frames: u64) {
         let read = self.octets.get().saturating_add(octets);
         self.octets.set(read);

@@ -1,4 +1,4 @@
--- Faults of files.
+-- Failures of files.
 use Rattle.std.specs.Prelude.{◌≡◌, ℕ, List, [], codes, string_bytes}
 use Rattle.app_files.specs.declared.failed_file.Access.{Access}
 use Rattle.app_files.specs.FailedFiles.{IsCapture, IsErrorOf, path_by}
@@ -21,8 +21,8 @@ FailsCaptures access folder ports (fault.File e) = (e.access ≡ access) × IsCa
 FailsCaptures access folder ports fault.NoMemory = Unit {0}
 FailsCaptures access folder ports f = ⊥
 
--- Holds if one of two folders has an empty path and the fault names the empty path, or memory ran out. A read fault means the input folder, a write fault the
--- output folder.
+-- Holds if one of two folders has an empty path and the failure names the empty path, or memory ran out. If it names a read, the input
+-- folder is meant, otherwise the output folder.
 abbrev pub LacksPath : List ℕ → List ℕ → Failure → Type 0
 LacksPath input output (fault.File e) = (path_by e.access input output ≡ []) × (string_bytes e.path ≡ [])
 LacksPath input output fault.NoMemory = Unit {0}

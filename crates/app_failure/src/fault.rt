@@ -21,7 +21,7 @@ pub enum TextFault {
     /// The text isn't hexadecimal.
     #[error("the text is not hexadecimal")]
     NotHex,
-    /// The text is longer than 4,194,304 bytes, or encodes more than 1,048,576 octets.
+    /// The text is longer than 4,194,304 octets, or encodes more than 1,048,576 octets.
     #[error("the text is too long")]
     TooLong,
     /// The run over its octets stopped, or memory ran out.

@@ -19,7 +19,8 @@ pub enum Access {
     Writing,
 }
 
-/// File that failed, with the cause. Standard input and output have the path `-`. Other crates can read the parts, but can't make the value.
+/// File that failed, with the cause. Standard input and output have the path `-`. Other crates can read the parts, but can't make the
+/// value.
 #[derive(Debug, Drop)]
 pub struct FileError {
     path: String,

@@ -23,7 +23,7 @@ pub enum ReadFault {
     NoMemory,
 }
 
-/// Reads at most `most` octets of a reader. Repeats an interrupted read. `read_text`, and `explain_capture` and `text_job` of
+/// Reads at most `most` octets of a reader. Repeats an interrupted read. `read_text` and `read_standard`, and `explain_capture` of
 /// `app_commands` call it.
 pub fn read_at_most<R: Read + Drop, A: Allocator>(
     alloc: A,
