@@ -62,12 +62,12 @@ pub fn command_names(alloc: Global) -> Result<Vec<&'static str>, AllocError> {
     Ok(names)
 }
 
-/// Whether an argument is an option, with or without value. `is_option_named` and `push_options` call it.
+/// Returns whether an argument is an option, with or without value. `is_option_named` and `push_options` call it.
 fn is_option(word: &Argument) -> bool {
     matches!(word.form, Form::Choice | Form::Flag)
 }
 
-/// Whether an argument is the option with name `name`. `find_option` calls it.
+/// Returns whether an argument is the option with name `name`. `find_option` calls it.
 fn is_option_named(word: &Argument, name: &str) -> bool {
     is_option(word) & (word.id == name)
 }

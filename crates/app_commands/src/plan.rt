@@ -40,8 +40,8 @@ pub(crate) fn read_standard_text<R: Read + Drop>(
     }
 }
 
-/// Whether the file at `path` is a network: a line begins with `[[bridge]]`. The command `picture` draws plans and networks. Returns false
-/// for a pipe, which can't be read twice.
+/// Returns whether the file at `path` is a network: a line begins with `[[bridge]]`. The command `picture` draws plans and networks.
+/// Returns false for a pipe, which can't be read twice.
 ///
 /// `explain_picture_fault` and `draw` of `app_networks` call it.
 pub fn is_network<H: AllocGlobal + Files>(rt: &H, path: &str) -> bool {

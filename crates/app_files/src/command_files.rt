@@ -419,7 +419,7 @@ pub trait ReadFiles {
         ensures fails { IfErr result (IsOfPath Reading path.now) }
         ensures same { (path : List ℕ) → octets_at self.new path ≡ octets_at self.old path };
 
-    /// Whether a file exists at `path`. `read_commands` of `app_networks` asks, because a bridge's commands are optional.
+    /// Returns whether a file exists at `path`. `read_commands` of `app_networks` asks, because a bridge's commands are optional.
     fn is_there(&self, path: &str) -> bool
         ensures { (octets : List ℕ) → octets_at self.now path.now ≡ Some octets → IsTrue result };
 }

@@ -152,7 +152,7 @@ pub enum Said {
     Noted(String),
 }
 
-/// Whether an argument stands for standard input or output. Functions of `app_commands` and `app_networks` call it.
+/// Returns whether an argument stands for standard input or output. Functions of `app_commands` and `app_networks` call it.
 pub fn is_standard(word: &str) -> bool
     ensures { IsTrue result ↔ IsStandard word.now }
 {

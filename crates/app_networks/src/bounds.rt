@@ -113,7 +113,7 @@ fn plan_warnings(alloc: Global, accepted: &Accepted<Global>) -> Result<BoundsWar
     })
 }
 
-/// Whether `warnings` has at least one warning. `bounds_output` calls it.
+/// Returns whether `warnings` has at least one warning. `bounds_output` calls it.
 fn is_warned(warnings: &BoundsWarnings) -> bool
     ensures { result ≡ is_warned warnings.now.unprotected (string_bytes warnings.now.shared) }
 {

@@ -30,8 +30,8 @@ pub struct QueueBound {
 /// Number of queues of a bridge: 8 classes at 16 ports.
 const QUEUES: u8 = 128;
 
-/// Whether the queue of `class` at `port` is reachable for the filter. `reach` is the filter's reach, computed once by the caller. Returns
-/// false if the port is missing.
+/// Returns whether the queue of `class` at `port` is reachable for the filter. `reach` is the filter's reach, computed once by the caller.
+/// Returns false if the port is missing.
 pub(crate) fn is_reached<A: Allocator + Copy>(
     plan: &Plan<A>,
     filter: &FilterPlan,
