@@ -38,7 +38,7 @@ AreCommandsAt octets_at path plan commands = (text : Option (List ℕ)) × IsTex
 abbrev pub EndsCommandsAt : {A : Type 0} → (List ℕ → Option (List ℕ)) → Option (List ℕ) → Plan A → Failure → Type 0
 EndsCommandsAt octets_at path p f = (text : Option (List ℕ)) × IsTextIfAt octets_at path text × EndsCommanded p path text f
 
--- Holds if `f` ends the reading of a plan and its commands: a failure of the plan file's text, or of its plan with the commands of their
+-- Holds if failure `f` ends the reading of a plan and its commands: of the plan file's text, or of its plan with the commands of their
 -- file.
 abbrev pub EndsReadingAt : (A : Type 0) → (List ℕ → Option (List ℕ)) → List ℕ → Option (List ℕ) → Failure → Type 0
 EndsReadingAt A octets_at plan commands f =

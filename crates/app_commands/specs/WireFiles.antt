@@ -12,7 +12,8 @@ use Rattle.app_files.specs.declared.output.Said.TheVariants as said
 use Rattle.app_commands.specs.Jobs.{IsCountsLine}
 use Rattle.app_commands.specs.Text.{StopsText}
 
--- Holds if the message has the counts of some run: for standard error if the capture goes to standard output, otherwise for standard output.
+-- Holds if the message has the counts of some run: for standard error if the capture goes to standard output, otherwise for standard
+-- output.
 abbrev pub SaysCounts : List ℕ → Said → Type 0
 SaysCounts output (said.Printed line) = (¬ IsStandard output) × IsCountsLine (string_bytes line)
 SaysCounts output (said.Noted line) = IsStandard output × IsCountsLine (string_bytes line)

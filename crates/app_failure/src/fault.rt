@@ -97,7 +97,7 @@ impl From<FileFault> for Failure {
 }
 
 /// Returns the command's failure for file fault `fault`: the failed file with its cause, or `NoMemory`. Functions of `app_commands`,
-/// `app_networks` and `net_check` call it.
+/// `app_networks`, `net_check` and `net_latency` call it.
 pub fn file_failure(fault: FileFault) -> Failure
     ensures same { result ≡ of_file_fault fault }
     ensures ends { EndsFiles result }

@@ -81,7 +81,7 @@ pub fn read_cause(rt: &impl Files, path: &str, error: &Error) -> Cause {
 /// Returns why the file at `path` can't be opened or created for writing, after the error `error`. For a missing file, examines whether its
 /// folder exists. `Unknown` for other errors.
 ///
-/// `create_output`, and `make_folder` of `app_networks` call it.
+/// `create_output` and `make_folder` call it.
 pub fn write_cause(rt: &impl Files, path: &str, error: &Error) -> Cause {
     match error.kind() {
         ErrorKind::NotFound => {

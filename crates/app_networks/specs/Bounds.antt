@@ -66,11 +66,11 @@ IsTrafficOutputOf input words strict explained output =
 abbrev pub IsTrafficOutput : Bool → Bool → Output → Type 0
 IsTrafficOutput strict explained output = (input : List ℕ) × (words : List ℕ) × IsTrafficOutputOf input words strict explained output
 
--- Holds if failure `f` can end the bounds of a plan with traffic: an unreadable file, out of memory, or a fault of plan or traffic.
+-- Holds if failure `f` can end the bounds of a plan with traffic: an unreadable file, out of memory, or a refused plan or traffic.
 abbrev pub FailsTraffic : List ℕ → List ℕ → Failure → Type 0
 FailsTraffic plan file f = ((input : List ℕ) × (words : List ℕ) × EndsTexts Global plan input file words f) ⊎ (IsFileFault Reading plan f ⊎ IsFileFault Reading file f)
 
--- Holds if failure `f` can end `bounds --traffic` over the files at `plan` and `file`: one of them can't be read, or its text has a fault.
+-- Holds if failure `f` can end `bounds --traffic` over the files at `plan` and `file`: one can't be read, or its text is refused.
 abbrev pub FailsTrafficAt : (List ℕ → Option (List ℕ)) → List ℕ → List ℕ → Failure → Type 0
 FailsTrafficAt octets_at plan file f =
     HasTextAt octets_at plan (λ input. HasTextAt octets_at file (λ words. EndsTexts Global plan input file words f)) ⊎ (IsFileFault Reading plan f ⊎ IsFileFault Reading file f)

@@ -20,8 +20,8 @@ use Rattle.net_report.specs.SourceFrames.{ArrivedOverLink, IsCopyOfKnownFrame, I
 
 -- THE ROUTE OF A FRAME
 
--- Holds if frame `k` (from 0) of hop `i` arrived over a link: as a copy of another hop's frame, for which `Known` holds. The leg has the
--- index of that hop and the delay of the link.
+-- Holds if frame `k` (from 0) of hop `i` arrived over a link: as a copy of another hop's frame, for which `Known` holds. `leg` has the
+-- index of that hop and the link's delay.
 pub record IsCopyOverRouteHop {A : Type 0} (links : List Link) (hops : List (HopRun A)) (leg : ℕ × ℕ) (Known : ℕ → ℕ → Type 0) (i k : ℕ) : Type 0 where
   pub behind : IsCopyOfKnownFrame links hops Known i k
   pub place : behind.place ≡ leg.0

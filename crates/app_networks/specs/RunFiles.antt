@@ -78,7 +78,7 @@ IsWrittenFile plans bridges output picture path = IsOutputFile plans bridges out
 
 -- THE RUN
 
--- Holds if a failed file can end the run of a network between two folders: one folder has an empty path, an input wasn't read, or an output
+-- Holds if a failed file can end the run of a network between two folders. One folder has an empty path, an input wasn't read, or an output
 -- or the picture wasn't written.
 abbrev pub FailsRunFiles : {A : Type 0} → NetworkParts A → List Bridge → List ℕ → List ℕ → Option (List ℕ) → Failure → Type 0
 FailsRunFiles n bridges input output picture f =

@@ -6,7 +6,9 @@ use std::fs;
 use std::rt::Files;
 
 /// Returns whether a file can be read a second time. A pipe or device can't: its contents are gone, and opening a pipe may wait forever. A
-/// missing file can. `can_read_all_again`, `can_read_network_again` and `can_read_traffic_again` call it.
+/// missing file can.
+///
+/// `can_read_all_again`, `can_read_network_again` and `can_read_traffic_again` call it.
 fn can_read_again(rt: &impl Files, path: &str) -> bool {
     match fs::metadata(rt, path) {
         Ok(data) => data.is_file() || data.is_dir(),

@@ -147,8 +147,8 @@ IsNetworkAt octets_at path f = (text : List ℕ) → octets_at path ≡ Some tex
 abbrev pub IsPlanAt : {A : Type 0} → (List ℕ → Option (List ℕ)) → List ℕ → Plan A → Type 0
 IsPlanAt octets_at path plan = (text : List ℕ) → octets_at path ≡ Some text → Accepts (take 1048577 text) plan
 
--- Holds if `new` has the plans `old`, followed by an accepted plan: the plan of the file at `path` or, if `octets_at` gives no octets of
--- the file, any plan.
+-- Holds if `new` has the plans `old`, followed by an accepted plan. It is the plan of the file at `path`. If `octets_at` gives no octets
+-- of this file, any plan is allowed.
 abbrev pub AddsPlanAt : {A : Type 0} → (List ℕ → Option (List ℕ)) → List ℕ → List (Plan A) → List (Plan A) → Type 0
 AddsPlanAt {A} octets_at path old new = (p : Plan A) × (new ≡ old ++ p ∷ []) × IsPlanAt octets_at path p
 

@@ -77,7 +77,9 @@ fn searched_streams(
 }
 
 /// Returns whether the search may change a stream. This needs a periodic talker whose frames all pass, at most 64 hops, known delays, and a
-/// deadline that the stream can meet. Returns false if memory runs out.
+/// deadline that the stream can meet.
+///
+/// Returns false if memory runs out.
 ///
 /// `searched_streams` calls it.
 fn is_searched(
@@ -186,7 +188,9 @@ fn relieve_listed_stream(
 }
 
 /// Changes lists and the talker of the stream with index `index`, until the stream meets `deadline` (in ns) or no change helps. Makes at
-/// most `CHANGES` changes. Then marks the stream's ports as used in pass `pass`.
+/// most `CHANGES` changes.
+///
+/// Then marks the stream's ports as used in pass `pass`.
 ///
 /// Returns whether the stream needed no change, or `None` if memory runs out.
 ///
@@ -249,8 +253,10 @@ fn is_in_time(times: &[HopTimes], deadline: u128) -> bool {
     worst_delay(times) <= deadline
 }
 
-/// Returns the hop at which a frame that arrives last waits longest. Hops at ports that a late stream used in pass `pass` are left out,
-/// except the first hop. Returns `None` if the frame waits at no other hop.
+/// Returns the hop at which a frame that arrives last waits longest. Hops at ports that a late stream used in pass `pass` don't count,
+/// except the first hop.
+///
+/// Returns `None` if the frame waits at no hop that counts.
 ///
 /// `relieve_hop` and `put_costliest_hop` call it.
 pub(crate) fn costliest_hop(

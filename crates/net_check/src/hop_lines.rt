@@ -161,8 +161,8 @@ fn put_window(said: &mut TextBuilder<Global>, window: Window, leaves: u64) {
     );
 }
 
-/// Returns the window in which the last transmission of a hop's frames ends. Returns `None` if the port has no list or a schedule change,
-/// if the class never closes, or if the end is after `END_OF_SEARCHES`.
+/// Returns the window in which the last transmission of a hop's frames ends. Returns `None` without a cyclic list, if the class never
+/// closes, or if the end is after `END_OF_SEARCHES`.
 ///
 /// `put_queue_line` calls it.
 fn window_of_hop(plan: &Plan<Global>, hop: &HopTimes) -> Option<Window> {

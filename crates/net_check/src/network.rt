@@ -256,6 +256,7 @@ pub fn sibling_path(alloc: Global, path: &str, file: &str) -> Result<String, NoM
 }
 
 /// Returns the failure of a command whose plan of bridge `name` has the failure `fault`: a line with the name, then the plan's fault line.
+///
 /// Returns `NoMemory` if `fault` doesn't refuse the plan, or memory runs out.
 ///
 /// `check_bridge_plan` calls it.
@@ -420,8 +421,9 @@ fn describe_network<A: Allocator + Copy>(
     })
 }
 
-/// Checks the network of the file at `path`, with its plans, for `net check`. Returns lines and warnings, or the first failure in this
-/// order: network file, plans by bridge, tests of the network, periods of talkers.
+/// Checks the network of the file at `path`, with its plans, for `net check`.
+///
+/// Returns lines and warnings, or the first failure of network file, plans by bridge, tests of the network, or periods of talkers.
 ///
 /// `check_network` of `app_networks` calls it.
 pub fn network_job<F: ReadFiles>(

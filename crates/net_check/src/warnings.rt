@@ -123,8 +123,8 @@ impl<'a, A: Allocator + Copy> Named<'a, A> {
         }
     }
 
-    /// Appends the warnings about hop `k` of stream `i`: ports at which other devices' frames can enter, if the talker is `periodic`, and a
-    /// missing reachable queue. `push_hops` calls it.
+    /// Appends the warnings about hop `k` of stream `i`: ports at which other devices' frames can enter, and a missing reachable queue. The
+    /// former need a `periodic` talker. `push_hops` calls it.
     fn push_hop(
         &self,
         text: &mut String,

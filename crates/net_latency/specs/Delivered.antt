@@ -102,8 +102,10 @@ pub record IsForwardedByPort {A : Type 0} (p : Plan A) (octets : List ℕ) (len 
   pub goes : has_port ports q ≡ true
   pub at : find_port p.ports q ≡ Some out
 
--- Holds if bridge `b` forwards a frame of `octets` and length `len` from port `r` by port `q`, and the bridges of the next hops forward it
--- by the ports in the list, in order.
+-- Holds if bridge `b` forwards a frame of `octets` and length `len` from port `r` by port `q`. The bridges of the next hops forward it by
+-- the ports in the list, in order.
+--
+-- The last of these ports leads to no hop.
 --
 -- The last of these ports leads to no hop.
 abbrev pub IsForwardedAlong : {A : Type 0} → List (Plan A) → List Link → List StreamHop → List ℕ → ℕ → ℕ → ℕ → ℕ → List ℕ → Type 0

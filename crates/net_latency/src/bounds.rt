@@ -77,8 +77,9 @@ fn bound_in_reach<A: Allocator + Copy>(
     queue_bound(accepted, filter.0, port, class)
 }
 
-/// Appends to `rows` the bound of the filter with index `at` in `order`, in its queue with index `place`: 0 to 127, by port and class.
+/// Appends to `rows` the bound of the filter with index `at` in `order`, in its queue `place`: 0 to 127, by port and class.
 ///
+/// Appends nothing if the filter is unprotected or can't reach the queue.
 /// Appends nothing if the filter is unprotected or can't reach the queue.
 ///
 /// `put_filter_bounds` calls it.

@@ -90,7 +90,8 @@ fn put_refusable_row(
     }
 }
 
-/// Appends a sentence: the traffic row, its filter, the queue's port, and the first condition that fails there. `put_refusable_row` calls it.
+/// Appends a sentence: the traffic row, its filter, the queue's port, and the first condition that fails there. `put_refusable_row` calls
+/// it.
 fn put_queue(
     said: &mut TextBuilder<Global>,
     plan: &Plan<Global>,
@@ -118,8 +119,8 @@ fn put_queue(
     }
 }
 
-/// Appends the first condition that fails for a talker of a group: on the gate, the SDU limit or the meter of its filter, or on the
-/// capacity of the queue. `put_queue` calls it.
+/// Appends the first condition that fails for a talker of a group: the gate, the SDU limit or the meter of its filter, or the queue's
+/// capacity. `put_queue` calls it.
 fn put_limited_reason(
     said: &mut TextBuilder<Global>,
     plan: &Plan<Global>,

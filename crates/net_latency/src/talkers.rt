@@ -77,8 +77,8 @@ fn suits_hops<A: Allocator + Copy>(
     }
 }
 
-/// Returns the fault of the first stream whose period isn't a multiple of each cycle time on its route, or `None` if there is no such
-/// stream. `check_periods` and `explain_plans` of `net_check` call it.
+/// Returns the fault of the first stream whose period isn't a multiple of each cycle time on its route, or `None` without one.
+/// `check_periods` and `explain_plans` of `net_check` call it.
 pub fn first_misfit<A: Allocator + Copy>(
     plans: &[Accepted<A>],
     streams: &[StreamRow<A>],

@@ -131,7 +131,8 @@ fn lower_bounds<A: Allocator + Copy>(
     Ok(made)
 }
 
-/// Returns the least delay bounds of all reachable queues of protected filters, by rising filter, port and class. They hold for any capture.
+/// Returns the least delay bounds of all reachable queues of protected filters, by rising filter, port and class. They hold for any
+/// capture.
 /// Networks add them up over the hops of a stream.
 ///
 /// `all_queue_bounds` calls it.

@@ -213,8 +213,8 @@ pub(crate) fn talker_row_fault<A: Allocator + Copy>(
     }
 }
 
-/// Returns the first fault of the rows compared with the plan, or `None`: a filter is missing, unprotected or in no group, or a period
-/// isn't a multiple of a cycle time. `check_and_report` calls it.
+/// Returns the first fault of the rows compared with the plan, or `None`. A filter may be missing, unprotected or in no group, or a period
+/// no multiple of a cycle time. `check_and_report` calls it.
 pub fn traffic_fault<A: Allocator + Copy>(
     plan: &Plan<A>,
     rows: &[TalkerRow],
