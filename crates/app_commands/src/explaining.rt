@@ -205,7 +205,9 @@ fn explain_capture(
 }
 
 /// Returns warnings about an accepted plan, its capture folder, and changes and commands after the last frame. `idle` is the line of a
-/// schedule change without effect. `None` if memory runs out. `run_warnings` calls it.
+/// schedule change without effect. Returns `None` if memory runs out.
+///
+/// `run_warnings` calls it.
 pub(crate) fn warnings_of_run<H: AllocGlobal + Files>(
     rt: &H,
     accepted: &Accepted<Global>,

@@ -108,8 +108,8 @@ pub(crate) fn shift_of_port(shifts: &[ListShift], bridge: u16, port: u8) -> u64 
     earlier
 }
 
-/// Returns the times of a stream's frames in each queue of each hop, first hop first. `sent` has the phases at the first hop. `None` if
-/// phases are unknown or memory runs out.
+/// Returns the times of a stream's frames in each queue of each hop, first hop first. `sent` has the phases at the first hop. Returns
+/// `None` if phases are unknown or memory runs out.
 ///
 /// `can_meet`, `changed_times` and `put_times_of_stream` call it.
 pub(crate) fn hop_times(
@@ -233,7 +233,7 @@ fn times_in_queue(
     })
 }
 
-/// Returns whether the filter passes each frame of the traffic; false if the plan lacks the filter. `times_in_queue` calls it.
+/// Returns whether the filter passes each frame of the traffic, and false if the plan lacks the filter. `times_in_queue` calls it.
 fn passes_hop(plan: &Plan<Global>, filter: u32, traffic: &Traffic) -> bool
     requires { IsTraffic traffic.now }
 {
@@ -254,7 +254,7 @@ fn longest_transmission(plan: &Plan<Global>, row: &QueueBound, traffic: &Traffic
 
 /// Returns the times of `traffic` in a queue whose list begins earlier by `shift` ns, computed with traffic delayed by `shift` instead.
 ///
-/// `None` if phases are unknown, or a transmission may end after the next period's earliest arrival. `times_in_queue` calls it.
+/// Returns `None` if phases are unknown, or a transmission may end after the next period's earliest arrival. `times_in_queue` calls it.
 fn shifted_times(
     accepted: &Accepted<Global>,
     row: &QueueBound,

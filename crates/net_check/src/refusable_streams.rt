@@ -109,8 +109,8 @@ fn put_stream_and_hop(
     );
 }
 
-/// Returns a talker's traffic at hop `place`, from the delays `before` up to the hop before it. `None` if phases are unknown or lie in two
-/// periods, or no link joins the hops.
+/// Returns a talker's traffic at hop `place`, from the delays `before` up to the hop before it. Returns `None` if phases are unknown or lie
+/// in two periods, or no link joins the hops.
 ///
 /// `put_refusable_stream` calls it.
 fn hop_traffic(

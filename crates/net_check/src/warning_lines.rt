@@ -280,8 +280,8 @@ fn push_sdu_fall_line(text: &mut String, i: usize, k: usize) -> Result<(), Alloc
     write!(text, "max_sdu falls: stream {stream} hop {hop}\n")
 }
 
-/// Returns whether hop `next` has a lower `max_sdu` than hop `before`. Then it refuses some frames that the earlier hop passes. False if a
-/// hop is missing. `is_sdu_falling_at_index` calls it.
+/// Returns whether hop `next` has a lower `max_sdu` than hop `before`. Then it refuses some frames that the earlier hop passes. Returns
+/// false if a hop is missing. `is_sdu_falling_at_index` calls it.
 fn is_sdu_falling<A: Allocator + Copy>(
     plans: &[Accepted<A>],
     before: Option<(u16, u32)>,

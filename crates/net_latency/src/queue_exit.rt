@@ -101,8 +101,8 @@ fn latency_at_last_queue(
     }
 }
 
-/// Returns the arrival at the next hop over a link of `delay` ns. `x` and `done` are the queue's delays and phases. `None` if phases of
-/// arrival lie in two periods. `exit_over_link` calls it.
+/// Returns the arrival at the next hop over a link of `delay` ns. `x` and `done` are the queue's delays and phases. Returns `None` if
+/// phases of arrival lie in two periods. `exit_over_link` calls it.
 fn next_hop_arrival(
     came: &HopArrival,
     x: &Timing,
@@ -140,8 +140,8 @@ fn next_hop_arrival(
     })
 }
 
-/// Returns the next step of frames that leave a queue in the phases `done`, to hop `onward` or, for `None`, to the route's end. `None` if
-/// phases lie in two periods. `queue_exit` calls it.
+/// Returns the next step of frames that leave a queue in the phases `done`, to hop `onward` or, for `None`, to the route's end. Returns
+/// `None` if phases lie in two periods. `queue_exit` calls it.
 fn exit_over_link(
     from: u64,
     came: &HopArrival,
@@ -164,8 +164,8 @@ fn exit_over_link(
     }
 }
 
-/// Returns the next step of frames that leave `queue`; `came` is their arrival at its hop. `None` if phases are unknown or lie in two
-/// periods, or the bridge is missing. `queue_latency` calls it.
+/// Returns the next step of frames that leave `queue`; `came` is their arrival at its hop. Returns `None` if phases are unknown or lie in
+/// two periods, or the bridge is missing. `queue_latency` calls it.
 pub(crate) fn queue_exit<A: Allocator + Copy>(
     case: &StreamContext<'_, A>,
     queue: &HopQueue,

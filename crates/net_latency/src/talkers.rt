@@ -27,8 +27,8 @@ use net_file::{NetFault, NetField, NetKeyLocation, NetSection, StreamRow, Talker
 use net_model::{Link, StreamHop};
 use std::alloc::Allocator;
 
-/// Returns whether the period is a multiple of each cycle time on the route of filter `filter`'s frames. True if the filter is missing.
-/// `suits_hop` calls it.
+/// Returns whether the period is a multiple of each cycle time on the route of filter `filter`'s frames. Returns true if the filter is
+/// missing. `suits_hop` calls it.
 fn suits_filter<A: Allocator + Copy>(plan: &Plan<A>, filter: u32, period: u64) -> bool
     ensures { result ≡ spec.suits_filter plan.now period (lookup (nat_eq filter) plan.now.filters) }
 {

@@ -54,8 +54,8 @@ pub enum TrafficFigures {
     },
 }
 
-/// Returns whether the filter of a row with periodic traffic passes each of its frames. False if the plan lacks the filter. `row_timings`
-/// calls it.
+/// Returns whether the filter of a row with periodic traffic passes each of its frames. Returns false if the plan lacks the filter.
+/// `row_timings` calls it.
 fn row_passes<A: Allocator + Copy>(accepted: &Accepted<A>, row: &TrafficRow) -> bool
     requires row { IsRow row.now }
     ensures { (result ≡ true) ↔ RowPasses accepted.now row.now }
@@ -217,7 +217,7 @@ pub fn queue_timings<A: Allocator + Copy>(
     Ok(made)
 }
 
-/// Returns whether the worst delay `worst` in ns meets the deadline. True without a deadline. `is_in_time` and `is_kept` call it.
+/// Returns whether the worst delay `worst` in ns meets the deadline. Returns true without a deadline. `is_in_time` and `is_kept` call it.
 pub(crate) fn is_met(deadline: Option<u64>, worst: u128) -> bool
     ensures { result ≡ spec.is_met deadline worst }
 {

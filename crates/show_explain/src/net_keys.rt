@@ -172,8 +172,8 @@ fn lower_limit(instance: Instance<'_>, field: NetField) -> Option<(NetField, u64
     Some((key, value, value.saturating_add(more)))
 }
 
-/// Returns the key that limits `field` from above (period or burst), its value, and the greatest value of `field`. `None` without such a
-/// key, or if its value is missing or doesn't limit.
+/// Returns the key that limits `field` from above (period or burst), its value, and the greatest value of `field`. Returns `None` without
+/// such a key, or if its value is missing or doesn't limit.
 ///
 /// `put_range` calls it.
 fn upper_limit(instance: Instance<'_>, field: NetField) -> Option<(NetField, u64, u64)> {

@@ -200,7 +200,7 @@ fn other_with_gate(filters: &[(u32, FilterPlan)], number: u32, gate: u32) -> Opt
     None
 }
 
-/// Returns whether a filter uses meter `meter`; false without a meter. `other_with_meter` calls it.
+/// Returns whether a filter uses meter `meter`, and false without a meter. `other_with_meter` calls it.
 fn has_meter(filter: &FilterPlan, meter: u32) -> bool
     ensures { result ≡ spec.has_meter meter filter.now }
 {

@@ -34,8 +34,8 @@ fn port_bound<A: Allocator + Copy>(accepted: &Accepted<A>, filter: u32, port: u8
     bound
 }
 
-/// Returns the delay bounds in ns of ports 1 to 16 for a filter. `None` for a port at which the filter has no queue, or an unprotected
-/// filter. `filter_bounds` calls it.
+/// Returns the delay bounds in ns of ports 1 to 16 for a filter. Returns `None` for a port at which the filter has no queue, or an
+/// unprotected filter. `filter_bounds` calls it.
 pub(crate) fn port_bounds<A: Allocator + Copy>(
     alloc: A,
     accepted: &Accepted<A>,
