@@ -21,7 +21,7 @@ use Rattle.app_commands.specs.Text.{IsTextRun, StopsText}
 abbrev pub PrintsText : List ℕ → List ℕ → Type 0
 PrintsText input lines = (octets : List ℕ) × (spelled_octets input ≡ Ok octets) × IsTextRun octets lines
 
--- Holds if the fault ends the run of this text: a fault of the text, or of the run over its octets.
+-- Holds if the fault ends the run of this hexadecimal text: a fault of the text, or of the run over its octets.
 abbrev pub RefusesText : List ℕ → TextFault → Type 0
 RefusesText input text.NotHex = spelled_octets input ≡ Err hex.NotHex
 RefusesText input text.TooLong = spelled_octets input ≡ Err hex.TooLong

@@ -12,7 +12,7 @@ use std::fs;
 use std::io::Read;
 use std::rt::Files;
 
-/// Reads the text of the file at `path`, at most 1,048,577 octets of it.
+/// Reads at most 1,048,577 octets of the file at `path`.
 pub fn read_file_text<F: ReadFiles>(files: &mut F, path: &str) -> Result<Vec<u8>, Failure>
     ensures text { IfOk result (λ text. IsTextAt (F.octets_at files.old) path.now text.items) }
     ensures fails { IfErr result (IsFileFault Reading path.now) }

@@ -5,7 +5,7 @@ use Rattle.app_files.specs.FailedFiles.{IsCapture, IsErrorOf, path_by}
 use Rattle.app_failure.specs.declared.fault.Failure.{Failure}
 use Rattle.app_failure.specs.declared.fault.Failure.TheVariants as fault
 
--- Holds if the file at `path`, which was used in this way, failed, or memory ran out.
+-- Holds if the file at `path` failed with this access, or memory ran out.
 abbrev pub IsFileFault : Access → List ℕ → Failure → Type 0
 IsFileFault access path (fault.File e) = IsErrorOf access path e
 IsFileFault access path fault.NoMemory = Unit {0}
@@ -15,7 +15,7 @@ IsFileFault access path f = ⊥
 abbrev pub IsStandardStreamFault : Access → Failure → Type 0
 IsStandardStreamFault access f = IsFileFault access (codes "-") f
 
--- Holds if the capture of one of these ports in a folder, which was used in this way, failed, or memory ran out.
+-- Holds if the capture of one of these ports in a folder failed with this access, or memory ran out.
 abbrev pub FailsCaptures : Access → List ℕ → List ℕ → Failure → Type 0
 FailsCaptures access folder ports (fault.File e) = (e.access ≡ access) × IsCapture folder ports (string_bytes e.path)
 FailsCaptures access folder ports fault.NoMemory = Unit {0}

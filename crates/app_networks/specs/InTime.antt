@@ -27,8 +27,9 @@ pub record IsCopyOverRouteHop {A : Type 0} (links : List Link) (hops : List (Hop
   pub place : behind.place ≡ leg.0
   pub delay : behind.over.from.delay ≡ leg.1
 
--- Holds if frame `k`, counted from 0, of the hop at index `i` comes from frame `r` of the first hop. The legs have the earlier hops and
--- the links, the last ones first.
+-- Holds if frame `k`, counted from 0, of the hop at index `i` comes from frame `r` of the first hop.
+--
+-- A leg has the index of an earlier hop and the delay of the link after it; the last leg comes first.
 abbrev pub HasSourceOverRoute : {A : Type 0} → List Link → List (HopRun A) → SourceFrame → List (ℕ × ℕ) → ℕ → ℕ → Type 0
 HasSourceOverRoute links hops r [] i k = IsFirstHopFrame hops i k r
 HasSourceOverRoute links hops r (leg ∷ legs) i k = IsCopyOverRouteHop links hops leg (HasSourceOverRoute links hops r legs) i k

@@ -17,7 +17,7 @@ use Rattle.app_files.specs.FailedFiles.{IsCapture}
 use Rattle.app_files.specs.Paths.{capture_path, report_path}
 use Rattle.app_networks.specs.OutputFiles.{folder_path}
 
--- Holds if the failure names one of these files, which was used in this way, or memory ran out.
+-- Holds if the failure names one of these files, with this access, or memory ran out.
 abbrev pub NamesFile : Access → (List ℕ → Type 0) → Failure → Type 0
 NamesFile access files (fault.File e) = (e.access ≡ access) × files (string_bytes e.path)
 NamesFile access files fault.NoMemory = Unit {0}

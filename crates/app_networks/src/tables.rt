@@ -230,7 +230,7 @@ pub(crate) struct WrittenTables<F: Write + OpenFile + Drop> {
     pub frames: Output<F>,
 }
 
-/// Gives up the table `name` in `folder` after a failed write, and returns the command's failure. `give_up_tables` calls it.
+/// Drops the table `name` in `folder` after a failed write, and returns the command's failure. `give_up_tables` calls it.
 fn give_up_table<F: Write + OpenFile + Drop>(
     alloc: Global,
     folder: &str,
@@ -248,8 +248,8 @@ fn give_up_table<F: Write + OpenFile + Drop>(
     }
 }
 
-/// Gives up both tables in `folder` after a failed write, and returns the command's failure. It names the table in `fault`. `put_tables`
-/// calls it.
+/// Drops both tables in `folder` after a failed write, and returns the command's failure. It names the table in `fault`. `put_tables` calls
+/// it.
 fn give_up_tables<F: Write + OpenFile + Drop>(
     alloc: Global,
     folder: &str,

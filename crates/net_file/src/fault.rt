@@ -155,7 +155,7 @@ pub enum NetFault {
 }
 
 impl NetFault {
-    /// Returns the fault's number, 1 to 11 in the order of the variants. Contracts compare faults by it.
+    /// Returns the fault's number, 1 to 11 in the order of the variants. Contracts compare faults by this number.
     pub fn number(self) -> u8
         ensures { result ≡ fault_code self }
     {

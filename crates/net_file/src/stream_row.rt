@@ -50,7 +50,7 @@ impl<A: Allocator + Copy> Model for StreamRow<A> {
 }
 
 impl<A: Allocator + Copy> StreamRow<A> {
-    /// Returns the name: 1 to 32 letters, digits, `-` and `_`. Lines and tables name the stream by it.
+    /// Returns the name: 1 to 32 letters, digits, `-` and `_`. Lines and tables use this name.
     pub fn name(&self) -> &str
         ensures { result.now ≡ self.now.name }
     {

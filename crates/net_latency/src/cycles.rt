@@ -248,7 +248,7 @@ struct Cycles<'a> {
 }
 
 impl<'a> Cycles<'a> {
-    /// Appends a sentence with the cycle time `cycle` of gate or port (`what`) `number`, and whether the period is a multiple of it.
+    /// Appends a sentence with the cycle time `cycle` of gate or port (`what`) `number`, and whether the period is a multiple of this time.
     /// Updates `common`. `put_gate` and `put_port_cycles` call it.
     fn put_cycle(&mut self, said: &mut TextBuilder<Global>, what: &str, number: u32, cycle: u64) {
         let common = self.common;

@@ -1,4 +1,4 @@
-//! The step that follows a queue of a hop: the end of the route, or the arrival at the next hop. `latency` follows routes by it.
+//! The step that follows a queue of a hop: the end of the route, or the arrival at the next hop. `hop_latency` follows routes step by step.
 ghost use Rattle.std.specs.Prelude.{◌≡◌, ◌+◌, ◌↔◌, IfSome, option_map, slice_get, true, ℕ};
 ghost use Rattle.bridge_bounds.specs.Traffic.{IsTraffic};
 ghost use Rattle.net_latency.specs.StreamLatency as spec;
@@ -164,8 +164,10 @@ fn exit_over_link(
     }
 }
 
-/// Returns the next step of frames that leave `queue`; `came` is their arrival at its hop. Returns `None` if phases are unknown or lie in
-/// two periods, or the bridge is missing. `queue_latency` calls it.
+/// Returns the next step of frames that leave `queue`; `came` is their arrival at the queue's hop. Returns `None` if phases are unknown or
+/// lie in two periods, or the bridge is missing.
+///
+/// `queue_latency` calls it.
 pub(crate) fn queue_exit<A: Allocator + Copy>(
     case: &StreamContext<'_, A>,
     queue: &HopQueue,

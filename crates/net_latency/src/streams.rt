@@ -150,8 +150,8 @@ fn total_bound<A: Allocator + Copy>(bounds: &[Vec<QueueBound, A>], hops: &[(u16,
     sum
 }
 
-/// Returns the sum over the hops in `later` of `hop_delay`, in ns. `later` has the stream's hops without the first, because a link leads to
-/// each of them.
+/// Returns the sum over the hops in `later` of `hop_delay`, in ns. `later` has the stream's hops without the first: a link leads to each
+/// later hop.
 fn total_delay(links: &[LinkRow], hops: &[(u16, u32)], later: &[(u16, u32)]) -> u128
     requires few { length later.now ≤ 64 }
     ensures sum { result ≡ sum_by (hop_delay links.now hops.now) later.now }
@@ -324,7 +324,7 @@ fn put_stream<A: Allocator + Copy, B: Allocator>(
     is_in_time(passes, course, deadline, bound)
 }
 
-/// Returns whether both values are true. `stream_lines` folds the results of its streams by it.
+/// Returns whether both values are true. `stream_lines` combines the results of its streams by this function.
 fn both(a: bool, b: bool) -> bool
     ensures { result ≡ (a && b) }
 {

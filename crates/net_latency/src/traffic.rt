@@ -61,7 +61,7 @@ fn suits_gate<A: Allocator + Copy>(plan: &Plan<A>, gate: u32, period: u64) -> bo
     }
 }
 
-/// Returns whether `a` or `b` is true. The loops of `can_wait_at_port` and `has_misfit` combine their results by it.
+/// Returns whether `a` or `b` is true. The loops of `can_wait_at_port` and `has_misfit` call it to combine their results.
 fn either(a: bool, b: bool) -> bool
     ensures { result ≡ (a || b) }
 {
@@ -198,8 +198,7 @@ fn group_fault<A: Allocator + Copy>(plan: &Plan<A>, index: u32, filter: u32) -> 
     }
 }
 
-/// Returns the fault of row `index`, from 1, compared with the plan, or `None`. Explanations find the row by it. `explain_rows` and
-/// `traffic_fault` call it.
+/// Returns the fault of row `index`, from 1, compared with the plan, or `None`. `explain_rows` and `traffic_fault` call it.
 pub(crate) fn talker_row_fault<A: Allocator + Copy>(
     plan: &Plan<A>,
     index: u32,

@@ -163,7 +163,7 @@ impl OfferedLoad {
     }
 }
 
-/// Entry in which a stream gate is open: its place in the cycle, and the frames that queues receive from it in a burst.
+/// Entry in which a stream gate is open: its offset in the cycle, and the frames that queues receive in a burst during the entry.
 #[derive(Clone, Copy)]
 pub(crate) struct GateOpening {
     /// Offset of the entry from the cycle's start in ns.

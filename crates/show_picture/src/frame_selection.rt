@@ -108,8 +108,8 @@ impl DrawnGroup {
         }
     }
 
-    /// Counts a frame at position `x`, or selects it if its time part may have more frames. The current pass decides. `visit_frame` calls
-    /// it.
+    /// Counts a frame, or selects it if its time part may have more frames. `x` is its distance from the left edge, in tenths of a pixel.
+    /// The current pass decides. `visit_frame` calls it.
     fn add_frame(&mut self, pass: Pass, frame: DrawnFrame, x: u64) {
         let part = (x.saturating_sub(AXIS_LEFT) / PART_WIDTH) as usize;
         let place = usize::from(frame.port) * TIME_PARTS + part.min(TIME_PARTS - 1);
