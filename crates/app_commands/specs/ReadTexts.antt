@@ -38,8 +38,8 @@ AreCommandsAt octets_at path plan commands = (text : Option (List ℕ)) × IsTex
 abbrev pub EndsCommandsAt : {A : Type 0} → (List ℕ → Option (List ℕ)) → Option (List ℕ) → Plan A → Failure → Type 0
 EndsCommandsAt octets_at path p f = (text : Option (List ℕ)) × IsTextIfAt octets_at path text × EndsCommanded p path text f
 
--- Holds if failure `f` ends the reading of a plan and its commands: of the plan file's text, or of its plan with the commands of their
--- file.
+-- Holds if failure `f` ends the reading of a plan and its commands. It is of the plan file's text, or of its plan with the commands of
+-- their file.
 abbrev pub EndsReadingAt : (A : Type 0) → (List ℕ → Option (List ℕ)) → List ℕ → Option (List ℕ) → Failure → Type 0
 EndsReadingAt A octets_at plan commands f =
     HasTextAt octets_at plan (λ text. EndsPlan A plan text f) ⊎ ((p : Plan A) × HasTextAt octets_at plan (λ text. text_plan text ≡ Ok p) × EndsCommandsAt octets_at commands p f)

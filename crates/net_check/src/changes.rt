@@ -23,8 +23,8 @@ pub(crate) struct Changes {
     pub sends: Vec<SendShift>,
 }
 
-/// Returns the phases of a stream's talker after the changes: the new phases in `sends`, or the talker's own phases if `sends` has none for
-/// it. `can_meet`, `changed_times`, `relieve_talker` and `put_talker` call it.
+/// Returns the phases of a stream's talker after the changes. They are the new phases in `sends`, or the talker's own if `sends` has none
+/// for it. `can_meet`, `changed_times`, `relieve_talker` and `put_talker` call it.
 pub(crate) fn changed_phases(sends: &[SendShift], stream: usize, talker: &Talker) -> Phases {
     let mut phases = Phases {
         from: talker.from,

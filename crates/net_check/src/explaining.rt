@@ -42,8 +42,8 @@ pub fn explain_network<H: AllocGlobal + Files>(rt: &H, path: &str) -> Option<Str
     }
 }
 
-/// Returns the start of an explanation of the plan file at path `plan`, which can't be read: the path's position in the network file, and
-/// the bridge.
+/// Returns the start of an explanation of the plan file at path `plan`, which can't be read. It gives the path's position in the network
+/// file, and the bridge.
 ///
 /// Returns `None` if no bridge names this path or memory runs out.
 ///

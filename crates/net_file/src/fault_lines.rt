@@ -52,7 +52,8 @@ fn no_memory_line<A: Allocator + Copy>(alloc: A) -> Result<String<A>, NoMemory>
     }
 }
 
-/// Returns the line `KIND refused: NAME` of a fault without location, such as `network refused: Syntax`. `refusal_line` calls it.
+/// Returns the line `KIND refused: NAME`, with `kind` for `KIND`, of a fault without location, such as `network refused: Syntax`.
+/// `refusal_line` calls it.
 fn refusal_text<A: Allocator + Copy>(
     alloc: A,
     kind: &str,

@@ -11,8 +11,8 @@ use thiserror::Error;
 /// Why a traffic file is refused for a plan: a fault of its text, or found by comparison with the plan. Rows are counted from 1.
 #[derive(Clone, Copy, Debug, Error)]
 pub enum TrafficFault {
-    /// Fault of the text, or of the comparison with the plan: `Unresolved` if the filter is missing, `OutOfRange` if the period isn't a
-    /// multiple of a cycle time.
+    /// Fault of the text, or of the comparison with the plan. The latter is `Unresolved` if the filter is missing, `OutOfRange` if the
+    /// period isn't a multiple of a cycle time.
     #[error("the text isn't traffic")]
     Text(NetFault),
     /// The row with this number, from 1, has periodic traffic, and its filter isn't protected.

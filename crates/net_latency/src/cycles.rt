@@ -116,8 +116,8 @@ fn explain_rows(
     None
 }
 
-/// Explains the fault of row `index`, with periodic traffic: a period that isn't a multiple of a cycle time, or a filter that is missing,
-/// grouped or unprotected. `explain_rows` calls it.
+/// Explains the fault of row `index`, with periodic traffic. Its period isn't a multiple of a cycle time, or its filter is missing, grouped
+/// or unprotected. `explain_rows` calls it.
 fn explain_periodic_row(
     alloc: Global,
     asked: TrafficText<'_>,

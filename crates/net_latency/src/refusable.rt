@@ -119,7 +119,7 @@ fn put_queue(
     }
 }
 
-/// Appends the first condition that fails for a talker of a group: the gate, the SDU limit or the meter of its filter, or the queue's
+/// Appends the first condition that fails for a talker of a group. It concerns its filter's gate, SDU limit or meter, or the queue's
 /// capacity. `put_queue` calls it.
 fn put_limited_reason(
     said: &mut TextBuilder<Global>,
