@@ -30,7 +30,7 @@ pub fn show_line(rt: &impl Eprint, line: &str) {
     let _ = eprint!(rt; "\r{line}\x1b[K");
 }
 
-/// Removes the line that `show_line` wrote. `Progress::clear` and `ProgressPrinter::clear` of `app_networks` call it.
+/// Removes the progress line from standard error. `Progress::clear` and `ProgressPrinter::clear` of `app_networks` call it.
 pub fn clear_line(rt: &impl Eprint) {
     let _ = eprint!(rt; "\r\x1b[K");
 }
